@@ -1,13 +1,13 @@
 -- What is fetched from shelves that tell the same.
-use Rattle.std.proofs.Common.{◌≡◌, ◌≢◌, ℕ, ◌<◌, inl, inr, Bool, true, List, take, Option, None, Some, Ok, Err, refl}
+use Rattle.std.proofs.Common.{◌≡◌, ◌≢◌, ℕ, ◌<◌, inl, inr, Bool, true, List, take, Option, None, Some, Ok, Err}
 use Rattle.std.proofs.Common.{sym, ◌∙◌, subst}
-use Rattle.std.specs.Prelude.{option_map}
 use Rattle.std.proofs.lemmas.Option.{same_Some, none-some}
 use Rattle.s2file.specs.declared.union_file.TheConstants.{MOST_SIZE}
 use Rattle.s2file.specs.File.{File, HasFault}
 use Rattle.s2file.proofs.Beginnings.{file_begins, fault_begins}
 use Rattle.s2file.proofs.Files.{same_leaves, no_fault}
-use Rattle.s2shelf.specs.Shelf.{Files, SameFiles, Finds, FindsBeginning}
+use Rattle.s2shelf.specs.Shelf.{Files, SameFiles, Finding, Asks, Finds, FindsBeginning}
+use Rattle.s2shelf.proofs.Begun.{some_begun}
 use Rattle.s2shelf.proofs.Opened.{get_fails_for_device, get_fails_for_memory}
 use Rattle.s2calc.specs.declared.refusal.Refusal.{Refusal}
 use Rattle.s2calc.specs.declared.refusal.Refusal.TheVariants.{File as NoFile, Memory}
@@ -28,25 +28,12 @@ IsSettled refusal = (refusal ≢ Memory) × (refusal ≢ NoFile)
 
 -- ---- beginnings
 
-some_begun : (content : Option (List ℕ)) (most : ℕ) (bytes : List ℕ) → Some bytes ≡ option_map (take most) content
-    → (whole : List ℕ) × (content ≡ Some whole) × (bytes ≡ take most whole)
-some_begun None most bytes e = absurd (none-some bytes (sym e))
-some_begun (Some whole) most bytes e = (whole, refl, same_Some bytes (take most whole) e)
-
-none_begun : (content : Option (List ℕ)) (most : ℕ) → None ≡ option_map (take most) content → content ≡ None
-none_begun None most e = refl
-none_begun (Some whole) most e = absurd (none-some (take most whole) e)
-
 -- the first bytes of a file that was found
 pub begun : (old new : Files) (name bytes : List ℕ) (most : ℕ) → FindsBeginning old name most (Some bytes) new
     → (content : List ℕ) × Fetches name old (Ok content) new × (bytes ≡ take most content)
 begun old new name bytes most f =
     let found = some_begun f.content most bytes f.is in
     (found.0, subst (λ c. Finds old name c new) found.1 f.finds, found.2)
-
-pub begun_none : (old new : Files) (name : List ℕ) (most : ℕ) → FindsBeginning old name most None new →
-    Finds old name None new
-begun_none old new name most f = subst (λ c. Finds old name c new) (none_begun f.content most f.is) f.finds
 
 -- a content is read as its first bytes are, if these are more than a file can have
 pub reads_whole : (content bytes : List ℕ) (n : ℕ) (S : ℕ → Bool) → MOST_SIZE < n → bytes ≡ take n content →
@@ -61,17 +48,17 @@ refuses_whole content bytes n refusal h e (inr r) = inr r
 
 -- ---- the content
 
-one_content : (a b c d : Files) (name : List ℕ) (x y : Option (List ℕ)) → TellSame a b → Finds a name x c →
-    Finds b name y d → x ≡ y
+one_content : {f g : Finding} (a b c d : Files) (name : List ℕ) (x y : Option (List ℕ)) → TellSame a b →
+    Asks a name x f c → Asks b name y g d → x ≡ y
 one_content a b c d name x y s l m = l.holds s.one ∙ s.at name ∙ sym (m.holds s.other)
 
-pub same_bytes : (a b c d : Files) (name xs ys : List ℕ) → TellSame a b → Fetches name a (Ok xs) c →
-    Fetches name b (Ok ys) d → xs ≡ ys
+pub same_bytes : {f g : Finding} (a b c d : Files) (name xs ys : List ℕ) → TellSame a b → Asks a name (Some xs) f c →
+    Asks b name (Some ys) g d → xs ≡ ys
 same_bytes a b c d name xs ys s l m = same_Some xs ys (one_content a b c d name (Some xs) (Some ys) s l m)
 
 -- a file that one shelf has the other hands over
-pub bytes_or_none : (a b c d : Files) (name xs : List ℕ) (y : Refusal) → TellSame a b → Fetches name a (Ok xs) c →
-    Fetches name b (Err y) d → IsSettled y → ⊥
+pub bytes_or_none : {f : Finding} (a b c d : Files) (name xs : List ℕ) (y : Refusal) → TellSame a b →
+    Asks a name (Some xs) f c → Fetches name b (Err y) d → IsSettled y → ⊥
 bytes_or_none a b c d name xs y s l (inl m) q = none-some xs (sym (one_content a b c d name (Some xs) None s l m.1))
 bytes_or_none a b c d name xs y s l (inr (inl m)) q = q.1 m.0
 bytes_or_none a b c d name xs y s l (inr (inr m)) q = q.0 m.0

@@ -11,13 +11,12 @@ use Rattle.s2file.proofs.Spelled.{one_spelled}
 use Rattle.s2edit.specs.History.{History, EachList}
 use Rattle.s2edit.specs.Session.{Records, Stored, Restored, IsTooDeep, IsTooMany}
 use Rattle.s2edit.proofs.Spelling.{one_history}
-use Rattle.s2shelf.specs.Shelf.{Files, SameFiles, SameShelf, Opens, Fails}
+use Rattle.s2shelf.specs.Shelf.{Files, SameFiles, SameShelf, MayFind, Opens, Fails}
 use Rattle.s2shelf.specs.declared.shelf.ShelfFault.TheVariants.{Device, Memory as NoRoom}
 use Rattle.s2shelf.proofs.Opened.{opened_fails, opened_closes, get_fails_for_device, get_fails_for_memory}
 use Rattle.s2calc.specs.declared.refusal.Refusal.{Refusal}
 use Rattle.s2calc.specs.declared.refusal.Refusal.TheVariants.{File as NoFile, Memory, Session}
 use Rattle.s2calc.specs.Working.Sessions.{ReadAs}
-use Rattle.s2calc.specs.Fetch.{Fetches}
 use Rattle.s2calc.specs.Sessions.{TakesOver, AreTooDeep, AreTooMany, RefusesBytes, FetchesNoState}
 use Rattle.s2calc.proofs.FetchLemmas.{TellSame, IsSettled, turned, same_bytes, bytes_or_none, same_fetch_refusal}
 
@@ -65,14 +64,14 @@ nothing_spelled s (inr f) = absurd (omega (arith, f.file.is.version))
 -- a session that was read is that of a file that was found
 pub session_found : (old opened new : Files) (name : List ℕ) (ahead : Option (List ℕ)) (s : Content) →
     Opens old name (Some ahead) opened → SameShelf opened new → IsContent s → IfSome ahead (λ bytes. Spells bytes s)
-    → (bytes : List ℕ) × Fetches name old (Ok bytes) new × Spells bytes s
+    → (bytes : List ℕ) × MayFind old name (Some bytes) new × Spells bytes s
 session_found old opened new name None s opens same is spells = (
   session_text s,
-  opened_closes old opened new name (Some (session_text s)) (opens (session_text s) tt) same,
+  opened_closes old opened new name None (session_text s) opens tt same,
   inl (record { content = is; text = refl }),
 )
 session_found old opened new name (Some bytes) s opens same is spells =
-    (bytes, opened_closes old opened new name (Some bytes) (opens bytes refl) same, spells)
+    (bytes, opened_closes old opened new name (Some bytes) bytes opens refl same, spells)
 
 -- no session was read, since the bytes spell none
 pub none_found : (old opened new : Files) (name : List ℕ) (ahead : Option (List ℕ)) (state : History (List ℕ)) →
@@ -80,12 +79,12 @@ pub none_found : (old opened new : Files) (name : List ℕ) (ahead : Option (Lis
     → IfSome ahead (λ bytes. (s : Content) → Spells bytes s → ⊥) → FetchesNoState name old state Session new
 none_found old opened new name None state opens same none = inr (
   [],
-  opened_closes old opened new name (Some []) (opens [] tt) same,
+  opened_closes old opened new name None [] opens tt same,
   inl (refl, λ h stored. nothing_spelled stored.content stored.spells),
 )
 none_found old opened new name (Some bytes) state opens same none = inr (
   bytes,
-  opened_closes old opened new name (Some bytes) (opens bytes refl) same,
+  opened_closes old opened new name (Some bytes) bytes opens refl same,
   inl (refl, λ h stored. none stored.content stored.spells),
 )
 
@@ -110,7 +109,7 @@ kept_content (Err NotHeld) result is content =
 -- what was read of a file that was opened and closed
 abbrev HasRead : Files → Files → List ℕ → Result FileSession Refusal → Type 0
 HasRead old new name result = MatchResult result
-    (λ session. (bytes : List ℕ) × Fetches name old (Ok bytes) new × Spells bytes (content_of session))
+    (λ session. (bytes : List ℕ) × MayFind old name (Some bytes) new × Spells bytes (content_of session))
     (λ refusal. (state : History (List ℕ)) → FetchesNoState name old state refusal new)
 
 pub read_and_closed : (read : Result FileSession ReadFault) (result : Result FileSession Refusal)
@@ -137,9 +136,9 @@ none_for_device old opened new name ahead state opens fails =
 
 -- the session of bytes that were found is taken over, or the bytes are refused
 pub found_and_taken : {T : Type 0} (r : Result T Refusal) (a c : Files) (name bytes : List ℕ)
-    (old new : History (List ℕ)) → Fetches name a (Ok bytes) c
+    (old new : History (List ℕ)) → MayFind a name (Some bytes) c
     → MatchResult r (λ _. TakesOver bytes old new) (λ refusal. RefusesBytes bytes old refusal)
-    → MatchResult r (λ _. (xs : List ℕ) × Fetches name a (Ok xs) c × TakesOver xs old new)
+    → MatchResult r (λ _. (xs : List ℕ) × MayFind a name (Some xs) c × TakesOver xs old new)
     (λ refusal. FetchesNoState name a old refusal c)
 found_and_taken (Ok done) a c name bytes old new fetched taken = (bytes, fetched, taken)
 found_and_taken (Err refusal) a c name bytes old new fetched refuses = inr (bytes, fetched, refuses)
@@ -217,23 +216,23 @@ one_refusal bytes old x y (inr (inr (inr f))) g p q = absurd (p.0 f)
 
 -- a file that one shelf has, and whose bytes are taken over, is so over the other
 pub fetched_or_not : (a b c d : Files) (name bytes : List ℕ) (old new : History (List ℕ)) (y : Refusal) →
-    TellSame a b → Fetches name a (Ok bytes) c → TakesOver bytes old new
+    TellSame a b → MayFind a name (Some bytes) c → TakesOver bytes old new
     → FetchesNoState name b old y d → IsSettled y → ⊥
-fetched_or_not a b c d name bytes old new y s f t (inl g) q = bytes_or_none a b c d name bytes y s f g q
+fetched_or_not a b c d name bytes old new y s f t (inl g) q = bytes_or_none a b c d name bytes y s f.asks g q
 fetched_or_not a b c d name bytes old new y s f t (inr g) q =
     taken_or_refused bytes old new y t (subst (λ (xs : List ℕ). RefusesBytes xs old y)
-    (sym (same_bytes a b c d name bytes g.0 s f g.1)) g.2) q
+    (sym (same_bytes a b c d name bytes g.0 s f.asks g.1.asks)) g.2) q
 
 pub one_failure : (a b c d : Files) (name : List ℕ) (old : History (List ℕ)) (x y : Refusal) → TellSame a b →
     FetchesNoState name a old x c → FetchesNoState name b old y d
     → IsSettled x → IsSettled y → x ≡ y
 one_failure a b c d name old x y s (inl f) (inl g) p q = same_fetch_refusal a b c d name x y f g p q
 one_failure a b c d name old x y s (inl f) (inr g) p q =
-    absurd (bytes_or_none b a d c name g.0 x (turned a b s) g.1 f p)
-one_failure a b c d name old x y s (inr f) (inl g) p q = absurd (bytes_or_none a b c d name f.0 y s f.1 g q)
+    absurd (bytes_or_none b a d c name g.0 x (turned a b s) g.1.asks f p)
+one_failure a b c d name old x y s (inr f) (inl g) p q = absurd (bytes_or_none a b c d name f.0 y s f.1.asks g q)
 one_failure a b c d name old x y s (inr f) (inr g) p q =
     one_refusal f.0 old x y f.2 (subst (λ (xs : List ℕ). RefusesBytes xs old y)
-    (sym (same_bytes a b c d name f.0 g.0 s f.1 g.1)) g.2) p q
+    (sym (same_bytes a b c d name f.0 g.0 s f.1.asks g.1.asks)) g.2) p q
 
 -- the files stay, unless the shelf failed
 pub failure_keeps : (a c : Files) (name : List ℕ) (old : History (List ℕ)) (x : Refusal) →
@@ -241,11 +240,11 @@ pub failure_keeps : (a c : Files) (name : List ℕ) (old : History (List ℕ)) (
 failure_keeps a c name old x (inl (inl l)) n = l.1.same
 failure_keeps a c name old x (inl (inr (inl l))) n = absurd (n l.0)
 failure_keeps a c name old x (inl (inr (inr l))) n = get_fails_for_memory a c name l.1
-failure_keeps a c name old x (inr l) n = l.1.same
+failure_keeps a c name old x (inr l) n = l.1.asks.same
 
 pub failure_tells : (a c : Files) (name : List ℕ) (old : History (List ℕ)) (x : Refusal) →
     FetchesNoState name a old x c → c.tells ≡ a.tells
 failure_tells a c name old x (inl (inl l)) = l.1.same.0.tells
 failure_tells a c name old x (inl (inr (inl l))) = (get_fails_for_device a c name l.1).0.tells
 failure_tells a c name old x (inl (inr (inr l))) = (get_fails_for_memory a c name l.1).0.tells
-failure_tells a c name old x (inr l) = l.1.same.0.tells
+failure_tells a c name old x (inr l) = l.1.asks.same.0.tells

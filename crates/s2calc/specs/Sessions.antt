@@ -1,9 +1,9 @@
 -- What can result from the bytes of a file that `restore` is to take as the state.
-use Rattle.std.specs.Prelude.{◌≡◌, ℕ, ◌+◌, ◌<◌, ◌≤◌, ◌⊎◌, List, length, Ok, Err}
+use Rattle.std.specs.Prelude.{◌≡◌, ℕ, ◌+◌, ◌<◌, ◌≤◌, ◌⊎◌, List, length, Some, Err}
 use Rattle.s2edit.specs.History.{History, EachList}
 use Rattle.s2edit.specs.Session.{Stored}
 use Rattle.s2edit.specs.SessionLaws.{IsKept}
-use Rattle.s2shelf.specs.Shelf.{Files}
+use Rattle.s2shelf.specs.Shelf.{Files, MayFind}
 use Rattle.s2calc.specs.declared.refusal.Refusal.{Refusal}
 use Rattle.s2calc.specs.declared.refusal.Refusal.TheVariants.{Session, TooDeep, TooMany, Memory}
 use Rattle.s2calc.specs.Fetch.{Fetches}
@@ -37,7 +37,7 @@ RefusesBytes bytes state refusal =
     ⊎ ((refusal ≡ TooMany) × AreTooMany bytes state)
     ⊎ (refusal ≡ Memory)
 
--- why no state is taken over: the file couldn't be fetched, or its bytes are refused
+-- why no state is taken over: the file couldn't be fetched, or bytes that it may hold are refused
 abbrev pub FetchesNoState : List ℕ → Files → History (List ℕ) → Refusal → Files → Type 0
 FetchesNoState name old state refusal new = Fetches name old (Err refusal) new
-    ⊎ ((bytes : List ℕ) × Fetches name old (Ok bytes) new × RefusesBytes bytes state refusal)
+    ⊎ ((bytes : List ℕ) × MayFind old name (Some bytes) new × RefusesBytes bytes state refusal)

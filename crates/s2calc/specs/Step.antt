@@ -1,6 +1,6 @@
 -- What a line may do.
-use Rattle.std.specs.Prelude.{◌≡◌, ℕ, ◌⊎◌, Bool, true, false, List, Ok, Err}
-use Rattle.s2shelf.specs.Shelf.{SameShelf, PutsFile, LosesFile}
+use Rattle.std.specs.Prelude.{◌≡◌, ℕ, ◌⊎◌, Bool, true, false, List, Some, Ok, Err}
+use Rattle.s2shelf.specs.Shelf.{SameShelf, MayFind, PutsFile, LosesFile}
 use Rattle.s2file.specs.File.{Bytes}
 use Rattle.s2script.specs.declared.command.Command.{Command}
 use Rattle.s2script.specs.declared.command.Command.TheVariants.{Edit, Load, Save, Dump, Restore, Undo, Redo, Ask}
@@ -14,7 +14,7 @@ use Rattle.s2edit.specs.Session.{Text}
 use Rattle.s2calc.specs.World.{World}
 use Rattle.s2calc.specs.Replies.{Reply, Silent, Says, Refuses}
 use Rattle.s2calc.specs.Texts.{done_line}
-use Rattle.s2calc.specs.Fetch.{Fetches, FetchesUnion}
+use Rattle.s2calc.specs.Fetch.{FetchesUnion}
 use Rattle.s2calc.specs.Sessions.{TakesOver, FetchesNoState}
 use Rattle.s2calc.specs.Questions.{Answers}
 use Rattle.s2calc.specs.Edits.{new_set, leaves_of, Gets, Moves}
@@ -43,11 +43,11 @@ Saves r name old reply new = WritesFile (Bytes (leaves_of old.state.now r)) name
 abbrev pub Dumps : List ℕ → World → Reply → World → Type 0
 Dumps name old reply new = WritesFile (Text old.state) name old reply new
 
--- the history that the bytes of the file stand for becomes the state; or no history could be taken over, and the state
--- stays as it was
+-- the file may hold bytes whose history becomes the state; or no history could be taken over, and the state stays as it
+-- was
 abbrev pub Restores : List ℕ → World → Reply → World → Type 0
 Restores name old reply new =
-    ((bytes : List ℕ) × Fetches name old.files (Ok bytes) new.files × TakesOver bytes old.state new.state
+    ((bytes : List ℕ) × MayFind old.files name (Some bytes) new.files × TakesOver bytes old.state new.state
     × (reply ≡ Says done_line))
     ⊎ ((refusal : Refusal) × FetchesNoState name old.files old.state refusal new.files × (reply ≡ Refuses refusal)
     × (new.state ≡ old.state))

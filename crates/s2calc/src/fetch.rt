@@ -11,7 +11,7 @@ use std::alloc::Global;
 
 /// The first `most` bytes of the file under a name, the whole file if it has no more, or why there is none. Asks the
 /// shelf once.
-#[tactic(auto, using(crate::proofs::FetchLemmas::begun, crate::proofs::FetchLemmas::begun_none))]
+#[tactic(auto, using(crate::proofs::FetchLemmas::begun, s2shelf::proofs::Begun::begun_none))]
 pub(crate) fn fetch<S: Shelf>(shelf: &mut S, name: &str, most: usize) -> Result<Vec<u8>, Refusal>
     ensures { MatchResult result
         (λ bytes. (content : List ℕ) × Fetches name.now (S.files shelf.old) (Ok content) (S.files shelf.new)

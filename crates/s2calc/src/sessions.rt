@@ -1,8 +1,8 @@
 //! The registers and both sides of their history as a file.
-ghost use Rattle.std.specs.Prelude.{◌≡◌, List, ℕ, Some, Ok, Err, IfOk, OnErr, MatchResult};
+ghost use Rattle.std.specs.Prelude.{◌≡◌, List, ℕ, Some, Err, IfOk, OnErr, MatchResult};
 ghost use Rattle.s2file.specs.Session.{content_of, IsContent, Spells};
 ghost use Rattle.s2edit.specs.History.{History};
-ghost use Rattle.s2shelf.specs.Shelf.{Opens};
+ghost use Rattle.s2shelf.specs.Shelf.{MayFind, Opens};
 ghost use Rattle.s2calc.specs.Working.Answer.{reply_of};
 ghost use Rattle.s2calc.specs.Working.Sessions.{ReadAs};
 ghost use Rattle.s2calc.specs.Fetch.{Fetches};
@@ -62,7 +62,7 @@ fn take_over_file<S: Shelf>(
     shelf: &mut S,
 ) -> Result<(), Refusal>
     ensures answer { MatchResult result
-        (λ _. (bytes : List ℕ) × Fetches name.now (S.files shelf.old) (Ok bytes) (S.files shelf.new)
+        (λ _. (bytes : List ℕ) × MayFind (S.files shelf.old) name.now (Some bytes) (S.files shelf.new)
         × TakesOver bytes editor.old editor.new)
         (λ refusal. FetchesNoState name.now (S.files shelf.old) editor.old refusal (S.files shelf.new)) }
     ensures err { OnErr result (editor.new ≡ editor.old) }
@@ -76,7 +76,7 @@ fn take_over_file<S: Shelf>(
 fn fetch_session<S: Shelf>(alloc: Global, shelf: &mut S, name: &str) -> Result<Session, Refusal>
     ensures content { IfOk result (λ session. IsContent (content_of session)) }
     ensures answer { MatchResult result
-        (λ session. (bytes : List ℕ) × Fetches name.now (S.files shelf.old) (Ok bytes) (S.files shelf.new)
+        (λ session. (bytes : List ℕ) × MayFind (S.files shelf.old) name.now (Some bytes) (S.files shelf.new)
         × Spells bytes (content_of session))
         (λ refusal. (state : History (List ℕ)) →
         FetchesNoState name.now (S.files shelf.old) state refusal (S.files shelf.new)) }

@@ -1,2 +1,3 @@
+pub mod Begun
 pub mod Named
 pub mod Opened

@@ -1,13 +1,20 @@
 -- What is known of named files, and what a call on them may do.
 use Rattle.std.specs.Prelude.{◌≡◌, ◌≢◌, ℕ, ◌+◌, ◌%◌, ◌^◌, ◌⊎◌, Bool, true, List, ◌∷◌, take, Option, None, Some}
-use Rattle.std.specs.Prelude.{option_map, IfSome}
+use Rattle.std.specs.Prelude.{option_map, IfSome, IsSome}
 use Rattle.s2shelf.specs.declared.shelf.ShelfFault.{ShelfFault}
 use Rattle.s2shelf.specs.declared.shelf.ShelfFault.TheVariants.{Device, Memory}
 
--- what was found by asking for a file once: its content, or None if there is no file of that name
+-- what was found by asking for a file once: that there is no file of that name; its content; or that it was opened, if
+-- it isn't known what reads of it give
+pub data Finding : Type 0 where
+  NoFile : Finding
+  Holding : (bytes : List ℕ) → Finding
+  Opened : Finding
+
+-- what was found by asking for a file of this name once
 pub record Found : Type 0 where
   pub name : List ℕ
-  pub content : Option (List ℕ)
+  pub finding : Finding
 
 -- what is known of a shelf: whether its contents are known, and the file of each name; what was found each time it was
 -- asked for a file, newest first, or None if that isn't known; and how many failures of the device were counted
@@ -55,11 +62,33 @@ pub record PutsFile (old new : Files) (name bytes : List ℕ) : Type 0 where
 abbrev pub Holds : Files → List ℕ → Option (List ℕ) → Type 0
 Holds files name content = files.tells ≡ true → content ≡ files.at name
 
--- the shelf was asked for that name, once, and this content was found; no file changes
-pub record Finds (old : Files) (name : List ℕ) (content : Option (List ℕ)) (new : Files) : Type 0 where
+-- the shelf was asked for that name, once, and has this content there, of which this is the finding; no file changes
+pub record Asks (old : Files) (name : List ℕ) (content : Option (List ℕ)) (finding : Finding) (new : Files) :
+    Type 0 where
   pub same : SameFiles old new
   pub holds : Holds old name content
-  pub asked : new.found ≡ option_map (λ before. record { name = name; content = content } ∷ before) old.found
+  pub asked : new.found ≡ option_map (λ before. record { name = name; finding = finding } ∷ before) old.found
+
+-- the finding of a content that is known
+abbrev pub finding_of : Option (List ℕ) → Finding
+finding_of None = NoFile
+finding_of (Some bytes) = Holding bytes
+
+-- the shelf was asked for that name, once, and this content was found; no file changes
+abbrev pub Finds : Files → List ℕ → Option (List ℕ) → Files → Type 0
+Finds old name content new = Asks old name content (finding_of content) new
+
+-- the content may be what was found: it is just that, or the file was opened, and what reads of it give isn't known
+abbrev pub Allows : Finding → Option (List ℕ) → Type 0
+Allows NoFile content = content ≡ None
+Allows (Holding bytes) content = content ≡ Some bytes
+Allows Opened content = IsSome content
+
+-- the shelf was asked for that name, once, and may have found this content; no file changes
+pub record MayFind (old : Files) (name : List ℕ) (content : Option (List ℕ)) (new : Files) : Type 0 where
+  pub finding : Finding
+  pub allows : Allows finding content
+  pub asks : Asks old name content finding new
 
 -- the shelf was asked for that name, once, and the first `most` bytes of what was found were handed over; no file
 -- changes
@@ -73,11 +102,17 @@ pub record FindsBeginning (old : Files) (name : List ℕ) (most : ℕ) (beginnin
 abbrev pub MayHold : Option (List ℕ) → List ℕ → Type 0
 MayHold ahead content = IfSome ahead (λ bytes. content ≡ bytes)
 
+-- the finding of a file that was opened, by what reads of it give, if that is known
+abbrev pub finding_ahead : Option (List ℕ) → Finding
+finding_ahead None = Opened
+finding_ahead (Some bytes) = Holding bytes
+
 -- the shelf was asked for that name, once: it has no such file; or it opened one, and found the content that reads of
--- it give (if it is not known what they give, any content counts as found); no file changes
+-- it give (if it is not known what they give, it is any content); no file changes
 abbrev pub Opens : Files → List ℕ → Option (Option (List ℕ)) → Files → Type 0
 Opens old name None new = Finds old name None new
-Opens old name (Some ahead) new = (content : List ℕ) → MayHold ahead content → Finds old name (Some content) new
+Opens old name (Some ahead) new =
+    (content : List ℕ) → MayHold ahead content → Asks old name (Some content) (finding_ahead ahead) new
 
 -- a call failed: no content changes, and nothing more is found; the count rises only if the fault is `Device`
 abbrev pub Fails : Files → Files → ShelfFault → Type 0
@@ -88,7 +123,7 @@ Fails old new Memory = SameShelf old new
 abbrev pub FailsToGet : Files → List ℕ → Files → ShelfFault → Type 0
 FailsToGet old name new fault =
     Fails old new fault
-    ⊎ ((content : Option (List ℕ)) × (opened : Files) × Finds old name content opened × Fails opened new fault)
+    ⊎ ((content : Option (List ℕ)) × (opened : Files) × MayFind old name content opened × Fails opened new fault)
 
 -- a file was not written: if the fault is `Device`, the count rises and the content of that one file is not known; else
 -- nothing changes

@@ -216,10 +216,6 @@ impl<R: Files + AllocGlobal> Shelf for DirShelf<R> {
         Ok(())
     }
 
-    fn alloc(&self) -> Global {
-        self.rt.alloc()
-    }
-
     fn get_beginning(&mut self, name: &str, most: usize) -> Result<Option<Vec<u8>>, ShelfFault> {
         let path = self.path_of(name)?;
         let answer = read_regular(&self.rt, path.as_str(), most);

@@ -106,10 +106,6 @@ impl Shelf for MemoryShelf {
         Ok(())
     }
 
-    fn alloc(&self) -> Global {
-        self.alloc
-    }
-
     /// A copy of the file. Answers `Device` if this is the call that was made to fail.
     fn get(&mut self, name: &str) -> Result<Option<Vec<u8>>, ShelfFault>
         ensures answer { MatchResult result

@@ -1,11 +1,10 @@
 //! Named files that may fail.
-ghost use Rattle.std.specs.Prelude.{◌≡◌, IfOk, MatchResult, option_map, take};
-ghost use Rattle.s2shelf.specs.Shelf.{Files, SameShelf, Finds, FindsBeginning, MayHold, Opens, PutsFile, Fails};
+ghost use Rattle.std.specs.Prelude.{◌≡◌, MatchResult, option_map, take};
+ghost use Rattle.s2shelf.specs.Shelf.{Files, SameShelf, Finds, FindsBeginning, Opens, PutsFile, Fails};
 ghost use Rattle.s2shelf.specs.Shelf.{FailsToGet, FailsToPut};
 ghost use Rattle.s2shelf.specs.declared.shelf.ShelfFault.TheVariants.{Memory};
 
-use std::alloc::{AllocError, Global};
-use std::io;
+use std::alloc::AllocError;
 use std::io::Read;
 use thiserror::Error;
 
@@ -37,15 +36,6 @@ pub(crate) fn beginning_of(content: Option<Vec<u8>>, most: usize) -> Option<Vec<
     Some(bytes)
 }
 
-/// All bytes that reads of an opened file give.
-fn read_whole<R: Read>(alloc: Global, file: &mut R) -> io::Result<Vec<u8>>
-    ensures { IfOk result (λ bytes. MayHold (R.remaining file.old) bytes.items) }
-{
-    let mut bytes = Vec::new(alloc);
-    file.read_to_end(&mut bytes)?;
-    Ok(bytes)
-}
-
 /// Files by their names.
 ///
 /// A contract sees a shelf as `Files`: whether it exposes its contents, those contents, what was found by asking, and
@@ -61,8 +51,9 @@ pub trait Shelf {
     type Opened: Read + Drop;
 
     /// Opens the file of that name for reading from its beginning, or answers None if there is none. The content that
-    /// is found is what reads of the file give. No content changes; the count rises by one exactly when the answer is
-    /// `Device`. A read may fail later, which `close` tells.
+    /// is found is what reads of the file give; if that isn't known, what is found is that the file was opened. No
+    /// content changes; the count rises by one exactly when the answer is `Device`. A read may fail later, which
+    /// `close` tells.
     fn open(&mut self, name: &str) -> Result<Option<Self::Opened>, ShelfFault>
         ensures { MatchResult result
             (λ opened. Opens (files self.old) name.now (option_map Self.Opened.remaining opened) (files self.new))
@@ -74,25 +65,31 @@ pub trait Shelf {
         ensures { MatchResult result (λ _. SameShelf (files self.old) (files self.new))
             (λ fault. Fails (files self.old) (files self.new) fault) };
 
-    /// What the bytes that the shelf answers are allocated from.
-    fn alloc(&self) -> Global;
-
     /// All bytes of the file of that name, or None if there is none. No content changes; the count rises by one exactly
-    /// when the answer is `Device`. After a failed read the answer is that of `close`, or else `Memory`.
+    /// when the answer is `Device`.
     fn get(&mut self, name: &str) -> Result<Option<Vec<u8>>, ShelfFault>
         ensures { MatchResult result
             (λ content. Finds (files self.old) name.now (option_map (λ v. v.items) content) (files self.new))
             (λ fault. FailsToGet (files self.old) name.now (files self.new) fault) }
     {
-        let Some(mut file) = self.open(name)? else {
+        // No list of bytes is so long.
+        self.get_within(name, usize::MAX)
+    }
+
+    /// The same of a file of fewer than `most` bytes. For another one there is no memory.
+    #[tactic(auto, using(crate::proofs::Begun::begun_none, crate::proofs::Begun::whole, crate::proofs::Begun::fails))]
+    fn get_within(&mut self, name: &str, most: usize) -> Result<Option<Vec<u8>>, ShelfFault>
+        ensures { MatchResult result
+            (λ content. Finds (files self.old) name.now (option_map (λ v. v.items) content) (files self.new))
+            (λ fault. FailsToGet (files self.old) name.now (files self.new) fault) }
+    {
+        let Some(bytes) = self.get_beginning(name, most)? else {
             return Ok(None);
         };
-        let whole = read_whole(self.alloc(), &mut file);
-        match (self.close(file), whole) {
-            (Err(fault), _) => Err(fault),
-            (Ok(()), Ok(bytes)) => Ok(Some(bytes)),
-            (Ok(()), Err(_)) => Err(ShelfFault::Memory),
+        if bytes.len() == most {
+            return Err(ShelfFault::Memory);
         }
+        Ok(Some(bytes))
     }
 
     /// The first `most` bytes of the file of that name, the whole file if it has no more, or None if there is none.

@@ -62,10 +62,6 @@ impl Shelf for LoggedShelf<'_> {
 
     type Opened = Empty;
 
-    fn alloc(&self) -> Global {
-        self.alloc
-    }
-
     fn open(&mut self, name: &str) -> Result<Option<Empty>, ShelfFault> {
         self.note("OPEN ", name)?;
         Ok(None)
