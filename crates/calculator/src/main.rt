@@ -1,9 +1,9 @@
 //! The program: it opens what a run needs, and calls the run.
 #![tactic(auto)]
 
-ghost use Rattle.std.specs.Prelude.{◌≤◌, ◌≡◌, []};
+ghost use Rattle.std.specs.Prelude.{◌≤◌, ◌≡◌, [], IfOk};
 ghost use Rattle.s2calc.specs.Program.{IsInRange};
-ghost use Rattle.s2process.specs.Listed.{calls_of};
+ghost use Rattle.s2process.specs.Listed.{calls_of, calls_of_shelf};
 
 mod prompt;
 
@@ -13,9 +13,12 @@ use s2calc::{
     draw_answer, draw_cells_answer, fit_answer, job, overlay_answer, status,
 };
 use s2edit::{Editor, MOST_CELLS, MOST_STATES};
-use s2process::{ListedReader, ListedWriter, Witness, run_explained_listed, run_listed};
+use s2process::{
+    ListedReader, ListedShelf, ListedWriter, Witness, run_explained_listed, run_listed,
+};
 use s2script::misnamed_in;
 use s2shelf::DirShelf;
+use std::alloc::AllocError;
 use std::io::ErrorKind;
 use std::process::ExitCode;
 use std::{env, io};
@@ -76,7 +79,7 @@ fn run_script(
     let Ok(mut editor) = Editor::open(rt.alloc(), limit, depth) else {
         return report_end(rt, &Err(RunFault::Memory));
     };
-    let Ok(mut shelf) = DirShelf::at(rt, dir) else {
+    let Ok(mut shelf) = folder_at(rt, dir) else {
         return report_end(rt, &Err(RunFault::Memory));
     };
     let Ok(mut writer) = AnswerBuffer::new(rt.alloc(), standard_output(rt)) else {
@@ -116,6 +119,16 @@ fn standard_output<P: Print>(rt: &P) -> ListedWriter<io::Printer<'_, P>>
     ListedWriter::new(io::writer(rt))
 }
 
+/// The folder at a path, of which nothing was asked yet.
+fn folder_at<'a>(
+    rt: &'a HostRuntime,
+    path: &str,
+) -> Result<ListedShelf<DirShelf<&'a HostRuntime>>, AllocError>
+    ensures { IfOk result (λ folder. calls_of_shelf folder ≡ []) }
+{
+    Ok(ListedShelf::new(DirShelf::at(rt, path)?))
+}
+
 /// Answers one `cell CELL`.
 fn answer_cell(rt: &HostRuntime, word: &str) -> ExitCode {
     report_answer(rt, cell_answer(word.as_bytes(), &mut standard_output(rt)))
@@ -123,7 +136,7 @@ fn answer_cell(rt: &HostRuntime, word: &str) -> ExitCode {
 
 /// Answers one `check FILE`.
 fn answer_check(rt: &HostRuntime, dir: &str, name: &str) -> ExitCode {
-    let Ok(mut shelf) = DirShelf::at(rt, dir) else {
+    let Ok(mut shelf) = folder_at(rt, dir) else {
         return report_end(rt, &Err(RunFault::Memory));
     };
     let outcome = check_answer(rt.alloc(), &mut shelf, name, &mut standard_output(rt));
@@ -133,7 +146,7 @@ fn answer_check(rt: &HostRuntime, dir: &str, name: &str) -> ExitCode {
 
 /// Answers one `draw FILE`.
 fn answer_draw(rt: &HostRuntime, dir: &str, name: &str, curve: bool) -> ExitCode {
-    let Ok(mut shelf) = DirShelf::at(rt, dir) else {
+    let Ok(mut shelf) = folder_at(rt, dir) else {
         return report_end(rt, &Err(RunFault::Memory));
     };
     let outcome = draw_answer(
@@ -149,7 +162,7 @@ fn answer_draw(rt: &HostRuntime, dir: &str, name: &str, curve: bool) -> ExitCode
 
 /// Answers one `draw FILE FILE..`.
 fn answer_overlay(rt: &HostRuntime, dir: &str, names: &[String], curve: bool) -> ExitCode {
-    let Ok(mut shelf) = DirShelf::at(rt, dir) else {
+    let Ok(mut shelf) = folder_at(rt, dir) else {
         return report_end(rt, &Err(RunFault::Memory));
     };
     let outcome = overlay_answer(
@@ -165,7 +178,7 @@ fn answer_overlay(rt: &HostRuntime, dir: &str, names: &[String], curve: bool) ->
 
 /// Answers one `draw --fit FILE..`.
 fn answer_fit(rt: &HostRuntime, dir: &str, names: &[String]) -> ExitCode {
-    let Ok(mut shelf) = DirShelf::at(rt, dir) else {
+    let Ok(mut shelf) = folder_at(rt, dir) else {
         return report_end(rt, &Err(RunFault::Memory));
     };
     let outcome = fit_answer(rt.alloc(), &mut shelf, names, &mut standard_output(rt));

@@ -7,7 +7,7 @@ use Rattle.s2calc.specs.Calls as calls
 use Rattle.s2calc.specs.Calls.{NoneFailed, LastFailed}
 
 -- one more item gives what it gives at the end
-snoc : {X Y : Type 0} (f : X → List Y) (xs : List X) (x : X) → flat_map f (xs ++ x ∷ []) ≡ flat_map f xs ++ f x
+pub snoc : {X Y : Type 0} (f : X → List Y) (xs : List X) (x : X) → flat_map f (xs ++ x ∷ []) ≡ flat_map f xs ++ f x
 snoc f xs x = flat_map-append f xs (x ∷ []) ∙ ap (λ ys. flat_map f xs ++ ys) (append-nil (f x))
 
 took_some : (n : ℕ) (bytes : List ℕ) → 0 < length bytes → 0 < n → ended_by (Took (take n bytes)) ≡ calls.Wrote ∷ []

@@ -1,6 +1,6 @@
 -- What a run did over streams whose calls are all known.
 use Rattle.std.proofs.Common.{◌≡◌, ℕ, ◌+◌, ◌⊎◌, List, [], ◌∷◌, ◌++◌, length, Option, Some, None, Result, Ok, Err}
-use Rattle.std.proofs.Common.{Bool, true, false, MatchResult, refl, sym, ap, ◌∙◌, subst, inl, inr, append-nil}
+use Rattle.std.proofs.Common.{Bool, false, MatchResult, refl, sym, ap, ◌∙◌, subst, inl, inr}
 use Rattle.std.specs.Io.KnownBytes.{Appends}
 use Rattle.s2shelf.specs.Shelf.{Files}
 use Rattle.s2script.specs.Lines.{lines, whole_lines, BeginsWith}
@@ -8,7 +8,7 @@ use Rattle.s2calc.specs.declared.engine.Tally.{Tally}
 use Rattle.s2calc.specs.declared.fault.RunFault.{RunFault}
 use Rattle.s2calc.specs.declared.fault.RunFault.TheVariants.{Input, Output, Memory}
 use Rattle.s2calc.specs.World.{World}
-use Rattle.s2calc.specs.Replies.{Reply, texts}
+use Rattle.s2calc.specs.Replies.{texts}
 use Rattle.s2calc.specs.Notes.{Noted}
 use Rattle.s2calc.specs.Run as run
 use Rattle.s2calc.specs.Run.{Steps, Known, known, Ran, Runs}
@@ -21,9 +21,9 @@ use Rattle.s2calc.specs.Moments.{Event, Came, NotCame, LineBegins, LineEnds, Mom
 use Rattle.s2calc.specs.Moments.{Adds}
 use Rattle.s2calc.specs.Order as order
 use Rattle.s2calc.specs.Order.{InOrder, Ordered, HasEnded}
-use Rattle.s2process.specs.Ends.{NoneFailed, EndsWith, LastFlushed, LastFailed, ReadsLast, ReadsStop, ReadsWell}
+use Rattle.s2process.specs.Ends.{NoneFailed, LastFlushed, LastFailed, ReadsLast, ReadsStop, ReadsWell}
 use Rattle.s2process.specs.Order.{AllOut, GoneOut, ReadsWhen, LineWhen, MayCome, EachMay}
-use Rattle.s2process.specs.Process.{Did, WereReadWhole, InsideAnswer, AllLines, WholeLines, BesideFile, Ends, Counts}
+use Rattle.s2process.specs.Process.{Did, WereReadWhole, InsideAnswer, AllLines, WholeLines, BesideFile}
 use Rattle.s2process.specs.Process.{RunsListed}
 use Rattle.s2process.specs.Explained.{Explains}
 

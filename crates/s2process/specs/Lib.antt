@@ -1,3 +1,4 @@
+pub mod ShelfCalls
 pub mod StreamCalls
 pub mod Listed
 pub mod Ends

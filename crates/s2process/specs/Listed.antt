@@ -1,11 +1,14 @@
--- What the lists of a reader, a writer and a witness hold.
-use Rattle.std.specs.Prelude.{ℕ, List, Option}
+-- What the lists of a reader, a writer, a shelf and a witness hold.
+use Rattle.std.specs.Prelude.{ℕ, false, List, Option, Some, None}
+use Rattle.s2shelf.specs.Shelf.{Files}
 use Rattle.s2calc.specs.Calls.{Call}
 use Rattle.s2calc.specs.Moments.{Moment}
 use Rattle.s2process.specs.declared.reader.ListedReader.{ListedReader}
 use Rattle.s2process.specs.declared.writer.ListedWriter.{ListedWriter}
+use Rattle.s2process.specs.declared.shelf.ListedShelf.{ListedShelf}
+use Rattle.s2process.specs.declared.shelf.ListedFile.{ListedFile}
 use Rattle.s2process.specs.declared.witness.Witness.{Witness}
-use Rattle.s2process.specs.StreamCalls.{StreamCall, given_in, taken_in, ended_in, reads_in}
+use Rattle.s2process.specs.StreamCalls.{StreamCall, given_in, taken_in, ended_in, reads_in, found_in}
 
 -- the calls of a reader, in order
 abbrev pub calls_of_reader : {R : Type 0} → ListedReader R → List StreamCall
@@ -30,6 +33,24 @@ taken w = taken_in (calls_of w)
 -- how the calls of a writer ended
 abbrev pub called : {W : Type 0} → ListedWriter W → List Call
 called w = ended_in (calls_of w)
+
+-- the calls of a shelf, in order
+abbrev pub calls_of_shelf : {S : Type 0} → ListedShelf S → List StreamCall
+calls_of_shelf s = s.calls.calls
+
+-- what is known of a shelf whose calls are listed, of which this is known: what was found, and how many failures were
+-- counted
+abbrev pub listed_files : {S : Type 0} → (S → Files) → ListedShelf S → Files
+listed_files files s = record {
+  tells = false;
+  at = λ _. None;
+  found = Some (found_in (calls_of_shelf s));
+  failures = (files s.shelf).failures;
+}
+
+-- the reads of an opened file, in order
+abbrev pub calls_of_file : {F : Type 0} → ListedFile F → List StreamCall
+calls_of_file f = f.calls.calls
 
 -- the moments that a witness has seen, in order
 abbrev pub moments_of : {W S : Type 0} → Witness W S → List (Moment W S)

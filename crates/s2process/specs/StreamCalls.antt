@@ -1,10 +1,15 @@
--- The calls of a reader and of a writer, with what they gave and took.
-use Rattle.std.specs.Prelude.{ℕ, ◌-◌, List, [], ◌∷◌, length, take, flat_map, Option, Some, None, Result, Ok, Err}
+-- The calls of a reader, of a writer and of a shelf, with what they gave and took.
+use Rattle.std.specs.Prelude.{ℕ, ◌-◌, List, [], ◌∷◌, length, take, reverse, flat_map, Option, Some, None}
+use Rattle.std.specs.Prelude.{Result, Ok, Err}
+use Rattle.s2shelf.specs.Shelf.{Found}
+use Rattle.s2process.specs.ShelfCalls as shelf
+use Rattle.s2process.specs.ShelfCalls.{ShelfCall}
 use Rattle.s2calc.specs.Calls as calls
 use Rattle.s2calc.specs.Calls.{Call}
 
 -- a read with room for `others + 1` bytes, so for some, and the bytes that it gave, so none only at the end; a read
--- that failed; a write and the bytes that it took; a write that failed; a flush; and a flush that failed
+-- that failed; a write and the bytes that it took; a write that failed; a flush; a flush that failed; and a call of a
+-- shelf
 pub data StreamCall : Type 0 where
   Gave : (others : ℕ) (bytes : List ℕ) → StreamCall
   GaveNot : StreamCall
@@ -12,6 +17,7 @@ pub data StreamCall : Type 0 where
   TookNot : StreamCall
   Flushed : StreamCall
   FlushedNot : StreamCall
+  OfShelf : (call : ShelfCall) → StreamCall
 
 -- what a read was, by its answer, its room, which isn't 0 if it succeeds, and what its buffer holds after it
 abbrev pub read_call : {E : Type 0} → Result ℕ E → ℕ → List ℕ → StreamCall
@@ -36,6 +42,7 @@ taken_by (Took bytes) = bytes
 taken_by TookNot = []
 taken_by Flushed = []
 taken_by FlushedNot = []
+taken_by (OfShelf call) = []
 
 -- how a call of a writer ended; a write that takes nothing has failed
 abbrev pub ended_by : StreamCall → List Call
@@ -46,6 +53,7 @@ ended_by (Took (byte ∷ bytes)) = calls.Wrote ∷ []
 ended_by TookNot = calls.Failed ∷ []
 ended_by Flushed = calls.Flushed ∷ []
 ended_by FlushedNot = calls.Failed ∷ []
+ended_by (OfShelf call) = []
 
 -- how many bytes a read gave, or None if it failed
 abbrev pub read_by : StreamCall → List (Option ℕ)
@@ -55,6 +63,7 @@ read_by (Took bytes) = []
 read_by TookNot = []
 read_by Flushed = []
 read_by FlushedNot = []
+read_by (OfShelf call) = []
 
 -- the bytes that a read gave
 abbrev pub given_by : StreamCall → List ℕ
@@ -64,6 +73,17 @@ given_by (Took bytes) = []
 given_by TookNot = []
 given_by Flushed = []
 given_by FlushedNot = []
+given_by (OfShelf call) = []
+
+-- what was found by a call of a shelf
+abbrev pub found_by : StreamCall → List Found
+found_by (Gave others bytes) = []
+found_by GaveNot = []
+found_by (Took bytes) = []
+found_by TookNot = []
+found_by Flushed = []
+found_by FlushedNot = []
+found_by (OfShelf call) = shelf.found_by call
 
 -- all bytes that the reads gave
 abbrev pub given_in : List StreamCall → List ℕ
@@ -80,3 +100,7 @@ ended_in list = flat_map ended_by list
 -- what the reads gave
 abbrev pub reads_in : List StreamCall → List (Option ℕ)
 reads_in list = flat_map read_by list
+
+-- what was found by the calls, newest first
+abbrev pub found_in : List StreamCall → List Found
+found_in list = reverse (flat_map found_by list)

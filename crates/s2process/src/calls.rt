@@ -5,9 +5,10 @@ ghost use base.Fml.{ftrue};
 ghost use Rattle.s2process.specs.StreamCalls.{StreamCall};
 ghost use Rattle.s2process.specs.Working.Coded.{stream_call_coded};
 
+use s2shelf::ShelfFault;
 use std::marker::Model;
 
-/// The calls of a stream so far.
+/// The calls of a stream or a shelf so far.
 #[derive(Drop)]
 pub(crate) struct CallList {
     ghost calls: { List StreamCall } by { coded_list stream_call_coded },
@@ -32,6 +33,27 @@ pub(crate) enum OneCall<'a> {
     Flushed,
     /// A flush that failed.
     FlushedNot,
+    /// A call of a shelf.
+    OfShelf(OneShelfCall<'a>),
+}
+
+/// One call of a shelf, as it is given to the list.
+#[derive(Clone, Copy, Drop)]
+pub(crate) enum OneShelfCall<'a> {
+    /// These bytes of the file of this name were handed over.
+    HandedOver(&'a str, &'a [u8]),
+    /// There is no file of this name.
+    HadNone(&'a str),
+    /// The file of this name was opened.
+    OpenedFile(&'a str),
+    /// These bytes were stored under this name.
+    Stored(&'a str, &'a [u8]),
+    /// A call on the file of this name failed.
+    Failed(&'a str, ShelfFault),
+    /// An opened file was closed, after these reads.
+    ClosedFile(&'a CallList),
+    /// The closing of an opened file failed, after these reads.
+    ClosedNot(&'a CallList, ShelfFault),
 }
 
 impl CallList {

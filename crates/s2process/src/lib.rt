@@ -6,10 +6,12 @@ mod calls;
 mod moments;
 mod reader;
 mod run;
+mod shelf;
 mod witness;
 mod writer;
 
 pub use crate::reader::ListedReader;
 pub use crate::run::{run_explained_listed, run_listed};
+pub use crate::shelf::{ListedFile, ListedShelf};
 pub use crate::witness::Witness;
 pub use crate::writer::ListedWriter;

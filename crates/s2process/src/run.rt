@@ -19,7 +19,8 @@ use std::alloc::Global;
 /// Runs a script as `s2calc::run_promptly` does, over streams that nothing was read from or written to.
 ///
 /// Whatever the reader and the writer are, the contract says which bytes the reads gave and the writes took, in which
-/// order reads, lines and writes came, and how all this ended.
+/// order reads, lines and writes came, and how all this ended. Over a `ListedShelf` it says too which bytes of files
+/// the shelf handed over, for which each `load` is right.
 pub fn run_listed<R: Source, W: Sink, S: Shelf>(
     alloc: Global,
     editor: &mut Editor,

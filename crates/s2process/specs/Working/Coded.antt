@@ -4,10 +4,72 @@ use Rattle.std.specs.Coded.{Coded, code_by, coded_ℕ, coded_list, coded⊎, cod
 use base.Stored.{coded_unit}
 use mathlib.Core.Logic.{inl, inr}
 use Rattle.s2calc.specs.Moments.{Event, Came, NotCame, LineBegins, LineEnds, Moment}
-use Rattle.s2process.specs.StreamCalls.{StreamCall, Gave, GaveNot, Took, TookNot, Flushed, FlushedNot}
+use Rattle.s2shelf.specs.declared.shelf.ShelfFault.{ShelfFault}
+use Rattle.s2shelf.specs.declared.shelf.ShelfFault.TheVariants.{Device, Memory}
+use Rattle.s2process.specs.ShelfCalls.{ShelfCall, HandedOver, HadNone, OpenedFile, Stored, Failed, ClosedFile}
+use Rattle.s2process.specs.ShelfCalls.{ClosedNot}
+use Rattle.s2process.specs.StreamCalls.{StreamCall, Gave, GaveNot, Took, TookNot, Flushed, FlushedNot, OfShelf}
+
+abbrev fault_parts : ShelfFault → Unit {0} ⊎ Unit {0}
+fault_parts Device = inl tt
+fault_parts Memory = inr tt
+
+abbrev fault_from : Unit {0} ⊎ Unit {0} → ShelfFault
+fault_from (inl _) = Device
+fault_from (inr _) = Memory
+
+pub fault_from_parts : (f : ShelfFault) → fault_from (fault_parts f) ≡ f
+fault_from_parts Device = refl
+fault_from_parts Memory = refl
+
+-- the code of a fault of a shelf
+abbrev fault_coded : Coded ShelfFault
+fault_coded = code_by (Unit {0} ⊎ Unit {0}) (coded⊎ coded_unit coded_unit) fault_parts fault_from fault_from_parts
+
+abbrev ShelfCallParts : Type 0
+ShelfCallParts = (List ℕ × List ℕ) ⊎ (List ℕ ⊎ (List ℕ ⊎ ((List ℕ × List ℕ) ⊎ ((List ℕ × ShelfFault) ⊎ (List ℕ ⊎
+    (List ℕ × ShelfFault))))))
+
+abbrev shelf_call_parts : ShelfCall → ShelfCallParts
+shelf_call_parts (HandedOver name bytes) = inl (name, bytes)
+shelf_call_parts (HadNone name) = inr (inl name)
+shelf_call_parts (OpenedFile name) = inr (inr (inl name))
+shelf_call_parts (Stored name bytes) = inr (inr (inr (inl (name, bytes))))
+shelf_call_parts (Failed name fault) = inr (inr (inr (inr (inl (name, fault)))))
+shelf_call_parts (ClosedFile bytes) = inr (inr (inr (inr (inr (inl bytes)))))
+shelf_call_parts (ClosedNot bytes fault) = inr (inr (inr (inr (inr (inr (bytes, fault))))))
+
+abbrev shelf_call_from : ShelfCallParts → ShelfCall
+shelf_call_from (inl p) = HandedOver p.0 p.1
+shelf_call_from (inr (inl name)) = HadNone name
+shelf_call_from (inr (inr (inl name))) = OpenedFile name
+shelf_call_from (inr (inr (inr (inl p)))) = Stored p.0 p.1
+shelf_call_from (inr (inr (inr (inr (inl p))))) = Failed p.0 p.1
+shelf_call_from (inr (inr (inr (inr (inr (inl bytes)))))) = ClosedFile bytes
+shelf_call_from (inr (inr (inr (inr (inr (inr p)))))) = ClosedNot p.0 p.1
+
+-- the parts of a call of a shelf are those of no other
+pub shelf_call_from_parts : (c : ShelfCall) → shelf_call_from (shelf_call_parts c) ≡ c
+shelf_call_from_parts (HandedOver name bytes) = refl
+shelf_call_from_parts (HadNone name) = refl
+shelf_call_from_parts (OpenedFile name) = refl
+shelf_call_from_parts (Stored name bytes) = refl
+shelf_call_from_parts (Failed name fault) = refl
+shelf_call_from_parts (ClosedFile bytes) = refl
+shelf_call_from_parts (ClosedNot bytes fault) = refl
+
+abbrev bytes_coded : Coded (List ℕ)
+bytes_coded = coded_list coded_ℕ
+
+-- the code of a call of a shelf
+abbrev shelf_call_coded : Coded ShelfCall
+shelf_call_coded =
+    code_by ShelfCallParts (coded⊎ (coded× bytes_coded bytes_coded) (coded⊎ bytes_coded (coded⊎ bytes_coded (coded⊎
+    (coded× bytes_coded bytes_coded) (coded⊎ (coded× bytes_coded fault_coded) (coded⊎ bytes_coded (coded× bytes_coded
+    fault_coded))))))) shelf_call_parts shelf_call_from shelf_call_from_parts
 
 abbrev CallParts : Type 0
-CallParts = (ℕ × List ℕ) ⊎ (Unit {0} ⊎ (List ℕ ⊎ (Unit {0} ⊎ (Unit {0} ⊎ Unit {0}))))
+CallParts = (ℕ × List ℕ) ⊎ (Unit {0} ⊎ (List ℕ ⊎ (Unit {0} ⊎ (Unit {0} ⊎ (Unit {0} ⊎ ShelfCall)))))
 
 abbrev call_parts : StreamCall → CallParts
 call_parts (Gave others bytes) = inl (others, bytes)
@@ -15,7 +77,8 @@ call_parts GaveNot = inr (inl tt)
 call_parts (Took bytes) = inr (inr (inl bytes))
 call_parts TookNot = inr (inr (inr (inl tt)))
 call_parts Flushed = inr (inr (inr (inr (inl tt))))
-call_parts FlushedNot = inr (inr (inr (inr (inr tt))))
+call_parts FlushedNot = inr (inr (inr (inr (inr (inl tt)))))
+call_parts (OfShelf call) = inr (inr (inr (inr (inr (inr call)))))
 
 abbrev call_from : CallParts → StreamCall
 call_from (inl p) = Gave p.0 p.1
@@ -23,7 +86,8 @@ call_from (inr (inl _)) = GaveNot
 call_from (inr (inr (inl bytes))) = Took bytes
 call_from (inr (inr (inr (inl _)))) = TookNot
 call_from (inr (inr (inr (inr (inl _))))) = Flushed
-call_from (inr (inr (inr (inr (inr _))))) = FlushedNot
+call_from (inr (inr (inr (inr (inr (inl _)))))) = FlushedNot
+call_from (inr (inr (inr (inr (inr (inr call)))))) = OfShelf call
 
 -- the parts of a call are those of no other
 pub call_from_parts : (c : StreamCall) → call_from (call_parts c) ≡ c
@@ -33,12 +97,13 @@ call_from_parts (Took bytes) = refl
 call_from_parts TookNot = refl
 call_from_parts Flushed = refl
 call_from_parts FlushedNot = refl
+call_from_parts (OfShelf call) = refl
 
 -- the code of a call
 abbrev pub stream_call_coded : Coded StreamCall
 stream_call_coded =
-    code_by CallParts (coded⊎ (coded× coded_ℕ (coded_list coded_ℕ)) (coded⊎ coded_unit (coded⊎ (coded_list coded_ℕ)
-    (coded⊎ coded_unit (coded⊎ coded_unit coded_unit))))) call_parts call_from call_from_parts
+    code_by CallParts (coded⊎ (coded× coded_ℕ bytes_coded) (coded⊎ coded_unit (coded⊎ bytes_coded (coded⊎ coded_unit
+    (coded⊎ coded_unit (coded⊎ coded_unit shelf_call_coded)))))) call_parts call_from call_from_parts
 
 abbrev EventParts : Type 0
 EventParts = List ℕ ⊎ (Unit {0} ⊎ (Unit {0} ⊎ Unit {0}))

@@ -1,11 +1,26 @@
--- What a `OneCall` and a `Sight` show.
+-- What a `OneCall`, a `OneShelfCall` and a `Sight` show.
 use Rattle.std.specs.Prelude.{◌-◌}
-use Rattle.s2process.specs.StreamCalls.{StreamCall, Gave, GaveNot, Took, TookNot, Flushed, FlushedNot}
+use Rattle.s2process.specs.ShelfCalls.{ShelfCall, HandedOver, HadNone, OpenedFile, Stored, Failed, ClosedFile}
+use Rattle.s2process.specs.ShelfCalls.{ClosedNot}
+use Rattle.s2process.specs.StreamCalls.{StreamCall, Gave, GaveNot, Took, TookNot, Flushed, FlushedNot, OfShelf}
+use Rattle.s2process.specs.StreamCalls.{given_in}
 use Rattle.s2process.specs.declared.calls.OneCall.{OneCall}
 use Rattle.s2process.specs.declared.calls.OneCall.TheVariants as call
+use Rattle.s2process.specs.declared.calls.OneShelfCall.{OneShelfCall}
+use Rattle.s2process.specs.declared.calls.OneShelfCall.TheVariants as shelf
 use Rattle.s2process.specs.declared.moments.Sight.{Sight}
 use Rattle.s2process.specs.declared.moments.Sight.TheVariants as sight
 use Rattle.s2calc.specs.Moments.{Event, Came, NotCame, LineBegins, LineEnds}
+
+-- the call of a shelf that is shown
+abbrev pub shown_by_shelf : OneShelfCall → ShelfCall
+shown_by_shelf (shelf.HandedOver name bytes) = HandedOver name.now bytes.now
+shown_by_shelf (shelf.HadNone name) = HadNone name.now
+shown_by_shelf (shelf.OpenedFile name) = OpenedFile name.now
+shown_by_shelf (shelf.Stored name bytes) = Stored name.now bytes.now
+shown_by_shelf (shelf.Failed name fault) = Failed name.now fault
+shown_by_shelf (shelf.ClosedFile reads) = ClosedFile (given_in reads.now.calls)
+shown_by_shelf (shelf.ClosedNot reads fault) = ClosedNot (given_in reads.now.calls) fault
 
 -- the call that is shown
 abbrev pub shown : OneCall → StreamCall
@@ -15,6 +30,7 @@ shown (call.Took bytes) = Took bytes.now
 shown call.TookNot = TookNot
 shown call.Flushed = Flushed
 shown call.FlushedNot = FlushedNot
+shown (call.OfShelf one) = OfShelf (shown_by_shelf one)
 
 -- the event that is seen
 abbrev pub seen : Sight → Event
