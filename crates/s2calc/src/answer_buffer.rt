@@ -1,5 +1,5 @@
 //! A writer that buffers answers.
-ghost use Rattle.std.specs.Prelude.{◌≡◌, ◌+◌, ◌<◌, ◌≤◌, [], ◌++◌, length, drop, OnOk, OnErr, IfOk};
+ghost use Rattle.std.specs.Prelude.{◌≡◌, ◌+◌, ◌<◌, ◌≤◌, [], ◌++◌, length, drop, OnOk, OnErr, IfOk, IfErr};
 ghost use Rattle.std.specs.Prelude.{vec_len, vec_capacity};
 ghost use Rattle.std.specs.Io.{WritesAtMost};
 ghost use Rattle.std.specs.Io.KnownBytes.{Keeps, WriteAppends};
@@ -9,7 +9,7 @@ ghost use Rattle.s2calc.specs.Calls.{NoneFailed, LastFlushed, LastFailed};
 use crate::limits::MOST_WAITING;
 use crate::output::write_out;
 use crate::streams::Sink;
-use std::alloc::{AllocError, Global};
+use std::alloc::Global;
 use std::io;
 use std::marker::Model;
 
@@ -40,13 +40,16 @@ impl<W> Model for AnswerBuffer<W> {
 }
 
 impl<W: Sink + Drop> AnswerBuffer<W> {
-    /// An empty buffer over a writer. If there is no memory, the writer is dropped.
-    pub fn new(alloc: Global, writer: W) -> Result<AnswerBuffer<W>, AllocError>
+    /// An empty buffer over a writer. If there is no memory, the writer is given back.
+    pub fn new(alloc: Global, writer: W) -> Result<AnswerBuffer<W>, W>
         ensures writer { IfOk result (λ b. b.writer ≡ writer) }
         ensures nothing_waits { IfOk result (λ b. b.waiting ≡ []) }
+        ensures given_back { IfErr result (λ w. w ≡ writer) }
     {
-        let waiting = Vec::with_capacity(alloc, MOST_WAITING)?;
-        Ok(AnswerBuffer { writer, waiting })
+        match Vec::with_capacity(alloc, MOST_WAITING) {
+            Ok(waiting) => Ok(AnswerBuffer { writer, waiting }),
+            Err(_) => Err(writer),
+        }
     }
 }
 

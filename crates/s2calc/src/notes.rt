@@ -1,5 +1,5 @@
 //! What a run says of the lines that it refuses.
-ghost use Rattle.std.specs.Prelude.{◌≡◌, false, IfOk, [], ◌∷◌, ◌++◌};
+ghost use Rattle.std.specs.Prelude.{◌≡◌, false, IfOk, IfErr, [], ◌∷◌, ◌++◌};
 ghost use Rattle.std.specs.Fmt.{WritesOnOk};
 ghost use Rattle.s2script.specs.Line.{misfit_of};
 ghost use Rattle.s2calc.specs.Replies.{Reply};
@@ -13,7 +13,7 @@ use crate::output::emit;
 use crate::refusal::Refusal;
 use crate::streams::Sink;
 use s2script::misfit_of;
-use std::alloc::{AllocError, Global};
+use std::alloc::Global;
 use std::fmt;
 use std::marker::Model;
 
@@ -115,17 +115,21 @@ impl<W> Model for NoteWriter<W> {
 }
 
 impl<W: Sink + Drop> NoteWriter<W> {
-    /// A writer of notes over a writer. Takes room for the longest note. If there is no memory, the writer is dropped.
-    pub fn new(alloc: Global, writer: W) -> Result<NoteWriter<W>, AllocError>
+    /// A writer of notes over a writer. Takes room for the longest note. If there is no memory, the writer is given
+    /// back.
+    pub fn new(alloc: Global, writer: W) -> Result<NoteWriter<W>, W>
         ensures writer { IfOk result (λ n. n.writer ≡ writer) }
         ensures writes { IfOk result (λ n. n.stopped ≡ false) }
+        ensures given_back { IfErr result (λ w. w ≡ writer) }
     {
-        let text = String::with_capacity(alloc, NOTE_ROOM)?;
-        Ok(NoteWriter {
-            writer,
-            text,
-            stopped: false,
-        })
+        match String::with_capacity(alloc, NOTE_ROOM) {
+            Ok(text) => Ok(NoteWriter {
+                writer,
+                text,
+                stopped: false,
+            }),
+            Err(_) => Err(writer),
+        }
     }
 }
 

@@ -33,7 +33,7 @@ pub fn cell_answer<W: Sink>(word: &[u8], writer: &mut W) -> Result<bool, RunFaul
 }
 
 /// Writes an answer that is not a refusal, and flushes.
-pub(crate) fn say<W: Sink>(text: &[u8], writer: &mut W) -> Result<bool, RunFault>
+pub fn say<W: Sink>(text: &[u8], writer: &mut W) -> Result<bool, RunFault>
     ensures shows { ShowsReply (Says text.now) (W.contents writer.old) (W.contents writer.new) result }
     ensures flushed { OnOk result (LastFlushed ⊥ (W.calls writer.old) (W.calls writer.new)) }
     ensures failed { OnErr result (LastFailed ⊥ (W.calls writer.old) (W.calls writer.new)) }

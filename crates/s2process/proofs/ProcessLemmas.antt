@@ -35,9 +35,13 @@ abbrev inside : {A : Type 0} → List A → Option (List A) → List A
 inside none None = none
 inside none (Some xs) = xs
 
+-- what a known list gained
+pub gained_known : {A : Type 0} (old new more : List A) → Gains (Some old) (Some new) more → new ≡ old ++ more
+gained_known old new more g = g.2 ∙ ap (λ xs. xs ++ more) (sym (ap (inside []) g.1))
+
 -- what a list gained that was empty
 gained : {A : Type 0} (old new more : List A) → old ≡ [] → Gains (Some old) (Some new) more → new ≡ more
-gained old new more none g = g.2 ∙ ap (λ xs. xs ++ more) (sym (ap (inside []) g.1) ∙ none)
+gained old new more none g = gained_known old new more g ∙ ap (λ xs. xs ++ more) none
 
 -- ---- reads
 
@@ -71,11 +75,11 @@ module _ (old new : List Call) (none : old ≡ []) where
   none_failed h =
       subst (λ (cs : List Call). AllWell (Unit {0}) cs) (sym (gained old new h.calls none h.gained)) h.well
 
-  last_flushed : calls.LastFlushed (Unit {0}) (Some old) (Some new) → LastFlushed new
+  pub last_flushed : calls.LastFlushed (Unit {0}) (Some old) (Some new) → LastFlushed new
   last_flushed h =
       record { before = h.calls; is = gained old new (h.calls ++ calls.Flushed ∷ []) none h.gained; well = h.well }
 
-  last_failed : calls.LastFailed (Unit {0}) (Some old) (Some new) → LastFailed new
+  pub last_failed : calls.LastFailed (Unit {0}) (Some old) (Some new) → LastFailed new
   last_failed h =
       record { before = h.calls; is = gained old new (h.calls ++ calls.Failed ∷ []) none h.gained; well = h.well }
 
@@ -171,7 +175,7 @@ module _ {V S : Type 0} (taken : V → List ℕ) (called : V → List Call) (fil
       written_is = since (taken first.writer) first.waiting (taken last.writer) last.waiting ran.written nothing
           none_waits ran.appended
 
-      abbrev pub did : Did start now (taken last.writer ++ last.waiting)
+      abbrev pub did : Did start now (taken last.writer) last.waiting
       did = record {
         done = ran.done;
         replies = ran.replies;
@@ -219,7 +223,7 @@ module _ {V S : Type 0} (taken : V → List ℕ) (called : V → List Call) (fil
         → (runs : (r : Runs (Unit {0}) old new result)
         × Ordered contents known_calls sent files (Unit {0}) start first r.ran (Some seen_old) (Some seen_new) result)
         → MatchResult result (λ _. last.waiting ≡ []) (λ fault. fault ≡ Input → last.waiting ≡ [])
-        → RunsListed taken called files given_new reads_new start now seen_new last result
+        → RunsListed taken called files given_new reads_new start now seen_new last.writer last.waiting result
     process seen_old seen_new (Ok tally) none (r, ordered) waits =
         let s = all_seen seen_old seen_new none ordered in
         let e = r.ends in

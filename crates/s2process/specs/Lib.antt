@@ -5,4 +5,7 @@ pub mod Ends
 pub mod Order
 pub mod Process
 pub mod Explained
+pub mod Streams
+pub mod Errors
+pub mod Program
 pub mod Working

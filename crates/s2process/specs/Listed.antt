@@ -38,6 +38,10 @@ called w = ended_in (calls_of w)
 abbrev pub calls_of_shelf : {S : Type 0} → ListedShelf S → List StreamCall
 calls_of_shelf s = s.calls.calls
 
+-- the shelf that was called
+abbrev pub shelf_below : {S : Type 0} → ListedShelf S → S
+shelf_below s = s.shelf
+
 -- what is known of a shelf whose calls are listed, of which this is known: what was found, and how many failures were
 -- counted
 abbrev pub listed_files : {S : Type 0} → (S → Files) → ListedShelf S → Files
@@ -45,7 +49,7 @@ listed_files files s = record {
   tells = false;
   at = λ _. None;
   found = Some (found_in (calls_of_shelf s));
-  failures = (files s.shelf).failures;
+  failures = (files (shelf_below s)).failures;
 }
 
 -- the reads of an opened file, in order

@@ -17,36 +17,37 @@ use Rattle.s2calc.specs.Order.{HasEnded}
 use Rattle.s2process.specs.Ends.{NoneFailed, LastFlushed, LastFailed, ReadsLast, ReadsStop, ReadsWell}
 use Rattle.s2process.specs.Order.{EachMay}
 
--- What a run did between these two worlds: it carried out some lines, with these replies, and wrote the texts of these
--- except for what is left of the last. `written` are the bytes that the writer took, and those that wait in the buffer.
-pub record Did (start now : World) (written : List ℕ) : Type 0 where
+-- What a run did between these two worlds: it carried out some lines, with these replies. Of the texts of these
+-- `written` are the bytes that the writer took, `waiting` are those that wait in the buffer, and what is left is of the
+-- last.
+pub record Did (start now : World) (written waiting : List ℕ) : Type 0 where
   pub done : List (List ℕ)
   pub replies : List Reply
   pub left : List ℕ
   pub steps : Steps start done replies now
-  pub texts_are : texts replies ≡ written ++ left
-  pub all_but_last : (more : List ℕ) × (written ≡ texts (came_out replies left) ++ more)
+  pub texts_are : texts replies ≡ written ++ waiting ++ left
+  pub all_but_last : (more : List ℕ) × (written ++ waiting ≡ texts (came_out replies left) ++ more)
 
 -- the lines are the first of those of the script: each ends in a newline, or they are all lines
 abbrev pub WereReadWhole : List ℕ → List (List ℕ) → Type 0
 WereReadWhole script ls = ((more : List ℕ) × BeginsWith script ls more) ⊎ (ls ≡ lines script)
 
-module _ {start now : World} {written : List ℕ} (script : List ℕ) where
+module _ {start now : World} {written waiting : List ℕ} (script : List ℕ) where
   -- all lines of the script were carried out, and all answers were written
-  abbrev pub AllLines : Did start now written → Type 0
+  abbrev pub AllLines : Did start now written waiting → Type 0
   AllLines did = (did.done ≡ lines script) × (did.left ≡ [])
 
   -- exactly the lines that were read whole were carried out, and exactly their answers were written
-  abbrev pub WholeLines : Did start now written → Type 0
+  abbrev pub WholeLines : Did start now written waiting → Type 0
   WholeLines did = (did.done ≡ whole_lines script) × (did.left ≡ [])
 
   -- the last line that was carried out was read to its end, and some bytes of its answer are missing
-  abbrev pub InsideAnswer : Did start now written → Type 0
+  abbrev pub InsideAnswer : Did start now written waiting → Type 0
   InsideAnswer did = WereReadWhole script did.done × (0 < length did.left)
 
   -- A command with a file was read to its end. The lines before it were carried out, or the command too, and exactly
   -- their answers were written.
-  pub record BesideFile (did : Did start now written) : Type 0 where
+  pub record BesideFile (did : Did start now written waiting) : Type 0 where
     pub before : List (List ℕ)
     pub line : List ℕ
     pub read_whole : WereReadWhole script (before ++ line ∷ [])
@@ -54,20 +55,19 @@ module _ {start now : World} {written : List ℕ} (script : List ℕ) where
     pub done_are : (did.done ≡ before) ⊎ (did.done ≡ before ++ line ∷ [])
     pub none_left : did.left ≡ []
 
--- `called` says how the calls of a writer ended, `script` is what the reads gave, and `reads` how each of them ended
-module _ {V S : Type 0} (called : V → List Call) (script : List ℕ) (reads : List (Option ℕ)) {start now : World}
-    {written : List ℕ} (did : Did start now written) (moments : List (Moment (Buffered V) S))
-    (buffer : Buffered V) where
-  -- What a run did, by its result: which lines were carried out, how the reads and the calls of the writer ended, and
-  -- where nothing waits in the buffer. After `Memory` nothing was called.
-  abbrev pub Ends : Result Tally RunFault → Type 0
-  Ends (Ok tally) = AllLines script did × (tally ≡ tally_of did.replies) × (buffer.waiting ≡ [])
-      × ReadsLast (Some 0) reads × HasEnded moments × LastFlushed (called buffer.writer)
-  Ends (Err Input) = WholeLines script did × (buffer.waiting ≡ []) × ReadsStop reads
-      × NoneFailed (called buffer.writer)
-  Ends (Err Output) = (InsideAnswer script did ⊎ AllLines script did ⊎ WholeLines script did ⊎ BesideFile script did)
-      × ReadsWell reads × LastFailed (called buffer.writer)
-  Ends (Err Memory) = (did.done ≡ []) × (moments ≡ []) × (reads ≡ []) × (called buffer.writer ≡ [])
+module _ {start now : World} {written waiting : List ℕ} (did : Did start now written waiting) {W S : Type 0}
+    (moments : List (Moment W S)) where
+  -- What a run did, by its result: which lines of the script, which is what the reads gave, were carried out, how the
+  -- reads and the calls of the writer ended, and if nothing waits in the buffer. After `Memory` nothing was called.
+  abbrev pub Ends : List ℕ → List (Option ℕ) → List Call → Result Tally RunFault → Type 0
+  Ends script reads called (Ok tally) = AllLines script did × (tally ≡ tally_of did.replies) × (waiting ≡ [])
+      × ReadsLast (Some 0) reads × HasEnded moments × LastFlushed called
+  Ends script reads called (Err Input) =
+      WholeLines script did × (waiting ≡ []) × ReadsStop reads × NoneFailed called
+  Ends script reads called (Err Output) =
+      (InsideAnswer script did ⊎ AllLines script did ⊎ WholeLines script did ⊎ BesideFile script did)
+      × ReadsWell reads × LastFailed called
+  Ends script reads called (Err Memory) = (did.done ≡ []) × (moments ≡ []) × (reads ≡ []) × (called ≡ [])
 
   -- How many lines began and ended: each that was carried out, but after `Output` the last of them may not have ended,
   -- as its answer wasn't written or a flush after it failed.
@@ -76,14 +76,14 @@ module _ {V S : Type 0} (called : V → List Call) (script : List ℕ) (reads : 
       × (((ended_in moments ≡ length did.done) × (did.left ≡ [])) ⊎ (ended_in moments + 1 ≡ length did.done))
   Counts result = (begun_in moments ≡ length did.done) × (ended_in moments ≡ length did.done)
 
--- What a run did that was carried out over a reader and a writer that had not been called: `script` is all bytes that
--- the reads gave, which are those that were seen, `reads` says how each ended, each moment came where it may, and the
--- run ended as its result says.
+-- What a run did over a reader and a writer that had not been called: `script` is all bytes that the reads gave, which
+-- are those that were seen, `reads` says how each ended, `waiting` are the bytes that wait in the buffer above the
+-- writer, each moment came where it may, and the run ended as its result says.
 pub record RunsListed {V S : Type 0} (taken : V → List ℕ) (called : V → List Call) (files : S → Files)
     (script : List ℕ) (reads : List (Option ℕ)) (start now : World) (moments : List (Moment (Buffered V) S))
-    (buffer : Buffered V) (result : Result Tally RunFault) : Type 0 where
-  pub did : Did start now (taken buffer.writer ++ buffer.waiting)
+    (below : V) (waiting : List ℕ) (result : Result Tally RunFault) : Type 0 where
+  pub did : Did start now (taken below) waiting
   pub read : bytes_read moments ≡ script
-  pub ends : Ends called script reads did moments buffer result
+  pub ends : Ends did moments script reads (called below) result
   pub each : EachMay taken called files start [] moments
-  pub counts : Counts called script reads did moments buffer result
+  pub counts : Counts did moments result

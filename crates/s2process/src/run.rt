@@ -35,7 +35,7 @@ pub fn run_listed<R: Source, W: Sink, S: Shelf>(
     requires nothing_seen { moments_of witness.old ≡ [] }
     ensures { RunsListed taken called S.files (given reader.new) (reads reader.new)
         (world editor.old (S.files shelf.old)) (world editor.new (S.files shelf.new)) (moments_of witness.new)
-        writer.new result }
+        writer.new.writer writer.new.waiting result }
 {
     run_promptly_observed(alloc, editor, reader, writer, shelf, witness)
 }
@@ -58,7 +58,7 @@ pub fn run_explained_listed<R: Source, W: Sink, S: Shelf, N: Sink>(
     requires nothing_seen { moments_of witness.old ≡ [] }
     ensures { (runs : RunsListed taken called S.files (given reader.new) (reads reader.new)
         (world editor.old (S.files shelf.old)) (world editor.new (S.files shelf.new)) (moments_of witness.new)
-        writer.new result)
+        writer.new.writer writer.new.waiting result)
         × Explains runs.did (taken notes.new.writer) notes.new.stopped }
 {
     run_explained_observed(alloc, editor, reader, writer, shelf, notes, witness)

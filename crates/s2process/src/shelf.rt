@@ -5,7 +5,7 @@ ghost use Rattle.std.specs.Io.KnownBytes.{ReadConsumes};
 ghost use Rattle.s2shelf.specs.Shelf.{SameShelf, FindsBeginning, Opens, PutsFile, Fails, FailsToGet, FailsToPut};
 ghost use Rattle.s2process.specs.ShelfCalls.{get_call, open_call, close_call, put_call};
 ghost use Rattle.s2process.specs.StreamCalls.{OfShelf, read_call, given_in};
-ghost use Rattle.s2process.specs.Listed.{calls_of_shelf, calls_of_file, listed_files};
+ghost use Rattle.s2process.specs.Listed.{calls_of_shelf, calls_of_file, listed_files, shelf_below};
 ghost use Rattle.s2process.specs.Working.Shown.{shown_by_shelf};
 
 use crate::calls::{CallList, OneCall, OneShelfCall};
@@ -65,7 +65,8 @@ pub struct ListedShelf<S> {
 impl<S: Drop> ListedShelf<S> {
     /// Nothing was called yet.
     pub fn new(shelf: S) -> ListedShelf<S>
-        ensures { calls_of_shelf result ≡ [] }
+        ensures below { shelf_below result ≡ shelf }
+        ensures calls { calls_of_shelf result ≡ [] }
     {
         ListedShelf {
             shelf,

@@ -78,7 +78,9 @@ pub fn run_over(
             (ended, writer)
         }
         Flushing::Promptly => {
-            let mut buffer = AnswerBuffer::new(alloc, writer)?;
+            let Ok(mut buffer) = AnswerBuffer::new(alloc, writer) else {
+                return Err(AllocError);
+            };
             let ended = run_promptly(alloc, &mut editor, &mut reader, &mut buffer, &mut shelf);
             (ended, buffer.into_writer())
         }

@@ -1,0 +1,143 @@
+-- What the program did, by what it was asked for.
+use Rattle.std.specs.Prelude.{◌≡◌, ℕ, ◌⊎◌, Bool, true, false, not, List, [], ◌∷◌, ◌++◌, map}
+use Rattle.std.specs.Prelude.{replicate, string_bytes, Some, Result, Ok, Err}
+use Rattle.s2edit.specs.History.{History, untouched}
+use Rattle.s2edit.specs.declared.TheConstants.{REGISTERS}
+use Rattle.s2shelf.specs.Shelf.{Files}
+use Rattle.s2calc.specs.declared.engine.Tally.{Tally}
+use Rattle.s2calc.specs.declared.fault.RunFault.{RunFault}
+use Rattle.s2calc.specs.declared.fault.RunFault.TheVariants.{Output, Memory}
+use Rattle.s2calc.specs.declared.task.Job.{Job}
+use Rattle.s2calc.specs.declared.task.Job.TheVariants.{Run, Cell, Check, Draw, Overlay, Fit, DrawCells}
+use Rattle.s2calc.specs.declared.task.Stop.{Stop}
+use Rattle.s2calc.specs.declared.task.Stop.TheVariants.{Help, Usage, Memory as NoMemory}
+use Rattle.s2calc.specs.Buffered.{Buffered}
+use Rattle.s2calc.specs.Calls.{Call}
+use Rattle.s2calc.specs.Check.{Checks}
+use Rattle.s2calc.specs.Draw.{Draws, DrawsWords}
+use Rattle.s2calc.specs.Fit.{Fits}
+use Rattle.s2calc.specs.Moments.{Moment}
+use Rattle.s2calc.specs.Overlay.{Overlays}
+use Rattle.s2calc.specs.Program.{cell_reply, status_of, status_of_answer}
+use Rattle.s2calc.specs.Replies.{Reply, Says, text_of, is_refusal}
+use Rattle.s2calc.specs.World.{World, world}
+use Rattle.s2process.specs.declared.ended.Ended.{Ended}
+use Rattle.s2process.specs.declared.writer.ListedWriter.{ListedWriter}
+use Rattle.s2process.specs.Ends.{LastFlushed, LastFailed}
+use Rattle.s2process.specs.Errors.{fault_line, fault_line_of, usage_text, misnamed_lines, Tells, IsSaidAfter}
+use Rattle.s2process.specs.Explained.{Explains}
+use Rattle.s2process.specs.Listed.{given, reads, taken, called}
+use Rattle.s2process.specs.Process.{Did, RunsListed}
+use Rattle.s2process.specs.Streams.{Unread, Unwritten}
+
+-- A writer took these bytes of an answer, by calls that ended so. The result is true unless the answer is a refusal:
+-- then all of it was taken and flushed. Or a write or the flush failed, the last call.
+abbrev pub Shows : Reply → List ℕ → List Call → Result Bool RunFault → Type 0
+Shows reply bytes calls (Ok passed) = (passed ≡ not (is_refusal reply)) × (bytes ≡ text_of reply) × LastFlushed calls
+Shows reply bytes calls (Err fault) =
+    (fault ≡ Output) × ((rest : List ℕ) × (text_of reply ≡ bytes ++ rest)) × LastFailed calls
+
+module _ {R W E S : Type 0} (ended : Ended R W E S) where
+  -- standard error got this text, and nothing else
+  abbrev pub GetsAlone : List ℕ → Type 0
+  GetsAlone text = Tells text (taken ended.streams.errors) (called ended.streams.errors)
+
+  -- there was no memory to begin with: nothing was read or written
+  pub record NotBegun : Type 0 where
+    pub unread : Unread ended.streams
+    pub unwritten : Unwritten ended.streams
+    pub tells : GetsAlone (fault_line Memory)
+    pub status_is : ended.status ≡ 3
+
+  -- the words of the command line made no sense, and this is what is wrong with them: nothing was read or written
+  pub record ShowsUsage (wrong : List ℕ) : Type 0 where
+    pub unread : Unread ended.streams
+    pub unwritten : Unwritten ended.streams
+    pub tells : GetsAlone (usage_text wrong)
+    pub status_is : ended.status ≡ 2
+
+  -- An answer was written and flushed, one that it may be; or a write or the flush failed. If it is a refusal, this was
+  -- said of it.
+  pub record Answers (MayBe : Reply → Type 0) (said : List ℕ) : Type 0 where
+    pub reply : Reply
+    pub may_be : MayBe reply
+    pub result : Result Bool RunFault
+    pub unread : Unread ended.streams
+    pub shown : Shows reply (taken ended.streams.output) (called ended.streams.output) result
+    pub text : List ℕ
+    pub text_is : IsSaidAfter said result text
+    pub tells : GetsAlone text
+    pub status_is : ended.status ≡ status_of_answer result
+
+  -- what a program did that was asked for no job
+  abbrev pub Stops : Stop → Type 0
+  Stops (Help text) = Answers (λ reply. reply ≡ Says (string_bytes text)) []
+  Stops (Usage text) = ShowsUsage (string_bytes text)
+  Stops NoMemory = NotBegun
+
+  -- standard error got the notes on what a run did, as far as it took them, and then this text
+  pub record TellsNotes {start now : World} {written waiting : List ℕ} (did : Did start now written waiting)
+      (text : List ℕ) : Type 0 where
+    pub notes : List ℕ
+    pub stopped : Bool
+    pub explains : Explains did notes stopped
+    pub bytes : List ℕ
+    pub noted : List Call
+    pub calls : List Call
+    pub taken_are : taken ended.streams.errors ≡ notes ++ bytes
+    pub called_are : called ended.streams.errors ≡ noted ++ calls
+    pub tells : Tells text bytes calls
+
+-- `files` says what is known of a folder, and `opened` that it was opened at a path
+module _ {R W E S : Type 0} (files : S → Files) (opened : S → List ℕ → Type 0) (ended : Ended R W E S) where
+  -- the folder at this path was asked for the answer; or there was no memory to begin with
+  abbrev pub Asks : List ℕ → (Files → Reply → Files → Type 0) → List ℕ → Type 0
+  Asks path MayBe said = NotBegun ended
+      ⊎ ((first : S) × (last : S) × opened first path × (ended.folder ≡ Some last)
+      × Answers ended (λ reply. MayBe (files first) reply (files last)) said)
+
+-- `moments` are what was seen of the run
+module _ {R W E S : Type 0} (files : S → Files) (opened : S → List ℕ → Type 0)
+    (moments : List (Moment (Buffered (ListedWriter W)) S)) (ended : Ended R W E S) where
+  -- what was done from this state of the editor, with the folder at this path
+  pub record RunsFrom (start : History (List ℕ)) (path : List ℕ) (explains : Bool) : Type 0 where
+    pub first : S
+    pub last : S
+    pub at_path : opened first path
+    pub folder_is : ended.folder ≡ Some last
+    pub now : History (List ℕ)
+    -- the bytes of answers that still waited when the run ended, and are lost: none but after `Output`
+    pub waiting : List ℕ
+    pub result : Result Tally RunFault
+    pub runs : RunsListed taken called files (given ended.streams.input) (reads ended.streams.input)
+        (world start (files first)) (world now (files last)) moments ended.streams.output waiting result
+    pub tells : explains ≡ false → GetsAlone ended (fault_line_of result)
+    pub tells_notes : explains ≡ true → TellsNotes ended runs.did (fault_line_of result)
+    pub status_is : ended.status ≡ status_of result
+
+  -- the script was run, with a new editor; or there was no memory to begin with
+  abbrev pub RunsScript : ℕ → ℕ → List ℕ → Bool → Type 0
+  RunsScript limit depth path explains =
+      (NotBegun ended × (moments ≡ [])) ⊎ RunsFrom (untouched limit depth (replicate REGISTERS [])) path explains
+
+  -- what was done for a job
+  abbrev pub DoesJob : Job → Type 0
+  DoesJob (Run limit depth dir explain prompt) = RunsScript limit depth (string_bytes dir) explain
+  DoesJob (Cell word) = Answers ended (λ reply. reply ≡ cell_reply (string_bytes word)) []
+  DoesJob (Check dir name) =
+      Asks files opened ended (string_bytes dir) (Checks (string_bytes name)) (misnamed_lines (string_bytes name ∷ []))
+  DoesJob (Draw dir name curve) =
+      Asks files opened ended (string_bytes dir) (Draws (string_bytes name) curve)
+      (misnamed_lines (string_bytes name ∷ []))
+  DoesJob (Overlay dir names curve) =
+      Asks files opened ended (string_bytes dir) (Overlays (map string_bytes names.items) curve)
+      (misnamed_lines (map string_bytes names.items))
+  DoesJob (Fit dir names) =
+      Asks files opened ended (string_bytes dir) (Fits (map string_bytes names.items))
+      (misnamed_lines (map string_bytes names.items))
+  DoesJob (DrawCells words curve) = Answers ended (DrawsWords (map string_bytes words.items) curve) []
+
+  -- what the program did: the job that it was asked for, or why it was asked for none
+  abbrev pub Does : Result Job Stop → Type 0
+  Does (Ok job) = DoesJob job
+  Does (Err stop) = Stops ended stop

@@ -1,0 +1,83 @@
+//! How the program ends: what standard error gets, and the exit status.
+ghost use Rattle.std.specs.Prelude.{◌≡◌, [], List, ℕ, string_bytes, map};
+ghost use Rattle.s2calc.specs.Program.{status_of, status_of_answer};
+ghost use Rattle.s2process.specs.Working.Errors.{TellsMore};
+ghost use Rattle.s2process.specs.Errors.{IsSaidAfter, fault_line_of, misnamed_lines};
+ghost use Rattle.s2process.specs.Streams.{AreNew};
+ghost use Rattle.s2process.specs.Program.{NotBegun, ShowsUsage};
+
+use crate::errors::{tell_failure, tell_of_answer, tell_usage};
+use crate::streams::Streams;
+use crate::writer::ListedWriter;
+use s2calc::{RunFault, Sink, Tally, answer_status, status};
+use std::alloc::Global;
+
+/// How the program has ended.
+#[derive(Drop)]
+pub struct Ended<R, W, E, S> {
+    /// The exit status.
+    pub status: u8,
+    /// The streams, with all their calls.
+    pub streams: Streams<R, W, E>,
+    /// The folder, if one was opened.
+    pub folder: Option<S>,
+}
+
+/// Ends a program that had no memory to begin with.
+pub(crate) fn not_begun<R: Drop, W: Drop, E: Sink + Drop, S: Drop>(
+    mut streams: Streams<R, W, E>,
+) -> Ended<R, W, E, S>
+    requires { AreNew streams }
+    ensures { NotBegun result }
+{
+    let status = end_run(&Err(RunFault::Memory), &mut streams.errors);
+    Ended {
+        status,
+        streams,
+        folder: None,
+    }
+}
+
+/// Ends a program whose words made no sense.
+pub(crate) fn end_usage<R: Drop, W: Drop, E: Sink + Drop, S: Drop>(
+    wrong: &[u8],
+    mut streams: Streams<R, W, E>,
+) -> Ended<R, W, E, S>
+    requires { AreNew streams }
+    ensures { ShowsUsage result wrong.now }
+{
+    tell_usage(&mut streams.errors, wrong);
+    Ended {
+        status: 2,
+        streams,
+        folder: None,
+    }
+}
+
+/// Tells what failed, if anything did, and gives the exit status after a run.
+pub(crate) fn end_run<E: Sink>(
+    outcome: &Result<Tally, RunFault>,
+    errors: &mut ListedWriter<E>,
+) -> u8
+    ensures tells { TellsMore (fault_line_of outcome.now) errors.old errors.new }
+    ensures status { result ≡ status_of outcome.now }
+{
+    tell_failure(outcome, errors);
+    status(outcome)
+}
+
+/// Tells what failed, or if an answer is a refusal what is wrong with the words that are no names of files, and gives
+/// the exit status after an answer.
+pub(crate) fn end_answer<E: Sink>(
+    alloc: Global,
+    outcome: &Result<bool, RunFault>,
+    words: &[String],
+    errors: &mut ListedWriter<E>,
+) -> u8
+    ensures tells { (text : List ℕ) × IsSaidAfter (misnamed_lines (map string_bytes words.now)) outcome.now text
+        × TellsMore text errors.old errors.new }
+    ensures status { result ≡ status_of_answer outcome.now }
+{
+    tell_of_answer(alloc, outcome, words, errors);
+    answer_status(outcome)
+}

@@ -1,0 +1,18 @@
+//! Where the folders are that a program is given by their paths.
+ghost use Rattle.std.specs.Prelude.{List, ℕ, IfOk};
+
+use s2shelf::Shelf;
+use std::alloc::AllocError;
+
+/// Opens folders of files by their paths.
+pub trait Folders {
+    /// A folder.
+    type Folder: Shelf + Drop;
+
+    // this folder was opened at this path, and nothing was asked of it yet
+    ghost opened: { Self.Folder → List ℕ → Type 0 };
+
+    /// Opens the folder at this path.
+    fn open(&self, path: &str) -> Result<Self::Folder, AllocError>
+        ensures { IfOk result (λ folder. opened folder path.now) };
+}
