@@ -6,8 +6,7 @@ Each file tests/faults/let-through/NAME.edit names a test, and has the form of t
 is one of tests/program, or if the file names a crate, the title of a row of that crate's table. Each mutant is built
 unproved, in a copy of the repository, and its test has to fail. All these tests and rows have to pass there without a
 mutant. `.ci/run` tries those that were asked for (--asked), some of them built together: NAME+NAME, where no mistake of
-one can be seen in the row of the other. Their rows aren't tried without a mutant, which takes two of seven builds: the
-gate's part `rattle` has the proved programs run over them. The last line is 'N passed, M failed'.
+one can be seen in the row of the other. The last line is 'N passed, M failed'.
 """
 import collections
 import contextlib
@@ -136,8 +135,7 @@ def pass_without_a_mutant(copy, mutants):
 
 
 def main():
-    is_gate = sys.argv[1:] == ["--asked"]
-    names = ASKED if is_gate else [it for it in sys.argv[1:] if it != "--asked"]
+    names = [it for it in sys.argv[1:] if it != "--asked"] or (ASKED if sys.argv[1:] else [])
     names = names or sorted(name.removesuffix(".edit") for name in os.listdir(FOLDER))
     groups = [[Mutant(name) for name in group.split("+")] for group in names]
     of_one = collections.defaultdict(list)
@@ -145,7 +143,7 @@ def main():
         of_one[mutant.crate].append(mutant)
     with tempfile.TemporaryDirectory() as copy:
         copy_of_the_sources(copy)
-        if not is_gate and not all(pass_without_a_mutant(copy, mutants) for mutants in of_one.values()):
+        if not all(pass_without_a_mutant(copy, mutants) for mutants in of_one.values()):
             return 1
         refused = sum(tried(copy, group) for group in groups)
     left = sum(map(len, groups)) - refused
