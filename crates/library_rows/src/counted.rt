@@ -1,5 +1,5 @@
 //! Questions of `s2union` about two unions, and how many cells they look at; the same of their lists in place, by
-//! `s2list` and `s2search`.
+//! `s2list` and `s2room`.
 ghost use Rattle.std.specs.Prelude.{◌<◌};
 
 use crate::changes::add_looks;
@@ -7,7 +7,7 @@ use crate::texts::{add_number, cut, numbers_of, union_of, yes_or_no};
 use row_table::add_line;
 use s2cell::CellId;
 use s2list::{CellList, Counted, contains_counted, intersects_counted};
-use s2search::put_intersection_counted;
+use s2room::put_intersection_counted;
 use s2union::{CellUnion, normalise};
 use std::alloc::{AllocError, Global};
 

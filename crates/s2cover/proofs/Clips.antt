@@ -14,7 +14,7 @@ use Rattle.s2cell.proofs.Leaves.{covers_from, covers_there, inside_from_within}
 use Rattle.s2list.specs.Union.{has_leaf, IsLocal, IsNormalForm, Union}
 use Rattle.s2list.proofs.Normal.{leaf_to, normal_form_same}
 use Rattle.s2cover.specs.Coverings.{filled, outer_set, inner_set, IsInOuter, IsInInner}
-use Rattle.s2search.specs.Cut.{cells_cut, cells_kept}
+use Rattle.s2room.specs.Cut.{cells_cut, cells_kept}
 use Rattle.s2cover.specs.Working.Cut.{meets, cells_met}
 use Rattle.s2cell.specs.declared.TheConstants.{LEAVES}
 use Rattle.s2cover.proofs.Runs.{touched_none, touched_from_none}

@@ -17,10 +17,10 @@ use Rattle.s2list.specs.Union.{has_leaf, IsLocal, IsNormalForm}
 use Rattle.s2list.proofs.Normal.{all_held, holder, family, leaf_to, normal_form_same}
 use Rattle.s2list.proofs.Normal.{normal_from_leaves, one_normal_form}
 use Rattle.std.specs.List.{list_any}
-use Rattle.s2search.specs.Room.{PutsUpTo}
-use Rattle.s2search.proofs.Levelling.{cut_parent, cut_same, filter_local}
+use Rattle.s2room.specs.Room.{PutsUpTo}
+use Rattle.s2room.proofs.Levelling.{cut_parent, cut_same, filter_local}
 use Rattle.s2cover.specs.Coverings.{touched, outer_set, inner_set, IsInOuter, IsInInner}
-use Rattle.s2search.specs.Cut.{reaches, cut_at, cells_cut, cells_kept}
+use Rattle.s2room.specs.Cut.{reaches, cut_at, cells_cut, cells_kept}
 use Rattle.s2cell.specs.declared.TheConstants.{LEAVES}
 use Rattle.s2cover.proofs.Runs.{touched_from_none}
 use Rattle.s2cover.proofs.Squares.{same_bool}

@@ -21,14 +21,14 @@ use Rattle.s2list.proofs.Picking.{picked_normal}
 use Rattle.s2cover.specs.Coverings.{filled, touched, outer_set, inner_set}
 use Rattle.s2cell.specs.declared.TheConstants.{LEAVES}
 use Rattle.s2cell.proofs.CellLemmas.{cell_leaves, four_pos}
-use Rattle.s2search.specs.Cut.{reaches, cells_cut, cells_kept}
+use Rattle.s2room.specs.Cut.{reaches, cells_cut, cells_kept}
 use Rattle.s2cover.specs.Working.Descent.{form_in, form, joined, cell_at, depth_of, IsAligned}
 use Rattle.s2cover.proofs.Runs.{block_in, is_touched, touched_from_none, filled_from, not_filled}
 use Rattle.s2cover.proofs.Forms.{child_run}
 use Rattle.s2cover.proofs.Rounded.{leaf_in_block, block_leaves}
 use Rattle.s2cover.proofs.Squares.{same_bool}
 use Rattle.s2cover.proofs.Visits.{covers_at, leaf_at}
-use Rattle.s2search.proofs.Levelling.{cut_cell, cut_same, cut_parent}
+use Rattle.s2room.proofs.Levelling.{cut_cell, cut_same, cut_parent}
 use Rattle.s2cover.proofs.Formed.{Run, formed, all_pairs_append, or_and}
 
 -- ---- two sets with the same leaves in a cell

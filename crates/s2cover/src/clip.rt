@@ -8,7 +8,7 @@ ghost use Rattle.std.specs.List.{flat_map};
 ghost use Rattle.s2cell.specs.Cell.{level_of};
 ghost use Rattle.s2list.specs.Union.{has_leaf, IsLocal, IsNormalForm};
 ghost use Rattle.s2cover.specs.Coverings.{HasLeavesOf, TooManyMeans, inner_set, outer_set};
-ghost use Rattle.s2search.specs.Cut.{cells_cut, cells_kept};
+ghost use Rattle.s2room.specs.Cut.{cells_cut, cells_kept};
 ghost use Rattle.s2cover.specs.Working.Cut.{cells_met};
 ghost use Rattle.s2cover.specs.Working.Descent.{IsAligned, form_in};
 ghost use Rattle.s2cover.specs.Rectangles.{clipped, rect_set};
@@ -21,7 +21,7 @@ use crate::rect::FaceRect;
 use crate::region::CoverFault;
 use s2cell::{CellId, GREATEST_LEVEL};
 use s2list::{CellList, Cells};
-use s2search::union_cut;
+use s2room::union_cut;
 use s2union::CellUnion;
 use std::alloc::{AllocError, Global};
 

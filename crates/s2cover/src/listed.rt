@@ -4,7 +4,7 @@ ghost use Rattle.std.specs.Prelude.{◌≡◌, ◌-◌, ◌<◌, ◌≤◌, ℕ,
 ghost use Rattle.s2list.specs.Union.{IsLocal, IsNormalForm};
 ghost use Rattle.s2cover.specs.Coverings.{TooManyMeans, inner_set, outer_set};
 ghost use Rattle.s2cover.specs.Rectangles.{clipped};
-ghost use Rattle.s2search.specs.Cut.{cells_kept};
+ghost use Rattle.s2room.specs.Cut.{cells_kept};
 
 use crate::MOST_CELLS;
 use crate::around::cells_around;

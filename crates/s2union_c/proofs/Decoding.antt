@@ -5,7 +5,7 @@ use Rattle.std.proofs.Math.Logic.{⊎_elim}
 use Rattle.std.proofs.lemmas.List.{drop_all, drop_at, length-append, length-drop, take_at, take-append-le}
 use Rattle.s2list.specs.Union.{IsLocal, IsNormalForm, has_leaf}
 use Rattle.s2list.proofs.Normal.{normal_from_local}
-use Rattle.s2search.specs.Normalising.{IsNormalisedIn}
+use Rattle.s2room.specs.Normalising.{IsNormalisedIn}
 use Rattle.s2union_c.specs.Files.{Decoded, IsDecodedIn}
 use Rattle.s2union_c.specs.Results.{HasNoRoom, IsWritten, Made, MadeOne, Refused}
 use Rattle.s2union_c.specs.Status.{made, no_room, no_memory}

@@ -12,7 +12,7 @@ use Rattle.s2cell.proofs.Family.{parent_around, parent_level}
 use Rattle.s2cell.proofs.Leaves.{covers_there, inside_from_within, within_from_inside}
 use Rattle.s2list.proofs.Lengths.{fewer, flat_few, flat_member, level_from_within}
 use Rattle.s2list.proofs.Normal.{same_level_same}
-use Rattle.s2search.specs.Ancestors.{AreHolders}
+use Rattle.s2room.specs.Ancestors.{AreHolders}
 
 -- the ancestors of a cell, and itself
 abbrev above : ℕ → List ℕ

@@ -10,7 +10,7 @@ use Rattle.s2file.specs.declared.fault.FileFault.{FileFault}
 use Rattle.s2file.specs.declared.fault.FileFault.TheVariants.{Version, Count, Short, Trailing, Cell, Memory}
 use Rattle.s2file.specs.declared.union_file.TheConstants.{MOST_CELLS}
 use Rattle.s2file.specs.File.{File, HasFault, IsFileOf, number_at, stated_count}
-use Rattle.s2search.proofs.Numbers.{length-numbers, get_or-numbers}
+use Rattle.s2room.proofs.Numbers.{length-numbers, get_or-numbers}
 use Rattle.s2union_c.specs.Files.{IsCellFile, IsFrameFault, IsFramed, IsLongFile, IsOtherVersion, IsShortFile, file_ids}
 use Rattle.s2union_c.specs.Laws.{IsStatusOf, RefusesFile}
 

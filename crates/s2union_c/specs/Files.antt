@@ -4,7 +4,7 @@ use Rattle.std.specs.Prelude.{slice_index}
 use Rattle.s2cell.specs.Cell.{IsCell}
 use Rattle.s2file.specs.File.{HasHead, HasVersion, stated_count}
 use Rattle.s2list.specs.Union.{IsNormalForm, has_leaf}
-use Rattle.s2search.specs.Numbers.{numbers_in}
+use Rattle.s2room.specs.Numbers.{numbers_in}
 use Rattle.s2union_c.specs.Results.{HasNoRoom, Refused}
 use Rattle.s2union_c.specs.Status.{made, no_room, no_memory, short_file, other_version, long_file}
 

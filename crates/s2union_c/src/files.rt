@@ -6,9 +6,9 @@ ghost use Rattle.s2cell.specs.Cell.{IsCell, covers};
 ghost use Rattle.s2list.specs.Union.{IsLocal, IsNormalForm, IsWithin, ShareSome, has_leaf};
 ghost use Rattle.s2list.specs.Count.{count_below};
 ghost use Rattle.s2file.specs.File.{file_text};
-ghost use Rattle.s2search.specs.Ancestors.{AreHolders};
-ghost use Rattle.s2search.specs.Normalising.{IsNormalisedIn};
-ghost use Rattle.s2search.specs.Numbers.{numbers_in};
+ghost use Rattle.s2room.specs.Ancestors.{AreHolders};
+ghost use Rattle.s2room.specs.Normalising.{IsNormalisedIn};
+ghost use Rattle.s2room.specs.Numbers.{numbers_in};
 ghost use Rattle.s2union_c.specs.Files.{Decoded, IsCellFile, IsFrameFault, IsFramed, file_ids};
 ghost use Rattle.s2union_c.specs.Results.{KeepsRest, Made, MadeInPlace, MadeOne, Refused};
 ghost use Rattle.s2union_c.specs.Status.{IsAnswerTo, IsAnswer, bad_argument, made, no_cell, wrong_cell};
@@ -24,7 +24,7 @@ use byteorder::{ByteOrder, LittleEndian};
 use s2cell::{CellId, LEAVES};
 use s2file::{HEAD_SIZE, VERSION};
 use s2list::{Cells, first_wrong, is_union};
-use s2search::{FileIds, NUMBER_SIZE, ancestors, number, read_numbers};
+use s2room::{FileIds, NUMBER_SIZE, ancestors, number, read_numbers};
 use s2union::normalise;
 use std::alloc::Global;
 
@@ -117,7 +117,7 @@ fn normalise_numbers(bytes: &[u8], out: &mut [u64]) -> usize
     ensures { IsNormalisedIn (numbers_in bytes.now) out.new result }
 {
     read_numbers(bytes, out);
-    s2search::normalise(out)
+    s2room::normalise(out)
 }
 
 /// Writes the union of the cells in bytes to the front of the room, if it fits, and tells how many cells it has. Takes

@@ -4,9 +4,9 @@ ghost use Rattle.s2list.specs.Union.{IsLocal, IsNormalForm, has_leaf};
 ghost use Rattle.s2cover.specs.Coverings.{inner_set, outer_set};
 ghost use Rattle.s2file.specs.declared.union_file.TheConstants.{MOST_CELLS};
 ghost use Rattle.s2file.specs.File.{File, HasFault, stated_count};
-ghost use Rattle.s2search.specs.Cut.{cells_kept};
-ghost use Rattle.s2search.specs.Normalising.{IsNormalisedIn};
-ghost use Rattle.s2search.specs.Room.{PutsOne};
+ghost use Rattle.s2room.specs.Cut.{cells_kept};
+ghost use Rattle.s2room.specs.Normalising.{IsNormalisedIn};
+ghost use Rattle.s2room.specs.Room.{PutsOne};
 ghost use Rattle.s2union_c.specs.Files.{IsCellFile, file_ids};
 ghost use Rattle.s2union_c.specs.Laws.{AreCutTo, HasItsNumbers, IsStatusOf, OneReading, RefusesFile};
 ghost use Rattle.s2union_c.specs.Results.{KeepsRest, MadeInPlace};
@@ -41,7 +41,7 @@ pub fn one_refusal()
     ensures back { (bytes : List ℕ) (S : ℕ → Bool) → File bytes S → IsCellFile bytes }
 {}
 
-/// The normal form that s2search puts into a room is what a call for C makes there, and the other way round; the call
+/// The normal form that s2room puts into a room is what a call for C makes there, and the other way round; the call
 /// answers by its status whether the list fits.
 pub fn one_room()
     ensures made { (S : ℕ → Bool) (status : ℤ) (old new : List ℕ) (len : ℕ) → PutsOne (IsNormalForm S) old new len

@@ -12,7 +12,7 @@ use s2cell::CellId;
 use s2list::{
     IdList, NEARBY, contains_cell_at, first_wrong, intersects_cell_at, place_near, places_of_four,
 };
-use s2search::cell_of;
+use s2room::cell_of;
 
 /// The question about each cell.
 #[derive(Clone, Copy, PartialEq, Eq)]

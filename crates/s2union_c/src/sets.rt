@@ -9,7 +9,7 @@ ghost use Rattle.s2union_c.specs.Results.{KeepsRest, MadeInPlace};
 
 use crate::results::{bound, room_status};
 use s2list::IdList;
-use s2search::{
+use s2room::{
     put_complement, put_difference, put_intersection, put_symmetric_difference, put_union,
 };
 

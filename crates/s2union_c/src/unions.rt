@@ -3,8 +3,8 @@ ghost use Rattle.std.specs.Prelude.{◌≡◌, ◌+◌, ◌*◌, ◌<◌, ◌≤
 ghost use Rattle.s2cell.specs.Cell.{IsCell, first_leaf, size_of};
 ghost use Rattle.s2list.specs.Union.{IsLocal, IsNormalForm, between, has_leaf};
 ghost use Rattle.s2union.specs.Denorm.{denormalised};
-ghost use Rattle.s2search.specs.Ancestors.{AreHolders};
-ghost use Rattle.s2search.specs.Normalising.{IsNormalisedIn};
+ghost use Rattle.s2room.specs.Ancestors.{AreHolders};
+ghost use Rattle.s2room.specs.Normalising.{IsNormalisedIn};
 ghost use Rattle.s2list.specs.Search.{IsFirstWrong};
 ghost use Rattle.s2union_c.specs.Ends.{AreEnds};
 ghost use Rattle.s2union_c.specs.Results.{KeepsRest, Made, MadeInPlace, MadeOne, Refused};
@@ -15,7 +15,7 @@ use crate::results::{bound, put, put_cells, room_status};
 use crate::status::{BAD_ARGUMENT, MADE, NO_CELL, NO_MEMORY};
 use s2cell::CellId;
 use s2list::{IdList, first_wrong};
-use s2search::{ancestors, denormalise, union_of_many};
+use s2room::{ancestors, denormalise, union_of_many};
 use s2union::CellUnion;
 use std::alloc::Global;
 
@@ -35,7 +35,7 @@ pub extern "C" fn s2u_normalise(ids: &mut [u64], len: &mut usize) -> i32
         *len = k;
         return NO_CELL;
     }
-    *len = s2search::normalise(ids);
+    *len = s2room::normalise(ids);
     MADE
 }
 
@@ -121,7 +121,7 @@ pub extern "C" fn s2u_range(
 }
 
 /// The cells of a union and all their ancestors, ascending, each once: the keys of an index, by
-/// `s2search::laws::law_of_indexes`. Of a list that is not a union the result means nothing.
+/// `s2room::laws::law_of_indexes`. Of a list that is not a union the result means nothing.
 #[unsafe(no_mangle)]
 pub extern "C" fn s2u_ancestors(ids: &[u64], out: &mut [u64], len: &mut usize) -> i32
     ensures made { IsLocal ids.now → MadeInPlace result (AreHolders ids.now) out.old out.new len.new }

@@ -1,6 +1,6 @@
 use Rattle.std.proofs.Common.{◌≡◌, ℕ, ◌&&◌, ◌∙◌}
 use Rattle.s2list.specs.Union.{has_leaf}
-use Rattle.s2search.specs.Cut.{cells_kept}
+use Rattle.s2room.specs.Cut.{cells_kept}
 use Rattle.s2cover.specs.Coverings.{inner_set}
 use Rattle.s2cover.specs.Rectangles.{rect_set}
 use Rattle.s2cover.proofs.Faces.{many_same}

@@ -3,8 +3,8 @@ use Rattle.std.proofs.lemmas.List.{drop_at, ext_get_or}
 use Rattle.std.proofs.lemmas.List.Elements.{All-get_or}
 use Rattle.s2file.specs.File.{first_number, number_text, file_text, stated_count}
 use Rattle.s2file.proofs.Numbers.{first_number-number_text, length-number_text, drop-number_texts, length-number_texts}
-use Rattle.s2search.specs.Numbers.{numbers_in}
-use Rattle.s2search.proofs.Numbers.{length-numbers, get_or-numbers}
+use Rattle.s2room.specs.Numbers.{numbers_in}
+use Rattle.s2room.proofs.Numbers.{length-numbers, get_or-numbers}
 use Rattle.s2union_c.specs.Files.{IsFramed}
 use Rattle.s2union_c.proofs.Encoding.{length-file_text}
 use Rattle.s2union_c.proofs.laws.file_of_list.Goals as goal

@@ -1,0 +1,17 @@
+use Rattle.std.proofs.Common.{◌≡◌, ◌≤◌, ◌-◌, drop, length, take}
+use Rattle.s2list.specs.Union.{IsLocal}
+use Rattle.s2room.specs.Cut.{cells_kept}
+use Rattle.s2room.specs.Working.Room.{IsPut}
+use Rattle.s2room.proofs.cut.put_kept.Given as goal
+
+abbrev pub invariant-loop-n : goal.invariant-loop-n
+invariant-loop-n g l = record {
+  within : l.i ≤ length (g.C.Cells.ids l.cells);
+  len : length l.out ≡ length l.fn.out;
+  rest : drop l.n l.out ≡ drop l.n l.fn.out;
+  so_far : IsLocal (g.C.Cells.ids l.cells) →
+      IsPut (cells_kept l.level (take l.i (g.C.Cells.ids l.cells))) l.fn.out l.out l.n;
+}
+
+abbrev pub decreases-loop-n : goal.decreases-loop-n
+decreases-loop-n g l = length (g.C.Cells.ids l.cells) - l.i

@@ -1,6 +1,0 @@
-use Rattle.std.proofs.Common.{sym}
-use Rattle.s2search.proofs.Numbers.{length-numbers}
-use Rattle.s2search.proofs.cells.FileIdsCells.len.Goals as goal
-
-pub returns : goal.returns
-returns c = sym (length-numbers c.args.self.now.bytes.now)

@@ -1,6 +1,0 @@
-use Rattle.s2search.proofs.Reaching.{indexed, found}
-use Rattle.s2search.proofs.laws.law_of_indexes.Goals as goal
-
-pub returns : goal.returns
-returns c xs ys x_holders y_holders cx cy ax ay =
-    (indexed xs ys x_holders y_holders cx cy ax ay, found xs ys x_holders y_holders cx cy ax ay)

@@ -1,5 +1,0 @@
-use Rattle.std.proofs.Common.{length}
-use Rattle.s2search.proofs.merge.+gather.Given as goal
-
-abbrev pub decreases-gather : goal.decreases-gather
-decreases-gather l = length l.ends.now
