@@ -47,6 +47,16 @@ without_kit() ( # in that copy, which has no archive and no program: what needs 
   [ ! -e "$work/installed" ] || { cat "$work/installed" && return 1; }
 )
 step ".ci/run, tests/run, tools/package: nothing is installed without the kit" without_kit
+unknown_words() { # and nothing is written for them
+  local words
+  for words in "calls --chek" "statement --chek" "library $work/none --chek" "java $work/none --chek" \
+    "package $work/none --chek"; do
+    ! "$top/tools/"$words >"$work/refused" 2>&1 && grep -q "tools/.* has no option --chek" "$work/refused" ||
+      { echo "$words" && cat "$work/refused" && return 1; }
+  done
+  [ ! -e "$work/none" ]
+}
+step "tools/: words that they don't know" unknown_words
 export PKG_CONFIG_PATH=$work/usr/lib/pkgconfig LD_LIBRARY_PATH=$work/usr/lib
 include=$work/usr/include
 static=$work/usr/lib/libs2union.a
