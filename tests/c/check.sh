@@ -57,6 +57,10 @@ unknown_words() { # and nothing is written for them
   [ ! -e "$work/none" ]
 }
 step "tools/: words that they don't know" unknown_words
+below() ( # a folder that isn't named from the root
+  cd "$work" && DESTDIR=below "$top/tools/library" /usr --no-build && [ -e below/usr/lib/libs2union.so.1 ]
+)
+step "tools/library: below a DESTDIR" below
 export PKG_CONFIG_PATH=$work/usr/lib/pkgconfig LD_LIBRARY_PATH=$work/usr/lib
 include=$work/usr/include
 static=$work/usr/lib/libs2union.a
