@@ -174,7 +174,6 @@ class Writer:
             text = text[:at] + chance.choice([b"", b"\x00", b"\x01"]) + text[at + chance.randrange(3) :]
         return text
 
-
     def session(self):
         """The bytes of the session that a script of edits leaves."""
         left = Calculator(10_000, self.chance.choice([2, 100]), {})
