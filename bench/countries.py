@@ -7,7 +7,6 @@ borders where s2union counts cells.
 """
 import json
 import os
-import re
 import sqlite3
 import sys
 import time

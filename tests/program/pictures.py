@@ -56,7 +56,7 @@ class Overlay:
         assert not any(parts[::8]), parts[::8]
         rows = [parts[at:at + 7] for at in range(1, len(parts), 8)]
         squares = [[tuple(map(int, square)) for square in self.SQUARE.findall(row[1])] for row in rows]
-        for row, row_squares in zip(rows, squares):
+        for row in rows:
             assert not self.SQUARE.sub("", row[1])
         levels = [[(11 - side.bit_length(), left, top, side) for left, top, side in row] for row in squares]
         self.colors = [int(row[0]) for row in rows]

@@ -14,7 +14,6 @@ from pathlib import Path
 
 import s2union
 from s2union import Union, UnionFile
-from worked import LEAF
 
 calls = s2union._library
 FACE = 0x1000000000000000

@@ -10,8 +10,8 @@ polygons, in GeoJSON or of shapely, and `to_geojson` makes GeoJSON of unions. Th
 (True, True, False, True, False)
 """
 
-from .polygons import MOST_CELLS, MOST_POSITIONS, covering, coverings, interior
-from .geojson import MOST_BYTES, read_geojson, to_geojson
+from .polygons import MOST_CELLS, covering, coverings, interior
+from .geojson import MOST_BYTES, MOST_POSITIONS, read_geojson, to_geojson
 from .sphere import leaf, leaves, points
 
 __all__ = ["leaf", "leaves", "points", "covering", "interior", "coverings", "to_geojson", "read_geojson",

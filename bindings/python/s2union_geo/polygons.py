@@ -13,7 +13,7 @@ import numpy
 from s2union import Union, from_points, parents
 
 from .crossings import look_for_crossings
-from .geojson import MOST_POSITIONS, polygons_of
+from .geojson import polygons_of
 from .sphere import geographic, on_cube, sphere
 
 MOST_CELLS = 1_000_000
