@@ -23,14 +23,16 @@ using nlohmann::json;
 void AddEdges(const json& coordinates, S2Builder* builder) {
   static const S2::PlateCarreeProjection map(180);
   static const S2EdgeTessellator cut(&map, S1Angle::Radians(10 / 6371e3));
-  if (!coordinates[0][0].is_number()) {
+  if (coordinates.empty()) return;
+  const json& first = coordinates.at(0);
+  if (first.empty() || !first.at(0).is_number()) {
     for (const json& part : coordinates) AddEdges(part, builder);
     return;
   }
   for (size_t k = 1; k < coordinates.size(); k++) {
-    const json &a = coordinates[k - 1], &b = coordinates[k];
+    const json &a = coordinates.at(k - 1), &b = coordinates.at(k);
     std::vector<S2Point> points;
-    cut.AppendUnprojected(R2Point(a[0], a[1]), R2Point(b[0], b[1]), &points);
+    cut.AppendUnprojected(R2Point(a.at(0), a.at(1)), R2Point(b.at(0), b.at(1)), &points);
     for (size_t i = 1; i < points.size(); i++) builder->AddEdge(points[i - 1], points[i]);
   }
 }
@@ -49,6 +51,13 @@ json Features(const std::string& name) {
   return found["features"];
 }
 
+// The name of a feature's files. A stranger's leads nowhere but into the folder.
+std::string NameOf(const json& feature, const std::string& file) {
+  const std::string name = feature.at("properties").at("file");
+  if (name.find('/') != std::string::npos) Refuse(file, name + " would lie in another folder");
+  return name;
+}
+
 void Write(const S2CellUnion& cells, const std::string& name) {
   Encoder encoder;
   cells.Encode(&encoder);
@@ -57,7 +66,7 @@ void Write(const S2CellUnion& cells, const std::string& name) {
   }
 }
 
-int main(int argc, char** argv) {
+int main(int argc, char** argv) try {
   if (argc != 5) return std::cerr << "usage: cover FILE.geojson FOLDER MAX_CELLS MAX_LEVEL\n", 2;
   S2RegionCoverer coverer;
   coverer.mutable_options()->set_max_cells(std::stoi(argv[3]));
@@ -65,7 +74,7 @@ int main(int argc, char** argv) {
   size_t outer_cells = 0, inner_cells = 0;
   const json features = Features(argv[1]);
   for (const json& feature : features) {
-    const std::string name = std::string(argv[2]) + "/" + feature["properties"]["file"].get<std::string>();
+    const std::string name = std::string(argv[2]) + "/" + NameOf(feature, argv[1]);
     S2Builder::Options options{s2builderutil::S2CellIdSnapFunction(23)};  // to within 2 m
     options.set_split_crossing_edges(true);
     S2Builder builder(options);
@@ -73,7 +82,7 @@ int main(int argc, char** argv) {
     builder.StartLayer(std::make_unique<s2builderutil::S2PolygonLayer>(
         &polygon, s2builderutil::S2PolygonLayer::Options(S2Builder::EdgeType::UNDIRECTED)));
     builder.AddIsFullPolygonPredicate(S2Builder::IsFullPolygon(false));
-    AddEdges(feature["geometry"]["coordinates"], &builder);
+    AddEdges(feature.at("geometry").at("coordinates"), &builder);
     S2Error error;
     if (!builder.Build(&error)) Refuse(name, error.text());
     const S2CellUnion outer = coverer.GetCovering(polygon), inner = coverer.GetInteriorCovering(polygon);
@@ -83,4 +92,6 @@ int main(int argc, char** argv) {
     inner_cells += inner.size();
   }
   std::cout << features.size() << " features, " << outer_cells << " and " << inner_cells << " cells\n";
+} catch (const json::exception& error) {
+  Refuse(argv[1], error.what());
 }

@@ -18,9 +18,10 @@ import numpy
 
 
 def file_name(name):
-    """The name in ASCII letters, digits, dots, dashes and underscores: Cote_d_Ivoire for Côte d'Ivoire."""
+    """The name in ASCII letters, digits, dots, dashes and underscores: Cote_d_Ivoire for Côte d'Ivoire. With .outer or
+    .inner behind it, it is a name for s2calc, of at most 64 bytes."""
     plain = unicodedata.normalize("NFKD", name).encode("ascii", "ignore").decode()
-    return re.sub(r"[^A-Za-z0-9.-]+", "_", plain)[:64]
+    return re.sub(r"[^A-Za-z0-9.-]+", "_", plain)[:58]
 
 
 def feature(name, geometry):

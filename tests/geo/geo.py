@@ -100,10 +100,19 @@ SQL
     def test_files_that_are_not_there(self):
         """cover.cc names the file that it can't read, that is no GeoJSON, or that it can't write."""
         countries, other, folder = self.file("countries.geojson"), self.file("other"), self.file("countries")
-        Path(other).write_text("{")
-        for file, there, said in (("none.geojson", folder, "none.geojson: it can't be read"),
-                                  (other, folder, f"{other}: it is no collection of features in GeoJSON"),
-                                  (countries, "none", "none/.*: it can't be written")):
+        ring = [[[0, 0], [1, 0], [1, 1], [0, 0]]]
+        away, nothing, point = ({"features": [it]} for it in (
+            {"properties": {"file": "../x"}, "geometry": {"coordinates": ring}}, {"properties": {}},
+            {"properties": {"file": "x"}, "geometry": {"coordinates": [0, 0]}}))
+        for file, there, text, said in (
+                ("none.geojson", folder, None, "none.geojson: it can't be read"),
+                (other, folder, "{", f"{other}: it is no collection of features in GeoJSON"),
+                (other, folder, json.dumps(away), f"{other}: ../x would lie in another folder"),
+                (other, folder, json.dumps(nothing), f"{other}: .*'file' not found"),
+                (other, folder, json.dumps(point), f"{other}: .*number"),
+                (countries, "none", None, "none/.*: it can't be written")):
+            if text:
+                Path(file).write_text(text)
             done = subprocess.run([self.file("cover"), file, there, "200", "30"], capture_output=True, text=True)
             self.assertEqual((done.returncode, done.stdout), (1, ""))
             self.assertRegex(done.stderr, f"^{said}\n$")

@@ -4,6 +4,7 @@ tests/geo asks S2 about more."""
 import json
 import math
 import os
+import re
 import subprocess
 import sys
 import tempfile
@@ -213,14 +214,21 @@ class Maps(unittest.TestCase):
 
         self.assertEqual(said("leaves", text="2.3522 48.8566 Paris\n\n0 90 North Pole\n").stdout,
                          "47e66e1d8f8be23b\n5000000000000001\n")
-        with tempfile.TemporaryDirectory() as folder:
+        with tempfile.TemporaryDirectory() as above:
+            folder = os.path.join(above, "cells")
+            os.mkdir(folder)
+            others = ["../good", f"{above}/good", "more/good"]
+            named = [("good", SQUARE), *((name, SQUARE) for name in others), ("open", SQUARE[:-1])]
             features = [{"type": "Feature", "properties": {"file": name}, "geometry": polygon(ring)}
-                        for name, ring in (("good", SQUARE), ("open", SQUARE[:-1]))]
-            file = os.path.join(folder, "some.geojson")
+                        for name, ring in named]
+            file = os.path.join(above, "some.geojson")
             with open(file, "w") as it:
                 json.dump({"type": "FeatureCollection", "features": features}, it)
             done = said("cover", file, folder, "20", "12")
-            self.assertRegex(done.stdout, r"^2 features, \d+ and \d+ cells; left: open \(polygon 0, ring 0 .*\)$")
+            self.assertRegex(done.stdout, r"^5 features, \d+ and \d+ cells; left: .*, open \(polygon 0, ring 0 .*\)$")
+            self.assertEqual(re.findall(r"(\S+) \(its files would lie in another folder\)", done.stdout), others)
+            self.assertEqual((sorted(os.listdir(above)), sorted(os.listdir(folder))),
+                             (["cells", "some.geojson"], ["good.inner", "good.outer"]))
             outer = covering(polygon(SQUARE), 20, 12)
             with open(os.path.join(folder, "good.outer"), "rb") as it:
                 self.assertEqual(Union.from_bytes(it.read()), outer)

@@ -30,8 +30,10 @@ def cover(file, folder, max_cells, max_level):
     cells, left = [0, 0], []
     features = read_geojson(file)["features"]
     for feature in features:
-        name = feature["properties"]["file"]
+        name = str(feature["properties"]["file"])
         try:
+            if Path(name).name != name:
+                raise ValueError("its files would lie in another folder")
             unions = coverings(feature, int(max_cells), int(max_level))
         except ValueError as error:
             left.append(f"{name} ({error})")
