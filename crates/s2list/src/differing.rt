@@ -1,8 +1,9 @@
 //! The leaves that exactly one of two lists of cells has, written to a list that grows or to a room.
-ghost use Rattle.std.specs.Prelude.{◌≡◌, ◌+◌, ◌<◌, ◌≤◌, [], IfErr, IfOk};
+ghost use Rattle.std.specs.Prelude.{◌≡◌, [], IfErr, IfOk};
 ghost use Rattle.s2list.specs.Union.{IsLocal, has_leaf};
 ghost use Rattle.s2list.specs.Sets.{in_one};
 ghost use Rattle.s2list.specs.Output.{Writes};
+ghost use Rattle.s2list.specs.Working.Piles.{IsPast};
 
 use crate::cells::Cells;
 use crate::output::Copies;
@@ -62,8 +63,7 @@ pub fn write_symmetric_difference<X: Cells, Y: Cells, W: Copies<X> + Copies<Y>>(
 /// The index after `i`, if there is a cell at `i` and it ends by the leaf `done`; else `i`.
 #[inline(always)]
 fn past(i: usize, len: usize, end: u64, done: u64) -> usize
-    ensures next { i < len → end ≤ done → result ≡ i + 1 }
-    ensures same { (i < len → done < end) → result ≡ i }
+    ensures { IsPast i len end done result }
 {
     if i < len && end <= done {
         return i + 1;

@@ -6,7 +6,7 @@ ghost use Rattle.s2cell.specs.Cell.{first_leaf};
 ghost use Rattle.s2list.specs.Union.{IsLocal, has_leaf};
 ghost use Rattle.s2list.specs.Sets.{either};
 ghost use Rattle.s2list.specs.Output.{Writes};
-ghost use Rattle.s2list.specs.Working.Piles.{Joins};
+ghost use Rattle.s2list.specs.Working.Piles.{Along};
 
 use crate::cells::Cells;
 use crate::find::{end_of, first_of};
@@ -84,9 +84,10 @@ fn add_next<X: Cells, Y: Cells, W: Copies<X>>(
     ensures place { W.place out.new ≡ W.place out.old }
     ensures joined { IfOk result (λ s. IsLocal (X.ids xs.now) → IsLocal (Y.ids ys.now)
         → (j < length (Y.ids ys.now) → first_leaf (slice_index (X.ids xs.now) i)
-        ≤ first_leaf (slice_index (Y.ids ys.now) j)) → (S : ℕ → Bool) (old : W)
-        → Joins S (λ n list. W.holds list old out.old n) (X.ids xs.now) (Y.ids ys.now) i j pile
-        → Joins S (λ n list. W.holds list old out.new n) (X.ids xs.now) (Y.ids ys.now) s.next j s.pile) }
+        ≤ first_leaf (slice_index (Y.ids ys.now) j))
+        → (S : ℕ → Bool) → ((x : ℕ) → S x ≡ either (has_leaf (X.ids xs.now)) (has_leaf (Y.ids ys.now)) x) → (old : W)
+        → Along S (λ n list. W.holds list old out.old n) (X.ids xs.now) (Y.ids ys.now) i j pile pile.hi
+        → Along S (λ n list. W.holds list old out.new n) (X.ids xs.now) (Y.ids ys.now) s.next j s.pile s.pile.hi) }
     ensures rest { IfOk result (λ s. (old : W) → W.rest old out.old pile.n → W.rest old out.new s.pile.n) }
     ensures sure { IfErr result (λ _. W.refuses) }
 {

@@ -1,5 +1,5 @@
 -- A set of leaves while it is put together from its intervals, from the first leaf to the last.
-use Rattle.std.specs.Prelude.{◌≡◌, ℕ, ◌+◌, ◌-◌, ◌<◌, ◌≤◌, Bool, true, false, ◌||◌, List, All, AllPairs}
+use Rattle.std.specs.Prelude.{◌≡◌, ℕ, ◌+◌, ◌-◌, ◌<◌, ◌≤◌, ◌⊎◌, Bool, true, false, ◌||◌, List, All, AllPairs}
 use Rattle.std.specs.Prelude.{length, slice_index}
 use Rattle.s2cell.specs.Cell.{IsCell, first_leaf, size_of}
 use Rattle.s2cell.specs.declared.TheConstants.{LEAVES}
@@ -50,10 +50,14 @@ pub record IsRun (S : ℕ → Bool) (u : List ℕ) (done i stop : ℕ) : Type 0 
       → x < first_leaf (slice_index u (stop - 1)) + size_of (slice_index u (stop - 1)) → S x ≡ has_leaf u x
   pub after : S (first_leaf (slice_index u (stop - 1)) + size_of (slice_index u (stop - 1))) ≡ false
 
--- a union that is put together: the set `S` is that of both lists, and before the end of its pile lie all leaves of the
--- first `i` cells of `xs` and of the first `j` of `ys`, and no others
-pub record Joins (S : ℕ → Bool) (Holds : ℕ → List ℕ → Type 0) (xs ys : List ℕ) (i j : ℕ) (p : Pile) : Type 0 where
-  pub same : (x : ℕ) → S x ≡ (has_leaf xs x || has_leaf ys x)
-  pub ended_x : FirstEndBy xs i p.hi
-  pub ended_y : FirstEndBy ys j p.hi
-  pub heap : PileIn S Holds p p.hi
+-- a set that is put together on a walk along two lists: before the leaf `done` lie all leaves of the first `i` cells of
+-- `xs` and of the first `j` of `ys`, and those of the set are in the heap of the pile
+pub record Along (S : ℕ → Bool) (Holds : ℕ → List ℕ → Type 0) (xs ys : List ℕ) (i j : ℕ) (p : Pile) (done : ℕ) : Type 0
+  where
+    pub ended_x : FirstEndBy xs i done
+    pub ended_y : FirstEndBy ys j done
+    pub heap : PileIn S Holds p done
+
+-- `at` is the index after `i`, if there is a cell at `i` of `len` that ends at `end`, by the leaf `done`; else `i`
+abbrev pub IsPast : (i len end done at : ℕ) → Type 0
+IsPast i len end done at = ((i < len) × (end ≤ done) × (at ≡ i + 1)) ⊎ ((at ≡ i) × (i < len → done < end))

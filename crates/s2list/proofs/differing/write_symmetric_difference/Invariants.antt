@@ -1,8 +1,7 @@
 use Rattle.std.proofs.Common.{◌-◌, ◌≡◌, ◌+◌, ◌≤◌, length}
 use Rattle.s2list.specs.Union.{IsLocal, has_leaf}
-use Rattle.s2list.specs.Packed.{FirstEndBy}
 use Rattle.s2list.specs.Sets.{in_one}
-use Rattle.s2list.specs.Working.Piles.{PileIn}
+use Rattle.s2list.specs.Working.Piles.{Along}
 use Rattle.s2list.proofs.differing.write_symmetric_difference.Given as goal
 
 abbrev pub invariant-loop-i : goal.invariant-loop-i
@@ -11,13 +10,10 @@ invariant-loop-i g l = record {
   in_y : l.j ≤ length (g.Y.Cells.ids l.ys);
   place : g.W.Output.place l.out ≡ g.W.Output.place l.fn.out;
   rest : g.W.Output.rest l.fn.out l.fn.out 0 → g.W.Output.rest l.fn.out l.out l.pile.n;
-  ended_x : IsLocal (g.X.Cells.ids l.xs) → IsLocal (g.Y.Cells.ids l.ys)
-      → FirstEndBy (g.X.Cells.ids l.xs) l.i l.done;
-  ended_y : IsLocal (g.X.Cells.ids l.xs) → IsLocal (g.Y.Cells.ids l.ys)
-      → FirstEndBy (g.Y.Cells.ids l.ys) l.j l.done;
   so_far : IsLocal (g.X.Cells.ids l.xs) → IsLocal (g.Y.Cells.ids l.ys)
-      → PileIn (in_one (has_leaf (g.X.Cells.ids l.xs)) (has_leaf (g.Y.Cells.ids l.ys)))
-      (λ n list. g.W.Output.holds list l.fn.out l.out n) l.pile l.done;
+      → Along (in_one (has_leaf (g.X.Cells.ids l.xs)) (has_leaf (g.Y.Cells.ids l.ys)))
+      (λ n list. g.W.Output.holds list l.fn.out l.out n) (g.X.Cells.ids l.xs) (g.Y.Cells.ids l.ys) l.i l.j l.pile
+      l.done;
 }
 
 abbrev pub decreases-loop-i : goal.decreases-loop-i

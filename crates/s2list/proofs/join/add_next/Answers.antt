@@ -2,8 +2,7 @@ use Rattle.std.proofs.Common.{◌≡◌, ◌+◌, ◌∙◌, get_or, ap, arith}
 use Rattle.s2cell.specs.Cell.{IsCell, first_leaf, size_of}
 use Rattle.s2cell.proofs.CellLemmas.{cell_leaves}
 use Rattle.s2list.specs.Union.{IsLocal}
-use Rattle.s2list.proofs.Laying.{run_alone}
-use Rattle.s2list.proofs.Uniting.{joins_more, joins_run, joins_within, next_brings, no_other}
+use Rattle.s2list.proofs.Uniting.{along_more, along_run, along_within, next_brings, no_other}
 use Rattle.s2list.proofs.join.add_next.Given.{Over}
 use Rattle.s2list.proofs.join.add_next.Goals as goal
 use Rattle.s2list.proofs.join.add_next.Goals.{After-end_of-end}
@@ -23,33 +22,30 @@ next g c lx =
     }
 
 pub returns-then-first-pile-clause-joined : goal.returns-then-first-pile-clause-joined
-returns-then-first-pile-clause-joined g c lx ly order S old s =
+returns-then-first-pile-clause-joined g c lx ly order S same old s =
     let at = next g (goal.at.returns-then-first-pile-clause-joined g c).After-end_of-end lx in
     let first = at.first in
     let end = at.end in
-    joins_more _ s (omega arith)
-    (joins_within c.max.result lx ly s c.requires.there order (omega (arith, c.if-first-pile.true)) (omega arith))
+    along_more _ s (omega arith)
+    (along_within c.max.result lx ly same s c.requires.there order (omega (arith, c.if-first-pile.true)) (omega arith))
 
 pub returns-then-i-stop-clause-joined : goal.returns-then-i-stop-clause-joined
-returns-then-i-stop-clause-joined g c lx ly order S old s =
-    let xs = g.X.Cells.ids c.args.xs.now in
-    let ys = g.Y.Cells.ids c.args.ys.now in
+returns-then-i-stop-clause-joined g c lx ly order S same old s =
     let r = c.run_to-stop.ensures in
     let some = c.if-i-stop.true in
-    let run = run_alone ys c.rest_of.result.first lx (no_other s) s.ended_x (c.rest_of.ensures.free ly s.ended_y) some
-    (r.within some) (r.apart lx some) (r.cut lx some) (r.mark lx some) in
-    joins_run c.in_ok-laid.laid lx s run (c.in_ok-laid.ensures.end lx)
-    (c.in_ok-laid.ensures.laid lx S old c.args.pile.hi run s.heap)
+    along_run c.rest_of.result.first c.in_ok-laid.laid lx (no_other _ _ same) s (c.rest_of.ensures.free ly s.ended_y)
+    some (r.within some) (r.apart lx some) (r.cut lx some) (r.mark lx some) (c.in_ok-laid.ensures.end lx)
+    (c.in_ok-laid.ensures.laid lx S old c.args.pile.hi)
 
 pub returns-clause-joined : goal.returns-clause-joined
-returns-clause-joined g c lx ly order S old s =
+returns-clause-joined g c lx ly order S same old s =
     let at = next g (goal.at.returns-clause-joined g c).After-end_of-end lx in
     let first = at.first in
     let end = at.end in
     let x = get_or (g.X.Cells.ids c.args.xs.now) c.args.i 0 in
     let some = (cell_leaves x (lx.cells c.args.i 0 c.requires.there)).some in
     let high = c.in_ok-more.ensures.end (omega arith) in
-    joins_more c.in_ok-more.more s (omega (arith, c.if-first-pile.false))
+    along_more c.in_ok-more.more s (omega (arith, c.if-first-pile.false))
     (c.in_ok-more.ensures.added S old c.args.pile.hi c.in_ok-more.more.hi
-    (rw (first, end) (next_brings _ c.in_ok-more.more.hi lx ly s c.requires.there order
+    (rw (first, end) (next_brings _ c.in_ok-more.more.hi lx ly same s c.requires.there order
     (omega (arith, c.if-first-pile.false)) (omega (arith, c.if-first-pile.false)))) s.heap)

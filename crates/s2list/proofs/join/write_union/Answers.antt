@@ -1,8 +1,8 @@
 use Rattle.std.proofs.Common.{◌≡◌, ◌<◌, ◌∙◌, length, get_or, refl, ap, arith}
+use Rattle.std.proofs.Math.Bool.{or_comm}
 use Rattle.s2cell.specs.Cell.{first_leaf}
 use Rattle.s2list.specs.Union.{IsLocal, has_leaf}
-use Rattle.s2list.specs.Sets.{either}
-use Rattle.s2list.proofs.Uniting.{joins_done, joins_none, joins_swap}
+use Rattle.s2list.proofs.Uniting.{along_done, along_none, along_swap, none_of}
 use Rattle.s2list.proofs.join.write_union.Given.{Over}
 use Rattle.s2list.proofs.join.write_union.Goals as goal
 use Rattle.s2list.proofs.join.write_union.Goals.{After-first_of-in-loop-i}
@@ -31,7 +31,7 @@ loop-i-init g c = record {
   in_y = omega arith;
   place = refl;
   rest = λ h. h;
-  so_far = λ lx ly. joins_none _ _ (λ n list. g.W.Output.holds list c.args.out.now c.args.out.now n) _ refl refl refl
+  so_far = λ lx ly. along_none (λ n list. g.W.Output.holds list c.args.out.now c.args.out.now n) _ refl refl refl
       c.requires.empty;
 }
 
@@ -45,23 +45,25 @@ loop-i-preserved-then-first_of g c = record {
       let f = firsts g (goal.at.loop-i-preserved-then-first_of g c).After-first_of-in-loop-i lx ly in
       let fx = f.x in
       let fy = f.y in
-      omega (arith, c.if-first_of.true)) (either (has_leaf (g.X.Cells.ids c.args.xs.now))
-      (has_leaf (g.Y.Cells.ids c.args.ys.now))) c.args.out.now (c.loop-i.invariant.so_far lx ly);
+      omega (arith, c.if-first_of.true)) _ (λ x. refl) c.args.out.now (c.loop-i.invariant.so_far lx ly);
 }
 
 pub loop-i-preserved : goal.loop-i-preserved
-loop-i-preserved g c = record {
-  in_x = c.loop-i.invariant.in_x;
-  in_y = c.in_ok-by_y.ensures.within;
-  place = c.add_next-else-first_of.ensures.place ∙ c.loop-i.invariant.place;
-  rest = λ h. c.in_ok-by_y.ensures.rest c.args.out.now (c.loop-i.invariant.rest h);
-  so_far = λ lx ly. joins_swap (c.in_ok-by_y.ensures.joined ly lx (λ t.
-      let f = firsts g (goal.at.loop-i-preserved g c).After-first_of-in-loop-i lx ly in
-      let fx = f.x in
-      let fy = f.y in
-      omega (arith, c.if-first_of.false)) (either (has_leaf (g.X.Cells.ids c.args.xs.now))
-      (has_leaf (g.Y.Cells.ids c.args.ys.now))) c.args.out.now (joins_swap (c.loop-i.invariant.so_far lx ly)));
-}
+loop-i-preserved g c =
+    let xs = g.X.Cells.ids c.args.xs.now in
+    let ys = g.Y.Cells.ids c.args.ys.now in
+    record {
+      in_x = c.loop-i.invariant.in_x;
+      in_y = c.in_ok-by_y.ensures.within;
+      place = c.add_next-else-first_of.ensures.place ∙ c.loop-i.invariant.place;
+      rest = λ h. c.in_ok-by_y.ensures.rest c.args.out.now (c.loop-i.invariant.rest h);
+      so_far = λ lx ly. along_swap (c.in_ok-by_y.ensures.joined ly lx (λ t.
+          let f = firsts g (goal.at.loop-i-preserved g c).After-first_of-in-loop-i lx ly in
+          let fx = f.x in
+          let fy = f.y in
+          omega (arith, c.if-first_of.false)) _ (λ x. or_comm (has_leaf xs x) (has_leaf ys x)) c.args.out.now
+          (along_swap (c.loop-i.invariant.so_far lx ly)));
+    }
 
 pub loop-i-2-preserved : goal.loop-i-2-preserved
 loop-i-2-preserved g c =
@@ -72,27 +74,27 @@ loop-i-2-preserved g c =
       other = λ t. ended;
       place = c.add_next-in-loop-i-2.ensures.place ∙ c.loop-i-2.invariant.place;
       rest = λ h. c.in_ok-rest_x.ensures.rest c.args.out.now (c.loop-i-2.invariant.rest h);
-      so_far = λ lx ly. c.in_ok-rest_x.ensures.joined lx ly (λ t. absurd (omega arith))
-          (either (has_leaf (g.X.Cells.ids c.args.xs.now)) (has_leaf (g.Y.Cells.ids c.args.ys.now))) c.args.out.now
-          (c.loop-i-2.invariant.so_far lx ly);
+      so_far = λ lx ly. c.in_ok-rest_x.ensures.joined lx ly (λ t. absurd (omega arith)) _ (λ x. refl)
+          c.args.out.now (c.loop-i-2.invariant.so_far lx ly);
     }
 
 pub loop-j-preserved : goal.loop-j-preserved
 loop-j-preserved g c =
+    let xs = g.X.Cells.ids c.args.xs.now in
+    let ys = g.Y.Cells.ids c.args.ys.now in
     let done = c.loop-j.invariant.done in
     record {
       done = done;
       in_y = c.in_ok-rest_y.ensures.within;
       place = c.add_next-in-loop-j.ensures.place ∙ c.loop-j.invariant.place;
       rest = λ h. c.in_ok-rest_y.ensures.rest c.args.out.now (c.loop-j.invariant.rest h);
-      so_far = λ lx ly. joins_swap (c.in_ok-rest_y.ensures.joined ly lx (λ t. absurd (omega arith))
-          (either (has_leaf (g.X.Cells.ids c.args.xs.now)) (has_leaf (g.Y.Cells.ids c.args.ys.now))) c.args.out.now
-          (joins_swap (c.loop-j.invariant.so_far lx ly)));
+      so_far = λ lx ly. along_swap (c.in_ok-rest_y.ensures.joined ly lx (λ t. absurd (omega arith)) _
+          (λ x. or_comm (has_leaf xs x) (has_leaf ys x)) c.args.out.now (along_swap (c.loop-j.invariant.so_far lx ly)));
     }
 
 pub returns-clause-made : goal.returns-clause-made
 returns-clause-made g c lx ly =
-    joins_done lx ly (c.loop-j.invariant.so_far lx ly) c.loop-j.invariant.done
-    (omega (arith, c.loop-j-test.false, c.len-y_len.ensures))
+    along_done lx ly (c.loop-j.invariant.so_far lx ly) c.loop-j.invariant.done
+    (omega (arith, c.loop-j-test.false, c.len-y_len.ensures)) (λ x. none_of _ _)
     (λ list. g.met.W.Output.counts list c.args.out.now c.finish.new.out c.in_ok-n.n)
     (λ few list. c.in_ok-n.ensures.put few list c.args.out.now)

@@ -1,7 +1,7 @@
 use Rattle.std.proofs.Common.{◌≡◌, ◌<◌, ◌≤◌, ◌+◌, ◌-◌, length}
 use Rattle.s2list.specs.Union.{IsLocal, has_leaf}
 use Rattle.s2list.specs.Sets.{either}
-use Rattle.s2list.specs.Working.Piles.{Joins}
+use Rattle.s2list.specs.Working.Piles.{Along}
 use Rattle.s2list.proofs.join.write_union.Given as goal
 
 abbrev pub invariant-loop-i : goal.invariant-loop-i
@@ -11,8 +11,9 @@ invariant-loop-i g l = record {
   place : g.W.Output.place l.out ≡ g.W.Output.place l.fn.out;
   rest : g.W.Output.rest l.fn.out l.fn.out 0 → g.W.Output.rest l.fn.out l.out l.pile.n;
   so_far : IsLocal (g.X.Cells.ids l.xs) → IsLocal (g.Y.Cells.ids l.ys)
-      → Joins (either (has_leaf (g.X.Cells.ids l.xs)) (has_leaf (g.Y.Cells.ids l.ys)))
-      (λ n list. g.W.Output.holds list l.fn.out l.out n) (g.X.Cells.ids l.xs) (g.Y.Cells.ids l.ys) l.i l.j l.pile;
+      → Along (either (has_leaf (g.X.Cells.ids l.xs)) (has_leaf (g.Y.Cells.ids l.ys)))
+      (λ n list. g.W.Output.holds list l.fn.out l.out n) (g.X.Cells.ids l.xs) (g.Y.Cells.ids l.ys) l.i l.j l.pile
+      l.pile.hi;
 }
 
 abbrev pub decreases-loop-i : goal.decreases-loop-i
@@ -26,8 +27,9 @@ invariant-loop-i-2 g l = record {
   place : g.W.Output.place l.out ≡ g.W.Output.place l.fn.out;
   rest : g.W.Output.rest l.fn.out l.fn.out 0 → g.W.Output.rest l.fn.out l.out l.pile.n;
   so_far : IsLocal (g.X.Cells.ids l.xs) → IsLocal (g.Y.Cells.ids l.ys)
-      → Joins (either (has_leaf (g.X.Cells.ids l.xs)) (has_leaf (g.Y.Cells.ids l.ys)))
-      (λ n list. g.W.Output.holds list l.fn.out l.out n) (g.X.Cells.ids l.xs) (g.Y.Cells.ids l.ys) l.i l.j l.pile;
+      → Along (either (has_leaf (g.X.Cells.ids l.xs)) (has_leaf (g.Y.Cells.ids l.ys)))
+      (λ n list. g.W.Output.holds list l.fn.out l.out n) (g.X.Cells.ids l.xs) (g.Y.Cells.ids l.ys) l.i l.j l.pile
+      l.pile.hi;
 }
 
 abbrev pub decreases-loop-i-2 : goal.decreases-loop-i-2
@@ -40,8 +42,9 @@ invariant-loop-j g l = record {
   place : g.W.Output.place l.out ≡ g.W.Output.place l.fn.out;
   rest : g.W.Output.rest l.fn.out l.fn.out 0 → g.W.Output.rest l.fn.out l.out l.pile.n;
   so_far : IsLocal (g.X.Cells.ids l.xs) → IsLocal (g.Y.Cells.ids l.ys)
-      → Joins (either (has_leaf (g.X.Cells.ids l.xs)) (has_leaf (g.Y.Cells.ids l.ys)))
-      (λ n list. g.W.Output.holds list l.fn.out l.out n) (g.X.Cells.ids l.xs) (g.Y.Cells.ids l.ys) l.i l.j l.pile;
+      → Along (either (has_leaf (g.X.Cells.ids l.xs)) (has_leaf (g.Y.Cells.ids l.ys)))
+      (λ n list. g.W.Output.holds list l.fn.out l.out n) (g.X.Cells.ids l.xs) (g.Y.Cells.ids l.ys) l.i l.j l.pile
+      l.pile.hi;
 }
 
 abbrev pub decreases-loop-j : goal.decreases-loop-j
