@@ -2,7 +2,7 @@
 use Rattle.std.proofs.Common.{◌≡◌, ℕ, ◌+◌, ◌-◌, ◌<◌, ◌≤◌, sym, ◌∙◌, arith, Bool, true, false, ◌||◌}
 use Rattle.std.proofs.Common.{refl, subst, List, []}
 use Rattle.std.proofs.Math.Logic.{⊎_elim}
-use Rattle.std.proofs.lemmas.Bool.{cases_lt, false≢true}
+use Rattle.std.proofs.lemmas.Bool.{cases_lt, false≢true, or_cases, or_right}
 use Rattle.std.proofs.lemmas.Bool.Decides.{nat_tests}
 use Rattle.s2cell.specs.Cell.{first_leaf, size_of}
 use Rattle.s2cell.specs.declared.TheConstants.{LEAVES}
@@ -14,13 +14,9 @@ use Rattle.s2list.specs.declared.pile.Pile.{Pile}
 use Rattle.s2list.specs.Packed.{FillsGap}
 use Rattle.s2list.specs.Output.{Fills, Writes}
 use Rattle.s2list.proofs.Picking.{Picked, IsGap, picked_fill, fill_leaves, between_ends}
-use Rattle.s2list.proofs.Tiling.{or_true, or_false, none_between}
+use Rattle.s2list.proofs.Tiling.{or_false, none_between}
 use Rattle.s2list.proofs.Walking.{not_true}
 use Rattle.s2list.proofs.Writing.{Counts, written_normal}
-
-pub or_right : (a b : Bool) → b ≡ true → (a || b) ≡ true
-or_right true b h = refl
-or_right false b h = h
 
 pub pile_free : (list : List ℕ) (lo hi x : ℕ) → EndsBy list lo → lo ≤ hi → hi ≤ x →
     (has_leaf list x || between lo hi x) ≡ false
@@ -28,7 +24,7 @@ pile_free list lo hi x below order h = not_true (has_leaf list x || between lo h
     ⊎_elim
     (λ (a : has_leaf list x ≡ true). let b = below x a in omega arith)
     (λ (a : between lo hi x ≡ true). let b = (between_ends lo hi x a).1 in omega arith)
-    (or_true (has_leaf list x) (between lo hi x) t))
+    (or_cases (has_leaf list x) (between lo hi x) t))
 
 -- no leaf comes before the first
 pub heaping_none : (S : ℕ → Bool) → Heaping S [] 0 0 0

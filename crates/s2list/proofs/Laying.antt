@@ -2,7 +2,7 @@
 use Rattle.std.proofs.Common.{◌≡◌, ℕ, zero, suc, ◌+◌, ◌-◌, ◌<◌, ◌≤◌, refl, sym, ◌∙◌, ap, arith, Bool, true}
 use Rattle.std.proofs.Common.{false, ◌||◌, List, ◌++◌, length, get_or, take, drop}
 use Rattle.std.proofs.Math.Logic.{⊎_elim}
-use Rattle.std.proofs.lemmas.Bool.{cases_lt, false≢true}
+use Rattle.std.proofs.lemmas.Bool.{cases_lt, false≢true, or_cases}
 use Rattle.std.proofs.lemmas.List.{append-nil, get_or-drop, get_or-take, length-drop, length-take-le}
 use Rattle.std.proofs.lemmas.List.Folds.{list_any-append}
 use Rattle.s2cell.specs.Cell.{IsCell, first_leaf, level_of, parent_of, size_of, covers}
@@ -22,7 +22,7 @@ use Rattle.s2list.proofs.Heaping.{heaping_flush, heaping_on}
 use Rattle.s2list.proofs.Normal.{member_greatest}
 use Rattle.s2list.proofs.Picking.{Picked, picked_push}
 use Rattle.s2list.proofs.Shared.{run_push}
-use Rattle.s2list.proofs.Tiling.{or_true, or_false, none_between}
+use Rattle.s2list.proofs.Tiling.{none_between}
 use Rattle.s2list.proofs.Walking.{gap, leaf_at, leaf_there, not_true}
 
 -- the place of a leaf of a run in the whole list
@@ -117,7 +117,7 @@ run_below u list i n start bound within below order ends x t =
     let high = l.high in
     let end = ends l.at l.from l.to in
     omega arith)
-    (or_true (has_leaf list x) (has_leaf run x) (sym (list_any-append (λ (c : ℕ). covers c x) list run) ∙ t))
+    (or_cases (has_leaf list x) (has_leaf run x) (sym (list_any-append (λ (c : ℕ). covers c x) list run) ∙ t))
 
 run_picked : (S : ℕ → Bool) (u list : List ℕ) (i start n : ℕ) → IsPacked u → Picked S list → EndsBy list start
     → start ≡ first_leaf (get_or u i 0) → i + n ≤ length u

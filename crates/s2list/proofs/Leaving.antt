@@ -1,20 +1,21 @@
 -- What one list of cells has without the leaves of another, written on a walk along both.
 use Rattle.std.proofs.Common.{◌≡◌, ℕ, ◌+◌, ◌-◌, ◌<◌, ◌≤◌, refl, sym, ◌∙◌, ap, arith, Bool, inl, List, []}
 use Rattle.std.proofs.Common.{◌++◌, length, get_or, take, drop, max}
-use Rattle.std.proofs.Common.{IsTrue, false, inr, ◌⊎◌}
+use Rattle.std.proofs.Common.{IsTrue, false, inr, ◌⊎◌, ◌&&◌, not}
 use Rattle.std.proofs.Math.Logic.{⊎_elim}
 use Rattle.std.proofs.lemmas.Bool.{cases_lt, false≢true}
 use Rattle.std.proofs.lemmas.Bool.Decides.{nat_tests}
 use Rattle.s2cell.specs.Cell.{IsCell, first_leaf, size_of}
 use Rattle.s2cell.specs.declared.TheConstants.{LEAVES}
 use Rattle.s2cell.proofs.CellLemmas.{cell_leaves}
-use Rattle.s2list.specs.Union.{IsLocal}
+use Rattle.s2list.specs.Union.{IsLocal, has_leaf}
 use Rattle.s2list.specs.Packed.{IsPacked, FirstEndBy}
 use Rattle.s2list.proofs.Checking.{packed_from_local}
 use Rattle.s2list.proofs.Picking.{picked_none}
-use Rattle.s2list.proofs.Subtracting.{Subtracting, minus, subtract_done, subtracting_free, subtracting_from}
+use Rattle.s2list.proofs.Subtracting.{Subtracting, minus, subtracting_free, subtracting_from}
 use Rattle.s2list.proofs.Subtracting.{subtracting_on_x, subtracting_on_y, subtracting_run, subtracting_taken}
 use Rattle.s2list.specs.Output.{Fills, WritesUpTo}
+use Rattle.s2list.proofs.Walking.{walk_done}
 use Rattle.s2list.proofs.Writing.{Counts, written_normal, written_past}
 
 -- a list of what is left so far was written
@@ -149,7 +150,7 @@ pub left_done : {xs ys : List ℕ} {Holds : List ℕ → Type 0} {n i j lo most 
     LeavingIn xs ys Holds i j lo → (length xs ≤ i) ⊎ (most < n) → WritesUpTo most (minus xs ys) Holds n
 left_done {xs} {ys} {Holds} {n} {i} {j} {lo} {most} counts s ends = ⊎_elim
     (λ (h : length xs ≤ i). inl (written_normal (minus xs ys) Holds s.list n counts s.left.picked
-    (subtract_done xs ys s.list i j lo s.left.walk h) s.held))
+    (walk_done s.left.walk h (λ x n. ap (λ v. v && not (has_leaf ys x)) n)) s.held))
     (λ (h : most < n). inr (
       h,
       λ u normal. written_past (minus xs ys) Holds s.list u n most counts s.left.picked normal

@@ -5,6 +5,7 @@ use Rattle.std.proofs.Common.{◌∙◌, ap, subst, arith, Bool, true, false, co
 use Rattle.std.proofs.Common.{flat_map}
 use Rattle.std.proofs.Common.{get_or, All, AllPairs, Contains, ◌||◌, ◌&&◌, not}
 use Rattle.std.specs.List.{range_with_len, remove}
+use Rattle.std.proofs.Math.Bool.{or_comm}
 use Rattle.std.proofs.Math.Logic.{⊎_elim}
 use Rattle.std.proofs.Math.Nat.{div-eq_of_lt-le, mul-suc}
 use Rattle.std.proofs.lemmas.Bool.{cases_lt, cases_order, cond-true, cond-false, lt-ltb, le-ltb, false≢true}
@@ -24,8 +25,9 @@ use Rattle.s2cell.proofs.Leaves.{Within, before, after, within, around, meeting,
 use Rattle.s2cell.proofs.Leaves.{inside_from_within}
 use Rattle.s2cell.proofs.Family.{deeper_inside, level_of_child, parent_around, parent_larger, parent_level}
 use Rattle.s2cell.proofs.Family.{parent_within, within_trans}
+use Rattle.s2cell.proofs.Squares.{first_leaf_covered}
 use Rattle.s2list.specs.Sets.{either, in_one, shared, without}
-use Rattle.s2list.specs.Union.{between, has_leaf, IsGreatestIn, IsNormalForm}
+use Rattle.s2list.specs.Union.{between, has_leaf, IsGreatestIn, IsNormalForm, LiesIn}
 use Rattle.s2list.proofs.Checking.{packed_from_local}
 use Rattle.s2list.proofs.Normal.{child_of_leaf, leaf_from, leaf_to, local_from_normal, same_level_same}
 use Rattle.s2list.proofs.Picking.{between_ends}
@@ -127,7 +129,7 @@ beside c y cc cy deep w free =
     (covers_there p (first_leaf c) vl (omega arith)) in
     let (j, hj, at_j) = child_of_leaf (first_leaf y) cp (omega arith)
     (covers_there p (first_leaf y) wl (omega arith)) in
-    let here : covers c (first_leaf c) ≡ true = covers_there c (first_leaf c) (omega arith) (omega arith) in
+    let here = first_leaf_covered c cc in
     let ci = IsCell-child_of p i (child_of p i) cp (omega arith) hi refl in
     let li = level_of_child p i cp (omega arith) hi in
     let is_i : c ≡ child_of p i = same_level_same (first_leaf c) cc ci (omega arith) here at_i in
@@ -200,13 +202,11 @@ pub near_or_free : (ys : List ℕ) {c : ℕ} → All IsCell ys → IsCell c → 
 near_or_free ys {c} all cc deep free =
     let k = level_of c - 1 in
     let cp : IsCell (parent c) = IsCell-parent_of c k (parent c) cc (omega arith) refl in
-    let some_c = (cell_leaves c cc).some in
-    let here : covers c (first_leaf c) ≡ true = covers_there c (first_leaf c) (omega arith) (omega arith) in
+    let here = first_leaf_covered c cc in
     ⊎_elim
     (λ (m : Meets ys (parent c)).
     let (y, member, cy, nested) = m in
-    let some_y = (cell_leaves y cy).some in
-    let first : covers y (first_leaf y) ≡ true = covers_there y (first_leaf y) (omega arith) (omega arith) in
+    let first = first_leaf_covered y cy in
     ⊎_elim
     (λ (w : Within y (parent c)). inl (record {
       cell = y;
@@ -263,6 +263,31 @@ hit {v} {z} {d} (k, l, e) cz w =
 
 self : (d : ℕ) → Within d d
 self d = record { low = omega arith; high = omega arith }
+
+-- a greatest cell of a set has its first leaf there
+first_in : {S : ℕ → Bool} {d : ℕ} → IsGreatestIn S d → S (first_leaf d) ≡ true
+first_in {d = d} g = g.inside (first_leaf d) (first_leaf_covered d g.cell)
+
+-- a cell that begins with a leaf of `xs` is around a cell of it, or its parent lies in it
+hit_or_in : (xs : List ℕ) {v : List ℕ} {c : ℕ} → All IsCell xs → IsCell c → has_leaf xs (first_leaf c) ≡ true
+    → ((x : ℕ) → Contains xs x → Contains v x) → Hit v c ⊎ ((0 < level_of c) × LiesIn (has_leaf xs) (parent c))
+hit_or_in xs {v} {c} all cc h from =
+    ⊎_elim
+    (λ a. let (x, m, cx, w) = a in inl (hit (from x m) cx w))
+    (λ b.
+    let (deep, (x, m, cx, w)) = b in
+    inr (deep, λ p t. leaf_to xs x p m (inside_from_within (parent c) x w p t)))
+    (around_or_in xs all cc h)
+
+-- a greatest cell of a set that has all leaves of `xs`
+hit_own : {S : ℕ → Bool} (xs : List ℕ) {v : List ℕ} {d : ℕ} → All IsCell xs → IsGreatestIn S d
+    → has_leaf xs (first_leaf d) ≡ true → ((x : ℕ) → Contains xs x → Contains v x)
+    → ((x : ℕ) → has_leaf xs x ≡ true → S x ≡ true) → Hit v d
+hit_own xs {v} {d} all g h from own =
+    ⊎_elim
+    (λ (a : Hit v d). a)
+    (λ b. absurd (g.greatest b.0 (λ p t. own p (b.1 p t))))
+    (hit_or_in xs all g.cell h from)
 
 -- a normal form has no more cells than a list that has a cell inside each greatest one
 pub few : {S : ℕ → Bool} {u : List ℕ} (v : List ℕ) → IsNormalForm S u
@@ -342,20 +367,12 @@ pub union_few : (xs ys : List ℕ) {u : List ℕ} → All IsCell xs → All IsCe
 union_few xs ys ax ay n =
     let both = length-append xs ys in
     let within = few (xs ++ ys) n (λ d g.
-    let some = (cell_leaves d g.cell).some in
-    let here = covers_there d (first_leaf d) (omega arith) (omega arith) in
     ⊎_elim
-    (λ (h : has_leaf xs (first_leaf d) ≡ true). ⊎_elim
-    (λ a. let (x, m, cx, w) = a in hit (Contains-append_left xs ys x m) cx w)
-    (λ b. let (deep, (x, m, cx, w)) = b in absurd (g.greatest deep (λ p v. or_left (has_leaf xs p) (has_leaf ys p)
-    (leaf_to xs x p m (inside_from_within (parent d) x w p v)))))
-    (around_or_in xs ax g.cell h))
-    (λ (h : has_leaf ys (first_leaf d) ≡ true). ⊎_elim
-    (λ a. let (y, m, cy, w) = a in hit (Contains-append_right xs ys y m) cy w)
-    (λ b. let (deep, (y, m, cy, w)) = b in absurd (g.greatest deep (λ p v. or_right (has_leaf xs p) (has_leaf ys p)
-    (leaf_to ys y p m (inside_from_within (parent d) y w p v)))))
-    (around_or_in ys ay g.cell h))
-    (or_cases (has_leaf xs (first_leaf d)) (has_leaf ys (first_leaf d)) (g.inside (first_leaf d) here))) in
+    (λ (h : has_leaf xs (first_leaf d) ≡ true).
+    hit_own xs ax g h (λ x. Contains-append_left xs ys x) (λ x. or_left (has_leaf xs x) (has_leaf ys x)))
+    (λ (h : has_leaf ys (first_leaf d) ≡ true).
+    hit_own ys ay g h (λ y. Contains-append_right xs ys y) (λ x. or_right (has_leaf xs x) (has_leaf ys x)))
+    (or_cases (has_leaf xs (first_leaf d)) (has_leaf ys (first_leaf d)) (first_in g))) in
     omega arith
 
 pub intersection_few : (xs ys : List ℕ) {u : List ℕ} → All IsCell xs → All IsCell ys
@@ -363,18 +380,14 @@ pub intersection_few : (xs ys : List ℕ) {u : List ℕ} → All IsCell xs → A
 intersection_few xs ys ax ay n =
     let both = length-append xs ys in
     let within = few (xs ++ ys) n (λ d g.
-    let some = (cell_leaves d g.cell).some in
-    let here = covers_there d (first_leaf d) (omega arith) (omega arith) in
-    let h = and_parts (has_leaf xs (first_leaf d)) (has_leaf ys (first_leaf d)) (g.inside (first_leaf d) here) in
+    let h = and_parts (has_leaf xs (first_leaf d)) (has_leaf ys (first_leaf d)) (first_in g) in
     ⊎_elim
-    (λ a. let (x, m, cx, w) = a in hit (Contains-append_left xs ys x m) cx w)
-    (λ b. let (deep, (x, mx, cx, wx)) = b in ⊎_elim
-    (λ a. let (y, m, cy, w) = a in hit (Contains-append_right xs ys y m) cy w)
-    (λ b. let (_, (y, my, cy, wy)) = b in absurd (g.greatest deep (λ p v. and_from (has_leaf xs p) (has_leaf ys p)
-    (leaf_to xs x p mx (inside_from_within (parent d) x wx p v))
-    (leaf_to ys y p my (inside_from_within (parent d) y wy p v)))))
-    (around_or_in ys ay g.cell h.1))
-    (around_or_in xs ax g.cell h.0)) in
+    (λ (a : Hit (xs ++ ys) d). a)
+    (λ x. ⊎_elim
+    (λ (a : Hit (xs ++ ys) d). a)
+    (λ y. absurd (g.greatest x.0 (λ p v. and_from (has_leaf xs p) (has_leaf ys p) (x.1 p v) (y.1 p v))))
+    (hit_or_in ys ay g.cell h.1 (λ y. Contains-append_right xs ys y)))
+    (hit_or_in xs ax g.cell h.0 (λ x. Contains-append_left xs ys x))) in
     omega arith
 
 pub difference_few : (xs ys : List ℕ) {u : List ℕ} → All IsCell xs → All IsCell ys
@@ -384,20 +397,18 @@ difference_few xs ys ax ay n =
     let both = length-append xs beside_ys in
     let most = flat_few 90 besides ys besides_few in
     let within = few (xs ++ beside_ys) n (λ d g.
-    let some = (cell_leaves d g.cell).some in
-    let here = covers_there d (first_leaf d) (omega arith) (omega arith) in
     let none : IsFree ys d = λ x v. not_from (has_leaf ys x)
     (and_parts (has_leaf xs x) (not (has_leaf ys x)) (g.inside x v)).1 in
     ⊎_elim
-    (λ a. let (x, m, cx, w) = a in hit (Contains-append_left xs beside_ys x m) cx w)
-    (λ b. let (deep, (x, m, cx, w)) = b in ⊎_elim
+    (λ (a : Hit (xs ++ beside_ys) d). a)
+    (λ b. ⊎_elim
     (λ (near : Near ys d). hit (Contains-append_right xs beside_ys d
     (flat_member besides ys near.cell d near.member near.near)) g.cell (self d))
-    (λ (free : IsFree ys (parent d)). absurd (g.greatest deep (λ p v. and_from (has_leaf xs p) (not (has_leaf ys p))
-    (leaf_to xs x p m (inside_from_within (parent d) x w p v)) (ap not (free p v)))))
-    (near_or_free ys ay g.cell deep none))
-    (around_or_in xs ax g.cell (and_parts (has_leaf xs (first_leaf d)) (not (has_leaf ys (first_leaf d)))
-    (g.inside (first_leaf d) here)).0)) in
+    (λ (free : IsFree ys (parent d)). absurd (g.greatest b.0 (λ p v. and_from (has_leaf xs p) (not (has_leaf ys p))
+    (b.1 p v) (ap not (free p v)))))
+    (near_or_free ys ay g.cell b.0 none))
+    (hit_or_in xs ax g.cell (and_parts (has_leaf xs (first_leaf d)) (not (has_leaf ys (first_leaf d))) (first_in g)).0
+    (λ x. Contains-append_left xs beside_ys x))) in
     omega arith
 
 -- what a cell adds to what only one list has: itself, or what is beside it if the other list has its first leaf too
@@ -412,19 +423,22 @@ parts_few ys x =
     (λ f. rw (cond-false (has_leaf ys (first_leaf x)) (besides x) (x ∷ []) f) (omega arith))
     (cases_Bool (has_leaf ys (first_leaf x)))
 
--- a greatest cell that begins with a leaf of `xs`
+only_first : (a b : Bool) → ((a && not b) || (b && not a)) ≡ true → a ≡ true → b ≡ false
+only_first a true h e = absurd (false≢true (rw e at h))
+only_first a false h e = refl
+
+-- a greatest cell of what only one list has that begins with a leaf of `xs`
 in_one_hit : {S : ℕ → Bool} (xs ys v : List ℕ) {d : ℕ} → All IsCell xs → All IsCell ys → IsGreatestIn S d
-    → has_leaf xs (first_leaf d) ≡ true
-    → ((x : ℕ) → S x ≡ true → has_leaf xs x ≡ true → has_leaf ys x ≡ false)
-    → ((x : ℕ) → has_leaf xs x ≡ true → has_leaf ys x ≡ false → S x ≡ true)
+    → ((x : ℕ) → S x ≡ in_one (has_leaf xs) (has_leaf ys) x) → has_leaf xs (first_leaf d) ≡ true
     → ((x c : ℕ) → Contains xs x → Contains (parts ys x) c → Contains v c)
     → ((y c : ℕ) → Contains ys y → Contains (parts xs y) c → Contains v c) → Hit v d
-in_one_hit xs ys v {d} ax ay g h one back from_x from_y =
+in_one_hit {S} xs ys v {d} ax ay g same h from_x from_y =
+    let one : (x : ℕ) → S x ≡ true → has_leaf xs x ≡ true → has_leaf ys x ≡ false = λ x s t.
+    only_first (has_leaf xs x) (has_leaf ys x) (sym (same x) ∙ s) t in
     ⊎_elim
     (λ a.
     let (x, m, cx, w) = a in
-    let some = (cell_leaves x cx).some in
-    let first : covers x (first_leaf x) ≡ true = covers_there x (first_leaf x) (omega arith) (omega arith) in
+    let first = first_leaf_covered x cx in
     let alone = one (first_leaf x) (g.inside (first_leaf x) (inside_from_within x d w (first_leaf x) first))
     (leaf_to xs x (first_leaf x) m first) in
     hit (from_x x x m (rw (cond-false (has_leaf ys (first_leaf x)) (besides x) (x ∷ []) alone)
@@ -436,25 +450,18 @@ in_one_hit xs ys v {d} ax ay g h one back from_x from_y =
     (within_trans d (parent d) x (parent_around d (level_of d - 1) g.cell (omega arith)) w) in
     ⊎_elim
     (λ (near : Near ys d).
-    let some = (cell_leaves near.cell near.own).some in
-    let first = covers_there near.cell (first_leaf near.cell) (omega arith) (omega arith) in
     let there = leaf_to xs x (first_leaf near.cell) m (inside (first_leaf near.cell)
-    (inside_from_within near.cell (parent d) near.inside (first_leaf near.cell) first)) in
+    (inside_from_within near.cell (parent d) near.inside (first_leaf near.cell)
+    (first_leaf_covered near.cell near.own))) in
     hit (from_y near.cell d near.member
     (rw (cond-true (has_leaf xs (first_leaf near.cell)) (besides near.cell) (near.cell ∷ []) there) near.near))
     g.cell (self d))
     (λ (free : IsFree ys (parent d)).
-    absurd (g.greatest deep (λ p t. back p (leaf_to xs x p m (inside p t)) (free p t))))
+    absurd (g.greatest deep (λ p t. same p ∙ or_left (without (has_leaf xs) (has_leaf ys) p)
+    (without (has_leaf ys) (has_leaf xs) p)
+    (and_from (has_leaf xs p) (not (has_leaf ys p)) (leaf_to xs x p m (inside p t)) (ap not (free p t))))))
     (near_or_free ys ay g.cell deep (λ p t. one p (g.inside p t) (leaf_to xs x p m (own p t)))))
     (around_or_in xs ax g.cell h)
-
-only_first : (a b : Bool) → ((a && not b) || (b && not a)) ≡ true → a ≡ true → b ≡ false
-only_first a true h e = absurd (false≢true (rw e at h))
-only_first a false h e = refl
-
-only_second : (a b : Bool) → ((a && not b) || (b && not a)) ≡ true → b ≡ true → a ≡ false
-only_second true b h e = absurd (false≢true (rw e at h))
-only_second false b h e = refl
 
 pub symmetric_difference_few : (xs ys : List ℕ) {u : List ℕ} → All IsCell xs → All IsCell ys
     → IsNormalForm (in_one (has_leaf xs) (has_leaf ys)) u → length u ≤ 90 * length xs + 90 * length ys
@@ -468,19 +475,15 @@ symmetric_difference_few xs ys ax ay n =
     Contains-append_left X Y c (flat_member (parts ys) xs x c m k) in
     let from_y : (y c : ℕ) → Contains ys y → Contains (parts xs y) c → Contains (X ++ Y) c = λ y c m k.
     Contains-append_right X Y c (flat_member (parts xs) ys y c m k) in
-    let within = few (X ++ Y) n (λ d g.
-    let some = (cell_leaves d g.cell).some in
-    let here = covers_there d (first_leaf d) (omega arith) (omega arith) in
     let S = has_leaf xs in
     let T = has_leaf ys in
+    let within = few (X ++ Y) n (λ d g.
     ⊎_elim
-    (λ h. in_one_hit xs ys (X ++ Y) ax ay g (and_parts (S (first_leaf d)) (not (T (first_leaf d))) h).0
-    (λ x t. only_first (S x) (T x) t)
-    (λ x t f. or_left (S x && not (T x)) (T x && not (S x)) (and_from (S x) (not (T x)) t (ap not f))) from_x from_y)
-    (λ h. in_one_hit ys xs (X ++ Y) ay ax g (and_parts (T (first_leaf d)) (not (S (first_leaf d))) h).0
-    (λ x t. only_second (S x) (T x) t)
-    (λ x t f. or_right (S x && not (T x)) (T x && not (S x)) (and_from (T x) (not (S x)) t (ap not f))) from_y from_x)
-    (or_cases (without S T (first_leaf d)) (without T S (first_leaf d)) (g.inside (first_leaf d) here))) in
+    (λ h. in_one_hit xs ys (X ++ Y) ax ay g (λ x. refl) (and_parts (S (first_leaf d)) (not (T (first_leaf d))) h).0
+    from_x from_y)
+    (λ h. in_one_hit ys xs (X ++ Y) ay ax g (λ x. or_comm (without S T x) (without T S x))
+    (and_parts (T (first_leaf d)) (not (S (first_leaf d))) h).0 from_y from_x)
+    (or_cases (without S T (first_leaf d)) (without T S (first_leaf d)) (first_in g))) in
     omega arith
 
 -- the faces from `a` on, `n` of them
@@ -546,104 +549,86 @@ complement_few ids all n =
     (cases_lt 0 (level_of d))) in
     omega arith
 
--- what lies beside the leaf before an interval, or the first face if the interval begins there
-abbrev left : ℕ → List ℕ
-left zero = faces 0 1
-left (suc lo) = besides (2 * lo + 1)
+-- what lies beside the leaf `x`, or the face with the number `k` if there is no such leaf
+abbrev outer : ℕ → ℕ → List ℕ
+outer x k = cond (ltb x LEAVES) (besides (2 * x + 1)) (faces k 1)
 
--- what lies beside the leaf after an interval, or the last face if there is none
-abbrev right : ℕ → List ℕ
-right hi = cond (ltb hi LEAVES) (besides (2 * hi + 1)) (faces 5 1)
+-- the leaf before an interval that begins at `lo`, if there is one
+abbrev before_leaf : ℕ → ℕ
+before_leaf lo = cond (ltb 0 lo) (lo - 1) LEAVES
 
-left_few : (lo : ℕ) → length (left lo) ≤ 90
-left_few zero = let e = length-map-range_with_len (id_at 0) 0 1 in omega arith
-left_few (suc lo) = besides_few (2 * lo + 1)
-
-right_few : (hi : ℕ) → length (right hi) ≤ 90
-right_few hi =
-    let e = length-map-range_with_len (id_at 0) 5 1 in
-    let some = besides_few (2 * hi + 1) in
+outer_few : (x k : ℕ) → length (outer x k) ≤ 90
+outer_few x k =
+    let e = length-map-range_with_len (id_at 0) k 1 in
+    let some = besides_few (2 * x + 1) in
     ⊎_elim
-    (λ (h : hi < LEAVES). rw (cond-true (ltb hi LEAVES) (besides (2 * hi + 1)) (faces 5 1) (lt-ltb hi LEAVES h)) some)
-    (λ (h : LEAVES ≤ hi). rw (cond-false (ltb hi LEAVES) (besides (2 * hi + 1)) (faces 5 1) (le-ltb hi LEAVES h))
+    (λ (h : x < LEAVES). rw (cond-true (ltb x LEAVES) (besides (2 * x + 1)) (faces k 1) (lt-ltb x LEAVES h)) some)
+    (λ (h : LEAVES ≤ x). rw (cond-false (ltb x LEAVES) (besides (2 * x + 1)) (faces k 1) (le-ltb x LEAVES h))
     (omega arith))
-    (cases_lt hi LEAVES)
+    (cases_lt x LEAVES)
 
 -- a cell without a leaf that its parent has
-beside_leaf : (d x : ℕ) → IsCell d → 0 < level_of d → x < LEAVES → covers (parent d) x ≡ true
-    → covers d x ≡ false → Contains (besides (2 * x + 1)) d
-beside_leaf d x c deep h v free =
+in_outer : (d x k : ℕ) → IsCell d → 0 < level_of d → x < LEAVES → first_leaf (parent d) ≤ x
+    → x < first_leaf (parent d) + size_of (parent d) → x < first_leaf d ⊎ first_leaf d + size_of d ≤ x
+    → Contains (outer x k) d
+in_outer d x k c deep h low high out =
     let at = leaf_cell x h in
     let cx : IsCell (2 * x + 1) = IsCell-leaf x (2 * x + 1) h refl in
     let start = first_leaf_of_cell 30 x (2 * x + 1) at in
     let one = size_of_cell 30 x (2 * x + 1) at in
-    let ends = covers_from (parent d) x v in
-    let low = ends.0 in
-    let high = ends.1 in
     let first : first_leaf (2 * x + 1) ≡ x = omega arith in
-    beside d (2 * x + 1) c cx deep (record { low = omega arith; high = omega arith }) (ap (covers d) first ∙ free)
-
-not_there : (d x : ℕ) → x < first_leaf d ⊎ first_leaf d + size_of d ≤ x → covers d x ≡ false
-not_there d x out = not_true (covers d x) (λ t.
+    rw (cond-true (ltb x LEAVES) (besides (2 * x + 1)) (faces k 1) (lt-ltb x LEAVES h))
+    (beside d (2 * x + 1) c cx deep (record { low = omega arith; high = omega arith })
+    (ap (covers d) first ∙ not_true (covers d x) (λ t.
     let ends = covers_from d x t in
-    let low = ends.0 in
-    let high = ends.1 in
-    ⊎_elim (λ (h : x < first_leaf d). omega arith) (λ (h : first_leaf d + size_of d ≤ x). omega arith) out)
+    let from = ends.0 in
+    let to = ends.1 in
+    ⊎_elim (λ (h : x < first_leaf d). omega arith) (λ (h : first_leaf d + size_of d ≤ x). omega arith) out)))
 
+outer_face : {d : ℕ} (x k : ℕ) (f : Face d) → LEAVES ≤ x → f.number ≡ k → Contains (outer x k) d
+outer_face x k f h e = rw (cond-false (ltb x LEAVES) (besides (2 * x + 1)) (faces k 1) (le-ltb x LEAVES h))
+    (among_faces k 1 f (omega arith) (omega arith))
+
+-- a cell that begins in an interval, and its parent before it
 in_left : (lo d : ℕ) → IsCell d → lo ≤ first_leaf d → 0 < level_of d → first_leaf (parent d) < lo
-    → Contains (left lo) d
-in_left zero d c h deep p = absurd (omega arith)
-in_left (suc lo) d c h deep p =
-    let k = level_of d - 1 in
-    let around = parent_around d k c (omega arith) in
+    → Contains (outer (before_leaf lo) 0) d
+in_left lo d c h deep p =
+    let around = parent_around d (level_of d - 1) c (omega arith) in
     let low = around.low in
     let high = around.high in
     let own = cell_leaves d c in
     let some = own.some in
     let last = own.within in
-    beside_leaf d lo c deep (omega arith) (covers_there (parent d) lo (omega arith) (omega arith))
-    (not_there d lo (inl (omega arith)))
+    rw (cond-true (ltb 0 lo) (lo - 1) LEAVES (lt-ltb 0 lo (omega arith)))
+    (in_outer d (lo - 1) 0 c deep (omega arith) (omega arith) (omega arith) (inl (omega arith)))
 
+-- a cell that ends in an interval, and its parent after it
 in_right : (hi d : ℕ) → IsCell d → first_leaf d + size_of d ≤ hi → 0 < level_of d
-    → hi < first_leaf (parent d) + size_of (parent d) → Contains (right hi) d
+    → hi < first_leaf (parent d) + size_of (parent d) → Contains (outer hi 5) d
 in_right hi d c h deep p =
     let k = level_of d - 1 in
-    let cp : IsCell (parent d) = IsCell-parent_of d k (parent d) c (omega arith) refl in
     let around = parent_around d k c (omega arith) in
     let low = around.low in
-    let some = (cell_leaves d c).some in
-    let last = (cell_leaves (parent d) cp).within in
-    rw (cond-true (ltb hi LEAVES) (besides (2 * hi + 1)) (faces 5 1) (lt-ltb hi LEAVES (omega arith)))
-    (beside_leaf d hi c deep (omega arith) (covers_there (parent d) hi (omega arith) p)
-    (not_there d hi (inr h)))
-
-first_face : (lo d : ℕ) (f : Face d) → lo ≤ first_leaf d → f.number ≡ 0 → Contains (left lo) d
-first_face zero d f h e = among_faces 0 1 f (omega arith) (omega arith)
-first_face (suc lo) d f h e = let start = f.start in absurd (omega arith)
-
-last_face : (hi d : ℕ) (f : Face d) → first_leaf d + size_of d ≤ hi → f.number ≡ 5 → Contains (right hi) d
-last_face hi d f h e =
-    let start = f.start in
-    let size = f.size in
-    rw (cond-false (ltb hi LEAVES) (besides (2 * hi + 1)) (faces 5 1) (le-ltb hi LEAVES (omega arith)))
-    (among_faces 5 1 f (omega arith) (omega arith))
+    let last = (cell_leaves (parent d) (IsCell-parent_of d k (parent d) c (omega arith) refl)).within in
+    in_outer d hi 5 c deep (omega arith) (omega arith) p (inr h)
 
 pub range_few : (lo hi : ℕ) {u : List ℕ} → IsNormalForm (between lo hi) u → length u ≤ 184
 range_few lo hi n =
-    let ends = left lo ++ right hi in
+    let left = outer (before_leaf lo) 0 in
+    let right = outer hi 5 in
+    let ends = left ++ right in
     let four = length-map-range_with_len (id_at 0) 1 4 in
-    let most_left = left_few lo in
-    let most_right = right_few hi in
-    let both = length-append (left lo) (right hi) in
+    let most_left = outer_few (before_leaf lo) 0 in
+    let most_right = outer_few hi 5 in
+    let both = length-append left right in
     let all = length-append (faces 1 4) ends in
-    let at_left : (d : ℕ) → Contains (left lo) d → Contains (faces 1 4 ++ ends) d = λ d m.
-    Contains-append_right (faces 1 4) ends d (Contains-append_left (left lo) (right hi) d m) in
-    let at_right : (d : ℕ) → Contains (right hi) d → Contains (faces 1 4 ++ ends) d = λ d m.
-    Contains-append_right (faces 1 4) ends d (Contains-append_right (left lo) (right hi) d m) in
+    let at_left : (d : ℕ) → Contains left d → Contains (faces 1 4 ++ ends) d = λ d m.
+    Contains-append_right (faces 1 4) ends d (Contains-append_left left right d m) in
+    let at_right : (d : ℕ) → Contains right d → Contains (faces 1 4 ++ ends) d = λ d m.
+    Contains-append_right (faces 1 4) ends d (Contains-append_right left right d m) in
     let within = few (faces 1 4 ++ ends) n (λ d g.
     let some = (cell_leaves d g.cell).some in
-    let low = (between_ends lo hi (first_leaf d)
-    (g.inside (first_leaf d) (covers_there d (first_leaf d) (omega arith) (omega arith)))).0 in
+    let low = (between_ends lo hi (first_leaf d) (first_in g)).0 in
     let high = (between_ends lo hi (first_leaf d + size_of d - 1)
     (g.inside (first_leaf d + size_of d - 1)
     (covers_there d (first_leaf d + size_of d - 1) (omega arith) (omega arith)))).1 in
@@ -664,12 +649,16 @@ range_few lo hi n =
     (λ (top : level_of d ≤ 0).
     let f = face d g.cell (omega arith) in
     let below = f.below in
+    let start = f.start in
+    let size = f.size in
     ⊎_elim
-    (λ (z : f.number < 1). hit (at_left d (first_face lo d f low (omega arith))) g.cell (self d))
+    (λ (z : f.number < 1).
+    let none : before_leaf lo ≡ LEAVES = cond-false (ltb 0 lo) (lo - 1) LEAVES (le-ltb 0 lo (omega arith)) in
+    hit (at_left d (outer_face (before_leaf lo) 0 f (omega arith) (omega arith))) g.cell (self d))
     (λ (a : 1 ≤ f.number). ⊎_elim
     (λ (b : f.number < 5). hit (Contains-append_left (faces 1 4) ends d (among_faces 1 4 f a (omega arith))) g.cell
     (self d))
-    (λ (b : 5 ≤ f.number). hit (at_right d (last_face hi d f (omega arith) (omega arith))) g.cell (self d))
+    (λ (b : 5 ≤ f.number). hit (at_right d (outer_face hi 5 f (omega arith) (omega arith))) g.cell (self d))
     (cases_lt f.number 5))
     (cases_lt f.number 1))
     (cases_lt 0 (level_of d))) in
@@ -677,11 +666,4 @@ range_few lo hi n =
 
 pub normal_few : (ids : List ℕ) {u : List ℕ} → All IsCell ids → IsNormalForm (has_leaf ids) u
     → length u ≤ length ids
-normal_few ids all n = few ids n (λ d g.
-    let some = (cell_leaves d g.cell).some in
-    let here = covers_there d (first_leaf d) (omega arith) (omega arith) in
-    ⊎_elim
-    (λ a. let (x, m, cx, w) = a in hit m cx w)
-    (λ b. let (deep, (x, m, cx, w)) = b in
-    absurd (g.greatest deep (λ p v. leaf_to ids x p m (inside_from_within (parent d) x w p v))))
-    (around_or_in ids all g.cell (g.inside (first_leaf d) here)))
+normal_few ids all n = few ids n (λ d g. hit_own ids all g (first_in g) (λ x m. m) (λ x t. t))

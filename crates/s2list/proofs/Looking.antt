@@ -388,21 +388,6 @@ walked_more
           };
     }
 
--- the looks of a walk that ends in a turn, and two before it if both lists have cells
-walked_last : {D : ℕ → Type 0} {xs ys : List ℕ} {looks i j : ℕ} (a b p last more : ℕ) →
-    Walked D xs ys looks i j → a ≤ looks + 1 → SoughtAlong a b (length xs) i i p → i ≤ p → p ≤ length xs →
-    j ≤ length ys → last ≤ b + 1 + more → more ≤ 2 → more ≤ 2 * length xs → more ≤ 2 * (length ys - j) →
-    (d u v : ℕ) → Alternates xs ys d u v → Known D xs ys u v → FewForTurns (length xs + length ys) d last
-walked_last {xs} {ys} {looks} {i} {j} a b p last more w ea sb ip in_p in_j el two by_m by_n d u v cut known =
-    let x = found_along a b (length xs) i i p sb in_p in
-    let way = way_on (length xs) (length ys) w.far i j i p p x.far w.way (omega arith) ip (omega arith) x.counts in
-    let most_x = way.most_x in
-    let most_y = way.most_y in
-    let all = way.all in
-    let few = (w.passed d u v cut known).few in
-    let by_y = w.by_y in
-    spent_last last more (length xs + length ys) d w.spent ea x.sought el few two (λ h. omega arith) (omega arith)
-
 zero_of_sum : (far i j : ℕ) → far + i + j ≡ 0 → far ≡ 0
 zero_of_sum far i j h = omega arith
 
@@ -416,61 +401,42 @@ few_from a b d k last e some h all =
     let p : 1 * k ≤ d * k = mul-le-mul_right k some in
     omega arith
 
-walked_few : {D : ℕ → Type 0} {xs ys : List ℕ} {looks i j : ℕ} (a b p last more : ℕ) →
+-- the looks of a walk that ends in a turn, and `more` before it: by its turns, by the sizes of the lists, for each cell
+pub walked_to_end : {D : ℕ → Type 0} {xs ys : List ℕ} {looks i j a b : ℕ} (p last more : ℕ) →
     Walked D xs ys looks i j → a ≤ looks + 1 → SoughtAlong a b (length xs) i i p → i ≤ p → p ≤ length xs →
     j ≤ length ys → last ≤ b + 1 + more → more ≤ 2 → more ≤ 2 * length xs → more ≤ 2 * (length ys - j) →
-    (j < length ys) ⊎ (p ≡ i) → (k : ℕ) → max (length xs) (length ys) ≤ (min (length xs) (length ys) + 1) * 2 ^ k →
-    last ≤ 42 * min (length xs) (length ys) * (1 + k) + 42
-walked_few {xs} {ys} {looks} {i} {j} a b p last more w ea sb ip in_p in_j el two by_m by_n end k h =
-    let x = found_along a b (length xs) i i p sb in_p in
-    let way = way_on (length xs) (length ys) w.far i j i p p x.far w.way (omega arith) ip (omega arith) x.counts in
+    (j < length ys) ⊎ (p ≡ i) → FewLooks D xs ys last
+walked_to_end {D} {xs} {ys} {looks} {i} {j} {a} {b} p last more w ea sb ip in_p in_j el two by_m by_n end =
+    let m = length xs in
+    let n = length ys in
+    let x = found_along a b m i i p sb in_p in
+    let way = way_on m n w.far i j i p p x.far w.way (omega arith) ip (omega arith) x.counts in
     let most_x = way.most_x in
     let most_y = way.most_y in
     let all = way.all in
     let by_x = w.by_x in
     let by_y = w.by_y in
-    ⊎_elim
-    (λ (some : 0 < min (length xs) (length ys)). few_from (length xs) (length ys) (min (length xs) (length ys))
-    k last refl some h (spent_last last more (length xs + length ys) (min (length xs) (length ys) + 1)
-    w.spent ea x.sought el (omega arith) two (λ g. omega arith) (omega arith)))
-    (λ (none : min (length xs) (length ys) ≤ 0).
-    let still : w.turns ≡ 0 =
-    ⊎_elim (λ (t : 0 < w.turns). let s = w.some_x t in omega arith) (λ (t : w.turns ≤ 0). omega arith)
-    (cases_lt 0 w.turns) in
-    let begun = w.begun still in
-    let one : 2 ^ 0 ≡ 1 = refl in
-    let spent : looks * 2 ^ 0 + 2 * 0 ≤ (4 * 0 + 6) * (2 ^ 0 * 0) + 2 * 0 =
-    rw (still, zero_of_sum w.far i j begun) at (w.spent.most 0) in
-    let short : p ≤ i = ⊎_elim (λ (l : j < length ys). omega arith) (λ (e : p ≡ i). omega arith) end in
-    let s = sb 0 (omega arith) (λ z l. absurd (omega arith)) in
-    omega arith)
-    (cases_lt 0 (min (length xs) (length ys)))
-
--- and for each cell
-walked_through : {D : ℕ → Type 0} {xs ys : List ℕ} {looks i j : ℕ} (a b p last more : ℕ) →
-    Walked D xs ys looks i j → a ≤ looks + 1 → SoughtAlong a b (length xs) i i p → i ≤ p → p ≤ length xs →
-    j ≤ length ys → last ≤ b + 1 + more → more ≤ 2 → more ≤ 2 * length xs → last ≤ 8 * (length xs + length ys) + 8
-walked_through {xs} {ys} {looks} {i} {j} a b p last more w ea sb ip in_p in_j el two by_m =
-    let x = found_along a b (length xs) i i p sb in_p in
-    let way = way_on (length xs) (length ys) w.far i j i p p x.far w.way (omega arith) ip (omega arith) x.counts in
-    let most_x = way.most_x in
-    let most_y = way.most_y in
-    let all = way.all in
-    let by_y = w.by_y in
-    let one : 2 ^ 0 ≡ 1 = refl in
-    let l = spent_last last more (length xs + length ys) (length xs + length ys) w.spent ea x.sought el (omega arith)
-    two (λ g. omega arith) (omega arith) 0 (omega arith) in
-    omega arith
-
--- all of these, once
-pub walked_to_end : {D : ℕ → Type 0} {xs ys : List ℕ} {looks i j a b : ℕ} (p last more : ℕ) →
-    Walked D xs ys looks i j → a ≤ looks + 1 → SoughtAlong a b (length xs) i i p → i ≤ p → p ≤ length xs →
-    j ≤ length ys → last ≤ b + 1 + more → more ≤ 2 → more ≤ 2 * length xs → more ≤ 2 * (length ys - j) →
-    (j < length ys) ⊎ (p ≡ i) → FewLooks D xs ys last
-walked_to_end {D} {xs} {ys} {looks} {i} {j} {a} {b} p last more w ea sb ip in_p in_j el two by_m by_n end = record {
-  turns = walked_last a b p last more w ea sb ip in_p in_j el two by_m by_n;
-  sizes = λ k h.
-      let few = walked_few a b p last more w ea sb ip in_p in_j el two by_m by_n end k h in
-      let through = walked_through a b p last more w ea sb ip in_p in_j el two by_m in
-      omega arith;
-}
+    let spent : (d : ℕ) → w.turns ≤ d → (m + n ≤ d + 1 → 4 * w.turns + more ≤ 4 * d) → FewForTurns (m + n) d last =
+    λ d few rest. spent_last last more (m + n) d w.spent ea x.sought el few two rest (omega arith) in
+    record {
+      turns = λ d u v cut known. let few = (w.passed d u v cut known).few in spent d few (λ h. omega arith);
+      sizes = λ k h.
+          let one : 2 ^ 0 ≡ 1 = refl in
+          let through = spent (m + n) (omega arith) (λ g. omega arith) 0 (omega arith) in
+          let few : last ≤ 42 * min m n * (1 + k) + 42 =
+          ⊎_elim
+          (λ (some : 0 < min m n).
+          few_from m n (min m n) k last refl some h (spent (min m n + 1) (omega arith) (λ g. omega arith)))
+          (λ (none : min m n ≤ 0).
+          let still : w.turns ≡ 0 =
+          ⊎_elim (λ (t : 0 < w.turns). let s = w.some_x t in omega arith) (λ (t : w.turns ≤ 0). omega arith)
+          (cases_lt 0 w.turns) in
+          let begun = w.begun still in
+          let paid : looks * 2 ^ 0 + 2 * 0 ≤ (4 * 0 + 6) * (2 ^ 0 * 0) + 2 * 0 =
+          rw (still, zero_of_sum w.far i j begun) at (w.spent.most 0) in
+          let short : p ≤ i = ⊎_elim (λ (l : j < n). omega arith) (λ (e : p ≡ i). omega arith) end in
+          let s = sb 0 (omega arith) (λ z l. absurd (omega arith)) in
+          omega arith)
+          (cases_lt 0 (min m n)) in
+          omega arith;
+    }

@@ -8,7 +8,7 @@ use Rattle.s2cell.specs.Cell.{IsCell, first_leaf, size_of}
 use Rattle.s2cell.proofs.CellLemmas.{cell_leaves}
 use Rattle.s2list.specs.Packed.{FirstEndBy, EndsAfter, IsPacked}
 use Rattle.s2list.specs.Search.{Brackets}
-use Rattle.s2list.proofs.Finding.{ends_later}
+use Rattle.s2list.proofs.Finding.{ended_to, ends_later}
 use Rattle.s2list.specs.Working.Search.{IsFrom}
 
 -- a test that fails says the opposite
@@ -20,14 +20,9 @@ pub not_by : (b : Bool) (a lo : ℕ) → (IsTrue b ↔ (a ≤ lo)) → lo < a �
 not_by true a lo e h = let l = e.0 refl in absurd (omega arith)
 not_by false a lo e h = refl
 
--- all cells up to one that ends by the leaf end by it
-pub ended_up : {u : List ℕ} (lo k : ℕ) →
-    IsPacked u → k < length u → first_leaf (get_or u k 0) + size_of (get_or u k 0) ≤ lo → FirstEndBy u (k + 1) lo
-ended_up {u} lo k p h e j l = let a = ends_later u j k p (omega arith) h in omega arith
-
 pub from_up : {u : List ℕ} {lo start end : ℕ} (k : ℕ) → IsPacked u → IsFrom u lo start end →
     k < length u → first_leaf (get_or u k 0) + size_of (get_or u k 0) ≤ lo → IsFrom u lo (k + 1) end
-from_up {u} {lo} k p f h e = record { ended = ended_up lo k p h e; next = f.next }
+from_up {u} {lo} k p f h e = record { ended = ended_to u k lo p h e; next = f.next }
 
 pub from_down : {u : List ℕ} {lo start end : ℕ} (k : ℕ) →
     IsFrom u lo start end → lo < first_leaf (get_or u k 0) + size_of (get_or u k 0) → IsFrom u lo start k
@@ -173,6 +168,6 @@ left_none {u} {lo} {mark} {start} {end} {base} {size} {below} is l all m w test 
             | inr a ↦
                 let b : base - is ≡ base = rw a.0 (omega arith) in
                 let e : first_leaf (get_or u k 0) + size_of (get_or u k 0) ≤ lo = rw (← t.1) a.1 in
-                rw b (rw (← up) (ended_up lo k p g e), last)
+                rw b (rw (← up) (ended_to u k lo p g e), last)
           ]
     ]

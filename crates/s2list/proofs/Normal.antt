@@ -6,6 +6,7 @@ use Rattle.std.proofs.lemmas.Bool.{cases_lt, cases_order}
 use Rattle.std.proofs.lemmas.List.Folds.{Any-from_list_any, list_any_at}
 use Rattle.std.proofs.lemmas.List.Elements.{All-contains, Contains-get_or}
 use Rattle.std.proofs.lemmas.List.Kept.{AllPairs-from_increasing}
+use Rattle.std.proofs.lemmas.Map.Made.{Contains-tail}
 use Rattle.std.specs.List.Sorted.{IsStrictlyIncreasing}
 use Rattle.std.proofs.lemmas.Nat.{div_below}
 use Rattle.std.proofs.Math.Nat.{div-mul-le_self, lt-div-mul-add}
@@ -261,10 +262,6 @@ local_from_normal S u n =
 abbrev Rising : List ℕ → Type 0
 Rising = AllPairs (λ x y. x < y)
 
-member_cases : (y : ℕ) (ys : List ℕ) (c : ℕ) → Contains (y ∷ ys) c → (c ≡ y) ⊎ Contains ys c
-member_cases y ys c (zero, l, e) = inl (sym e)
-member_cases y ys c (suc k, l, e) = inr (k, omega arith, e)
-
 member_later : (y : ℕ) (ys : List ℕ) (c : ℕ) → Contains ys c → Contains (y ∷ ys) c
 member_later y ys c (k, l, e) = (suc k, omega arith, e)
 
@@ -283,15 +280,14 @@ first_least y ys c r (k, l, e) =
     rw e at lt
 
 head_le : (y : ℕ) (ys : List ℕ) (c : ℕ) → Rising (y ∷ ys) → Contains (y ∷ ys) c → y ≤ c
-head_le y ys c r m = ⊎_elim (λ (e : c ≡ y). omega arith) (λ (t : Contains ys c). let lt = first_least y ys c r t in
-    omega arith) (member_cases y ys c m)
+head_le y ys c r (zero, l, e) = omega arith
+head_le y ys c r (suc k, l, e) = let lt = first_least y ys c r (k, omega arith, e) in omega arith
 
 rest_member : (x : ℕ) (xs : List ℕ) (y : ℕ) (ys : List ℕ) → x ≡ y → Rising (x ∷ xs) →
     ((c : ℕ) → Contains (x ∷ xs) c → Contains (y ∷ ys) c) → (c : ℕ) → Contains xs c → Contains ys c
 rest_member x xs y ys e r f c m =
-    ⊎_elim
-    (λ (g : c ≡ y). let lt = first_least x xs c r m in absurd (omega arith))
-    (λ (t : Contains ys c). t) (member_cases y ys c (f c (member_later x xs c m)))
+    let lt = first_least x xs c r m in
+    Contains-tail y ys c (λ g. absurd (omega arith)) (f c (member_later x xs c m))
 
 same_by_members : (xs ys : List ℕ) → Rising xs → Rising ys → ((c : ℕ) → Contains xs c → Contains ys c) →
     ((c : ℕ) → Contains ys c → Contains xs c) → xs ≡ ys

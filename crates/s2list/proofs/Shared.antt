@@ -1,9 +1,10 @@
 -- The leaves that two lists of cells share.
 use Rattle.std.proofs.Common.{◌≡◌, ℕ, zero, suc, ◌-◌, subst, ◌+◌, ◌<◌, ◌≤◌, refl, sym, ◌∙◌, ap, arith}
-use Rattle.std.proofs.Common.{Bool, true, false, ◌||◌, ◌&&◌, ltb, List, [], ◌∷◌, ◌++◌, length, get_or, take, drop}
+use Rattle.std.proofs.Common.{Bool, true, false, ◌||◌, ◌&&◌, List, [], ◌∷◌, ◌++◌, length, get_or, take, drop}
 use Rattle.std.proofs.Common.{◌⊎◌, inl, inr, max}
-use Rattle.std.proofs.Math.Logic.{⊎_elim}
-use Rattle.std.proofs.lemmas.Bool.{cases_lt}
+use Rattle.std.proofs.Math.Bool.{and-false, and_comm}
+use Rattle.std.proofs.Math.Logic.{⊎_elim, ⊎_swap}
+use Rattle.std.proofs.lemmas.Bool.{and_parts, cases_lt}
 use Rattle.std.proofs.lemmas.Bool.Decides.{nat_tests}
 use Rattle.std.proofs.lemmas.List.{append-nil, append_assoc, take_more, get_or-drop, length-drop}
 use Rattle.std.proofs.lemmas.List.Folds.{list_any-append}
@@ -15,9 +16,9 @@ use Rattle.s2list.specs.Union.{has_leaf, between, IsLocal}
 use Rattle.s2list.specs.Packed.{IsPacked, FirstEndBy}
 use Rattle.s2list.proofs.Checking.{packed_from_local, member_at}
 use Rattle.s2list.proofs.Packing.{read_at}
-use Rattle.s2list.proofs.Tiling.{or_false, none_between}
-use Rattle.s2list.proofs.Walking.{Walk, walk_more, walk_below, ended_more, ended_later, gap, leaf_there, leaf_at}
-use Rattle.s2list.proofs.Walking.{not_true, and_false}
+use Rattle.s2list.proofs.Tiling.{or_false}
+use Rattle.s2list.proofs.Walking.{Walk, walk_done, walk_more, walk_on, walk_below, ended_more, ended_later, gap}
+use Rattle.s2list.proofs.Walking.{leaf_there}
 use Rattle.s2list.proofs.Picking.{Picked, picked_push, greatest_below}
 use Rattle.s2list.proofs.Finding.{starts_later, ended_to}
 
@@ -32,28 +33,14 @@ pub record Sharing (S : ℕ → Bool) (xs ys list : List ℕ) (i j : ℕ) : Type
   pub from : (i < length xs → lo ≤ first_leaf (get_or xs i 0)) ⊎ (j < length ys → lo ≤ first_leaf (get_or ys j 0))
   pub picked : Picked S list
 
-and_swap : (a b : Bool) → (a && b) ≡ (b && a)
-and_swap true true = refl
-and_swap true false = refl
-and_swap false true = refl
-and_swap false false = refl
-
-either_swap : {A B : Type 0} → A ⊎ B → B ⊎ A
-either_swap (inl a) = inr a
-either_swap (inr b) = inl b
-
 pub sharing_swap : (S : ℕ → Bool) (xs ys list : List ℕ) (i j : ℕ) → Sharing S xs ys list i j → Sharing S ys xs list j i
 sharing_swap S xs ys list i j s = record {
   lo = s.lo;
-  same = λ x. s.same x ∙ and_swap (has_leaf xs x) (has_leaf ys x);
+  same = λ x. s.same x ∙ and_comm (has_leaf xs x) (has_leaf ys x);
   walk = record { ended_x = s.walk.ended_y; ended_y = s.walk.ended_x; leaves = s.walk.leaves };
-  from = either_swap s.from;
+  from = ⊎_swap s.from;
   picked = s.picked;
 }
-
-and_left : (a b : Bool) → (a && b) ≡ true → a ≡ true
-and_left true b e = refl
-and_left false b e = e
 
 next_from : {u : List ℕ} (i : ℕ) → IsPacked u → i < length u →
     i + 1 < length u → first_leaf (get_or u i 0) + size_of (get_or u i 0) ≤ first_leaf (get_or u (i + 1) 0)
@@ -73,6 +60,26 @@ run_push xs list i n h =
     ap (λ k. list ++ take k (drop i xs)) (sym e) ∙ ap (λ l. list ++ l) more
     ∙ ap (λ c. list ++ (take n (drop i xs) ++ c ∷ [])) (get_or-drop i xs n 0)
     ∙ sym (append_assoc list (take n (drop i xs)) (get_or xs (i + n) 0 ∷ []))
+
+-- what each cell of a run keeps holds after the run
+pub run_all : (P : List ℕ → ℕ → Type 0) (xs list : List ℕ) (i next : ℕ) → i ≤ next → next ≤ length xs →
+    P list i → ((l : List ℕ) (k : ℕ) → i ≤ k → k < next → P l k → P (l ++ get_or xs k 0 ∷ []) (k + 1)) →
+    P (list ++ take (next - i) (drop i xs)) next
+run_all P xs list i next le in_x start more =
+    let e : i + (next - i) ≡ next = omega arith in
+    subst (λ k. P (list ++ take (next - i) (drop i xs)) k) e (steps (next - i) (omega arith))
+  where
+    steps : (n : ℕ) → i + n ≤ next → P (list ++ take n (drop i xs)) (i + n)
+    steps zero h =
+        let e : i ≡ i + 0 = omega arith in
+        let same : list ++ [] ≡ list = append-nil list in
+        rw same (subst (λ k. P list k) e start)
+    steps (suc n) h =
+        let e : (i + n) + 1 ≡ i + suc n = omega arith in
+        let l = list ++ take n (drop i xs) in
+        rw (run_push xs list i n (omega arith))
+        (subst (λ k. P (l ++ get_or xs (i + n) 0 ∷ []) k) e
+        (more l (i + n) (omega arith) (omega arith) (steps n (omega arith))))
 
 -- the next cell of xs lies in the next of ys
 pub sharing_push : (S : ℕ → Bool) (xs ys list : List ℕ) (i j c : ℕ) →
@@ -115,7 +122,7 @@ sharing_push S xs ys list i j c lx ly s h g e w =
       from = inl (λ k. let n = next_from i px h k in omega arith);
       picked = picked_push S
           list c lo s.picked (walk_below lo s.walk (omega arith)) start (greatest_below S xs c lx (member_at xs i c h e)
-          (λ x t. and_left (has_leaf xs x) (has_leaf ys x) (sym (s.same x) ∙ t))
+          (λ x t. (and_parts (has_leaf xs x) (has_leaf ys x) (sym (s.same x) ∙ t)).0)
           (λ x v. let r = covers_from c x v in let r0 = r.0 in let r1 = r.1 in shared x (omega arith) (omega arith)));
     }
 
@@ -133,13 +140,12 @@ sharing_skip S xs ys list i j lx ly s h e =
     record {
       lo = next;
       same = s.same;
-      walk = walk_more list (i + 1) j next lo lo s.walk (omega arith) (omega arith) (omega arith)
-          (λ x. or_false (has_leaf list x) ∙ ap (λ v. has_leaf list x || v) (sym (none_between lo x)))
+      walk = walk_on (i + 1) j next s.walk (omega arith)
           (ended_more xs i lo next s.walk.ended_x (omega arith) (omega arith))
           (ended_later ys j lo next s.walk.ended_y (omega arith))
           (λ x a b.
           let t : has_leaf ys x ≡ false = gap j lo end x py s.walk.ended_y e a (omega arith) in
-          none_between lo x ∙ sym (s.same x ∙ ap (λ v. has_leaf xs x && v) t ∙ and_false (has_leaf xs x)));
+          s.same x ∙ ap (λ v. has_leaf xs x && v) t ∙ and-false (has_leaf xs x));
       from = ⊎_elim
           (λ (f : i < length xs → lo ≤ first_leaf (get_or xs i 0)). inl
           (λ k. let n = next_from i px h k in let a = f h in omega arith))
@@ -170,43 +176,17 @@ pub sharing_run : {S : ℕ → Bool} {xs ys list : List ℕ} (new : List ℕ) {i
     i ≤ next → next ≤ length xs → FirstEndBy xs next (first_leaf (get_or ys j 0) + size_of (get_or ys j 0)) →
     new ≡ list ++ take (next - i) (drop i xs) → Sharing S xs ys new next j
 sharing_run {S} {xs} {ys} {list} new {i} {j} next lx ly s g first le in_x ended is =
-    let e : i + (next - i) ≡ next = omega arith in
-    rw is (subst (λ k. Sharing S xs ys (list ++ take (next - i) (drop i xs)) k j) e (steps (next - i) (omega arith)))
-  where
-    steps : (n : ℕ) → i + n ≤ next → Sharing S xs ys (list ++ take n (drop i xs)) (i + n) j
-    steps zero h =
-        let e : i ≡ i + 0 = omega arith in
-        let same : list ++ [] ≡ list = append-nil list in
-        rw same (subst (λ k. Sharing S xs ys list k j) e s)
-    steps (suc n) h =
-        let e : (i + n) + 1 ≡ i + suc n = omega arith in
-        let c = get_or xs (i + n) 0 in
-        let fl = first.low in
-        let b = ended (i + n) (omega arith) in
-        let l = starts_later xs i (i + n) (packed_from_local xs lx) (omega arith) (omega arith) in
-        let w : Within c (get_or ys j 0) = record { low = omega arith; high = b } in
-        let push = sharing_push S xs ys (list ++ take n (drop i xs)) (i + n) j c lx ly (steps n (omega arith))
-        (omega arith) g refl w in
-        rw (run_push xs list i n (omega arith))
-        (subst (λ k. Sharing S xs ys ((list ++ take n (drop i xs)) ++ c ∷ []) k j) e push)
+    rw is (run_all (λ l k. Sharing S xs ys l k j) xs list i next le in_x s (λ l k a b t.
+    let low = first.low in
+    let high = ended k b in
+    let from = starts_later xs i k (packed_from_local xs lx) a (omega arith) in
+    sharing_push S xs ys l k j (get_or xs k 0) lx ly t (omega arith) g refl
+    (record { low = omega arith; high = high })))
 
 -- one of the lists is at its end
 pub sharing_done : (S : ℕ → Bool) (xs ys list : List ℕ) (i j : ℕ) → Sharing S xs ys list i j → length xs ≤ i → (x : ℕ)
     → has_leaf list x ≡ S x
-sharing_done S xs ys list i j s h x =
-    let w = s.walk in
-    let lo = s.lo in
-    ⊎_elim
-    (λ (a : x < lo). let t : ltb x lo ≡ true = grind (arith, nat_tests) in w.leaves x ∙ ap (λ v. v && S x) t)
-    (λ (a : lo ≤ x).
-    let t : ltb x lo ≡ false = grind (arith, nat_tests) in
-    let n : has_leaf xs x ≡ false = not_true (has_leaf xs x) (λ l.
-    let p = leaf_at xs x l in
-    let hi = p.high in
-    let e = w.ended_x p.at (let b = p.below in omega arith) in
-    omega arith) in
-    w.leaves x ∙ ap (λ v. v && S x) t ∙ sym (s.same x ∙ ap (λ v. v && has_leaf ys x) n))
-    (cases_lt x lo)
+sharing_done S xs ys list i j s h = walk_done s.walk h (λ x n. s.same x ∙ ap (λ v. v && has_leaf ys x) n)
 
 -- ---- the steps of the loop, with what was read
 

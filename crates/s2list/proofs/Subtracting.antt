@@ -1,9 +1,10 @@
 -- The leaves of one list of cells that another has not.
-use Rattle.std.proofs.Common.{◌≡◌, ℕ, zero, suc, [], ◌∷◌, ◌++◌, take, drop, ◌+◌, ◌-◌, ◌<◌, ◌≤◌, refl}
-use Rattle.std.proofs.Common.{sym, ◌∙◌, ap, arith, subst, Bool, true, false, ◌||◌, ◌&&◌, ltb, List, length, get_or, not}
+use Rattle.std.proofs.Common.{◌≡◌, ℕ, [], ◌∷◌, ◌++◌, take, drop, ◌+◌, ◌-◌, ◌<◌, ◌≤◌, refl}
+use Rattle.std.proofs.Common.{sym, ◌∙◌, ap, arith, subst, Bool, true, false, ◌||◌, ◌&&◌, List, length, get_or, not}
 use Rattle.std.proofs.Common.{max, ◌⊎◌, inl, inr}
+use Rattle.std.proofs.Math.Bool.{and-false}
 use Rattle.std.proofs.Math.Logic.{⊎_elim}
-use Rattle.std.proofs.lemmas.Bool.{cases_lt, false≢true}
+use Rattle.std.proofs.lemmas.Bool.{and_parts, cases_lt, false≢true}
 use Rattle.std.proofs.lemmas.Bool.Decides.{nat_tests}
 use Rattle.s2cell.specs.Cell.{IsCell, level_of, size_of, first_leaf, covers}
 use Rattle.s2cell.proofs.CellLemmas.{cell_leaves}
@@ -13,92 +14,41 @@ use Rattle.s2list.specs.Union.{has_leaf, between, LiesIn, IsLocal}
 use Rattle.s2list.specs.Packed.{IsPacked, FirstEndBy, FillsGap}
 use Rattle.s2list.proofs.Normal.{holder, family, all_held, member_greatest, greatest_apart}
 use Rattle.s2list.proofs.Checking.{packed_from_local, member_at}
-use Rattle.s2list.proofs.Walking.{Walk, walk_more, walk_below, ended_more, ended_later, gap, leaf_there, leaf_at}
-use Rattle.s2list.proofs.Walking.{not_true, and_false}
-use Rattle.std.proofs.lemmas.List.{append-nil}
+use Rattle.s2list.proofs.Walking.{Walk, walk_more, walk_on, walk_below, ended_more, ended_later, gap, leaf_there}
 use Rattle.s2list.proofs.Picking.{Picked, IsGap, picked_fill, picked_push, greatest_below, fill_leaves, between_ends}
-use Rattle.s2list.proofs.Tiling.{or_false, none_between}
 use Rattle.s2list.proofs.Finding.{starts_later}
-use Rattle.s2list.proofs.Shared.{has_leaf-push, run_push}
-
-and_left : (a b : Bool) → (a && b) ≡ true → a ≡ true
-and_left true b h = refl
-and_left false b h = h
-
-and_not_right : (a b : Bool) → (a && not b) ≡ true → b ≡ true → ⊥
-and_not_right true true h g = false≢true h
-and_not_right true false h g = false≢true g
-and_not_right false b h g = false≢true h
+use Rattle.s2list.proofs.Shared.{has_leaf-push, run_all}
 
 -- the leaves of xs that ys has not
 abbrev pub minus : List ℕ → List ℕ → ℕ → Bool
 minus xs ys x = has_leaf xs x && not (has_leaf ys x)
 
--- the rest of a cell of xs is free of ys
-pub subtract_free : {xs ys list : List ℕ} (new : List ℕ) {i j lo : ℕ} (start end next : ℕ) →
-    IsPacked xs → IsPacked ys → Walk (minus xs ys) xs ys list i j lo →
-    i < length xs → (j < length ys → end ≤ first_leaf (get_or ys j 0)) → start ≡ max (first_leaf (get_or xs i 0)) lo →
-    end ≡ first_leaf (get_or xs i 0) + size_of (get_or xs i 0) → next ≡ max end start →
-    ((x : ℕ) → has_leaf new x ≡ (has_leaf list x || between start end x)) → Walk (minus xs ys) xs ys new (i + 1) j next
-subtract_free {xs} {ys} {list} new {i} {j} {lo} start end next px py w h free es ee en leaves =
-    walk_more new (i + 1) j next start end w (omega arith) (omega arith) (omega arith) leaves
-    (ended_more xs i lo next w.ended_x (omega arith) (omega arith)) (ended_later ys j lo next w.ended_y (omega arith))
+-- the leaves of a cell of xs from `start` to before `end` are free of ys, and those after them up to `next` aren't
+subtract_gap : {xs ys list : List ℕ} (new : List ℕ) {i j lo : ℕ} (m n start end next : ℕ) →
+    IsPacked xs → IsPacked ys → Walk (minus xs ys) xs ys list i j lo → i < length xs →
+    start ≡ max (first_leaf (get_or xs i 0)) lo → (j < length ys → end ≤ first_leaf (get_or ys j 0)) →
+    end ≤ first_leaf (get_or xs i 0) + size_of (get_or xs i 0) → start ≤ next → end ≤ next → FirstEndBy xs m next →
+    FirstEndBy ys n next → ((x : ℕ) → start ≤ x → end ≤ x → x < next → has_leaf ys x ≡ true) →
+    ((x : ℕ) → has_leaf new x ≡ (has_leaf list x || between start end x)) → Walk (minus xs ys) xs ys new m n next
+subtract_gap {xs} {ys} {list} new {i} {j} {lo} m n start end next px py w h es free within sn en bx by held leaves =
+    walk_more new m n next start end w (omega arith) sn en leaves bx by
     (λ x a b. ⊎_elim
     (λ (g : x < start).
     let f : between start end x ≡ false = grind (arith, nat_tests) in
     let t : has_leaf xs x ≡ false = gap i lo (first_leaf (get_or xs i 0)) x px w.ended_x (λ _. omega arith) a
     (omega arith) in
     f ∙ ap (λ v. v && not (has_leaf ys x)) (sym t))
-    (λ (g : start ≤ x).
-    let f : between start end x ≡ true = grind (arith, nat_tests) in
-    let t : has_leaf xs x ≡ true = leaf_there xs i x h (omega arith) (omega arith) in
-    let n : has_leaf ys x ≡ false = gap j lo end x py w.ended_y free a (omega arith) in
-    f ∙ sym (ap (λ v. v && not (has_leaf ys x)) t ∙ ap not n))
-    (cases_lt x start))
-
--- the next cell of ys begins before the cell of xs ends
-pub subtract_taken : {xs ys list : List ℕ} (new : List ℕ) {i j lo : ℕ} (start end next : ℕ) →
-    IsPacked xs → IsPacked ys → Walk (minus xs ys) xs ys list i j lo → i < length xs → j < length ys →
-    end < first_leaf (get_or xs i 0) + size_of (get_or xs i 0) → start ≡ max (first_leaf (get_or xs i 0)) lo →
-    end ≡ first_leaf (get_or ys j 0) → next ≡ max (first_leaf (get_or ys j 0) + size_of (get_or ys j 0)) start →
-    ((x : ℕ) → has_leaf new x ≡ (has_leaf list x || between start end x)) → Walk (minus xs ys) xs ys new i (j + 1) next
-subtract_taken {xs} {ys} {list} new {i} {j} {lo} start end next px py w h g before es ee en leaves =
-    walk_more new i (j + 1) next start end w (omega arith) (omega arith) (omega arith) leaves
-    (ended_later xs i lo next w.ended_x (omega arith)) (ended_more ys j lo next w.ended_y (omega arith) (omega arith))
-    (λ x a b. ⊎_elim
-    (λ (m : x < start).
-    let f : between start end x ≡ false = grind (arith, nat_tests) in
-    let t : has_leaf xs x ≡ false = gap i lo (first_leaf (get_or xs i 0)) x px w.ended_x (λ _. omega arith) a
-    (omega arith) in
-    f ∙ ap (λ v. v && not (has_leaf ys x)) (sym t))
-    (λ (m : start ≤ x). ⊎_elim
+    (λ (g : start ≤ x). ⊎_elim
     (λ (q : x < end).
     let f : between start end x ≡ true = grind (arith, nat_tests) in
     let t : has_leaf xs x ≡ true = leaf_there xs i x h (omega arith) (omega arith) in
-    let n : has_leaf ys x ≡ false = gap j lo end x py w.ended_y (λ _. omega arith) a q in
-    f ∙ sym (ap (λ v. v && not (has_leaf ys x)) t ∙ ap not n))
+    let none : has_leaf ys x ≡ false = gap j lo end x py w.ended_y free a q in
+    f ∙ sym (ap (λ v. v && not (has_leaf ys x)) t ∙ ap not none))
     (λ (q : end ≤ x).
     let f : between start end x ≡ false = grind (arith, nat_tests) in
-    let n : has_leaf ys x ≡ true = leaf_there ys j x g (omega arith) (omega arith) in
-    f ∙ sym (ap (λ v. has_leaf xs x && not v) n ∙ and_false (has_leaf xs x)))
+    f ∙ sym (ap (λ v. has_leaf xs x && not v) (held x g q b) ∙ and-false (has_leaf xs x)))
     (cases_lt x end))
     (cases_lt x start))
-
--- past the last cell of xs
-pub subtract_done : (xs ys list : List ℕ) (i j lo : ℕ) → Walk (minus xs ys) xs ys list i j lo → length xs ≤ i →
-    (x : ℕ) → has_leaf list x ≡ minus xs ys x
-subtract_done xs ys list i j lo w h x =
-    ⊎_elim
-    (λ (a : x < lo). let t : ltb x lo ≡ true = grind (arith, nat_tests) in w.leaves x ∙ ap (λ v. v && minus xs ys x) t)
-    (λ (a : lo ≤ x).
-    let t : ltb x lo ≡ false = grind (arith, nat_tests) in
-    let n : has_leaf xs x ≡ false = not_true (has_leaf xs x) (λ l.
-    let p = leaf_at xs x l in
-    let hi = p.high in
-    let e = w.ended_x p.at (let b = p.below in omega arith) in
-    omega arith) in
-    w.leaves x ∙ ap (λ v. v && minus xs ys x) t ∙ ap (λ v. v && not (has_leaf ys x)) (sym n))
-    (cases_lt x lo)
 
 -- ---- what is left of a cell of xs before the next cell of ys is a gap
 
@@ -106,24 +56,28 @@ subtract_done xs ys list i j lo w h x =
 abbrev Edge : List ℕ → List ℕ → ℕ → ℕ → Type 0
 Edge xs ys i lo = i < length xs → (lo ≤ first_leaf (get_or xs i 0)) ⊎ ((0 < lo) × (has_leaf ys (lo - 1) ≡ true))
 
+-- up to the next cell of xs
+edge_from : (xs ys : List ℕ) (i lo start : ℕ) → Edge xs ys i lo → start ≡ max (first_leaf (get_or xs i 0)) lo →
+    Edge xs ys i start
+edge_from xs ys i lo start edge es h =
+    ⊎_elim
+    (λ (a : first_leaf (get_or xs i 0) < lo).
+    let same : lo ≡ start = omega arith in
+    subst (λ k. Edge xs ys i k) same edge h)
+    (λ (a : lo ≤ first_leaf (get_or xs i 0)). inl (omega arith))
+    (cases_lt (first_leaf (get_or xs i 0)) lo)
+
 edge_taken : (xs ys : List ℕ) (i j lo start next : ℕ) → Edge xs ys i lo → j < length ys →
     0 < size_of (get_or ys j 0) → start ≡ max (first_leaf (get_or xs i 0)) lo
     → next ≡ max (first_leaf (get_or ys j 0) + size_of (get_or ys j 0)) start → Edge xs ys i next
 edge_taken xs ys i j lo start next edge g some es en h =
-    let y = get_or ys j 0 in
     ⊎_elim
-    (λ (a : first_leaf y + size_of y < start).
-    let e : next ≡ start = omega arith in
-    ⊎_elim
-    (λ (b : lo ≤ first_leaf (get_or xs i 0)). inl (omega arith))
-    (λ (b : (0 < lo) × (has_leaf ys (lo - 1) ≡ true)). ⊎_elim
-    (λ (m : lo < first_leaf (get_or xs i 0)). inl (omega arith))
-    (λ (m : first_leaf (get_or xs i 0) ≤ lo). let f : lo ≡ next = omega arith in
-    inr (let b0 = b.0 in omega arith, subst (λ v. has_leaf ys (v - 1) ≡ true) f b.1))
-    (cases_lt lo (first_leaf (get_or xs i 0)))) (edge h))
-    (λ (a : start ≤ first_leaf y + size_of y).
+    (λ (a : first_leaf (get_or ys j 0) + size_of (get_or ys j 0) < start).
+    let same : start ≡ next = omega arith in
+    subst (λ k. Edge xs ys i k) same (edge_from xs ys i lo start edge es) h)
+    (λ (a : start ≤ first_leaf (get_or ys j 0) + size_of (get_or ys j 0)).
     inr (omega arith, leaf_there ys j (next - 1) g (omega arith) (omega arith)))
-    (cases_lt (first_leaf y + size_of y) start)
+    (cases_lt (first_leaf (get_or ys j 0) + size_of (get_or ys j 0)) start)
 
 edge_free : {xs : List ℕ} (ys : List ℕ) (i lo start next : ℕ) →
     IsPacked xs → Edge xs ys i lo → i < length xs → start ≡ max (first_leaf (get_or xs i 0)) lo →
@@ -143,10 +97,10 @@ edge_free {xs} ys i lo start next packed edge h es en h2 =
     (cases_lt (first_leaf x + size_of x) start)
 
 minus_left : (xs ys : List ℕ) (x : ℕ) → minus xs ys x ≡ true → has_leaf xs x ≡ true
-minus_left xs ys x h = and_left (has_leaf xs x) (not (has_leaf ys x)) h
+minus_left xs ys x h = (and_parts (has_leaf xs x) (not (has_leaf ys x)) h).0
 
 minus_right : (xs ys : List ℕ) (x : ℕ) → minus xs ys x ≡ true → has_leaf ys x ≡ true → ⊥
-minus_right xs ys x h g = and_not_right (has_leaf xs x) (has_leaf ys x) h g
+minus_right xs ys x h g = false≢true (sym (ap not g) ∙ (and_parts (has_leaf xs x) (not (has_leaf ys x)) h).1)
 
 -- how far the gap goes: to the end of the cell of xs, or to the next cell of ys in it
 abbrev GapEnd : List ℕ → List ℕ → ℕ → ℕ → ℕ → Type 0
@@ -243,6 +197,23 @@ pub record Subtracting (xs ys list : List ℕ) (i j lo : ℕ) : Type 0 where
   pub walk : Walk (minus xs ys) xs ys list i j lo
   pub edge : Edge xs ys i lo
 
+-- a gap of a cell of xs is filled, after which ys has all leaves up to `next`
+subtracting_gap : {xs ys list new : List ℕ} {i j lo : ℕ} (m n start end next : ℕ) → IsLocal xs → IsLocal ys →
+    Subtracting xs ys list i j lo → i < length xs → start ≡ max (first_leaf (get_or xs i 0)) lo → GapEnd xs ys i j end →
+    FillsGap list new start end → start ≤ next → end ≤ next → m ≤ length xs → n ≤ length ys → FirstEndBy xs m next →
+    FirstEndBy ys n next → ((x : ℕ) → start ≤ x → end ≤ x → x < next → has_leaf ys x ≡ true) → Edge xs ys m next →
+    Subtracting xs ys new m n next
+subtracting_gap
+    {xs} {ys} {list} {new} {i} {j} {lo} m n start end next lx ly s h es ee f sn en in_x in_y bx by held edge = record {
+      in_x = in_x;
+      in_y = in_y;
+      picked = picked_fill (minus xs ys) list new start end s.picked (walk_below start s.walk (omega arith))
+          (λ _. difference_gap i j lo start end lx ly s.walk.ended_x s.walk.ended_y h s.edge es ee) f;
+      walk = subtract_gap new m n start end next (packed_from_local xs lx) (packed_from_local ys ly) s.walk h es
+          (gap_free xs ys i j end ee) (gap_within xs ys i j end ee) sn en bx by held (fill_leaves list new start end f);
+      edge = edge;
+    }
+
 -- the next cell of ys begins before the cell of xs ends
 pub subtracting_taken : (xs ys list new : List ℕ) (i j lo start end next x y : ℕ) →
     IsLocal xs → IsLocal ys → Subtracting xs ys list i j lo → i < length xs → j < length ys → get_or xs i 0 ≡ x →
@@ -254,17 +225,11 @@ subtracting_taken xs ys list new i j lo start end next x y lx ly s h g ex ey bef
     let fy = ap first_leaf ey in
     let sy = ap size_of ey in
     let some = (cell_leaves (get_or ys j 0) (ly.cells j 0 g)).some in
-    record {
-      in_x = s.in_x;
-      in_y = omega arith;
-      picked = picked_fill (minus xs ys) list new start end s.picked (walk_below start s.walk (omega arith))
-          (λ _. difference_gap i j lo start
-          end lx ly s.walk.ended_x s.walk.ended_y h s.edge (omega arith) (inr (g, omega arith, omega arith))) f;
-      walk = subtract_taken new start end next (packed_from_local xs lx)
-          (packed_from_local ys ly) s.walk h g (omega arith) (omega arith) (omega arith) (omega arith)
-          (fill_leaves list new start end f);
-      edge = edge_taken xs ys i j lo start next s.edge g some (omega arith) (omega arith);
-    }
+    subtracting_gap i (j + 1) start end next lx ly s h (omega arith) (inr (g, omega arith, omega arith)) f (omega arith)
+    (omega arith) s.in_x (omega arith) (ended_later xs i lo next s.walk.ended_x (omega arith))
+    (ended_more ys j lo next s.walk.ended_y (omega arith) (omega arith))
+    (λ n a b c. leaf_there ys j n g (omega arith) (omega arith))
+    (edge_taken xs ys i j lo start next s.edge g some (omega arith) (omega arith))
 
 -- the rest of the cell of xs is free of ys
 pub subtracting_free : (xs ys list new : List ℕ) (i j lo start end next x : ℕ) →
@@ -274,16 +239,10 @@ pub subtracting_free : (xs ys list new : List ℕ) (i j lo start end next x : �
 subtracting_free xs ys list new i j lo start end next x lx ly s h ex free es ee en f =
     let fx = ap first_leaf ex in
     let sx = ap size_of ex in
-    record {
-      in_x = omega arith;
-      in_y = s.in_y;
-      picked = picked_fill (minus xs ys) list new start end s.picked (walk_below start s.walk (omega arith))
-          (λ _. difference_gap
-          i j lo start end lx ly s.walk.ended_x s.walk.ended_y h s.edge (omega arith) (inl (omega arith, free))) f;
-      walk = subtract_free new start end next (packed_from_local xs lx) (packed_from_local ys ly)
-          s.walk h free (omega arith) (omega arith) (omega arith) (fill_leaves list new start end f);
-      edge = edge_free ys i lo start next (packed_from_local xs lx) s.edge h (omega arith) (omega arith);
-    }
+    subtracting_gap (i + 1) j start end next lx ly s h (omega arith) (inl (omega arith, free)) f (omega arith)
+    (omega arith) (omega arith) s.in_y (ended_more xs i lo next s.walk.ended_x (omega arith) (omega arith))
+    (ended_later ys j lo next s.walk.ended_y (omega arith)) (λ n a b c. absurd (omega arith))
+    (edge_free ys i lo start next (packed_from_local xs lx) s.edge h (omega arith) (omega arith))
 
 -- no leaf of xs lies before the next of its cells
 pub subtracting_from : (xs ys list : List ℕ) (i j lo start x : ℕ) → IsLocal xs → Subtracting xs ys list i j lo →
@@ -295,18 +254,11 @@ subtracting_from xs ys list i j lo start x lx s h ex es =
       in_x = s.in_x;
       in_y = s.in_y;
       picked = s.picked;
-      walk = walk_more list i j start lo lo s.walk (omega arith) (omega arith) (omega arith)
-          (λ n. or_false (has_leaf list n) ∙ ap (λ v. has_leaf list n || v) (sym (none_between lo n)))
-          (ended_later xs i lo start s.walk.ended_x (omega arith))
+      walk = walk_on i j start s.walk (omega arith) (ended_later xs i lo start s.walk.ended_x (omega arith))
           (ended_later ys j lo start s.walk.ended_y (omega arith))
-          (λ n a b.
-          let t : has_leaf xs n ≡ false = gap i lo (first_leaf (get_or xs i 0)) n px s.walk.ended_x
-          (λ _. omega arith) a (omega arith) in
-          none_between lo n ∙ ap (λ v. v && not (has_leaf ys n)) (sym t));
-      edge = λ l. ⊎_elim
-          (λ (a : first_leaf x < lo). let same : lo ≡ start = omega arith in subst (λ k. Edge xs ys i k) same s.edge l)
-          (λ (a : lo ≤ first_leaf x). inl (omega arith))
-          (cases_lt (first_leaf x) lo);
+          (λ n a b. ap (λ v. v && not (has_leaf ys n)) (gap i lo (first_leaf (get_or xs i 0)) n px s.walk.ended_x
+          (λ _. omega arith) a (omega arith)));
+      edge = edge_from xs ys i lo start s.edge (omega arith);
     }
 
 -- a further place in ys
@@ -357,8 +309,10 @@ subtracting_push {xs} {ys} {list} {i} {j} {lo} lx ly s h le free =
       picked = picked_push (minus xs ys) list x lo s.picked (walk_below lo s.walk (omega arith)) le
           (greatest_below (minus xs ys) xs x lx (member_at xs i x h refl) (λ n t. minus_left xs ys n t)
           (λ n v. let r = covers_from x n v in inside n r.0 r.1));
-      walk = subtract_free (list ++ x ∷ [])
-          start end end px py s.walk h free (omega arith) refl (omega arith) (λ n. has_leaf-push list x n);
+      walk = subtract_gap (list ++ x ∷ []) (i + 1) j start end end px py s.walk h (omega arith) free (omega arith)
+          (omega arith) (omega arith) (ended_more xs i lo end s.walk.ended_x (omega arith) (omega arith))
+          (ended_later ys j lo end s.walk.ended_y (omega arith)) (λ n a b c. absurd (omega arith))
+          (λ n. has_leaf-push list x n);
       edge = edge_free ys i lo start end px s.edge h (omega arith) (omega arith);
     }
 
@@ -368,40 +322,16 @@ pub subtracting_run : (xs ys list new : List ℕ) (i j lo next end : ℕ) → Is
     (j < length ys → FirstEndBy xs next (first_leaf (get_or ys j 0))) → end ≡ first_leaf (get_or xs (next - 1)
     0) + size_of (get_or xs (next - 1) 0) → new ≡ list ++ take (next - i) (drop i xs) → Subtracting xs ys new next j end
 subtracting_run xs ys list new i j lo next end lx ly s first le in_x free ee is =
-    let e : i + suc (next - i - 1) ≡ next = omega arith in
-    let f : i + (next - i - 1) ≡ next - 1 = omega arith in
-    let m : suc (next - i - 1) ≡ next - i = omega arith in
-    let all = steps (next - i - 1) (omega arith) in
-    let ends : first_leaf (get_or xs (i + (next - i - 1)) 0) + size_of (get_or xs (i + (next - i - 1)) 0) ≡ end =
-    ap (λ k. first_leaf (get_or xs k 0) + size_of (get_or xs k 0)) f ∙ sym ee in
-    let a = subst (λ k. Subtracting xs ys (list ++ take (suc (next - i - 1)) (drop i xs)) k j
-    (first_leaf (get_or xs (i + (next - i - 1)) 0) + size_of (get_or xs (i + (next - i - 1)) 0))) e all in
-    let b = subst (λ k. Subtracting xs ys (list ++ take k (drop i xs)) next j
-    (first_leaf (get_or xs (i + (next - i - 1)) 0) + size_of (get_or xs (i + (next - i - 1)) 0))) m a in
-    rw is (subst (λ k. Subtracting xs ys (list ++ take (next - i) (drop i xs)) next j k) ends b)
-  where
-    push : (l : List ℕ) (n k : ℕ) → i + n < next → Subtracting xs ys l (i + n) j k →
-        k ≤ first_leaf (get_or xs (i + n) 0)
-        → Subtracting xs ys (l ++ get_or xs (i + n) 0 ∷ []) (i + suc n) j
-        (first_leaf (get_or xs (i + n) 0) + size_of (get_or xs (i + n) 0))
-    push l n k h t b =
-        let e : (i + n) + 1 ≡ i + suc n = omega arith in
-        subst (λ m. Subtracting xs ys (l ++ get_or xs (i + n) 0 ∷ []) m j
-        (first_leaf (get_or xs (i + n) 0) + size_of (get_or xs (i + n) 0))) e
-        (subtracting_push lx ly t (omega arith) b (λ g. free g (i + n) h))
-
-    steps : (n : ℕ) → i + n < next → Subtracting xs ys (list ++ take (suc n) (drop i xs)) (i + suc n) j
-        (first_leaf (get_or xs (i + n) 0) + size_of (get_or xs (i + n) 0))
-    steps zero h =
-        let e : i ≡ i + 0 = omega arith in
-        let same : list ++ take 0 (drop i xs) ≡ list = append-nil list in
-        rw (run_push xs list i 0 (omega arith), same)
-        (push list 0 lo h (subst (λ k. Subtracting xs ys list k j lo) e s)
-        (subst (λ k. lo ≤ first_leaf (get_or xs k 0)) e first))
-    steps (suc n) h =
-        let c : first_leaf (get_or xs (i + n) 0) + size_of (get_or xs (i + n) 0)
-        ≤ first_leaf (get_or xs (i + suc n) 0) = (packed_from_local xs lx).chain (i + n) (i + suc n) 0
-        (omega arith) (omega arith) in
-        rw (run_push xs list i (suc n) (omega arith))
-        (push (list ++ take (suc n) (drop i xs)) (suc n)
-        (first_leaf (get_or xs (i + n) 0) + size_of (get_or xs (i + n) 0)) h (steps n (omega arith)) c)
+    let (at, t, low, last) = run_all
+    (λ l k. (at : ℕ) × Subtracting xs ys l k j at × (k < length xs → at ≤ first_leaf (get_or xs k 0))
+    × (i < k → at ≡ first_leaf (get_or xs (k - 1) 0) + size_of (get_or xs (k - 1) 0)))
+    xs list i next (omega arith) in_x (lo, s, λ _. first, λ h. absurd (omega arith))
+    (λ l k a b p.
+    let (at, t, low, last) = p in
+    let same : k ≡ k + 1 - 1 = omega arith in (
+      first_leaf (get_or xs k 0) + size_of (get_or xs k 0),
+      subtracting_push lx ly t (omega arith) (low (omega arith)) (λ g. free g k b),
+      λ h. (packed_from_local xs lx).chain k (k + 1) 0 (omega arith) h,
+      λ _. ap (λ n. first_leaf (get_or xs n 0) + size_of (get_or xs n 0)) same,
+    )) in
+    rw is (subst (λ k. Subtracting xs ys (list ++ take (next - i) (drop i xs)) next j k) (last le ∙ sym ee) t)

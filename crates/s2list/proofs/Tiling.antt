@@ -1,8 +1,8 @@
 -- The normal form of a gap: at each leaf the largest cell that begins there and fits.
 use Rattle.std.proofs.Common.{◌≡◌, ℕ, ◌+◌, ◌-◌, ◌<◌, ◌≤◌, refl, sym, ◌∙◌, ap, arith, Bool, true, false}
-use Rattle.std.proofs.Common.{◌||◌, ◌&&◌, leb, ltb, List, [], ◌∷◌, ◌++◌, append_assoc, ◌⊎◌, inl, inr}
+use Rattle.std.proofs.Common.{◌||◌, ◌&&◌, leb, ltb, List, [], ◌∷◌, ◌++◌, append_assoc, ◌⊎◌, inr}
 use Rattle.std.proofs.Math.Logic.{⊎_elim}
-use Rattle.std.proofs.lemmas.Bool.{cases_order}
+use Rattle.std.proofs.lemmas.Bool.{cases_order, or_cases}
 use Rattle.std.proofs.lemmas.Bool.Decides.{nat_tests}
 use Rattle.std.proofs.lemmas.List.Folds.{list_any-append}
 use Rattle.s2cell.specs.Cell.{IsCell, level_of, size_of, first_leaf, covers, parent_of}
@@ -26,10 +26,6 @@ pub record Tiling (old list : List ℕ) (lo hi first : ℕ) : Type 0 where
   pub leaves : (x : ℕ) → has_leaf tiles x ≡ between lo first x
   pub closed : (q : ℕ) → IsCell q → lo ≤ first_leaf q → first_leaf q + size_of q ≤ hi → first_leaf q < first →
       first_leaf q + size_of q ≤ first
-
-pub or_true : (a b : Bool) → (a || b) ≡ true → (a ≡ true) ⊎ (b ≡ true)
-or_true true b e = inl refl
-or_true false b e = inr e
 
 pub or_false : (a : Bool) → a ≡ (a || false)
 or_false true = refl
@@ -97,7 +93,7 @@ tiling_step old list new lo hi first cell t c f e largest is =
       below = λ x l. ⊎_elim
           (λ (a : has_leaf t.tiles x ≡ true). let b = t.below x a in omega arith)
           (λ (a : covers cell x ≡ true). (covers_from cell x a).1)
-          (or_true (has_leaf t.tiles x) (covers cell x) (sym (added x) ∙ l));
+          (or_cases (has_leaf t.tiles x) (covers cell x) (sym (added x) ∙ l));
       leaves = λ x.
           let same : covers cell x ≡ between first (first_leaf cell + size_of cell) x =
           ap (λ v. leb v x && ltb x (first_leaf cell + size_of cell)) f in

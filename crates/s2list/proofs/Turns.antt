@@ -36,27 +36,16 @@ placed xs ys from i j {id} {begin} lx ly h e begins ended later so_far =
 
 -- ---- whether they share a leaf
 
--- the cells of `ys` that end by the next cell of `xs` share none
-none_more : {xs ys : List ℕ} (i j next : ℕ) → IsLocal xs → IsLocal ys →
-    next ≤ length ys → FirstEndBy xs i (first_leaf (get_or ys j 0)) → FirstEndBy ys next (first_leaf (get_or xs i 0)) →
+-- the cells of `ys` that end by the next cell of `xs`, if there is one, share none
+none_more : {xs ys : List ℕ} (i j next : ℕ) → IsLocal xs → IsLocal ys → next ≤ length ys →
+    FirstEndBy xs i (first_leaf (get_or ys j 0)) → (i < length xs → FirstEndBy ys next (first_leaf (get_or xs i 0))) →
     ((k : ℕ) → k < j → ShareSome (covers (get_or ys k 0)) (has_leaf xs) → ⊥) →
     (k : ℕ) → k < next → ShareSome (covers (get_or ys k 0)) (has_leaf xs) → ⊥
 none_more {xs} {ys} i j next lx ly most ended passed none k h =
     ⊎_elim
     (λ (a : k < j). none k a)
     (λ (a : j ≤ k).
-    shared_none xs i (get_or ys k 0) lx (ended_on xs ys i j k ly a (omega arith) ended) (λ _. passed k h))
-    (cases_lt k j)
-
--- nor do any once `xs` has ended
-none_left : {xs ys : List ℕ} (i j : ℕ) → IsLocal xs → IsLocal ys → length xs ≤ i → FirstEndBy
-    xs i (first_leaf (get_or ys j 0)) → ((k : ℕ) → k < j → ShareSome (covers (get_or ys k 0)) (has_leaf xs) → ⊥) →
-    (k : ℕ) → k < length ys → ShareSome (covers (get_or ys k 0)) (has_leaf xs) → ⊥
-none_left {xs} {ys} i j lx ly out ended none k h =
-    ⊎_elim
-    (λ (a : k < j). none k a)
-    (λ (a : j ≤ k). shared_none xs i (get_or ys k 0) lx (ended_on xs ys i j k ly a h ended)
-    (λ (l : i < length xs). absurd (omega arith)))
+    shared_none xs i (get_or ys k 0) lx (ended_on xs ys i j k ly a (omega arith) ended) (λ l. passed l k h))
     (cases_lt k j)
 
 -- the cells of `xs` that begin no later than a cell of `ys` come before one that begins after it
@@ -185,7 +174,8 @@ pub open_more : (q : Question) {xs ys : List ℕ} (i j next : ℕ) → IsLocal x
     ((k : ℕ) → k < j → LeavesOpen q xs (get_or ys k 0)) → (k : ℕ) → k < next → LeavesOpen q xs (get_or ys k 0)
 open_more Contains {xs} {ys} i j next lx ly t so_far =
     held_more i j next lx ly t.in_x t.within (inside (get_or xs i 0) (get_or ys j 0) t.left_open).0 t.passed so_far
-open_more Intersects i j next lx ly t so_far = none_more i j next lx ly t.within t.place.ended t.passed so_far
+open_more Intersects i j next lx ly t so_far =
+    none_more i j next lx ly t.within t.place.ended (λ _. t.passed) so_far
 
 pub ended_after : (q : Question) {xs ys : List ℕ} (i j next : ℕ) → IsLocal xs → IsLocal ys → Turned q xs ys i j next →
     next < length ys → FirstEndBy xs (After q i) (first_leaf (get_or ys next 0))
@@ -257,4 +247,5 @@ pub open_rest : (q : Question) {xs ys : List ℕ} (i j : ℕ) → IsLocal xs →
     ((k : ℕ) → k < j → LeavesOpen q xs (get_or ys k 0)) → Lacks q ≡ false → (k : ℕ) → k < length ys →
     LeavesOpen q xs (get_or ys k 0)
 open_rest Contains i j lx ly out p so_far e = absurd (false≢true (sym e))
-open_rest Intersects i j lx ly out p so_far e = none_left i j lx ly out p.ended so_far
+open_rest Intersects {xs} {ys} i j lx ly out p so_far e =
+    none_more i j (length ys) lx ly (omega arith) p.ended (λ l. absurd (omega arith)) so_far

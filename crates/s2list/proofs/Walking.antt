@@ -1,6 +1,7 @@
 -- Two lists of cells, walked side by side from the first leaf to the last.
 use Rattle.std.proofs.Common.{◌≡◌, ℕ, ◌+◌, ◌<◌, ◌≤◌, refl, sym, ◌∙◌, ap, arith, Bool, true, false, ◌||◌}
 use Rattle.std.proofs.Common.{◌&&◌, ltb, List, length, get_or}
+use Rattle.std.proofs.Math.Bool.{or-false}
 use Rattle.std.proofs.Math.Logic.{⊎_elim}
 use Rattle.std.proofs.lemmas.Bool.{cases_lt, false≢true}
 use Rattle.std.proofs.lemmas.Bool.Decides.{nat_tests}
@@ -76,10 +77,6 @@ walk_below {S} {lo} start w h x l =
     (λ (a : lo ≤ x). let f : ltb x lo ≡ false = grind (arith, nat_tests) in absurd (false≢true (rw f at e)))
     (cases_lt x lo)
 
-pub and_false : (a : Bool) → (a && false) ≡ false
-and_false true = refl
-and_false false = refl
-
 walk_bool : (x lo next : ℕ) (l b s : Bool) → lo ≤ next → l ≡ (ltb x lo && s) → (x < lo → b ≡ false) →
     (next ≤ x → b ≡ false) → (lo ≤ x → x < next → b ≡ s) → (l || b) ≡ (ltb x next && s)
 walk_bool x lo next l b s w e before after here =
@@ -115,6 +112,33 @@ walk_more {S} {list} new {lo} m n next start end w a b c leaves bx by here = rec
   leaves = λ x. leaves x ∙ walk_bool x lo next (has_leaf list x) (between start end x) (S x) (omega arith) (w.leaves x)
       (λ l. grind (arith, nat_tests)) (λ l. grind (arith, nat_tests)) (here x);
 }
+
+-- the walk goes on to `next`, over leaves that the set doesn't have
+pub walk_on : {S : ℕ → Bool} {xs ys list : List ℕ} {i j lo : ℕ} (m n next : ℕ) → Walk S xs ys list i j lo →
+    lo ≤ next → FirstEndBy xs m next → FirstEndBy ys n next → ((x : ℕ) → lo ≤ x → x < next → S x ≡ false) →
+    Walk S xs ys list m n next
+walk_on {S} {list = list} {lo = lo} m n next w le bx by none = record {
+  ended_x = bx;
+  ended_y = by;
+  leaves = λ x. sym (or-false (has_leaf list x)) ∙ walk_bool x lo next (has_leaf list x) false (S x) le (w.leaves x)
+      (λ l. refl) (λ l. refl) (λ a b. sym (none x a b));
+}
+
+-- past the last cell of `xs`, beyond which the set has no leaf
+pub walk_done : {S : ℕ → Bool} {xs ys list : List ℕ} {i j lo : ℕ} → Walk S xs ys list i j lo → length xs ≤ i →
+    ((x : ℕ) → has_leaf xs x ≡ false → S x ≡ false) → (x : ℕ) → has_leaf list x ≡ S x
+walk_done {S} {xs} {lo = lo} w h within x =
+    ⊎_elim
+    (λ (a : x < lo). let t : ltb x lo ≡ true = grind (arith, nat_tests) in w.leaves x ∙ ap (λ v. v && S x) t)
+    (λ (a : lo ≤ x).
+    let t : ltb x lo ≡ false = grind (arith, nat_tests) in
+    let n : has_leaf xs x ≡ false = not_true (has_leaf xs x) (λ l.
+    let p = leaf_at xs x l in
+    let hi = p.high in
+    let e = w.ended_x p.at (let b = p.below in omega arith) in
+    omega arith) in
+    w.leaves x ∙ ap (λ v. v && S x) t ∙ sym (within x n))
+    (cases_lt x lo)
 
 pub ended_more : (u : List ℕ) (n lo next : ℕ) → FirstEndBy u n lo → lo ≤ next →
     first_leaf (get_or u n 0) + size_of (get_or u n 0) ≤ next → FirstEndBy u (n + 1) next

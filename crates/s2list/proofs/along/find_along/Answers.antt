@@ -1,7 +1,8 @@
 use Rattle.std.proofs.Common.{◌≡◌, ◌+◌, ◌-◌, ◌<◌, length, arith}
 use Rattle.s2list.specs.Packed.{IsPacked}
 use Rattle.s2list.specs.Working.Search.{IsFrom}
-use Rattle.s2list.proofs.Narrowing.{later, ended_up}
+use Rattle.s2list.proofs.Finding.{ended_to}
+use Rattle.s2list.proofs.Narrowing.{later}
 use Rattle.s2list.proofs.along.find_along.Given.{Over}
 use Rattle.s2list.proofs.along.find_along.Goals as goal
 
@@ -16,7 +17,7 @@ returns-then-next-len-clause-ended g c p b =
     let n = c.len-len.ensures in
     let h : c.args.start < length (g.C.Cells.ids c.args.cells.now) = omega arith in
     let test = c.ends_by.ensures (rw c.look.ensures.id (p.cells c.args.start 0 h)) in
-    ended_up c.args.lo c.args.start p h (rw c.look.ensures.id at (test.0 c.if-not-ends_by.false))
+    ended_to _ c.args.start c.args.lo p h (rw c.look.ensures.id at (test.0 c.if-not-ends_by.false))
 
 pub returns-then-ends_by-clause-ended : goal.returns-then-ends_by-clause-ended
 returns-then-ends_by-clause-ended g c p b k h =
@@ -24,7 +25,7 @@ returns-then-ends_by-clause-ended g c p b k h =
     let last = c.len-len.result - 1 in
     let l : last < length (g.C.Cells.ids c.args.cells.now) = omega arith in
     let test = c.ends_by-2.ensures (rw c.look-2.ensures.id (p.cells last 0 l)) in
-    ended_up c.args.lo last p l (rw c.look-2.ensures.id at (test.0 c.if-ends_by.true)) k (omega arith)
+    ended_to _ last c.args.lo p l (rw c.look-2.ensures.id at (test.0 c.if-ends_by.true)) k (omega arith)
 
 -- the first cell ends by the leaf, and the last doesn't
 between : (g : Over) (c : goal.After-narrow g) → IsPacked (g.C.Cells.ids c.args.cells.now)
@@ -34,7 +35,7 @@ between g c p =
     let h : c.args.start < length (g.C.Cells.ids c.args.cells.now) = omega arith in
     let first = c.ends_by.ensures (rw c.look.ensures.id (p.cells c.args.start 0 h)) in
     record {
-      ended = ended_up c.args.lo c.args.start p h (rw c.look.ensures.id at (first.0 c.if-not-ends_by.false));
+      ended = ended_to _ c.args.start c.args.lo p h (rw c.look.ensures.id at (first.0 c.if-not-ends_by.false));
       next = λ l.
           let last = c.ends_by-2.ensures (rw c.look-2.ensures.id (p.cells (c.len-len.result - 1) 0 l)) in
           rw c.look-2.ensures.id at (later _ _ _ last c.if-ends_by.false);

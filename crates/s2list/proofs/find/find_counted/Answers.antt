@@ -1,7 +1,8 @@
 use Rattle.std.proofs.Common.{◌-◌, ◌<◌, length, arith}
 use Rattle.s2list.specs.Packed.{IsPacked}
 use Rattle.s2list.specs.Working.Search.{IsFrom}
-use Rattle.s2list.proofs.Narrowing.{ended_up, later}
+use Rattle.s2list.proofs.Finding.{ended_to}
+use Rattle.s2list.proofs.Narrowing.{later}
 use Rattle.s2list.proofs.find.find_counted.Given.{Over}
 use Rattle.s2list.proofs.find.find_counted.Goals as goal
 
@@ -11,7 +12,7 @@ returns-then-ends_by-clause-ended g c p k h =
     let last = c.len-len.result - 1 in
     let l : last < length (g.C.Cells.ids c.args.cells.now) = omega arith in
     let test = c.ends_by.ensures (rw c.look.ensures.id (p.cells last 0 l)) in
-    ended_up c.args.lo last p l (rw c.look.ensures.id at (test.0 c.if-ends_by.true)) k (omega arith)
+    ended_to _ last c.args.lo p l (rw c.look.ensures.id at (test.0 c.if-ends_by.true)) k (omega arith)
 
 pub returns-then-not-ends_by-clause-next : goal.returns-then-not-ends_by-clause-next
 returns-then-not-ends_by-clause-next g c p h =

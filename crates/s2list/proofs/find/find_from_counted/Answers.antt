@@ -1,7 +1,8 @@
 use Rattle.std.proofs.Common.{◌≡◌, ◌+◌, ◌≤◌, ◌↔◌, IsTrue, subst, get_or, arith}
 use Rattle.s2cell.specs.Cell.{first_leaf, size_of}
 use Rattle.s2list.specs.Packed.{FirstEndBy}
-use Rattle.s2list.proofs.Narrowing.{ended_up, later}
+use Rattle.s2list.proofs.Finding.{ended_to}
+use Rattle.s2list.proofs.Narrowing.{later}
 use Rattle.s2list.proofs.find.find_from_counted.Goals as goal
 
 pub returns-then-not-ends_at-clause-next : goal.returns-then-not-ends_at-clause-next
@@ -22,7 +23,7 @@ returns-then-not-ends_at-2-clause-within g c = let w = c.ends_at.ensures.within 
 pub returns-then-not-ends_at-2-clause-ended : goal.returns-then-not-ends_at-2-clause-ended
 returns-then-not-ends_at-2-clause-ended g c p b =
     let e = (c.ends_at.ensures.answer p.cells).0 c.if-not-ends_at.false in
-    ended_up c.args.lo c.args.start p e.0 e.1
+    ended_to _ c.args.start c.args.lo p e.0 e.1
 
 pub returns-then-not-ends_at-2-clause-next : goal.returns-then-not-ends_at-2-clause-next
 returns-then-not-ends_at-2-clause-next g c p b h =
@@ -48,7 +49,7 @@ returns-clause-ended g c p b =
     let e = (c.ends_at-2.ensures.answer p.cells).0 c.if-not-ends_at-2.false in
     let same : (c.args.start + 1) + 1 ≡ c.args.start + 2 = omega arith in
     c.leap_on.ensures.ended p
-    (subst (λ n. FirstEndBy u n c.args.lo) same (ended_up c.args.lo (c.args.start + 1) p e.0 e.1))
+    (subst (λ n. FirstEndBy u n c.args.lo) same (ended_to _ (c.args.start + 1) c.args.lo p e.0 e.1))
 
 pub returns-clause-next : goal.returns-clause-next
 returns-clause-next g c p b =
@@ -56,7 +57,7 @@ returns-clause-next g c p b =
     let e = (c.ends_at-2.ensures.answer p.cells).0 c.if-not-ends_at-2.false in
     let same : (c.args.start + 1) + 1 ≡ c.args.start + 2 = omega arith in
     c.leap_on.ensures.next p
-    (subst (λ n. FirstEndBy u n c.args.lo) same (ended_up c.args.lo (c.args.start + 1) p e.0 e.1))
+    (subst (λ n. FirstEndBy u n c.args.lo) same (ended_to _ (c.args.start + 1) c.args.lo p e.0 e.1))
 
 pub returns-clause-some : goal.returns-clause-some
 returns-clause-some g c h =

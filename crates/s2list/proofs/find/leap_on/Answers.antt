@@ -1,7 +1,8 @@
 use Rattle.std.proofs.Common.{◌≡◌, ◌+◌, ◌-◌, ◌<◌, length, arith}
 use Rattle.s2list.specs.Packed.{FirstEndBy, IsPacked}
 use Rattle.s2list.specs.Working.Search.{IsFrom}
-use Rattle.s2list.proofs.Narrowing.{later, ended_up}
+use Rattle.s2list.proofs.Finding.{ended_to}
+use Rattle.s2list.proofs.Narrowing.{later}
 use Rattle.s2list.proofs.Looking.{leapt_two, leapt_more, leapt_last}
 use Rattle.s2list.proofs.find.leap_on.Goals as goal
 
@@ -33,7 +34,7 @@ loop-leap-preserved g c =
       leap = omega arith;
       ended = λ p b.
           let test = c.ends_by.ensures (rw c.look.ensures.id (p.cells k 0 h)) in
-          let all : FirstEndBy u (k + 1) c.args.lo = ended_up c.args.lo k p h
+          let all : FirstEndBy u (k + 1) c.args.lo = ended_to u k c.args.lo p h
           (rw c.look.ensures.id at (test.0 c.if-not-ends_by.false)) in
           rw same at all;
       leapt = leapt_more _ c.loop-leap.leap _ v.leapt (omega arith) (omega arith) (omega arith);
