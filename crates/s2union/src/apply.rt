@@ -4,7 +4,7 @@
 //! [`Tail`] tells from the last three cells that it gave whether the next one may come after them. What counts looks at
 //! the list is a type parameter; looks at the cells of a change aren't counted.
 ghost use Rattle.std.specs.Prelude.{◌≡◌, ◌≤◌, ◌<◌, ◌+◌, ◌-◌, ◌*◌, ◌^◌, ◌++◌, ◌↔◌, ℕ};
-ghost use Rattle.std.specs.Prelude.{[], length, take, drop, min, slice_index, IfOk, IsTrue, Some, None};
+ghost use Rattle.std.specs.Prelude.{[], length, take, drop, min, IfOk, IsTrue, Some, None};
 ghost use Rattle.std.specs.List.Sorted.{IsStrictlyIncreasing};
 ghost use Rattle.std.specs.Vec.{vec_len, vec_capacity};
 ghost use Rattle.s2cell.specs.Cell.{IsCell};

@@ -1,4 +1,4 @@
-use Rattle.std.proofs.Common.{◌≡◌, ◌+◌, ◌-◌, ◌/◌, ◌<◌, ◌≤◌, length, arith}
+use Rattle.std.proofs.Common.{arith}
 use Rattle.s2list.proofs.Narrowing.{left_all, left_half, left_from, left_none}
 use Rattle.s2list.proofs.Looking.{halved_all, halved_more}
 use Rattle.s2list.proofs.find.among_few.Goals as goal
