@@ -338,13 +338,29 @@ pub(crate) fn find_near<C: Cells>(cells: &C, near: usize, lo: u64) -> usize
 {
     let len = cells.len();
     let at = near.min(len);
-    if at > 0 && !ends_by(cells.id(at - 1), lo) {
+    if first_place(cells, at, lo) < at {
         return find(cells, lo);
     }
     if len - at > NEARBY && ends_by(cells.id(at + NEARBY), lo) {
         return find(cells, lo);
     }
     find_from(cells, at, lo)
+}
+
+/// The index `near` if the cells before it end by the leaf `lo`, and otherwise 0. Any `near` will do.
+#[inline(always)]
+pub fn first_place<C: Cells>(cells: &C, near: usize, lo: u64) -> usize
+    ensures to { result ≤ near }
+    ensures within { result ≤ length (C.ids cells.now) }
+    ensures ended { IsPacked (C.ids cells.now) → FirstEndBy (C.ids cells.now) result lo }
+{
+    if near == 0 || near > cells.len() {
+        return 0;
+    }
+    if !ends_by(cells.id(near - 1), lo) {
+        return 0;
+    }
+    near
 }
 
 /// Whether a cell ends by the leaf `lo`.

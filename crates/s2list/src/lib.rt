@@ -44,6 +44,7 @@ pub use cells::{CellList, Cells, IdList};
 pub use differing::write_symmetric_difference;
 pub use find::{
     NEARBY, end_of, find_counted, find_from, find_from_counted, find_id_counted, first_of,
+    first_place,
 };
 pub use four::{Places, places_of_four, places_of_four_counted};
 pub use join::write_union;
