@@ -20,7 +20,7 @@ pub(crate) struct Piece {
 }
 
 /// How many cells a run has at least, before it is looked for.
-const RUN: usize = 8;
+pub(crate) const RUN: usize = 8;
 
 /// The index before which a run of cells ends that begins at the index `i`, after the leaf `done`: there is a leaf
 /// between its last cell and the next one, and between its last cell and the leaf `mark`. Or `i`, if no such run is
