@@ -1,7 +1,7 @@
 -- Which words name cells.
 use Rattle.std.proofs.Common.{◌≡◌, ℕ, ◌+◌, ◌-◌, ◌*◌, ◌/◌, ◌%◌, ◌^◌, ◌<◌, ◌≤◌, refl, sym}
 use Rattle.std.proofs.Common.{◌∙◌, ap, arith, subst, List, [], ◌∷◌, length, Bool, true, false, ◌&&◌, ◌||◌, cond}
-use Rattle.std.proofs.Common.{inl, inr, Some, None}
+use Rattle.std.proofs.Common.{inr, Some, None}
 use Rattle.std.proofs.Common.{nat_lt, nat_le, nat_eq}
 use Rattle.std.proofs.Math.Nat.{mul-le-mul_right, div-eq_of_lt-le}
 use Rattle.std.proofs.Math.Logic.{⊎_elim}
@@ -22,7 +22,7 @@ use Rattle.s2cell.specs.Debug.{IsDebug}
 use Rattle.s2cell.specs.Words.{NamesCell}
 use Rattle.s2cell.proofs.CellLemmas.{own_place, level_of_cell, place_of_cell, four_pos}
 use Rattle.s2script.specs.Named.{is_cell, is_hexadecimal, padded_value, token_cell, debug_cell, is_face_and_digits}
-use Rattle.s2script.specs.Named.{cell_below, has_slash}
+use Rattle.s2script.specs.Named.{cell_below, has_slash, cell_named}
 
 and_both : (a b : Bool) → (a && b) ≡ true → (a ≡ true) × (b ≡ true)
 and_both true b e = (refl, e)
@@ -217,6 +217,10 @@ debug_none (face ∷ slash ∷ digits) none = none_where (is_face_and_digits fac
 
 -- ---- either
 
+none_either : (b : Bool) (debug token : Option ℕ) → None ≡ debug → None ≡ token → None ≡ cond b debug token
+none_either true debug token e f = e
+none_either false debug token e f = f
+
 no_slash : (word : List ℕ) → AllDigits 16 word → has_slash word ≡ false
 no_slash [] a = refl
 no_slash (b ∷ bs) a =
@@ -231,16 +235,22 @@ no_slash (b ∷ bs) a =
 a_slash : (word : List ℕ) (n : ℕ) → IsDebug word n → has_slash word ≡ true
 a_slash word n d = list_any_at (λ b. nat_eq b 47) word 1 0 (omega (arith, d.length_is)) (is_equal _ 47 d.slash)
 
-pub names_by_debug : (word : List ℕ) (found : Option ℕ) → has_slash word ≡ true
+-- a word that is read as a token has no slash
+pub named_by_token : (word : List ℕ) (n : ℕ) → IsReading word n → Some n ≡ token_cell word → Some n ≡ cell_named word
+unfolding cell_named
+named_by_token word n r e =
+    e ∙ sym (ap (λ b. cond b (debug_cell word) (token_cell word)) (no_slash word r.digits))
+
+-- a word that names no cell as a token names what its debug text does
+pub named_by_debug : (word : List ℕ) (found : Option ℕ) → None ≡ token_cell word → found ≡ debug_cell word
+    → MatchOption found ((n : ℕ) → IsDebug word n → ⊥) (λ n. IsDebug word n) → found ≡ cell_named word
+unfolding cell_named
+named_by_debug word None token e none = none_either (has_slash word) (debug_cell word) (token_cell word) e token
+named_by_debug word (Some n) token e d =
+    e ∙ sym (ap (λ b. cond b (debug_cell word) (token_cell word)) (a_slash word n d))
+
+pub names_by_debug : (word : List ℕ) (found : Option ℕ) → ((n : ℕ) → IsReading word n × IsCell n → ⊥)
     → MatchOption found ((n : ℕ) → IsDebug word n → ⊥) (λ n. IsDebug word n)
     → MatchOption found ((n : ℕ) → NamesCell word n → ⊥) (λ n. NamesCell word n)
-names_by_debug word None slash none = λ n. ⊎_elim
-    (λ r. absurd (false≢true (sym (no_slash word r.0.digits) ∙ slash))) (none n)
-names_by_debug word (Some n) slash d = inr d
-
-pub names_by_token : (word : List ℕ) (found : Option ℕ) → has_slash word ≡ false
-    → MatchOption found ((n : ℕ) → IsReading word n × IsCell n → ⊥) (λ n. IsReading word n × IsCell n)
-    → MatchOption found ((n : ℕ) → NamesCell word n → ⊥) (λ n. NamesCell word n)
-names_by_token word None plain none = λ n. ⊎_elim (none n)
-    (λ d. absurd (false≢true (sym plain ∙ a_slash word n d)))
-names_by_token word (Some n) plain r = inl r
+names_by_debug word None token none = λ n. ⊎_elim (token n) (none n)
+names_by_debug word (Some n) token d = inr d

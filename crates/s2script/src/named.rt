@@ -4,27 +4,19 @@ ghost use Rattle.s2cell.specs.Cell.{IsCell};
 ghost use Rattle.s2cell.specs.Token.{IsReading};
 ghost use Rattle.s2cell.specs.Debug.{IsDebug};
 ghost use Rattle.s2cell.specs.Words.{NamesCell};
-ghost use Rattle.s2script.specs.Named.{cell_named, token_cell, debug_cell, has_slash};
+ghost use Rattle.s2script.specs.Named.{cell_named, token_cell, debug_cell};
 
 use s2cell::CellId;
 
-/// Whether a word is read as a debug text.
-fn has_slash(word: &[u8]) -> bool
-    ensures { result ≡ has_slash word.now }
-{
-    word.iter().any(|b| *b == b'/')
-}
-
-/// The cell that a word names: by its debug text if the word has a slash, else by a token.
+/// The cell that a word names: as a token, or else by its debug text. No word is both, since a token has no slash.
 #[tactic(auto, unfolding(crate::specs::Named::cell_named))]
 pub fn cell_in(word: &[u8]) -> Option<CellId>
     ensures value { result ≡ cell_named word.now }
     ensures names { MatchOption result ((n : ℕ) → NamesCell word.now n → ⊥) (λ c. NamesCell word.now c) }
 {
-    if has_slash(word) {
-        debug_in(word)
-    } else {
-        token_in(word)
+    match token_in(word) {
+        Some(cell) => Some(cell),
+        None => debug_in(word),
     }
 }
 
