@@ -676,5 +676,5 @@ module _ {W S : Type 0} (contents : W → Option (List ℕ)) (calls : W → Opti
       × Ordered contents calls is_sent files may_flush old.world first run.ran a d (Err f)) (sym closes.0)
       (stops_at_end old new may_flush script replies Here
       (λ b begins ends. Adds a d (InOrder contents calls is_sent files may_flush old.world first b begins ends))
-      output r e w (inr reads) (last_failed_after may_flush old.calls mid new.calls n failed)
+      output r e w reads (last_failed_after may_flush old.calls mid new.calls n failed)
       (λ begins ends here. Adds-weaker a d _ _ (λ ks k. k.0) (order begins ends here)) closes.1)

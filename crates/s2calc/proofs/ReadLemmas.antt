@@ -158,7 +158,11 @@ module _ (old new : Known) where
             record {
               ran = last_cut (script ++ chunk) s.done (replies ++ s.more) read s.run (texts replies ++ s.bytes)
                   (Appends-trans old.output output new.output (texts replies) s.bytes w s.written) cut s.noted;
-              ends = (inl (inl (s.rest, s.begins), cut.lacking), reads, calls);
+              ends = (
+                inl ((inl (s.rest, s.begins), cut.lacking), inl (s.rest, s.begins)),
+                reads,
+                calls,
+              );
             },
             (s.ended, seen (length s.done) s.ended s.seen, inr s.one_more),
           )
@@ -171,6 +175,7 @@ module _ (old new : Known) where
             before = s.before;
             line = s.line;
             read_whole = inl (s.rest, s.begins);
+            ended = inl (s.rest, s.begins);
             has_file = s.has_file;
             done_are = s.done_are;
             none_left = refl;
@@ -189,7 +194,7 @@ module _ (old new : Known) where
       -- the last line or the last flush stopped the run
       pub stops_at_end : (output : Option (List ℕ)) → Gives old.input new.input script → IsAtEnd new.input.ahead →
           Appends old.output output (texts replies)
-          → ReadsWell old.reads new.reads → LastFailed may old.calls new.calls
+          → ReadsLast old.reads new.reads (Some 0) → LastFailed may old.calls new.calls
           → ((begins ends : ℕ) → Here begins ends → Seen script begins ends)
           → EndsInPart Here (point old.world old.noted) script replies (point new.world new.noted) output new.output
           ⊎ EndsUnflushed Here (point old.world old.noted) script replies (point new.world new.noted) output new.output
@@ -201,7 +206,7 @@ module _ (old new : Known) where
             record {
               ran = last_cut script (lines script) (replies ++ s.more) read s.run (texts replies ++ s.bytes)
                   (Appends-trans old.output output new.output (texts replies) s.bytes w s.written) cut s.noted;
-              ends = (inl (inr (refl, at_end), cut.lacking), r, c);
+              ends = (inl ((inr (refl, at_end), cut.lacking), inr r), inr r, c);
             },
             (s.ended, seen (length (lines script)) s.ended s.seen, inr s.one_more),
           )
@@ -214,7 +219,7 @@ module _ (old new : Known) where
             record {
               ran = all_came script (lines script) (replies ++ s.more) read s.run
                   (Appends-texts old.output output new.output replies s.more w s.written) s.noted;
-              ends = (inr (inl (refl, at_end, refl)), r, c);
+              ends = (inr (inl ((refl, at_end, refl), r)), inr r, c);
             },
             (s.ended, seen (length (lines script)) s.ended s.seen, which),
           )
@@ -226,11 +231,12 @@ module _ (old new : Known) where
             before = s.before;
             line = s.line;
             read_whole = inr (s.lines_are, at_end);
+            ended = inr r;
             has_file = s.has_file;
             done_are = inl refl;
             none_left = refl;
           } in (
-            record { ran = ran; ends = (inr (inr (f.0, inr beside)), r, c) },
+            record { ran = ran; ends = (inr (inr (f.0, inr beside)), inr r, c) },
             (length s.before, seen (length s.before) (length s.before) s.seen, inl (refl, refl)),
           )
 

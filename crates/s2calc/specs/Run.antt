@@ -66,6 +66,11 @@ pub record Ran (old new : Known) : Type 0 where
 abbrev pub WereReadWhole : Option (List ℕ) → List ℕ → List (List ℕ) → Type 0
 WereReadWhole ahead script ls = ((more : List ℕ) × BeginsWith script ls more) ⊎ ((ls ≡ lines script) × IsAtEnd ahead)
 
+-- these lines were read to their end: each ends in a newline, or the last read gave nothing
+abbrev pub HaveEnded : Known → Known → List ℕ → List (List ℕ) → Type 0
+HaveEnded old new script ls =
+    ((more : List ℕ) × BeginsWith script ls more) ⊎ ReadsLast old.reads new.reads (Some 0)
+
 module _ {old new : Known} where
   -- the script has ended, all its lines were carried out, and all answers were written
   abbrev pub AllLines : Ran old new → Type 0
@@ -85,20 +90,22 @@ module _ {old new : Known} where
     pub before : List (List ℕ)
     pub line : List ℕ
     pub read_whole : WereReadWhole new.input.ahead ran.script (before ++ line ∷ [])
+    pub ended : HaveEnded old new ran.script (before ++ line ∷ [])
     pub has_file : asks_for_file (line_of line) ≡ true
     pub done_are : (ran.done ≡ before) ⊎ (ran.done ≡ before ++ line ∷ [])
     pub none_left : ran.left ≡ []
 
   -- What a run did that ends with this result, and how its calls ended. After `Output` a write failed inside an answer;
-  -- or a flush failed, the last one, or, if there are flushes before the end, one before a read or beside a command
-  -- with a file. After `Memory` nothing has changed.
+  -- or a flush failed, the last one, after a read that gave nothing, or, if there are flushes before the end, one
+  -- before a read or beside a command with a file. After `Memory` nothing has changed.
   abbrev pub EndsAs : Type 0 → Ran old new → Result Tally RunFault → Type 0
   EndsAs may_flush ran (Ok tally) = AllLines ran × (tally ≡ tally_of ran.replies)
       × ReadsLast old.reads new.reads (Some 0) × LastFlushed may_flush old.calls new.calls
   EndsAs may_flush ran (Err Input) = WholeLines ran
       × ReadsStop old.reads new.reads × NoneFailed may_flush old.calls new.calls
   EndsAs may_flush ran (Err Output) =
-      (InsideAnswer ran ⊎ AllLines ran ⊎ (may_flush × (WholeLines ran ⊎ BesideFile ran)))
+      ((InsideAnswer ran × HaveEnded old new ran.script ran.done)
+      ⊎ (AllLines ran × ReadsLast old.reads new.reads (Some 0)) ⊎ (may_flush × (WholeLines ran ⊎ BesideFile ran)))
       × ReadsWell old.reads new.reads × LastFailed may_flush old.calls new.calls
   EndsAs may_flush ran (Err Memory) = (ran.done ≡ []) × (new ≡ old)
 

@@ -189,25 +189,38 @@ module _ {V S : Type 0} (taken : V → List ℕ) (called : V → List Call) (fil
       script_is : given_new ≡ ran.script
       script_is = gained given_old given_new ran.script not_given ran.read.1
 
-      read_whole : (ls : List (List ℕ)) → run.WereReadWhole ahead_new ran.script ls → WereReadWhole given_new ls
-      read_whole ls (inl p) = inl (p.0, subst (λ (s : List ℕ). BeginsWith s ls p.0) (sym script_is) p.1)
-      read_whole ls (inr p) = inr (p.0 ∙ ap lines (sym script_is))
+      all_read : reads.ReadsLast (Some reads_old) (Some reads_new) (Some 0) → ReadsLast (Some 0) reads_new
+      all_read r = reads_last reads_old reads_new not_read (Some 0) r
 
-      all_lines : run.AllLines ran → AllLines given_new did
-      all_lines a = (a.0 ∙ ap lines (sym script_is), a.2)
+      begin_there : (ls : List (List ℕ)) → ((more : List ℕ) × BeginsWith ran.script ls more)
+          → WereReadWhole given_new reads_new ls
+      begin_there ls p = inl (p.0, subst (λ (s : List ℕ). BeginsWith s ls p.0) (sym script_is) p.1)
+
+      read_whole : (ls : List (List ℕ)) → run.WereReadWhole ahead_new ran.script ls →
+          run.HaveEnded old new ran.script ls → WereReadWhole given_new reads_new ls
+      read_whole ls (inl p) e = begin_there ls p
+      read_whole ls (inr p) (inl e) = begin_there ls e
+      read_whole ls (inr p) (inr e) = inr (p.0 ∙ ap lines (sym script_is), all_read e)
+
+      all_lines : run.AllLines ran → reads.ReadsLast (Some reads_old) (Some reads_new) (Some 0)
+          → AllLines given_new reads_new did
+      all_lines a r = (a.0 ∙ ap lines (sym script_is), all_read r, a.2)
 
       whole : run.WholeLines ran → WholeLines given_new did
       whole w = (w.0 ∙ ap whole_lines (sym script_is), w.1)
 
-      stops : run.InsideAnswer ran ⊎ run.AllLines ran ⊎ (Unit {0} × (run.WholeLines ran ⊎ run.BesideFile ran))
-          → InsideAnswer given_new did ⊎ AllLines given_new did ⊎ WholeLines given_new did ⊎ BesideFile given_new did
-      stops (inl p) = inl (read_whole ran.done p.0, p.1)
-      stops (inr (inl a)) = inr (inl (all_lines a))
+      stops : (run.InsideAnswer ran × run.HaveEnded old new ran.script ran.done)
+          ⊎ (run.AllLines ran × reads.ReadsLast (Some reads_old) (Some reads_new) (Some 0))
+          ⊎ (Unit {0} × (run.WholeLines ran ⊎ run.BesideFile ran))
+          → InsideAnswer given_new reads_new did ⊎ AllLines given_new reads_new did
+          ⊎ WholeLines given_new did ⊎ BesideFile given_new reads_new did
+      stops (inl p) = inl (read_whole ran.done p.0.0 p.1, p.0.1)
+      stops (inr (inl a)) = inr (inl (all_lines a.0 a.1))
       stops (inr (inr (_, inl w))) = inr (inr (inl (whole w)))
       stops (inr (inr (_, inr b))) = inr (inr (inr (record {
         before = b.before;
         line = b.line;
-        read_whole = read_whole (b.before ++ b.line ∷ []) b.read_whole;
+        read_whole = read_whole (b.before ++ b.line ∷ []) b.read_whole b.ended;
         has_file = b.has_file;
         done_are = b.done_are;
         none_left = b.none_left;
@@ -231,10 +244,9 @@ module _ {V S : Type 0} (taken : V → List ℕ) (called : V → List Call) (fil
           did = did r.ran;
           read = s.0.read ∙ sym (script_is r.ran);
           ends = (
-            all_lines r.ran e.0,
+            all_lines r.ran e.0 e.2,
             e.1,
             waits,
-            reads_last reads_old reads_new not_read (Some 0) e.2,
             s.1,
             last_flushed (called first.writer) (called last.writer) not_called e.3,
           );

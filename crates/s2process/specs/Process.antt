@@ -1,5 +1,6 @@
 -- What the process did.
-use Rattle.std.specs.Prelude.{◌≡◌, ◌<◌, ◌+◌, ℕ, ◌⊎◌, true, List, [], ◌∷◌, ◌++◌, length, Option, Result, Ok, Err, Some}
+use Rattle.std.specs.Prelude.{◌≡◌, ◌<◌, ◌+◌, ℕ, ◌⊎◌, true, List, [], ◌∷◌, ◌++◌, length}
+use Rattle.std.specs.Prelude.{Option, Result, Ok, Err, Some}
 use Rattle.s2shelf.specs.Shelf.{Files}
 use Rattle.s2script.specs.Line.{line_of}
 use Rattle.s2script.specs.Lines.{lines, whole_lines, BeginsWith}
@@ -28,29 +29,34 @@ pub record Did (start now : World) (written waiting : List ℕ) : Type 0 where
   pub texts_are : texts replies ≡ written ++ waiting ++ left
   pub all_but_last : (more : List ℕ) × (written ++ waiting ≡ texts (came_out replies left) ++ more)
 
--- the lines are the first of those of the script: each ends in a newline, or they are all lines
-abbrev pub WereReadWhole : List ℕ → List (List ℕ) → Type 0
-WereReadWhole script ls = ((more : List ℕ) × BeginsWith script ls more) ⊎ (ls ≡ lines script)
+-- `reads` says how the reads of the script ended
+module _ (script : List ℕ) (reads : List (Option ℕ)) where
+  -- the lines are the first of those of the script, and were read to their end: each ends in a newline, or they are all
+  -- lines and the last read gave nothing
+  abbrev pub WereReadWhole : List (List ℕ) → Type 0
+  WereReadWhole ls =
+      ((more : List ℕ) × BeginsWith script ls more) ⊎ ((ls ≡ lines script) × ReadsLast (Some 0) reads)
 
 module _ {start now : World} {written waiting : List ℕ} (script : List ℕ) where
-  -- all lines of the script were carried out, and all answers were written
-  abbrev pub AllLines : Did start now written waiting → Type 0
-  AllLines did = (did.done ≡ lines script) × (did.left ≡ [])
-
   -- exactly the lines that were read whole were carried out, and exactly their answers were written
   abbrev pub WholeLines : Did start now written waiting → Type 0
   WholeLines did = (did.done ≡ whole_lines script) × (did.left ≡ [])
 
+module _ {start now : World} {written waiting : List ℕ} (script : List ℕ) (reads : List (Option ℕ)) where
+  -- the last read gave nothing, all lines of the script were carried out, and all answers were written
+  abbrev pub AllLines : Did start now written waiting → Type 0
+  AllLines did = (did.done ≡ lines script) × ReadsLast (Some 0) reads × (did.left ≡ [])
+
   -- the last line that was carried out was read to its end, and some bytes of its answer are missing
   abbrev pub InsideAnswer : Did start now written waiting → Type 0
-  InsideAnswer did = WereReadWhole script did.done × (0 < length did.left)
+  InsideAnswer did = WereReadWhole script reads did.done × (0 < length did.left)
 
   -- A command with a file was read to its end. The lines before it were carried out, or the command too, and exactly
   -- their answers were written.
   pub record BesideFile (did : Did start now written waiting) : Type 0 where
     pub before : List (List ℕ)
     pub line : List ℕ
-    pub read_whole : WereReadWhole script (before ++ line ∷ [])
+    pub read_whole : WereReadWhole script reads (before ++ line ∷ [])
     pub has_file : asks_for_file (line_of line) ≡ true
     pub done_are : (did.done ≡ before) ⊎ (did.done ≡ before ++ line ∷ [])
     pub none_left : did.left ≡ []
@@ -60,12 +66,12 @@ module _ {start now : World} {written waiting : List ℕ} (did : Did start now w
   -- What a run did, by its result: which lines of the script, which is what the reads gave, were carried out, how the
   -- reads and the calls of the writer ended, and if nothing waits in the buffer. After `Memory` nothing was called.
   abbrev pub Ends : List ℕ → List (Option ℕ) → List Call → Result Tally RunFault → Type 0
-  Ends script reads called (Ok tally) = AllLines script did × (tally ≡ tally_of did.replies) × (waiting ≡ [])
-      × ReadsLast (Some 0) reads × HasEnded moments × LastFlushed called
+  Ends script reads called (Ok tally) = AllLines script reads did × (tally ≡ tally_of did.replies) × (waiting ≡ [])
+      × HasEnded moments × LastFlushed called
   Ends script reads called (Err Input) =
       WholeLines script did × (waiting ≡ []) × ReadsStop reads × NoneFailed called
-  Ends script reads called (Err Output) =
-      (InsideAnswer script did ⊎ AllLines script did ⊎ WholeLines script did ⊎ BesideFile script did)
+  Ends script reads called (Err Output) = (InsideAnswer script reads did ⊎ AllLines script reads did
+      ⊎ WholeLines script did ⊎ BesideFile script reads did)
       × ReadsWell reads × LastFailed called
   Ends script reads called (Err Memory) = (did.done ≡ []) × (moments ≡ []) × (reads ≡ []) × (called ≡ [])
 
