@@ -54,6 +54,7 @@ pub use engine::{
 };
 pub use fault::RunFault;
 pub use fit::fit_answer;
+pub use limits::MOST_WAITING;
 pub use notes::NoteWriter;
 pub use observer::Observer;
 pub use output::emit;

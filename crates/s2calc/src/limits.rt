@@ -11,8 +11,8 @@ pub(crate) const KEPT: usize = LONGEST_LINE + 1;
 /// How many bytes a read asks for.
 pub(crate) const READ_SIZE: usize = 65_536;
 
-/// The most bytes of answers that wait in an `AnswerBuffer`.
-pub(crate) const MOST_WAITING: usize = 65_536;
+/// The most bytes of answers that wait in an `AnswerBuffer`, and are lost if it can't hand them over.
+pub const MOST_WAITING: usize = 65_536;
 
 /// Room for a note on a refused line: the longest line with each of its bytes escaped, and what comes before and after.
 pub(crate) const NOTE_ROOM: usize = 4 * LONGEST_LINE + 512;

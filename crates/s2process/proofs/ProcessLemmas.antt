@@ -1,5 +1,5 @@
 -- What a run did over streams whose calls are all known.
-use Rattle.std.proofs.Common.{◌≡◌, ℕ, ◌+◌, ◌⊎◌, List, [], ◌∷◌, ◌++◌, length, Option, Some, None, Result, Ok, Err}
+use Rattle.std.proofs.Common.{◌≡◌, ◌≤◌, ℕ, ◌+◌, ◌⊎◌, List, [], ◌∷◌, ◌++◌, length, Option, Some, None, Result, Ok, Err}
 use Rattle.std.proofs.Common.{Bool, false, MatchResult, refl, sym, ap, ◌∙◌, subst, inl, inr}
 use Rattle.std.specs.Io.KnownBytes.{Appends}
 use Rattle.s2shelf.specs.Shelf.{Files}
@@ -7,6 +7,7 @@ use Rattle.s2script.specs.Lines.{lines, whole_lines, BeginsWith}
 use Rattle.s2calc.specs.declared.engine.Tally.{Tally}
 use Rattle.s2calc.specs.declared.fault.RunFault.{RunFault}
 use Rattle.s2calc.specs.declared.fault.RunFault.TheVariants.{Input, Output, Memory}
+use Rattle.s2calc.specs.declared.limits.TheConstants.{MOST_WAITING}
 use Rattle.s2calc.specs.World.{World}
 use Rattle.s2calc.specs.Replies.{texts}
 use Rattle.s2calc.specs.Notes.{Noted}
@@ -236,8 +237,9 @@ module _ {V S : Type 0} (taken : V → List ℕ) (called : V → List Call) (fil
         → (runs : (r : Runs (Unit {0}) old new result)
         × Ordered contents known_calls sent files (Unit {0}) start first r.ran (Some seen_old) (Some seen_new) result)
         → MatchResult result (λ _. last.waiting ≡ []) (λ fault. fault ≡ Input → last.waiting ≡ [])
+        → length last.waiting ≤ MOST_WAITING
         → RunsListed taken called files given_new reads_new start now seen_new last.writer last.waiting result
-    process seen_old seen_new (Ok tally) none (r, ordered) waits =
+    process seen_old seen_new (Ok tally) none (r, ordered) waits few =
         let s = all_seen seen_old seen_new none ordered in
         let e = r.ends in
         record {
@@ -252,8 +254,9 @@ module _ {V S : Type 0} (taken : V → List ℕ) (called : V → List Call) (fil
           );
           each = each [] seen_new s.0.each;
           counts = (s.0.begins, s.0.ends);
+          few_wait = few;
         }
-    process seen_old seen_new (Err Input) none (r, ordered) waits =
+    process seen_old seen_new (Err Input) none (r, ordered) waits few =
         let s = all_seen seen_old seen_new none ordered in
         let e = r.ends in
         record {
@@ -267,8 +270,9 @@ module _ {V S : Type 0} (taken : V → List ℕ) (called : V → List Call) (fil
           );
           each = each [] seen_new s.each;
           counts = (s.begins, s.ends);
+          few_wait = few;
         }
-    process seen_old seen_new (Err Output) none (r, ordered) waits =
+    process seen_old seen_new (Err Output) none (r, ordered) waits few =
         let s = all_seen seen_old seen_new none ordered.1 in
         let e = r.ends in
         record {
@@ -281,8 +285,9 @@ module _ {V S : Type 0} (taken : V → List ℕ) (called : V → List Call) (fil
           );
           each = each [] seen_new s.each;
           counts = (s.begins, counted seen_new (length r.ran.done) r.ran.left ordered.0 s.ends ordered.2);
+          few_wait = few;
         }
-    process seen_old seen_new (Err Memory) none (r, ordered) waits =
+    process seen_old seen_new (Err Memory) none (r, ordered) waits few =
         let s = all_seen seen_old seen_new none ordered in
         let e = r.ends in
         record {
@@ -300,6 +305,7 @@ module _ {V S : Type 0} (taken : V → List ℕ) (called : V → List Call) (fil
             ap (λ (ms : List (Moment (Buffered V) S)). begun_in ms) s ∙ sym (ap length e.0),
             ap (λ (ms : List (Moment (Buffered V) S)). ended_in ms) s ∙ sym (ap length e.0),
           );
+          few_wait = few;
         }
 
     -- the notes, where none was written before
@@ -324,9 +330,10 @@ module _ {V S : Type 0} (taken : V → List ℕ) (called : V → List Call) (fil
           → (runs : (r : Runs (Unit {0}) old new result)
           × Ordered contents known_calls sent files (Unit {0}) start first r.ran (Some seen_old) (Some seen_new) result)
           → (waits : MatchResult result (λ _. last.waiting ≡ []) (λ fault. fault ≡ Input → last.waiting ≡ []))
-          → Explains (process seen_old seen_new result none runs waits).did taken_new stopped
+          → (few : length last.waiting ≤ MOST_WAITING)
+          → Explains (process seen_old seen_new result none runs waits few).did taken_new stopped
       unfolding process
-      explains seen_old seen_new (Ok tally) none (r, ordered) waits = notes_written r.ran
-      explains seen_old seen_new (Err Input) none (r, ordered) waits = notes_written r.ran
-      explains seen_old seen_new (Err Output) none (r, ordered) waits = notes_written r.ran
-      explains seen_old seen_new (Err Memory) none (r, ordered) waits = notes_written r.ran
+      explains seen_old seen_new (Ok tally) none (r, ordered) waits few = notes_written r.ran
+      explains seen_old seen_new (Err Input) none (r, ordered) waits few = notes_written r.ran
+      explains seen_old seen_new (Err Output) none (r, ordered) waits few = notes_written r.ran
+      explains seen_old seen_new (Err Memory) none (r, ordered) waits few = notes_written r.ran

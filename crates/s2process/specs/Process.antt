@@ -1,5 +1,5 @@
 -- What the process did.
-use Rattle.std.specs.Prelude.{◌≡◌, ◌<◌, ◌+◌, ℕ, ◌⊎◌, true, List, [], ◌∷◌, ◌++◌, length}
+use Rattle.std.specs.Prelude.{◌≡◌, ◌<◌, ◌≤◌, ◌+◌, ℕ, ◌⊎◌, true, List, [], ◌∷◌, ◌++◌, length}
 use Rattle.std.specs.Prelude.{Option, Result, Ok, Err, Some}
 use Rattle.s2shelf.specs.Shelf.{Files}
 use Rattle.s2script.specs.Line.{line_of}
@@ -7,6 +7,7 @@ use Rattle.s2script.specs.Lines.{lines, whole_lines, BeginsWith}
 use Rattle.s2calc.specs.declared.engine.Tally.{Tally}
 use Rattle.s2calc.specs.declared.fault.RunFault.{RunFault}
 use Rattle.s2calc.specs.declared.fault.RunFault.TheVariants.{Input, Output, Memory}
+use Rattle.s2calc.specs.declared.limits.TheConstants.{MOST_WAITING}
 use Rattle.s2calc.specs.World.{World}
 use Rattle.s2calc.specs.Replies.{Reply, texts, tally_of}
 use Rattle.s2calc.specs.Step.{asks_for_file}
@@ -84,7 +85,7 @@ module _ {start now : World} {written waiting : List ℕ} (did : Did start now w
 
 -- What a run did over a reader and a writer that had not been called: `script` is all bytes that the reads gave, which
 -- are those that were seen, `reads` says how each ended, `waiting` are the bytes that wait in the buffer above the
--- writer, each moment came where it may, and the run ended as its result says.
+-- writer, at most `MOST_WAITING`, each moment came where it may, and the run ended as its result says.
 pub record RunsListed {V S : Type 0} (taken : V → List ℕ) (called : V → List Call) (files : S → Files)
     (script : List ℕ) (reads : List (Option ℕ)) (start now : World) (moments : List (Moment (Buffered V) S))
     (below : V) (waiting : List ℕ) (result : Result Tally RunFault) : Type 0 where
@@ -93,3 +94,4 @@ pub record RunsListed {V S : Type 0} (taken : V → List ℕ) (called : V → Li
   pub ends : Ends did moments script reads (called below) result
   pub each : EachMay taken called files start [] moments
   pub counts : Counts did moments result
+  pub few_wait : length waiting ≤ MOST_WAITING

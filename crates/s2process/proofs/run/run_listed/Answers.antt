@@ -10,3 +10,4 @@ returns g c = process taken called _ _ c.args.writer.now (ap taken_in c.requires
     _ _ _ _ _ _ _ _ (ap given_in c.requires.nothing_read) (ap reads_in c.requires.nothing_read)
     (moments_of c.args.witness.now) (moments_of c.run_promptly_observed.new.observer) _ c.requires.nothing_seen
     c.run_promptly_observed.ensures.runs c.run_promptly_observed.ensures.nothing_waits
+    c.run_promptly_observed.ensures.few_wait
