@@ -76,19 +76,22 @@ module _ (start : Point) (script : List ℕ) (replies : List Reply) (now : Point
   noted_none e = subst (λ ls. Explains start now ls (replies ++ [])) (sym (lines_none e))
       (subst (λ rs. Explains start now s.done rs) (sym (append-nil replies)) s.noted)
 
-  pub Ended-none : (told : Tally) (output_old output_new : Option (List ℕ)) → progress.kept ≡ [] →
-      Keeps output_old output_new → told ≡ progress.tally → Ended start script replies now output_old output_new told
-  Ended-none told output_old output_new e k t =
+  pub Ended-none : (Seen : List Reply → ℕ → ℕ → Type 0) (told : Tally) (output_old output_new : Option (List ℕ)) →
+      progress.kept ≡ [] → Keeps output_old output_new → told ≡ progress.tally →
+      Seen [] (length (lines script)) (length (lines script))
+      → Ended Seen start script replies now output_old output_new told
+  Ended-none Seen told output_old output_new e k t seen =
       record {
         more = [];
         run = run_none e;
         written = Appends-kept output_old output_old output_new [] (Appends-nil output_old) k;
         tally_is = t ∙ s.tally_is ∙ ap tally_of (sym (append-nil replies));
         noted = noted_none e;
+        seen = seen;
       }
 
-  pub EndsUnflushed-none : (Seen : ℕ → ℕ → Type 0) (output_old output_new : Option (List ℕ)) → progress.kept ≡ [] →
-      Keeps output_old output_new → Seen (length (lines script)) (length (lines script))
+  pub EndsUnflushed-none : (Seen : List Reply → ℕ → ℕ → Type 0) (output_old output_new : Option (List ℕ)) →
+      progress.kept ≡ [] → Keeps output_old output_new → Seen [] (length (lines script)) (length (lines script))
       → EndsUnflushed Seen start script replies now output_old output_new
   EndsUnflushed-none Seen output_old output_new e k seen =
       record {
@@ -114,9 +117,10 @@ module _ (start : Point) (script : List ℕ) (replies : List Reply) (now : Point
     one_line_more =
         let long = ap length (lines_one h) in let one = length-append s.done (s.rest ∷ []) in omega (arith, long, one)
 
-    pub EndsInPart-part : (Begun : Type 0) (Seen : ℕ → ℕ → Type 0) (output_old output_new : Option (List ℕ)) →
+    pub EndsInPart-part : (Begun : Type 0) (Seen : List Reply → ℕ → ℕ → Type 0)
+        (output_old output_new : Option (List ℕ)) →
         AnsweredInPart Begun now progress new output_old output_new
-        → (Begun → Seen (length (lines script)) (length s.done))
+        → ((reply : Reply) → Begun → Seen (reply ∷ []) (length (lines script)) (length s.done))
         → EndsInPart Seen start script replies new output_old output_new
     EndsInPart-part Begun Seen output_old output_new p count =
         let reply = p.reply in
@@ -133,7 +137,7 @@ module _ (start : Point) (script : List ℕ) (replies : List Reply) (now : Point
           noted = subst (λ ls. Explains start new ls (but_last (replies ++ reply ∷ []))) (sym (lines_one h)) said;
           ended = length s.done;
           one_more = one_line_more;
-          seen = count p.begun;
+          seen = count reply p.begun;
         }
 
     module _ (after : Progress) (output_old output_mid output_new : Option (List ℕ))
@@ -146,18 +150,22 @@ module _ (start : Point) (script : List ℕ) (replies : List Reply) (now : Point
       written_one = subst (Appends output_old output_new) (sym (texts-one a.reply))
           (Appends-kept output_old output_mid output_new (text_of a.reply) a.written k)
 
-      pub Ended-line : (told : Tally) → told ≡ after.tally → Ended start script replies new output_old output_new told
-      Ended-line told e =
+      pub Ended-line : (Seen : List Reply → ℕ → ℕ → Type 0) (told : Tally) → told ≡ after.tally →
+          Seen (a.reply ∷ []) (length (lines script)) (length (lines script))
+          → Ended Seen start script replies new output_old output_new told
+      Ended-line Seen told e seen =
           record {
             more = a.reply ∷ [];
             run = run_one a.reply a.step;
             written = written_one;
             tally_is = e ∙ a.tally_is replies s.tally_is;
             noted = noted_one;
+            seen = seen;
           }
 
-      pub EndsUnflushed-line : (Seen : ℕ → ℕ → Type 0) (ended : ℕ) →
-          (ended ≡ length (lines script)) ⊎ (ended + 1 ≡ length (lines script)) → Seen (length (lines script)) ended
+      pub EndsUnflushed-line : (Seen : List Reply → ℕ → ℕ → Type 0) (ended : ℕ) →
+          (ended ≡ length (lines script)) ⊎ (ended + 1 ≡ length (lines script)) →
+          Seen (a.reply ∷ []) (length (lines script)) ended
           → EndsUnflushed Seen start script replies new output_old output_new
       EndsUnflushed-line Seen ended ended_are seen =
           record {
@@ -171,10 +179,11 @@ module _ (start : Point) (script : List ℕ) (replies : List Reply) (now : Point
           }
 
     -- a flush failed before the last line, or after it
-    pub Ends-unflushed : (Unseen Begun : Type 0) (Seen : ℕ → ℕ → Type 0) (may_fail : Type 0) (after : Progress)
-        (output_old output_new : Option (List ℕ)) →
+    pub Ends-unflushed : (Unseen Begun : Type 0) (Seen : List Reply → ℕ → ℕ → Type 0) (may_fail : Type 0)
+        (after : Progress) (output_old output_new : Option (List ℕ)) →
         may_fail → AnsweredUnflushed Unseen Begun now progress new after output_old output_new
-        → (Unseen → Seen (length s.done) (length s.done)) → (Begun → Seen (length (lines script)) (length s.done))
+        → (Unseen → Seen [] (length s.done) (length s.done))
+        → ((reply : Reply) → Begun → Seen (reply ∷ []) (length (lines script)) (length s.done))
         → EndsUnflushed Seen start script replies new output_old output_new
         ⊎ (may_fail × EndsBefore Seen start script replies new output_old output_new)
     Ends-unflushed Unseen Begun Seen may_fail after output_old output_new m f none count =
@@ -193,5 +202,5 @@ module _ (start : Point) (script : List ℕ) (replies : List Reply) (now : Point
             },
           )
           | inr a ↦ inl (EndsUnflushed-line after output_old output_new output_new a.0 (Keeps-refl output_new) Seen
-              (length s.done) (inr one_line_more) (count a.1))
+              (length s.done) (inr one_line_more) (count a.0.reply a.1))
         ]

@@ -1,6 +1,6 @@
 -- Lemmas on what an observer sees of a run.
 use Rattle.std.proofs.Common.{◌≡◌, ◌∙◌, ℕ, ◌+◌, ◌<◌, ◌⊎◌, Bool, true, List, [], ◌∷◌, ◌++◌, length, take}
-use Rattle.std.proofs.Common.{Option, None, Some, Result, Ok, Err, OnOk}
+use Rattle.std.proofs.Common.{Option, None, Some, Result, Ok, Err}
 use Rattle.std.proofs.Common.{refl, sym, ap, subst, append_assoc, append-nil, arith, length-append, inl, inr}
 use Rattle.std.proofs.lemmas.List.Concat.{flat_map-append}
 use Rattle.std.specs.Io.KnownBytes.{Appends, IsAtEnd}
@@ -23,7 +23,7 @@ use Rattle.s2calc.specs.Working.Calls.{FlushedIfOk}
 use Rattle.s2calc.specs.Working.Stands.{point, Stands, Answered, StandsAfter, Closes}
 use Rattle.s2calc.specs.Moments.{Event, Came, NotCame, LineBegins, LineEnds, Moment, moment, bytes_of}
 use Rattle.s2calc.specs.Moments.{bytes_read, begun_in, ended_in, Adds, AddsOne}
-use Rattle.s2calc.specs.Order.{HasEnded, GoneOut, ReadsWhen, LineWhen, EachMay, InOrder, Ordered}
+use Rattle.s2calc.specs.Order.{HasEnded, AllOut, GoneOut, ReadsWhen, LineWhen, MayCome, EachMay, InOrder, Ordered}
 use Rattle.s2calc.specs.Working.Seen.{Settled, LinesSeen, LineSeen, LineCut, ManySeen, MoreSeen, EndSeen, LastSeen}
 use Rattle.s2calc.specs.Working.Seen.{SeenSoFar}
 use Rattle.s2calc.proofs.CallLemmas.{none_failed_more, last_flushed_after, last_failed_after}
@@ -122,19 +122,67 @@ module _ {W S : Type 0} where
 module _ {W S : Type 0} (contents : W → Option (List ℕ)) (calls : W → Option (List Call)) (is_sent : W → Type 0)
     (files : S → Files) (may_flush : Type 0) where
   module _ (world : World) (first : W) where
-    pub EachMay-append : (past ms ns : List (Moment W S)) →
-        EachMay contents calls is_sent files may_flush world first past ms
-        → EachMay contents calls is_sent files may_flush world first (past ++ ms) ns
-        → EachMay contents calls is_sent files may_flush world first past (ms ++ ns)
-    EachMay-append past [] ns p q =
-        subst (λ (k : List (Moment W S)). EachMay contents calls is_sent files may_flush world first k ns)
+    pub EachMay-append : (all : List Reply) (past ms ns : List (Moment W S)) →
+        EachMay contents calls is_sent files may_flush world first all past ms
+        → EachMay contents calls is_sent files may_flush world first all (past ++ ms) ns
+        → EachMay contents calls is_sent files may_flush world first all past (ms ++ ns)
+    EachMay-append all past [] ns p q =
+        subst (λ (k : List (Moment W S)). EachMay contents calls is_sent files may_flush world first all k ns)
         (append-nil past) q
-    EachMay-append past (m ∷ ms) ns p q = (
+    EachMay-append all past (m ∷ ms) ns p q = (
       p.0,
-      EachMay-append (past ++ m ∷ []) ms ns p.1
-          (subst (λ (k : List (Moment W S)). EachMay contents calls is_sent files may_flush world first k ns)
+      EachMay-append all (past ++ m ∷ []) ms ns p.1
+          (subst (λ (k : List (Moment W S)). EachMay contents calls is_sent files may_flush world first all k ns)
           (sym (append_assoc past (m ∷ []) ms)) q),
     )
+
+    -- the run had more replies
+    module _ (all more : List Reply) where
+      abbrev out_longer : (ls : List (List ℕ)) (writer : W)
+          → AllOut contents calls is_sent files may_flush world first all ls writer
+          → AllOut contents calls is_sent files may_flush world first (all ++ more) ls writer
+      out_longer ls writer out = record {
+        replies = out.replies;
+        later = out.later ++ more;
+        of_run = ap (λ rs. rs ++ more) out.of_run ∙ append_assoc out.replies out.later more;
+        now = out.now;
+        steps = out.steps;
+        out = out.out;
+        none_failed = out.none_failed;
+      }
+
+      reads_longer : (past : List (Moment W S)) (m : Moment W S)
+          → ReadsWhen contents calls is_sent files may_flush world first all past m
+          → ReadsWhen contents calls is_sent files may_flush world first (all ++ more) past m
+      reads_longer past m r = record { answers = out_longer _ _ r.answers; gone_out = r.gone_out }
+
+      line_longer : (past : List (Moment W S)) (m : Moment W S)
+          → LineWhen contents calls is_sent files may_flush world first all past m
+          → LineWhen contents calls is_sent files may_flush world first (all ++ more) past m
+      line_longer past m l = record {
+        before = l.before;
+        line = l.line;
+        begun = l.begun;
+        ended = l.ended;
+        read_whole = l.read_whole;
+        answers = out_longer _ _ l.answers;
+        files_are = l.files_are;
+        gone_out = l.gone_out;
+      }
+
+      may_longer : (e : Event) (past : List (Moment W S)) (m : Moment W S)
+          → MayCome contents calls is_sent files may_flush world first all e past m
+          → MayCome contents calls is_sent files may_flush world first (all ++ more) e past m
+      may_longer (Came bytes) past m r = reads_longer past m r
+      may_longer NotCame past m r = reads_longer past m r
+      may_longer LineBegins past m l = line_longer past m l
+      may_longer LineEnds past m l = line_longer past m l
+
+      EachMay-longer : (past ms : List (Moment W S))
+          → EachMay contents calls is_sent files may_flush world first all past ms
+          → EachMay contents calls is_sent files may_flush world first (all ++ more) past ms
+      EachMay-longer past [] p = tt
+      EachMay-longer past (m ∷ ms) p = (may_longer m.event past m p.0, EachMay-longer (past ++ m ∷ []) ms p.1)
 
     -- the line was read to its end, and still is
     read_more : (past ms : List (Moment W S)) (ls : List (List ℕ)) → bytes_read ms ≡ [] →
@@ -149,7 +197,7 @@ module _ {W S : Type 0} (contents : W → Option (List ℕ)) (calls : W → Opti
     -- all that was written has gone out
     gone_out : (old new : W) (has_file : Bool) → NoneFailed may_flush (calls first) (calls old) →
         Settled contents calls is_sent may_flush has_file old new → has_file ≡ true
-        → GoneOut contents calls is_sent files may_flush world first new
+        → GoneOut calls is_sent may_flush first new
     gone_out old new has_file n s h = record {
       sent = s.sent h;
       flushed = λ m. last_flushed_after may_flush (calls first) (calls old) (calls new) n (s.flushed h m);
@@ -163,13 +211,14 @@ module _ {W S : Type 0} (contents : W → Option (List ℕ)) (calls : W → Opti
 
     begins_here : (old mid : W) (shelf : S) → now.world.files ≡ files shelf
         → Settled contents calls is_sent may_flush (asks_for_file (line_of progress.kept)) old mid
-        → (first : W) (past : List (Moment W S))
+        → (first : W) (later : List Reply) (past : List (Moment W S))
         → ((rest : List ℕ) × BeginsWith (bytes_read past) (s.done ++ s.rest ∷ []) rest)
         ⊎ ((s.done ++ s.rest ∷ [] ≡ lines (bytes_read past)) × HasEnded past)
         → LinesSeen (length s.done) past → Appends (contents first) (contents old) (texts replies)
         → NoneFailed may_flush (calls first) (calls old)
-        → LineWhen contents calls is_sent files may_flush start.world first past (moment LineBegins mid shelf)
-    begins_here old mid shelf files_are settled first past whole seen out n =
+        → LineWhen contents calls is_sent files may_flush start.world first (replies ++ later) past
+        (moment LineBegins mid shelf)
+    begins_here old mid shelf files_are settled first later past whole seen out n =
         let first_begun = seen.0 in
         record {
           before = s.done;
@@ -179,6 +228,8 @@ module _ {W S : Type 0} (contents : W → Option (List ℕ)) (calls : W → Opti
           read_whole = whole;
           answers = record {
             replies = replies;
+            later = later;
+            of_run = refl;
             now = now.world;
             steps = s.run;
             out = Appends-kept (contents first) (contents old) (contents mid) (texts replies) out settled.kept;
@@ -192,15 +243,15 @@ module _ {W S : Type 0} (contents : W → Option (List ℕ)) (calls : W → Opti
     -- a line was seen to begin, and not to end
     cut_each : (old : W) (shelf : S) (ms : List (Moment W S)) → now.world.files ≡ files shelf
         → LineCut contents calls is_sent files may_flush (asks_for_file (line_of progress.kept)) old shelf ms
-        → (first : W) (past : List (Moment W S))
+        → (first : W) (later : List Reply) (past : List (Moment W S))
         → ((rest : List ℕ) × BeginsWith (bytes_read past) (s.done ++ s.rest ∷ []) rest)
         ⊎ ((s.done ++ s.rest ∷ [] ≡ lines (bytes_read past)) × HasEnded past)
         → LinesSeen (length s.done) past → Appends (contents first) (contents old) (texts replies)
         → NoneFailed may_flush (calls first) (calls old)
-        → EachMay contents calls is_sent files may_flush start.world first past ms
-    cut_each old shelf ms files_are l first past whole seen out n = subst (λ (k : List (Moment W S)).
-        EachMay contents calls is_sent files may_flush start.world first past k) (sym l.is)
-        (begins_here old l.mid shelf files_are l.settled first past whole seen out n, tt)
+        → EachMay contents calls is_sent files may_flush start.world first (replies ++ later) past ms
+    cut_each old shelf ms files_are l first later past whole seen out n = subst (λ (k : List (Moment W S)).
+        EachMay contents calls is_sent files may_flush start.world first (replies ++ later) past k) (sym l.is)
+        (begins_here old l.mid shelf files_are l.settled first later past whole seen out n, tt)
 
   module _ (start : Point) (script : List ℕ) (replies : List Reply) (now new : Point) (progress after : Progress)
       (s : Stands start script replies now progress) (old writer : W) (old_shelf new_shelf : S)
@@ -214,7 +265,7 @@ module _ {W S : Type 0} (contents : W → Option (List ℕ)) (calls : W → Opti
         ⊎ ((s.done ++ s.rest ∷ [] ≡ lines (bytes_read past)) × HasEnded past))
         (seen : LinesSeen (length s.done) past) (out : Appends (contents first) (contents old) (texts replies))
         (n : NoneFailed may_flush (calls first) (calls old)) where
-      ends_here : LineWhen contents calls is_sent files may_flush start.world first
+      ends_here : LineWhen contents calls is_sent files may_flush start.world first (replies ++ a.reply ∷ [])
           (past ++ moment LineBegins l.mid old_shelf ∷ []) (moment LineEnds writer new_shelf)
       ends_here =
           let all_begun = begun_in-append past (moment LineBegins l.mid old_shelf ∷ []) in
@@ -230,6 +281,8 @@ module _ {W S : Type 0} (contents : W → Option (List ℕ)) (calls : W → Opti
                 (s.done ++ s.rest ∷ []) refl whole;
             answers = record {
               replies = replies ++ a.reply ∷ [];
+              later = [];
+              of_run = sym (append-nil (replies ++ a.reply ∷ []));
               now = new.world;
               steps = Steps-line start script replies now progress s a.reply new a.step;
               out = subst (Appends (contents first) (contents writer)) (sym (texts-push replies a.reply))
@@ -245,11 +298,12 @@ module _ {W S : Type 0} (contents : W → Option (List ℕ)) (calls : W → Opti
             };
           }
 
-      pub line_each : EachMay contents calls is_sent files may_flush start.world first past ms
+      pub line_each : EachMay contents calls is_sent files may_flush start.world first (replies ++ a.reply ∷ []) past ms
       line_each = subst (λ (k : List (Moment W S)).
-          EachMay contents calls is_sent files may_flush start.world first past k) (sym l.is) (
-            begins_here start script replies now progress s old l.mid old_shelf files_old l.settled first past whole
-                seen out n,
+          EachMay contents calls is_sent files may_flush start.world first (replies ++ a.reply ∷ []) past k)
+          (sym l.is) (
+            begins_here start script replies now progress s old l.mid old_shelf files_old l.settled first
+                (a.reply ∷ []) past whole seen out n,
             (ends_here, tt),
           )
 
@@ -262,9 +316,9 @@ module _ {W S : Type 0} (contents : W → Option (List ℕ)) (calls : W → Opti
     pub none_came : bytes_read ms ≡ []
     none_came = ap bytes_read l.is
 
-  pub MoreSeen-none : (world : World) (script : List ℕ) (replies : List Reply) (old : W) →
-      MoreSeen contents calls is_sent files may_flush world script [] replies old []
-  MoreSeen-none world script replies old =
+  pub MoreSeen-none : (world : World) (script : List ℕ) (replies more : List Reply) (old : W) →
+      MoreSeen contents calls is_sent files may_flush world script [] replies more old []
+  MoreSeen-none world script replies more old =
       let same : length (whole_lines (script ++ [])) ≡ length (whole_lines script) =
       ap (λ b. length (whole_lines b)) (append-nil script) in
       let count : length (whole_lines script) + 0 ≡ length (whole_lines (script ++ [])) = omega (arith, same) in
@@ -276,14 +330,14 @@ module _ {W S : Type 0} (contents : W → Option (List ℕ)) (calls : W → Opti
       (ms ns : List (Moment W S))
       → (s : StandsAfter start script replies seen now progress (contents before) (contents old)) → IsUnbroken bytes →
       mid.kept ≡ take KEPT (progress.kept ++ bytes) → mid.tally ≡ progress.tally → mid.lines ≡ progress.lines →
-      Answered now mid new after (contents old) (contents writer)
+      (a : Answered now mid new after (contents old) (contents writer))
       → NoneFailed may_flush (calls before) (calls old) → NoneFailed may_flush (calls old) (calls writer)
       → now.world.files ≡ files old_shelf → new.world.files ≡ files new_shelf
-      → MoreSeen contents calls is_sent files may_flush start.world script seen replies before ms
+      → MoreSeen contents calls is_sent files may_flush start.world script seen replies s.more before ms
       → LineSeen contents calls is_sent files may_flush (asks_for_file (line_of mid.kept)) old writer old_shelf
       new_shelf ns
-      → MoreSeen contents calls is_sent files may_flush start.world script ((seen ++ bytes) ++ 10 ∷ []) replies before
-      (ms ++ ns)
+      → MoreSeen contents calls is_sent files may_flush start.world script ((seen ++ bytes) ++ 10 ∷ []) replies
+      (s.more ++ a.reply ∷ []) before (ms ++ ns)
   MoreSeen-line start script replies seen bytes now new progress mid after before old writer old_shelf new_shelf ms ns
       s u m mid_tally mid_lines a earlier well files_old files_new seen_before l =
       let held = Stands-more start (script ++ seen) (replies ++ s.more) now progress mid bytes s.stands u m mid_tally
@@ -321,8 +375,11 @@ module _ {W S : Type 0} (contents : W → Option (List ℕ)) (calls : W → Opti
             ∙ (simp append_assoc) in
             let there : bytes_read (past ++ ms) ≡ script ++ ((seen ++ bytes) ++ 10 ∷ rest) =
             bytes_read-quiet past ms seen_before.none_read ∙ e ∙ (simp append_assoc) in
-            EachMay-append start.world first past ms ns
-            (seen_before.each first past ((bytes ++ 10 ∷ []) ++ rest) here lines_seen out n)
+            subst (λ (rs : List Reply). EachMay contents calls is_sent files may_flush start.world first rs past
+            (ms ++ ns)) (append_assoc replies s.more (a.reply ∷ []))
+            (EachMay-append start.world first ((replies ++ s.more) ++ a.reply ∷ []) past ms ns
+            (EachMay-longer start.world first (replies ++ s.more) (a.reply ∷ []) past ms
+            (seen_before.each first past ((bytes ++ 10 ∷ []) ++ rest) here lines_seen out n))
             (line_each start ((script ++ seen) ++ bytes) (replies ++ s.more) now new mid after held old writer
             old_shelf new_shelf a well files_old files_new ns l first (past ++ ms)
             (inl (
@@ -334,7 +391,7 @@ module _ {W S : Type 0} (contents : W → Option (List ℕ)) (calls : W → Opti
             (lines_more past ms (length (whole_lines script)) (length held.done) (first_begun ∙ count_done)
             (first_ended ∙ count_done) lines_seen)
             (Appends-texts (contents first) (contents before) (contents old) replies s.more out s.written)
-            (none_failed_more may_flush (calls first) (calls before) (calls old) n earlier));
+            (none_failed_more may_flush (calls first) (calls before) (calls old) n earlier)));
       }
 
   -- what was seen before a line that was cut off, and with it
@@ -343,7 +400,7 @@ module _ {W S : Type 0} (contents : W → Option (List ℕ)) (calls : W → Opti
       (s : StandsAfter start script replies seen now progress (contents before) (contents old)) (u : IsUnbroken bytes)
       (held : Stands start ((script ++ seen) ++ bytes) (replies ++ s.more) now mid)
       (whole : all ≡ (seen ++ bytes) ++ 10 ∷ more_bytes)
-      (m : MoreSeen contents calls is_sent files may_flush start.world script seen replies before ms) where
+      (m : MoreSeen contents calls is_sent files may_flush start.world script seen replies s.more before ms) where
     done_count : length (whole_lines (script ++ seen)) ≡ length held.done
     done_count = ap length (whole_lines_begun (script ++ seen) s.stands.done s.stands.rest s.stands.begins
         s.stands.unbroken
@@ -352,7 +409,7 @@ module _ {W S : Type 0} (contents : W → Option (List ℕ)) (calls : W → Opti
         (every-append _ s.stands.rest bytes s.stands.unbroken u))
         ∙ whole_lines_begun ((script ++ seen) ++ bytes) held.done held.rest held.begins held.unbroken)
 
-    pub ManySeen-before : ManySeen contents calls is_sent files may_flush start.world script all replies before
+    pub ManySeen-before : ManySeen contents calls is_sent files may_flush start.world script all replies s.more before
         (length held.done) (length held.done) ms
     ManySeen-before =
         record {
@@ -365,12 +422,13 @@ module _ {W S : Type 0} (contents : W → Option (List ℕ)) (calls : W → Opti
               m.each first past ((bytes ++ 10 ∷ more_bytes) ++ rest) here lines_seen out n;
         }
 
-    pub ManySeen-cut : (shelf : S) (ns : List (Moment W S)) → NoneFailed may_flush (calls before) (calls old)
+    pub ManySeen-cut : (reply : Reply) (shelf : S) (ns : List (Moment W S)) →
+        NoneFailed may_flush (calls before) (calls old)
         → now.world.files ≡ files shelf
         → LineCut contents calls is_sent files may_flush (asks_for_file (line_of mid.kept)) old shelf ns
-        → ManySeen contents calls is_sent files may_flush start.world script all replies before
+        → ManySeen contents calls is_sent files may_flush start.world script all replies (s.more ++ reply ∷ []) before
         (length (held.done ++ held.rest ∷ [])) (length held.done) (ms ++ ns)
-    ManySeen-cut shelf ns earlier files_are l =
+    ManySeen-cut reply shelf ns earlier files_are l =
         let none : bytes_read ns ≡ [] = ap bytes_read l.is in
         let begun : begun_in ns ≡ 1 = ap begun_in l.is in
         let ended : ended_in ns ≡ 0 = ap ended_in l.is in
@@ -388,10 +446,13 @@ module _ {W S : Type 0} (contents : W → Option (List ℕ)) (calls : W → Opti
               let there : bytes_read (past ++ ms) ≡ script ++ ((seen ++ bytes) ++ 10 ∷ (more_bytes ++ rest)) =
               bytes_read-quiet past ms m.none_read ∙ e ∙ ap (λ b. (script ++ b) ++ rest) whole
               ∙ (simp append_assoc) in
-              EachMay-append start.world first past ms ns (ManySeen-before.each first past rest e lines_seen out n)
+              subst (λ (rs : List Reply). EachMay contents calls is_sent files may_flush start.world first rs past
+              (ms ++ ns)) (append_assoc replies s.more (reply ∷ []))
+              (EachMay-append start.world first ((replies ++ s.more) ++ reply ∷ []) past ms ns
+              (EachMay-longer start.world first (replies ++ s.more) (reply ∷ []) past ms
+              (ManySeen-before.each first past rest e lines_seen out n))
               (cut_each start ((script ++ seen) ++ bytes) (replies ++ s.more) now mid held old shelf ns files_are l
-              first
-              (past ++ ms)
+              first (reply ∷ []) (past ++ ms)
               (inl (
                 more_bytes ++ rest,
                 subst (λ (b : List ℕ). BeginsWith b (held.done ++ held.rest ∷ []) (more_bytes ++ rest)) (sym there)
@@ -401,16 +462,18 @@ module _ {W S : Type 0} (contents : W → Option (List ℕ)) (calls : W → Opti
               (lines_more past ms (length (whole_lines script)) (length held.done) (first_begun ∙ count)
               (first_ended ∙ count) lines_seen)
               (Appends-texts (contents first) (contents before) (contents old) replies s.more out s.written)
-              (none_failed_more may_flush (calls first) (calls before) (calls old) n earlier));
+              (none_failed_more may_flush (calls first) (calls before) (calls old) n earlier)));
         }
 
   -- bytes without a newline end no line
-  pub MoreSeen-rest : (start : Point) (script : List ℕ) (replies : List Reply) (all seen bytes : List ℕ) (now : Point)
-      (progress : Progress) (before : W) (output_old output_new : Option (List ℕ)) (ms : List (Moment W S))
+  pub MoreSeen-rest : (start : Point) (script : List ℕ) (replies more : List Reply) (all seen bytes : List ℕ)
+      (now : Point) (progress : Progress) (before : W) (output_old output_new : Option (List ℕ))
+      (ms : List (Moment W S))
       → StandsAfter start script replies seen now progress output_old output_new → IsUnbroken bytes →
-      all ≡ seen ++ bytes → MoreSeen contents calls is_sent files may_flush start.world script seen replies before ms
-      → MoreSeen contents calls is_sent files may_flush start.world script all replies before ms
-  MoreSeen-rest start script replies all seen bytes now progress before output_old output_new ms s u whole m =
+      all ≡ seen ++ bytes
+      → MoreSeen contents calls is_sent files may_flush start.world script seen replies more before ms
+      → MoreSeen contents calls is_sent files may_flush start.world script all replies more before ms
+  MoreSeen-rest start script replies more all seen bytes now progress before output_old output_new ms s u whole m =
       let joined : (script ++ seen) ++ bytes ≡ script ++ all = append_assoc script seen bytes
       ∙ ap (λ b. script ++ b) (sym whole) in
       let begins = subst (λ (b : List ℕ). BeginsWith b s.stands.done (s.stands.rest ++ bytes)) joined
@@ -427,10 +490,10 @@ module _ {W S : Type 0} (contents : W → Option (List ℕ)) (calls : W → Opti
             (e ∙ ap (λ b. b ++ rest) (sym joined) ∙ append_assoc (script ++ seen) bytes rest) lines_seen out n;
       }
 
-  pub LastSeen-none : (start : Point) (script : List ℕ) (replies : List Reply) (now : Point) (progress : Progress)
+  pub LastSeen-none : (start : Point) (script : List ℕ) (replies more : List Reply) (now : Point) (progress : Progress)
       (old : W) → Stands start script replies now progress → progress.kept ≡ []
-      → LastSeen contents calls is_sent files may_flush start.world script replies old []
-  LastSeen-none start script replies now progress old s e =
+      → LastSeen contents calls is_sent files may_flush start.world script replies more old []
+  LastSeen-none start script replies more now progress old s e =
       let same : length (whole_lines script) ≡ length (lines script) =
       ap length (whole_lines_begun script s.done s.rest s.begins s.unbroken
       ∙ sym (lines_none start script replies now progress s e)) in
@@ -440,19 +503,20 @@ module _ {W S : Type 0} (contents : W → Option (List ℕ)) (calls : W → Opti
   module _ (start : Point) (script : List ℕ) (replies : List Reply) (now : Point) (progress : Progress) (old : W)
       (s : Stands start script replies now progress) where
     -- the last line was not seen to begin
-    pub EndSeen-none : EndSeen contents calls is_sent files may_flush start.world script replies old (length s.done)
-        (length s.done) []
-    EndSeen-none =
+    pub EndSeen-none : (more : List Reply) → EndSeen contents calls is_sent files may_flush start.world script replies
+        more old (length s.done) (length s.done) []
+    EndSeen-none more =
         let whole = ap length (whole_lines_begun script s.done s.rest s.begins s.unbroken) in
         let count : length (whole_lines script) + 0 ≡ length s.done = omega (arith, whole) in
         record { none_read = refl; begun = count; ended = count; each = λ first past read at_end lines_seen out n. tt }
 
     -- the last line was seen to begin, and not to end
-    pub EndSeen-cut : (shelf : S) (ms : List (Moment W S)) → 0 < length progress.kept → now.world.files ≡ files shelf
+    pub EndSeen-cut : (reply : Reply) (shelf : S) (ms : List (Moment W S)) → 0 < length progress.kept →
+        now.world.files ≡ files shelf
         → LineCut contents calls is_sent files may_flush (asks_for_file (line_of progress.kept)) old shelf ms
-        → EndSeen contents calls is_sent files may_flush start.world script replies old (length (lines script))
-        (length s.done) ms
-    EndSeen-cut shelf ms h files_are l =
+        → EndSeen contents calls is_sent files may_flush start.world script replies (reply ∷ []) old
+        (length (lines script)) (length s.done) ms
+    EndSeen-cut reply shelf ms h files_are l =
         let all = lines_one start script replies now progress s h in
         let whole = ap length (whole_lines_begun script s.done s.rest s.begins s.unbroken) in
         let count = ap length all in
@@ -464,19 +528,19 @@ module _ {W S : Type 0} (contents : W → Option (List ℕ)) (calls : W → Opti
           begun = omega (arith, whole, count, one_more, begun);
           ended = omega (arith, whole, ended);
           each = λ first past read at_end lines_seen out n.
-              cut_each start script replies now progress s old shelf ms files_are l first past
+              cut_each start script replies now progress s old shelf ms files_are l first (reply ∷ []) past
               (inr (sym all ∙ ap lines (sym read), at_end)) (lines_seen.0 ∙ whole, lines_seen.1 ∙ whole) out n;
         }
 
   pub LastSeen-line : (start : Point) (script : List ℕ) (replies : List Reply) (now new : Point)
       (progress after : Progress) (old writer : W) (old_shelf new_shelf : S) (ms : List (Moment W S))
       → Stands start script replies now progress → 0 < length progress.kept →
-      Answered now progress new after (contents old) (contents writer)
+      (a : Answered now progress new after (contents old) (contents writer))
       → NoneFailed may_flush (calls old) (calls writer) → now.world.files ≡ files old_shelf
       → new.world.files ≡ files new_shelf
       → LineSeen contents calls is_sent files may_flush (asks_for_file (line_of progress.kept)) old writer old_shelf
       new_shelf ms
-      → LastSeen contents calls is_sent files may_flush start.world script replies old ms
+      → LastSeen contents calls is_sent files may_flush start.world script replies (a.reply ∷ []) old ms
   LastSeen-line start script replies now new progress after old writer old_shelf new_shelf ms s h a well files_old
       files_new l =
       let all = lines_one start script replies now progress s h in
@@ -501,7 +565,7 @@ module _ {W S : Type 0} (contents : W → Option (List ℕ)) (calls : W → Opti
   -- ---- the moments of a run
 
   module _ (world : World) (first : W) where
-    pub SeenSoFar-start : SeenSoFar contents calls is_sent files may_flush world first [] []
+    pub SeenSoFar-start : SeenSoFar contents calls is_sent files may_flush world first [] [] []
     SeenSoFar-start = record { each = tt; read = refl; begins = refl; ends = refl }
 
   module _ (start : Point) (script : List ℕ) (replies : List Reply) (now : Point) (progress : Progress)
@@ -511,14 +575,16 @@ module _ {W S : Type 0} (contents : W → Option (List ℕ)) (calls : W → Opti
       (settled : Settled contents calls is_sent may_flush true old writer) where
     -- the run reads where all is out
     pub reads_when : (event : Event) (ms : List (Moment W S)) →
-        SeenSoFar contents calls is_sent files may_flush start.world first script ms
-        → ReadsWhen contents calls is_sent files may_flush start.world first ms (moment event writer shelf)
+        SeenSoFar contents calls is_sent files may_flush start.world first script replies ms
+        → ReadsWhen contents calls is_sent files may_flush start.world first replies ms (moment event writer shelf)
     reads_when event ms seen =
         let whole : whole_lines (bytes_read ms) ≡ s.done = ap whole_lines seen.read
         ∙ whole_lines_begun script s.done s.rest s.begins s.unbroken in
         record {
           answers = record {
             replies = replies;
+            later = [];
+            of_run = sym (append-nil replies);
             now = now.world;
             steps = subst (λ (ls : List (List ℕ)). Steps start.world ls replies now.world) (sym whole) s.run;
             out = Appends-kept (contents first) (contents old) (contents writer) (texts replies) out settled.kept;
@@ -529,9 +595,9 @@ module _ {W S : Type 0} (contents : W → Option (List ℕ)) (calls : W → Opti
 
     -- a read failed
     pub SeenSoFar-failed : (ms ns : List (Moment W S)) →
-        SeenSoFar contents calls is_sent files may_flush start.world first script ms
+        SeenSoFar contents calls is_sent files may_flush start.world first script replies ms
         → ns ≡ moment NotCame writer shelf ∷ []
-        → SeenSoFar contents calls is_sent files may_flush start.world first script (ms ++ ns)
+        → SeenSoFar contents calls is_sent files may_flush start.world first script replies (ms ++ ns)
     SeenSoFar-failed ms ns seen e =
         let none : bytes_read ns ≡ [] = ap bytes_read e in
         let begun : begun_in ns ≡ 0 = ap begun_in e in
@@ -541,24 +607,26 @@ module _ {W S : Type 0} (contents : W → Option (List ℕ)) (calls : W → Opti
         let first_begun = seen.begins in
         let first_ended = seen.ends in
         record {
-          each = EachMay-append start.world first [] ms ns seen.each
-              (subst (λ (k : List (Moment W S)). EachMay contents calls is_sent files may_flush start.world first ms k)
-              (sym e) (reads_when NotCame ms seen, tt));
+          each = EachMay-append start.world first replies [] ms ns seen.each
+              (subst (λ (k : List (Moment W S)).
+              EachMay contents calls is_sent files may_flush start.world first replies ms k) (sym e)
+              (reads_when NotCame ms seen, tt));
           read = bytes_read-quiet ms ns none ∙ seen.read;
           begins = omega (arith, begun, all_begun, first_begun);
           ends = omega (arith, ended, all_ended, first_ended);
         }
 
     module _ (bytes : List ℕ) (ms ns ks : List (Moment W S))
-        (seen : SeenSoFar contents calls is_sent files may_flush start.world first script ms)
+        (seen : SeenSoFar contents calls is_sent files may_flush start.world first script replies ms)
         (e : ns ≡ moment (Came bytes) writer shelf ∷ []) where
       came_bytes : bytes_read ns ≡ bytes
       came_bytes = ap bytes_read e ∙ append-nil bytes
 
-      came_each : EachMay contents calls is_sent files may_flush start.world first [] (ms ++ ns)
-      came_each = EachMay-append start.world first [] ms ns seen.each
-          (subst (λ (k : List (Moment W S)). EachMay contents calls is_sent files may_flush start.world first ms k)
-          (sym e) (reads_when (Came bytes) ms seen, tt))
+      came_each : EachMay contents calls is_sent files may_flush start.world first replies [] (ms ++ ns)
+      came_each = EachMay-append start.world first replies [] ms ns seen.each
+          (subst (λ (k : List (Moment W S)).
+          EachMay contents calls is_sent files may_flush start.world first replies ms k) (sym e)
+          (reads_when (Came bytes) ms seen, tt))
 
       came_read : bytes_read (ms ++ ns) ≡ script ++ bytes
       came_read = bytes_read-append ms ns ∙ ap (λ b. b ++ bytes_read ns) seen.read ∙ ap (λ b. script ++ b) came_bytes
@@ -584,11 +652,11 @@ module _ {W S : Type 0} (contents : W → Option (List ℕ)) (calls : W → Opti
       well_here = none_failed_more may_flush (calls first) (calls old) (calls writer) n settled.none_failed
 
       -- bytes were read, and the lines that end in them were carried out
-      InOrder-more : (begins ends : ℕ) →
-          ManySeen contents calls is_sent files may_flush start.world script bytes replies writer begins ends ks →
-          InOrder contents calls is_sent files may_flush start.world first (script ++ bytes) begins ends
-          ((ms ++ ns) ++ ks)
-      InOrder-more begins ends more =
+      InOrder-more : (rest : List Reply) (begins ends : ℕ) →
+          ManySeen contents calls is_sent files may_flush start.world script bytes replies rest writer begins ends ks →
+          InOrder contents calls is_sent files may_flush start.world first (replies ++ rest) (script ++ bytes) begins
+          ends ((ms ++ ns) ++ ks)
+      InOrder-more rest begins ends more =
           let begun = came_begun in
           let ended = came_ended in
           let more_begun = more.begun in
@@ -596,7 +664,8 @@ module _ {W S : Type 0} (contents : W → Option (List ℕ)) (calls : W → Opti
           let all_begun = begun_in-append (ms ++ ns) ks in
           let all_ended = ended_in-append (ms ++ ns) ks in
           record {
-            each = EachMay-append start.world first [] (ms ++ ns) ks came_each
+            each = EachMay-append start.world first (replies ++ rest) [] (ms ++ ns) ks
+                (EachMay-longer start.world first replies rest [] (ms ++ ns) came_each)
                 (more.each first (ms ++ ns) [] (came_read ∙ sym (append-nil (script ++ bytes)))
                 (came_begun, came_ended) out_here well_here);
             read = bytes_read-quiet (ms ++ ns) ks more.none_read ∙ came_read;
@@ -605,11 +674,11 @@ module _ {W S : Type 0} (contents : W → Option (List ℕ)) (calls : W → Opti
           }
 
       -- the reader is at its end, and a last line was carried out
-      InOrder-last : (begins ends : ℕ) → bytes ≡ [] →
-          EndSeen contents calls is_sent files may_flush start.world script replies writer begins ends ks
-          → InOrder contents calls is_sent files may_flush start.world first script begins ends ((ms ++ ns) ++ ks)
-          × HasEnded ((ms ++ ns) ++ ks)
-      InOrder-last begins ends none last =
+      InOrder-last : (rest : List Reply) (begins ends : ℕ) → bytes ≡ [] →
+          EndSeen contents calls is_sent files may_flush start.world script replies rest writer begins ends ks
+          → InOrder contents calls is_sent files may_flush start.world first (replies ++ rest) script begins ends
+          ((ms ++ ns) ++ ks) × HasEnded ((ms ++ ns) ++ ks)
+      InOrder-last rest begins ends none last =
           let begun = came_begun in
           let ended = came_ended in
           let last_begun = last.begun in
@@ -625,7 +694,8 @@ module _ {W S : Type 0} (contents : W → Option (List ℕ)) (calls : W → Opti
             nothing_came = ap Came none;
           } in (
             record {
-              each = EachMay-append start.world first [] (ms ++ ns) ks came_each
+              each = EachMay-append start.world first (replies ++ rest) [] (ms ++ ns) ks
+                  (EachMay-longer start.world first replies rest [] (ms ++ ns) came_each)
                   (last.each first (ms ++ ns) here at_end (came_begun, came_ended) out_here well_here);
               read = bytes_read-quiet (ms ++ ns) ks last.none_read ∙ here;
               begins = omega (arith, begun, last_begun, all_begun);
@@ -635,46 +705,49 @@ module _ {W S : Type 0} (contents : W → Option (List ℕ)) (calls : W → Opti
           )
 
     -- bytes were read, and lines that end in them were carried out
-    pub InOrder-read : (bytes : List ℕ) (a b c d : Option (List (Moment W S))) (begins ends : ℕ) →
-        Adds a b (SeenSoFar contents calls is_sent files may_flush start.world first script)
+    pub InOrder-read : (bytes : List ℕ) (a b c d : Option (List (Moment W S))) (rest : List Reply) (begins ends : ℕ) →
+        Adds a b (SeenSoFar contents calls is_sent files may_flush start.world first script replies)
         → AddsOne b c (Came bytes) writer shelf
-        → Adds c d (ManySeen contents calls is_sent files may_flush start.world script bytes replies writer begins ends)
-        → Adds a d (InOrder contents calls is_sent files may_flush start.world first (script ++ bytes) begins ends)
-    InOrder-read bytes a b c d begins ends p q r =
-        Adds-three a b c d _ _ _ _ (λ ms ns ks seen e more. InOrder-more bytes ms ns ks seen e begins ends more) p q r
+        → Adds c d
+        (ManySeen contents calls is_sent files may_flush start.world script bytes replies rest writer begins ends)
+        → Adds a d (InOrder contents calls is_sent files may_flush start.world first (replies ++ rest)
+        (script ++ bytes) begins ends)
+    InOrder-read bytes a b c d rest begins ends p q r =
+        Adds-three a b c d _ _ _ _ (λ ms ns ks seen e more. InOrder-more bytes ms ns ks seen e rest begins ends more)
+        p q r
 
     -- the reader is at its end
-    pub InOrder-end : (bytes : List ℕ) (a b c d : Option (List (Moment W S))) (begins ends : ℕ) →
-        Adds a b (SeenSoFar contents calls is_sent files may_flush start.world first script)
+    pub InOrder-end : (bytes : List ℕ) (a b c d : Option (List (Moment W S))) (rest : List Reply) (begins ends : ℕ) →
+        Adds a b (SeenSoFar contents calls is_sent files may_flush start.world first script replies)
         → AddsOne b c (Came bytes) writer shelf → bytes ≡ []
-        → Adds c d (EndSeen contents calls is_sent files may_flush start.world script replies writer begins ends)
-        → Adds a d (λ ks. InOrder contents calls is_sent files may_flush start.world first script begins ends ks
-        × HasEnded ks)
-    InOrder-end bytes a b c d begins ends p q none last =
-        Adds-three a b c d _ _ _ _ (λ ms ns ks seen e l. InOrder-last bytes ms ns ks seen e begins ends none l) p q last
+        → Adds c d (EndSeen contents calls is_sent files may_flush start.world script replies rest writer begins ends)
+        → Adds a d (λ ks. InOrder contents calls is_sent files may_flush start.world first (replies ++ rest) script
+        begins ends ks × HasEnded ks)
+    InOrder-end bytes a b c d rest begins ends p q none last =
+        Adds-three a b c d _ _ _ _ (λ ms ns ks seen e l. InOrder-last bytes ms ns ks seen e rest begins ends none l)
+        p q last
 
   -- the end of a run that has come to the end of its script
-  pub Runs-end : (Here : ℕ → ℕ → Type 0) (old new : Known) (script : List ℕ) (replies : List Reply) (first : W)
-      (output : Option (List ℕ)) (a d : Option (List (Moment W S))) (mid : Option (List Call))
+  pub Runs-end : (Here : List Reply → ℕ → ℕ → Type 0) (old new : Known) (script : List ℕ) (replies : List Reply)
+      (first : W) (output : Option (List ℕ)) (a d : Option (List (Moment W S))) (mid : Option (List Call))
       (result : Result Tally RunFault) →
       Gives old.input new.input script → IsAtEnd new.input.ahead → Appends old.output output (texts replies)
       → ReadsLast old.reads new.reads (Some 0) → NoneFailed may_flush old.calls mid
       → Closes may_flush Here (point old.world old.noted) script replies (point new.world new.noted) output new.output
       result → FlushedIfOk may_flush mid new.calls result
-      → OnOk result (Here (length (lines script)) (length (lines script)))
-      → ((begins ends : ℕ) → Here begins ends → Adds a d (λ ks. InOrder contents calls is_sent files may_flush old.world
-      first script begins ends ks × HasEnded ks))
+      → ((more : List Reply) (begins ends : ℕ) → Here more begins ends → Adds a d (λ ks. InOrder contents calls is_sent
+      files may_flush old.world first (replies ++ more) script begins ends ks × HasEnded ks))
       → (run : Runs may_flush old new result)
       × Ordered contents calls is_sent files may_flush old.world first run.ran a d result
-  Runs-end Here old new script replies first output a d mid (Ok tally) r e w reads n closes flushed seen order = (
+  Runs-end Here old new script replies first output a d mid (Ok tally) r e w reads n closes flushed order = (
     finishes old new may_flush script replies output r e w tally closes reads
         (last_flushed_after may_flush old.calls mid new.calls n flushed),
-    order (length (lines script)) (length (lines script)) seen,
+    order closes.more (length (lines script)) (length (lines script)) closes.seen,
   )
-  Runs-end Here old new script replies first output a d mid (Err fault) r e w reads n closes failed seen order =
+  Runs-end Here old new script replies first output a d mid (Err fault) r e w reads n closes failed order =
       subst (λ (f : RunFault). (run : Runs may_flush old new (Err f))
       × Ordered contents calls is_sent files may_flush old.world first run.ran a d (Err f)) (sym closes.0)
       (stops_at_end old new may_flush script replies Here
-      (λ b begins ends. Adds a d (InOrder contents calls is_sent files may_flush old.world first b begins ends))
+      (λ rs b begins ends. Adds a d (InOrder contents calls is_sent files may_flush old.world first rs b begins ends))
       output r e w reads (last_failed_after may_flush old.calls mid new.calls n failed)
-      (λ begins ends here. Adds-weaker a d _ _ (λ ks k. k.0) (order begins ends here)) closes.1)
+      (λ more begins ends here. Adds-weaker a d _ _ (λ ks k. k.0) (order more begins ends here)) closes.1)

@@ -57,8 +57,8 @@ came_out-some replies (byte ∷ left) h = refl
 
 -- the last line that was carried out was seen to begin, and also to end if its answer was written and no flush failed
 -- after it
-abbrev pub Fails : {old new : Known} → (List ℕ → ℕ → ℕ → Type 0) → Ran old new → Type 0
-Fails Seen ran = (ended : ℕ) × Seen ran.script (length ran.done) ended
+abbrev pub Fails : {old new : Known} → (List Reply → List ℕ → ℕ → ℕ → Type 0) → Ran old new → Type 0
+Fails Seen ran = (ended : ℕ) × Seen ran.replies ran.script (length ran.done) ended
     × (((ended ≡ length ran.done) × (ran.left ≡ [])) ⊎ (ended + 1 ≡ length ran.done))
 
 module _ (old new : Known) where
@@ -143,12 +143,13 @@ module _ (old new : Known) where
           Runs may old new (Err Output)
       stops_before_read m r c = record { ran = whole; ends = (inr (inr (m, inl (refl, refl))), r, c) }
 
-    module _ (Here : ℕ → ℕ → Type 0) (Seen : List ℕ → ℕ → ℕ → Type 0) where
+    module _ (Here : List Reply → ℕ → ℕ → Type 0) (Seen : List Reply → List ℕ → ℕ → ℕ → Type 0) where
       -- a line that ends in the chunk stopped the run
       pub stops_in_chunk : ReadsWell old.reads new.reads → LastFailed may old.calls new.calls
           → (input : ReaderState) (output : Option (List ℕ)) (chunk : List ℕ) →
           Gives old.input input script → Gives input new.input chunk → Appends old.output output (texts replies)
-          → ((begins ends : ℕ) → Here begins ends → Seen (script ++ chunk) begins ends)
+          → ((more : List Reply) (begins ends : ℕ) → Here more begins ends →
+          Seen (replies ++ more) (script ++ chunk) begins ends)
           → StopsIn may Here (point old.world old.noted) script replies chunk (point new.world new.noted) output
           new.output
           → (run : Runs may old new (Err Output)) × Fails Seen run.ran
@@ -164,7 +165,7 @@ module _ (old new : Known) where
                 calls,
               );
             },
-            (s.ended, seen (length s.done) s.ended s.seen, inr s.one_more),
+            (s.ended, seen s.more (length s.done) s.ended s.seen, inr s.one_more),
           )
       stops_in_chunk reads calls input output chunk r q w seen (inr f) =
           let s = f.1 in
@@ -188,14 +189,14 @@ module _ (old new : Known) where
                 )
           ] in (
             record { ran = ran; ends = (inr (inr (f.0, inr beside)), reads, calls) },
-            (length s.before, seen (length s.done) (length s.before) s.seen, which),
+            (length s.before, seen s.more (length s.done) (length s.before) s.seen, which),
           )
 
       -- the last line or the last flush stopped the run
       pub stops_at_end : (output : Option (List ℕ)) → Gives old.input new.input script → IsAtEnd new.input.ahead →
           Appends old.output output (texts replies)
           → ReadsLast old.reads new.reads (Some 0) → LastFailed may old.calls new.calls
-          → ((begins ends : ℕ) → Here begins ends → Seen script begins ends)
+          → ((more : List Reply) (begins ends : ℕ) → Here more begins ends → Seen (replies ++ more) script begins ends)
           → EndsInPart Here (point old.world old.noted) script replies (point new.world new.noted) output new.output
           ⊎ EndsUnflushed Here (point old.world old.noted) script replies (point new.world new.noted) output new.output
           ⊎ (may × EndsBefore Here (point old.world old.noted) script replies (point new.world new.noted) output
@@ -208,7 +209,7 @@ module _ (old new : Known) where
                   (Appends-trans old.output output new.output (texts replies) s.bytes w s.written) cut s.noted;
               ends = (inl ((inr (refl, at_end), cut.lacking), inr r), inr r, c);
             },
-            (s.ended, seen (length (lines script)) s.ended s.seen, inr s.one_more),
+            (s.ended, seen s.more (length (lines script)) s.ended s.seen, inr s.one_more),
           )
       stops_at_end output read at_end w r c seen (inr (inl s)) =
           let which : ((s.ended ≡ length (lines script)) × ([] ≡ [])) ⊎ (s.ended + 1 ≡ length (lines script)) =
@@ -221,7 +222,7 @@ module _ (old new : Known) where
                   (Appends-texts old.output output new.output replies s.more w s.written) s.noted;
               ends = (inr (inl ((refl, at_end, refl), r)), inr r, c);
             },
-            (s.ended, seen (length (lines script)) s.ended s.seen, which),
+            (s.ended, seen s.more (length (lines script)) s.ended s.seen, which),
           )
       stops_at_end output read at_end w r c seen (inr (inr f)) =
           let s = f.1 in
@@ -237,13 +238,19 @@ module _ (old new : Known) where
             none_left = refl;
           } in (
             record { ran = ran; ends = (inr (inr (f.0, inr beside)), inr r, c) },
-            (length s.before, seen (length s.before) (length s.before) s.seen, inl (refl, refl)),
+            (
+              length s.before,
+              subst (λ rs. Seen rs script (length s.before) (length s.before)) (append-nil replies)
+                  (seen [] (length s.before) (length s.before) s.seen),
+              inl (refl, refl),
+            ),
           )
 
     module _ (output : Option (List ℕ)) (read : Gives old.input new.input script) (at_end : IsAtEnd new.input.ahead)
         (w : Appends old.output output (texts replies)) where
       abbrev pub finishes : (tally : Tally) →
-          Ended (point old.world old.noted) script replies (point new.world new.noted) output new.output tally
+          {Seen : List Reply → ℕ → ℕ → Type 0} →
+          Ended Seen (point old.world old.noted) script replies (point new.world new.noted) output new.output tally
           → ReadsLast old.reads new.reads (Some 0) → LastFlushed may old.calls new.calls → Runs may old new (Ok tally)
       finishes tally s r c = record {
         ran = all_came script (lines script) (replies ++ s.more) read s.run

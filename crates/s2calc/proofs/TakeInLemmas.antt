@@ -124,7 +124,7 @@ Stands-line start script replies now new progress after next output_old output_n
     }
 
 -- the steps of the loop, joined: bytes without a newline are kept, and then a newline comes
-pub StandsAfter-line : (start : Point) (script : List ℕ) (replies : List Reply) (seen bytes : List ℕ)
+abbrev pub StandsAfter-line : (start : Point) (script : List ℕ) (replies : List Reply) (seen bytes : List ℕ)
     (now new : Point) (progress mid after next : Progress)
     (output_old output_mid output_new : Option (List ℕ))
     → StandsAfter start script replies seen now progress output_old output_mid → IsUnbroken bytes →
@@ -150,7 +150,7 @@ StandsAfter-line start script replies seen bytes now new progress mid after next
     }
 
 -- what is left of the bytes has no newline
-pub StandsAfter-rest : (start : Point) (script : List ℕ) (replies : List Reply) (all seen bytes : List ℕ)
+abbrev pub StandsAfter-rest : (start : Point) (script : List ℕ) (replies : List Reply) (all seen bytes : List ℕ)
     (now : Point) (progress after : Progress) (output_old output_new : Option (List ℕ))
     → StandsAfter start script replies seen now progress output_old output_new → IsUnbroken bytes →
     after.kept ≡ take KEPT (progress.kept ++ bytes) → after.tally ≡ progress.tally → after.lines ≡ progress.lines →
@@ -197,14 +197,14 @@ begins_line script seen bytes more_bytes all done rest b u whole =
     (BeginsWith-more _ (done ++ rest ∷ []) [] more_bytes begun)
 
 -- the writer failed at the line that these bytes end
-pub StopsInside-line : (Begun : Type 0) (Seen : ℕ → ℕ → Type 0) (start : Point) (script : List ℕ) (replies : List Reply)
-    (all seen bytes more_bytes : List ℕ) (now new : Point) (progress mid : Progress)
+pub StopsInside-line : (Begun : Type 0) (Seen : List Reply → ℕ → ℕ → Type 0) (start : Point) (script : List ℕ)
+    (replies : List Reply) (all seen bytes more_bytes : List ℕ) (now new : Point) (progress mid : Progress)
     (output_old output_mid output_new : Option (List ℕ))
     → (s : StandsAfter start script replies seen now progress output_old output_mid) → IsUnbroken bytes →
     mid.kept ≡ take KEPT (progress.kept ++ bytes) → mid.tally ≡ progress.tally → mid.lines ≡ progress.lines →
     AnsweredInPart Begun now mid new output_mid output_new → all ≡ (seen ++ bytes) ++ 10 ∷ more_bytes
-    → ((held : Stands start ((script ++ seen) ++ bytes) (replies ++ s.more) now mid) → Begun →
-    Seen (length (held.done ++ held.rest ∷ [])) (length held.done))
+    → ((reply : Reply) (held : Stands start ((script ++ seen) ++ bytes) (replies ++ s.more) now mid) → Begun →
+    Seen (s.more ++ reply ∷ []) (length (held.done ++ held.rest ∷ [])) (length held.done))
     → StopsInside Seen start script replies all new output_old output_new
 StopsInside-line Begun Seen start script replies all seen bytes more_bytes now new progress mid output_old output_mid
     output_new s u m mid_tally mid_lines p whole count =
@@ -228,21 +228,20 @@ StopsInside-line Begun Seen start script replies all seen bytes more_bytes now n
           (Explains-cut start ((script ++ seen) ++ bytes) before now mid held reply new p.quiet);
       ended = length held.done;
       one_more = let long = length-append held.done (held.rest ∷ []) in omega (arith, long);
-      seen = count held p.begun;
+      seen = count reply held p.begun;
     }
 
 -- a flush failed before the line that these bytes end, or after it
-pub StopsBeside-line : (Unseen Begun : Type 0) (Seen : ℕ → ℕ → Type 0) (start : Point) (script : List ℕ)
-    (replies : List Reply)
-    (all seen bytes more_bytes : List ℕ) (now new : Point) (progress mid after : Progress)
+pub StopsBeside-line : (Unseen Begun : Type 0) (Seen : List Reply → ℕ → ℕ → Type 0) (start : Point) (script : List ℕ)
+    (replies : List Reply) (all seen bytes more_bytes : List ℕ) (now new : Point) (progress mid after : Progress)
     (output_old output_mid output_new : Option (List ℕ))
     → (s : StandsAfter start script replies seen now progress output_old output_mid) → IsUnbroken bytes →
     mid.kept ≡ take KEPT (progress.kept ++ bytes) → mid.tally ≡ progress.tally → mid.lines ≡ progress.lines →
     AnsweredUnflushed Unseen Begun now mid new after output_mid output_new → all ≡ (seen ++ bytes) ++ 10 ∷ more_bytes
     → ((held : Stands start ((script ++ seen) ++ bytes) (replies ++ s.more) now mid) → Unseen →
-    Seen (length held.done) (length held.done))
-    → ((held : Stands start ((script ++ seen) ++ bytes) (replies ++ s.more) now mid) → Begun →
-    Seen (length (held.done ++ held.rest ∷ [])) (length held.done))
+    Seen s.more (length held.done) (length held.done))
+    → ((reply : Reply) (held : Stands start ((script ++ seen) ++ bytes) (replies ++ s.more) now mid) → Begun →
+    Seen (s.more ++ reply ∷ []) (length (held.done ++ held.rest ∷ [])) (length held.done))
     → StopsBeside Seen start script replies all new output_old output_new
 StopsBeside-line Unseen Begun Seen start script replies all seen bytes more_bytes now new progress mid after output_old
     output_mid output_new s u m mid_tally mid_lines f whole none count =
@@ -283,7 +282,7 @@ StopsBeside-line Unseen Begun Seen start script replies all seen bytes more_byte
         noted = subst (λ rs. Explains start new (held.done ++ held.rest ∷ []) rs)
             (append_assoc replies s.more (a.reply ∷ []))
             (Explains-line start sofar earlier now mid held a.reply new a.noted);
-        seen = count held b.1;
+        seen = count a.reply held b.1;
       }
     ]
 

@@ -30,28 +30,31 @@ pub record HasEnded {W S : Type 0} (past : List (Moment W S)) : Type 0 where
   pub is : past ≡ before ++ (last ∷ after)
   pub nothing_came : last.event ≡ Came []
 
--- The order of a run that starts in this world with this writer. `contents`, `calls` and `is_sent` say what a writer
--- holds, which calls it has seen, and that nothing waits in it; `files` says what is known of a shelf; `may_flush` says
--- whether the run flushes before the end.
+-- nothing waits in the writer, and if the run flushes before the end, its last call was a flush
+pub record GoneOut {W : Type 0} (calls : W → Option (List Call)) (is_sent : W → Type 0) (may_flush : Type 0)
+    (first writer : W) : Type 0 where
+  pub sent : is_sent writer
+  pub flushed : may_flush → LastFlushed may_flush (calls first) (calls writer)
+
+-- The order of a run that starts in this world with this writer, and has these replies, `all`. `contents`, `calls` and
+-- `is_sent` say what a writer holds, which calls it has seen, and that nothing waits in it; `files` says what is known
+-- of a shelf; `may_flush` says whether the run flushes before the end.
 module _ {W S : Type 0} (contents : W → Option (List ℕ)) (calls : W → Option (List Call)) (is_sent : W → Type 0)
-    (files : S → Files) (may_flush : Type 0) (start : World) (first : W) where
-  -- exactly the answers that these lines may have were written, and no call of the writer failed
+    (files : S → Files) (may_flush : Type 0) (start : World) (first : W) (all : List Reply) where
+  -- exactly the answers to these lines were written, which are the first of the run, and no call of the writer failed
   pub record AllOut (ls : List (List ℕ)) (writer : W) : Type 0 where
     pub replies : List Reply
+    pub later : List Reply
+    pub of_run : all ≡ replies ++ later
     pub now : World
     pub steps : Steps start ls replies now
     pub out : Appends (contents first) (contents writer) (texts replies)
     pub none_failed : NoneFailed may_flush (calls first) (calls writer)
 
-  -- nothing waits in the writer, and if the run flushes before the end, its last call was a flush
-  pub record GoneOut (writer : W) : Type 0 where
-    pub sent : is_sent writer
-    pub flushed : may_flush → LastFlushed may_flush (calls first) (calls writer)
-
   -- a read comes where the answers to all lines that were read whole are out
   pub record ReadsWhen (past : List (Moment W S)) (now : Moment W S) : Type 0 where
     pub answers : AllOut (whole_lines (bytes_read past)) now.writer
-    pub gone_out : GoneOut now.writer
+    pub gone_out : GoneOut calls is_sent may_flush first now.writer
 
   -- A line begins where it was read to its end, where just the lines before it have begun and ended, where the answers
   -- to all of these are out, and with the files that they have left. It ends where just it has begun since then, and
@@ -65,7 +68,7 @@ module _ {W S : Type 0} (contents : W → Option (List ℕ)) (calls : W → Opti
         ⊎ ((before ++ line ∷ [] ≡ lines (bytes_read past)) × HasEnded past)
     pub answers : AllOut (done_at now.event before line) now.writer
     pub files_are : answers.now.files ≡ files now.shelf
-    pub gone_out : asks_for_file (line_of line) ≡ true → GoneOut now.writer
+    pub gone_out : asks_for_file (line_of line) ≡ true → GoneOut calls is_sent may_flush first now.writer
 
   -- this moment may come after those before it
   abbrev pub MayCome : Event → List (Moment W S) → Moment W S → Type 0
@@ -87,13 +90,20 @@ module _ {W S : Type 0} (contents : W → Option (List ℕ)) (calls : W → Opti
     pub begins : begun_in moments ≡ begun
     pub ends : ended_in moments ≡ ended
 
+module _ {W S : Type 0} (contents : W → Option (List ℕ)) (calls : W → Option (List Call)) (is_sent : W → Type 0)
+    (files : S → Files) (may_flush : Type 0) (start : World) (first : W) where
+  -- the moments of this run are in order, each line that was carried out began, and this many ended
+  abbrev pub Follows : {old new : Known} → Ran old new → ℕ → List (Moment W S) → Type 0
+  Follows ran ended moments =
+      InOrder contents calls is_sent files may_flush start first ran.replies ran.script (length ran.done) ended moments
+
   -- What an observer saw of a run, if it keeps a list. After `Output` each line that was carried out was seen to begin,
   -- and each but the last to end; the last may have ended only if its answer was written.
   abbrev pub Ordered : {old new : Known} → Ran old new → Option (List (Moment W S)) → Option (List (Moment W S)) →
       Result Tally RunFault → Type 0
   Ordered ran old new (Ok tally) = Adds old new
-      (λ moments. InOrder ran.script (length ran.done) (length ran.done) moments × HasEnded moments)
-  Ordered ran old new (Err Input) = Adds old new (InOrder ran.script (length ran.done) (length ran.done))
-  Ordered ran old new (Err Output) = (ended : ℕ) × Adds old new (InOrder ran.script (length ran.done) ended)
+      (λ moments. Follows ran (length ran.done) moments × HasEnded moments)
+  Ordered ran old new (Err Input) = Adds old new (Follows ran (length ran.done))
+  Ordered ran old new (Err Output) = (ended : ℕ) × Adds old new (Follows ran ended)
       × (((ended ≡ length ran.done) × (ran.left ≡ [])) ⊎ (ended + 1 ≡ length ran.done))
   Ordered ran old new (Err Memory) = Adds old new (λ moments. moments ≡ [])

@@ -9,7 +9,7 @@ use Rattle.s2calc.specs.declared.fault.RunFault.{RunFault}
 use Rattle.s2calc.specs.declared.fault.RunFault.TheVariants.{Input, Output, Memory}
 use Rattle.s2calc.specs.declared.limits.TheConstants.{MOST_WAITING}
 use Rattle.s2calc.specs.World.{World}
-use Rattle.s2calc.specs.Replies.{texts}
+use Rattle.s2calc.specs.Replies.{Reply, texts}
 use Rattle.s2calc.specs.Notes.{Noted}
 use Rattle.s2calc.specs.Run as run
 use Rattle.s2calc.specs.Run.{Steps, Known, known, Ran, Runs}
@@ -98,59 +98,63 @@ module _ {V S : Type 0} (taken : V → List ℕ) (called : V → List Call) (fil
 
   -- ---- moments
 
-  gone_out : (b : Buffered V) → order.GoneOut contents known_calls sent files (Unit {0}) start first b →
-      GoneOut taken called files start b
+  gone_out : (b : Buffered V) → order.GoneOut known_calls sent (Unit {0}) first b →
+      GoneOut called b
   gone_out b g = record {
     none_waits = g.sent;
     flushed = last_flushed (called first.writer) (called b.writer) not_called (g.flushed tt);
   }
 
-  abbrev all_out : (ls : List (List ℕ)) (b : Buffered V) →
-      order.AllOut contents known_calls sent files (Unit {0}) start first ls b → AllOut taken called files start ls b
-  all_out ls b a = record {
-    replies = a.replies;
-    now = a.now;
-    steps = a.steps;
-    out = since (taken first.writer) first.waiting (taken b.writer) b.waiting (texts a.replies) nothing none_waits
-        a.out;
-    none_failed = none_failed (called first.writer) (called b.writer) not_called a.none_failed;
-  }
+  module _ (all : List Reply) where
+    abbrev all_out : (ls : List (List ℕ)) (b : Buffered V) →
+        order.AllOut contents known_calls sent files (Unit {0}) start first all ls b
+        → AllOut taken called files start all ls b
+    all_out ls b a = record {
+      replies = a.replies;
+      later = a.later;
+      of_run = a.of_run;
+      now = a.now;
+      steps = a.steps;
+      out = since (taken first.writer) first.waiting (taken b.writer) b.waiting (texts a.replies) nothing none_waits
+          a.out;
+      none_failed = none_failed (called first.writer) (called b.writer) not_called a.none_failed;
+    }
 
-  reads_when : (past : List (Moment (Buffered V) S)) (m : Moment (Buffered V) S) →
-      order.ReadsWhen contents known_calls sent files (Unit {0}) start first past m
-      → ReadsWhen taken called files start past m
-  reads_when past m r = record {
-    answers = all_out (whole_lines (bytes_read past)) m.writer r.answers;
-    gone_out = gone_out m.writer r.gone_out;
-  }
+    reads_when : (past : List (Moment (Buffered V) S)) (m : Moment (Buffered V) S) →
+        order.ReadsWhen contents known_calls sent files (Unit {0}) start first all past m
+        → ReadsWhen taken called files start all past m
+    reads_when past m r = record {
+      answers = all_out (whole_lines (bytes_read past)) m.writer r.answers;
+      gone_out = gone_out m.writer r.gone_out;
+    }
 
-  line_when : (past : List (Moment (Buffered V) S)) (m : Moment (Buffered V) S) →
-      order.LineWhen contents known_calls sent files (Unit {0}) start first past m
-      → LineWhen taken called files start past m
-  line_when past m l = record {
-    before = l.before;
-    line = l.line;
-    begun = l.begun;
-    ended = l.ended;
-    read_whole = l.read_whole;
-    answers = all_out (order.done_at m.event l.before l.line) m.writer l.answers;
-    files_are = l.files_are;
-    gone_out = λ h. gone_out m.writer (l.gone_out h);
-  }
+    line_when : (past : List (Moment (Buffered V) S)) (m : Moment (Buffered V) S) →
+        order.LineWhen contents known_calls sent files (Unit {0}) start first all past m
+        → LineWhen taken called files start all past m
+    line_when past m l = record {
+      before = l.before;
+      line = l.line;
+      begun = l.begun;
+      ended = l.ended;
+      read_whole = l.read_whole;
+      answers = all_out (order.done_at m.event l.before l.line) m.writer l.answers;
+      files_are = l.files_are;
+      gone_out = λ h. gone_out m.writer (l.gone_out h);
+    }
 
-  may : (e : Event) (past : List (Moment (Buffered V) S)) (m : Moment (Buffered V) S) →
-      order.MayCome contents known_calls sent files (Unit {0}) start first e past m
-      → MayCome taken called files start e past m
-  may (Came bytes) past m r = reads_when past m r
-  may NotCame past m r = reads_when past m r
-  may LineBegins past m l = line_when past m l
-  may LineEnds past m l = line_when past m l
+    may : (e : Event) (past : List (Moment (Buffered V) S)) (m : Moment (Buffered V) S) →
+        order.MayCome contents known_calls sent files (Unit {0}) start first all e past m
+        → MayCome taken called files start all e past m
+    may (Came bytes) past m r = reads_when past m r
+    may NotCame past m r = reads_when past m r
+    may LineBegins past m l = line_when past m l
+    may LineEnds past m l = line_when past m l
 
-  each : (past moments : List (Moment (Buffered V) S)) →
-      order.EachMay contents known_calls sent files (Unit {0}) start first past moments
-      → EachMay taken called files start past moments
-  each past [] h = tt
-  each past (m ∷ moments) h = (may m.event past m h.0, each (past ++ m ∷ []) moments h.1)
+    each : (past moments : List (Moment (Buffered V) S)) →
+        order.EachMay contents known_calls sent files (Unit {0}) start first all past moments
+        → EachMay taken called files start all past moments
+    each past [] h = tt
+    each past (m ∷ moments) h = (may m.event past m h.0, each (past ++ m ∷ []) moments h.1)
 
   -- the moments of the run, where none were seen before
   all_seen : {P : List (Moment (Buffered V) S) → Type 0} (old new : List (Moment (Buffered V) S)) → old ≡ [] →
@@ -252,7 +256,7 @@ module _ {V S : Type 0} (taken : V → List ℕ) (called : V → List Call) (fil
             s.1,
             last_flushed (called first.writer) (called last.writer) not_called e.3,
           );
-          each = each [] seen_new s.0.each;
+          each = each r.ran.replies [] seen_new s.0.each;
           counts = (s.0.begins, s.0.ends);
           few_wait = few;
         }
@@ -268,7 +272,7 @@ module _ {V S : Type 0} (taken : V → List ℕ) (called : V → List Call) (fil
             reads_stop reads_old reads_new not_read e.1,
             none_failed (called first.writer) (called last.writer) not_called e.2,
           );
-          each = each [] seen_new s.each;
+          each = each r.ran.replies [] seen_new s.each;
           counts = (s.begins, s.ends);
           few_wait = few;
         }
@@ -283,7 +287,7 @@ module _ {V S : Type 0} (taken : V → List ℕ) (called : V → List Call) (fil
             reads_well reads_old reads_new not_read e.1,
             last_failed (called first.writer) (called last.writer) not_called e.2,
           );
-          each = each [] seen_new s.each;
+          each = each r.ran.replies [] seen_new s.each;
           counts = (s.begins, counted seen_new (length r.ran.done) r.ran.left ordered.0 s.ends ordered.2);
           few_wait = few;
         }
@@ -300,7 +304,8 @@ module _ {V S : Type 0} (taken : V → List ℕ) (called : V → List Call) (fil
             ap (λ (k : Known). inside [] k.reads) e.1 ∙ not_read,
             ap (λ (k : Known). inside [] k.calls) e.1 ∙ not_called,
           );
-          each = subst (λ (ms : List (Moment (Buffered V) S)). EachMay taken called files start [] ms) (sym s) tt;
+          each = subst (λ (ms : List (Moment (Buffered V) S)). EachMay taken called files start r.ran.replies [] ms)
+              (sym s) tt;
           counts = (
             ap (λ (ms : List (Moment (Buffered V) S)). begun_in ms) s ∙ sym (ap length e.0),
             ap (λ (ms : List (Moment (Buffered V) S)). ended_in ms) s ∙ sym (ap length e.0),

@@ -92,6 +92,6 @@ pub record RunsListed {V S : Type 0} (taken : V → List ℕ) (called : V → Li
   pub did : Did start now (taken below) waiting
   pub read : bytes_read moments ≡ script
   pub ends : Ends did moments script reads (called below) result
-  pub each : EachMay taken called files start [] moments
+  pub each : EachMay taken called files start did.replies [] moments
   pub counts : Counts did moments result
   pub few_wait : length waiting ≤ MOST_WAITING

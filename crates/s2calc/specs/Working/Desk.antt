@@ -1,5 +1,5 @@
 -- What a run works with lies on its desk. What the functions do that hand the desk on.
-use Rattle.std.specs.Prelude.{◌≡◌, ℕ, ◌⊎◌, List, Option, Result, MatchResult, OnOk}
+use Rattle.std.specs.Prelude.{◌≡◌, ℕ, ◌⊎◌, List, Option, Result, MatchResult}
 use Rattle.s2shelf.specs.Shelf.{Files}
 use Rattle.s2script.specs.Line.{line_of}
 use Rattle.s2calc.specs.declared.desk.Desk.{Desk}
@@ -18,7 +18,7 @@ use Rattle.s2calc.specs.Run.{Known, known, Runs}
 use Rattle.s2calc.specs.Order.{Ordered}
 use Rattle.s2calc.specs.Working.Stands.{Point, point, Stands, Answered, AnsweredInPart, AnsweredUnflushed, StandsAfter}
 use Rattle.s2calc.specs.Working.Stands.{StopsIn, Closes}
-use Rattle.s2calc.specs.Working.Seen.{LineSeen, LineCut, ManySeen, MoreSeen, EndSeen, LastSeen}
+use Rattle.s2calc.specs.Working.Seen.{LineSeen, LineCut, ManySeen, MoreSeen, EndSeen}
 
 module _ {W S N O : Type 0} where
   -- the same things lie on both desks, as they are at two times
@@ -70,23 +70,22 @@ module _ {W S N O : Type 0} where
         Type 0
     TakesIn old before chunk new after result = (start : Point) (script : List ℕ) (replies : List Reply) →
         Stands start script replies (point_at files noted old) before → MatchResult result
-        (λ _. StandsAfter start script replies chunk (point_at files noted new) after (contents old.writer.now)
-        (contents new.writer.now)
-        × Saw old (MoreSeen contents calls is_sent files may_flush start.world script chunk replies old.writer.now) new)
+        (λ _. (stands : StandsAfter start script replies chunk (point_at files noted new) after
+        (contents old.writer.now) (contents new.writer.now))
+        × Saw old (MoreSeen contents calls is_sent files may_flush start.world script chunk replies stands.more
+        old.writer.now) new)
         (λ fault. (fault ≡ Output)
-        × StopsIn may_flush (λ begins ends. Saw old (ManySeen contents calls is_sent files may_flush start.world script
-        chunk replies old.writer.now begins ends) new) start script replies chunk (point_at files noted new)
+        × StopsIn may_flush (λ more begins ends. Saw old (ManySeen contents calls is_sent files may_flush start.world
+        script chunk replies more old.writer.now begins ends) new) start script replies chunk (point_at files noted new)
         (contents old.writer.now) (contents new.writer.now))
 
     -- the script has ended: its last line was carried out and answered, or the writer or a flush failed
     abbrev pub Finishes : Desk W S N O → Progress → Desk W S N O → Result Tally RunFault → Type 0
     Finishes old before new result = (start : Point) (script : List ℕ) (replies : List Reply) →
         Stands start script replies (point_at files noted old) before →
-        Closes may_flush (λ begins ends. Saw old (EndSeen contents calls is_sent files may_flush start.world script
-        replies old.writer.now begins ends) new) start script replies (point_at files noted new)
+        Closes may_flush (λ more begins ends. Saw old (EndSeen contents calls is_sent files may_flush start.world script
+        replies more old.writer.now begins ends) new) start script replies (point_at files noted new)
         (contents old.writer.now) (contents new.writer.now) result
-        × OnOk result
-        (Saw old (LastSeen contents calls is_sent files may_flush start.world script replies old.writer.now) new)
 
     -- what a run does, and in which order; of its reader the bytes to come and the reads are given, before it and after
     abbrev pub RunsOver : Desk W S N O → ReaderState → Option (List (Option ℕ)) → Desk W S N O → ReaderState →

@@ -59,9 +59,9 @@ module _ {W S : Type 0} (contents : W → Option (List ℕ)) (calls : W → Opti
     pub is : moments ≡ moment LineBegins mid old_shelf ∷ []
     pub settled : Settled contents calls is_sent may_flush has_file old mid
 
-  -- the moments of lines that end in the chunk, after those of a run that has read the script, has written these
-  -- replies, and has reached this writer: then this many lines have begun and ended
-  pub record ManySeen (world : World) (script chunk : List ℕ) (replies : List Reply) (old : W) (begins ends : ℕ)
+  -- the moments of lines that end in the chunk, which have `more` replies, after those of a run that has read the
+  -- script, has written these replies, and has reached this writer: then this many lines have begun and ended
+  pub record ManySeen (world : World) (script chunk : List ℕ) (replies more : List Reply) (old : W) (begins ends : ℕ)
       (moments : List (Moment W S)) : Type 0 where
     pub none_read : bytes_read moments ≡ []
     pub begun : length (whole_lines script) + begun_in moments ≡ begins
@@ -69,16 +69,17 @@ module _ {W S : Type 0} (contents : W → Option (List ℕ)) (calls : W → Opti
     pub each : (first : W) (past : List (Moment W S)) (rest : List ℕ) → bytes_read past ≡ (script ++ chunk) ++ rest →
         LinesSeen (length (whole_lines script)) past → Appends (contents first) (contents old) (texts replies) →
         NoneFailed may_flush (calls first) (calls old)
-        → EachMay contents calls is_sent files may_flush world first past moments
+        → EachMay contents calls is_sent files may_flush world first (replies ++ more) past moments
 
   -- the moments of all lines that end in the chunk
-  abbrev pub MoreSeen : World → List ℕ → List ℕ → List Reply → W → List (Moment W S) → Type 0
-  MoreSeen world script chunk replies old moments =
+  abbrev pub MoreSeen : World → List ℕ → List ℕ → List Reply → List Reply → W → List (Moment W S) → Type 0
+  MoreSeen world script chunk replies more old moments =
       let count = length (whole_lines (script ++ chunk)) in
-      ManySeen world script chunk replies old count count moments
+      ManySeen world script chunk replies more old count count moments
 
-  -- the moments of a last line, after the reader has ended: then this many lines have begun and ended
-  pub record EndSeen (world : World) (script : List ℕ) (replies : List Reply) (old : W) (begins ends : ℕ)
+  -- the moments of a last line, which has `more` replies, after the reader has ended: then this many lines have begun
+  -- and ended
+  pub record EndSeen (world : World) (script : List ℕ) (replies more : List Reply) (old : W) (begins ends : ℕ)
       (moments : List (Moment W S)) : Type 0 where
     pub none_read : bytes_read moments ≡ []
     pub begun : length (whole_lines script) + begun_in moments ≡ begins
@@ -86,15 +87,15 @@ module _ {W S : Type 0} (contents : W → Option (List ℕ)) (calls : W → Opti
     pub each : (first : W) (past : List (Moment W S)) → bytes_read past ≡ script → HasEnded past →
         LinesSeen (length (whole_lines script)) past → Appends (contents first) (contents old) (texts replies) →
         NoneFailed may_flush (calls first) (calls old)
-        → EachMay contents calls is_sent files may_flush world first past moments
+        → EachMay contents calls is_sent files may_flush world first (replies ++ more) past moments
 
   -- the moments of a last line that ended
-  abbrev pub LastSeen : World → List ℕ → List Reply → W → List (Moment W S) → Type 0
-  LastSeen world script replies old moments =
-      let count = length (lines script) in EndSeen world script replies old count count moments
+  abbrev pub LastSeen : World → List ℕ → List Reply → List Reply → W → List (Moment W S) → Type 0
+  LastSeen world script replies more old moments =
+      let count = length (lines script) in EndSeen world script replies more old count count moments
 
-  -- the moments of a run that has read the script
-  abbrev pub SeenSoFar : World → W → List ℕ → List (Moment W S) → Type 0
-  SeenSoFar world first script moments =
+  -- the moments of a run that has read the script, and has written these replies
+  abbrev pub SeenSoFar : World → W → List ℕ → List Reply → List (Moment W S) → Type 0
+  SeenSoFar world first script replies moments =
       let count = length (whole_lines script) in
-      InOrder contents calls is_sent files may_flush world first script count count moments
+      InOrder contents calls is_sent files may_flush world first replies script count count moments

@@ -88,8 +88,8 @@ pub record StandsAfter (start : Point) (script : List ℕ) (replies : List Reply
   pub written : Appends output_old output_new (texts more)
 
 -- the writer failed inside the answer to a line that ends in the chunk; `Seen` says how many lines were seen to begin
--- and to end
-pub record StopsInside (Seen : ℕ → ℕ → Type 0) (start : Point) (script : List ℕ) (replies : List Reply)
+-- and to end, where those that were carried out have `more` replies
+pub record StopsInside (Seen : List Reply → ℕ → ℕ → Type 0) (start : Point) (script : List ℕ) (replies : List Reply)
     (chunk : List ℕ) (now : Point) (output_old output_new : Option (List ℕ)) : Type 0 where
   pub done : List (List ℕ)
   pub rest : List ℕ
@@ -102,10 +102,10 @@ pub record StopsInside (Seen : ℕ → ℕ → Type 0) (start : Point) (script :
   pub noted : Explains start now done (but_last (replies ++ more))
   pub ended : ℕ
   pub one_more : ended + 1 ≡ length done
-  pub seen : Seen (length done) ended
+  pub seen : Seen more (length done) ended
 
 -- the flush before or after a line that ends in the chunk and asks for a command with a file failed
-pub record StopsBeside (Seen : ℕ → ℕ → Type 0) (start : Point) (script : List ℕ) (replies : List Reply)
+pub record StopsBeside (Seen : List Reply → ℕ → ℕ → Type 0) (start : Point) (script : List ℕ) (replies : List Reply)
     (chunk : List ℕ) (now : Point) (output_old output_new : Option (List ℕ)) : Type 0 where
   pub before : List (List ℕ)
   pub line : List ℕ
@@ -118,28 +118,29 @@ pub record StopsBeside (Seen : ℕ → ℕ → Type 0) (start : Point) (script :
   pub run : Steps start.world done (replies ++ more) now.world
   pub written : Appends output_old output_new (texts more)
   pub noted : Explains start now done (replies ++ more)
-  pub seen : Seen (length done) (length before)
+  pub seen : Seen more (length done) (length before)
 
 -- the writer failed inside the answer to a line that ends in the chunk, or a flush beside such a line; `may_fail` says
 -- whether a flush before the end may fail
-abbrev pub StopsIn : Type 0 → (ℕ → ℕ → Type 0) → Point → List ℕ → List Reply → List ℕ → Point → Option (List ℕ) →
-    Option (List ℕ) → Type 0
+abbrev pub StopsIn : Type 0 → (List Reply → ℕ → ℕ → Type 0) → Point → List ℕ → List Reply → List ℕ → Point →
+    Option (List ℕ) → Option (List ℕ) → Type 0
 StopsIn may_fail Seen start script replies chunk now output_old output_new =
     StopsInside Seen start script replies chunk now output_old output_new
     ⊎ (may_fail × StopsBeside Seen start script replies chunk now output_old output_new)
 
 -- the last line of the script was carried out too, and all answers were written
-pub record Ended (start : Point) (script : List ℕ) (replies : List Reply) (now : Point)
-    (output_old output_new : Option (List ℕ)) (tally : Tally) : Type 0 where
+pub record Ended (Seen : List Reply → ℕ → ℕ → Type 0) (start : Point) (script : List ℕ) (replies : List Reply)
+    (now : Point) (output_old output_new : Option (List ℕ)) (tally : Tally) : Type 0 where
   pub more : List Reply
   pub run : Steps start.world (lines script) (replies ++ more) now.world
   pub written : Appends output_old output_new (texts more)
   pub tally_is : tally ≡ tally_of (replies ++ more)
   pub noted : Explains start now (lines script) (replies ++ more)
+  pub seen : Seen more (length (lines script)) (length (lines script))
 
 -- the last line was carried out, and the writer failed inside its answer
-pub record EndsInPart (Seen : ℕ → ℕ → Type 0) (start : Point) (script : List ℕ) (replies : List Reply) (now : Point)
-    (output_old output_new : Option (List ℕ)) : Type 0 where
+pub record EndsInPart (Seen : List Reply → ℕ → ℕ → Type 0) (start : Point) (script : List ℕ) (replies : List Reply)
+    (now : Point) (output_old output_new : Option (List ℕ)) : Type 0 where
   pub more : List Reply
   pub bytes : List ℕ
   pub run : Steps start.world (lines script) (replies ++ more) now.world
@@ -148,22 +149,22 @@ pub record EndsInPart (Seen : ℕ → ℕ → Type 0) (start : Point) (script : 
   pub noted : Explains start now (lines script) (but_last (replies ++ more))
   pub ended : ℕ
   pub one_more : ended + 1 ≡ length (lines script)
-  pub seen : Seen (length (lines script)) ended
+  pub seen : Seen more (length (lines script)) ended
 
 -- the last line was carried out and answered, and a flush failed
-pub record EndsUnflushed (Seen : ℕ → ℕ → Type 0) (start : Point) (script : List ℕ) (replies : List Reply) (now : Point)
-    (output_old output_new : Option (List ℕ)) : Type 0 where
+pub record EndsUnflushed (Seen : List Reply → ℕ → ℕ → Type 0) (start : Point) (script : List ℕ) (replies : List Reply)
+    (now : Point) (output_old output_new : Option (List ℕ)) : Type 0 where
   pub more : List Reply
   pub run : Steps start.world (lines script) (replies ++ more) now.world
   pub written : Appends output_old output_new (texts more)
   pub noted : Explains start now (lines script) (replies ++ more)
   pub ended : ℕ
   pub ended_are : (ended ≡ length (lines script)) ⊎ (ended + 1 ≡ length (lines script))
-  pub seen : Seen (length (lines script)) ended
+  pub seen : Seen more (length (lines script)) ended
 
 -- the flush before the last line failed, which asks for a command with a file
-pub record EndsBefore (Seen : ℕ → ℕ → Type 0) (start : Point) (script : List ℕ) (replies : List Reply) (now : Point)
-    (output_old output_new : Option (List ℕ)) : Type 0 where
+pub record EndsBefore (Seen : List Reply → ℕ → ℕ → Type 0) (start : Point) (script : List ℕ) (replies : List Reply)
+    (now : Point) (output_old output_new : Option (List ℕ)) : Type 0 where
   pub before : List (List ℕ)
   pub line : List ℕ
   pub lines_are : before ++ line ∷ [] ≡ lines script
@@ -171,14 +172,14 @@ pub record EndsBefore (Seen : ℕ → ℕ → Type 0) (start : Point) (script : 
   pub run : Steps start.world before replies now.world
   pub kept : Keeps output_old output_new
   pub noted : Explains start now before replies
-  pub seen : Seen (length before) (length before)
+  pub seen : Seen [] (length before) (length before)
 
 -- the end of a run: all lines were answered, or the writer or a flush failed; `may_fail` says whether a flush before
 -- the end may fail
-abbrev pub Closes : Type 0 → (ℕ → ℕ → Type 0) → Point → List ℕ → List Reply → Point → Option (List ℕ) →
+abbrev pub Closes : Type 0 → (List Reply → ℕ → ℕ → Type 0) → Point → List ℕ → List Reply → Point → Option (List ℕ) →
     Option (List ℕ) → Result Tally RunFault → Type 0
 Closes may_fail Seen start script replies now output_old output_new result =
-    MatchResult result (Ended start script replies now output_old output_new) (λ fault. (fault ≡ Output)
+    MatchResult result (Ended Seen start script replies now output_old output_new) (λ fault. (fault ≡ Output)
     × (EndsInPart Seen start script replies now output_old output_new
     ⊎ EndsUnflushed Seen start script replies now output_old output_new
     ⊎ (may_fail × EndsBefore Seen start script replies now output_old output_new)))

@@ -53,10 +53,10 @@ returns-in-Ok-eq0-clause-runs g c =
     _ _ _ _ c.finish.result (Gives-none _ _ _ i.0 _ c.in-Ok-eq0.field-0 none i.2
     (read.0, c.in-Ok-eq0.ensures.given))
     (read.1 none (omega arith)) (Appends-kept _ _ _ _ i.4 gone_out.kept)
-    (reads_end _ _ _ _ _ i.6 c.in-Ok-eq0.ensures.call none) (none_failed_more _ _ _ _ i.5 gone_out.none_failed) ended.0
-    c.finish.ensures.calls ended.1
-    (λ begins ends here. InOrder-end g.W.Sink.contents g.W.Sink.calls g.F.Flushing.is_sent g.S.Shelf.files
-    g.F.Flushing.may_fail _ i.0 i.1 _ _ i.3 _ _ _ _ i.4 i.5 gone_out _ _ _ _ _ begins ends i.7
+    (reads_end _ _ _ _ _ i.6 c.in-Ok-eq0.ensures.call none) (none_failed_more _ _ _ _ i.5 gone_out.none_failed) ended
+    c.finish.ensures.calls
+    (λ more begins ends here. InOrder-end g.W.Sink.contents g.W.Sink.calls g.F.Flushing.is_sent g.S.Shelf.files
+    g.F.Flushing.may_fail _ i.0 i.1 _ _ i.3 _ _ _ _ i.4 i.5 gone_out _ _ _ _ _ more begins ends i.7
     c.in-Ok-eq0.ensures.moment (ap (λ (k : ℕ). take k c.read.new.buf) none) here)
 
 pub returns-in-Ok-eq0-clause-sent : goal.returns-in-Ok-eq0-clause-sent
@@ -76,16 +76,16 @@ returns-in_err-take_in-in-Ok-clause-runs g c =
     let done = c.in_err-take_in-in-Ok.ensures in
     let stopped = done.takes_in _ i.0 i.1 i.3 in
     rw (p.1, p.2, stopped.0) (stops_in_chunk _ _ _ i.0 i.1 _
-    (λ b begins ends. Adds (g.O.Observer.seen c.args.desk.now.observer.now)
+    (λ rs b begins ends. Adds (g.O.Observer.seen c.args.desk.now.observer.now)
     (g.O.Observer.seen c.take_in.new.desk.observer.now)
     (InOrder g.W.Sink.contents g.W.Sink.calls g.F.Flushing.is_sent g.S.Shelf.files g.F.Flushing.may_fail
-    (world_at g.S.Shelf.files c.args.desk.now) c.args.desk.now.writer.now b begins ends))
+    (world_at g.S.Shelf.files c.args.desk.now) c.args.desk.now.writer.now rs b begins ends))
     (inl (c.loop.counter + 1, reads_on_more _ _ _ _ _ _ i.6 c.in-Ok.ensures.call (omega arith) refl))
     (last_failed_after _ _ _ _ (none_failed_more _ _ _ _ i.5 gone_out.none_failed) done.calls)
     _ _ _ i.2 (c.in-Ok.ensures.bytes.0, c.in-Ok.ensures.given) (Appends-kept _ _ _ _ i.4 gone_out.kept)
-    (λ begins ends here. InOrder-read g.W.Sink.contents g.W.Sink.calls g.F.Flushing.is_sent g.S.Shelf.files
-    g.F.Flushing.may_fail _ i.0 i.1 _ _ i.3 _ _ _ _ i.4 i.5 gone_out _ _ _ _ _ begins ends i.7 c.in-Ok.ensures.moment
-    here) stopped.1)
+    (λ more begins ends here. InOrder-read g.W.Sink.contents g.W.Sink.calls g.F.Flushing.is_sent g.S.Shelf.files
+    g.F.Flushing.may_fail _ i.0 i.1 _ _ i.3 _ _ _ _ i.4 i.5 gone_out _ _ _ _ _ more begins ends i.7
+    c.in-Ok.ensures.moment here) stopped.1)
 
 pub returns-in_err-take_in-in-Ok-clause-sent : goal.returns-in_err-take_in-in-Ok-clause-sent
 returns-in_err-take_in-in-Ok-clause-sent g c =
@@ -127,7 +127,7 @@ loop-preserved g c =
       none_failed_more _ _ _ _ (none_failed_more _ _ _ _ i.5 gone_out.none_failed) done.calls,
       reads_on_more _ _ _ _ _ _ i.6 c.in-Ok.ensures.call (omega arith) refl,
       InOrder-read g.W.Sink.contents g.W.Sink.calls g.F.Flushing.is_sent g.S.Shelf.files g.F.Flushing.may_fail _ i.0
-          i.1 _ _ i.3 _ _ _ _ i.4 i.5 gone_out _ _ _ _ _ _ _ i.7 c.in-Ok.ensures.moment s.1,
+          i.1 _ _ i.3 _ _ _ _ i.4 i.5 gone_out _ _ _ _ _ _ _ _ i.7 c.in-Ok.ensures.moment s.1,
       SameReferences-trans c.args.desk.now c.loop.desk c.take_in.new.desk i.8 c.take_in.ensures.same,
     )
 

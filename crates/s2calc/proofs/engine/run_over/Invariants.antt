@@ -22,5 +22,5 @@ invariant-loop g l =
     × ReadsOn (g.R.Source.reads l.fn.reader) (g.R.Source.reads l.reader) l.counter
     × Adds (g.O.Observer.seen l.fn.desk.observer.now) (g.O.Observer.seen l.desk.observer.now)
     (SeenSoFar g.W.Sink.contents g.W.Sink.calls g.F.Flushing.is_sent g.S.Shelf.files g.F.Flushing.may_fail
-    (world_at g.S.Shelf.files l.fn.desk) l.fn.desk.writer.now script)
+    (world_at g.S.Shelf.files l.fn.desk) l.fn.desk.writer.now script replies)
     × SameReferences l.fn.desk l.desk

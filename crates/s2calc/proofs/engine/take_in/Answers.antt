@@ -31,7 +31,7 @@ loop-at-init g c = (
   λ start script replies s. (
     StandsAfter-none start script replies _ _ _ s,
     Adds-none _ _ (MoreSeen-none g.W.Sink.contents g.W.Sink.calls g.F.Flushing.is_sent g.S.Shelf.files
-        g.F.Flushing.may_fail start.world script replies _),
+        g.F.Flushing.may_fail start.world script replies _ _),
   ),
   none_failed_none _ _,
   (refl, refl, refl, refl, refl),
@@ -51,10 +51,10 @@ returns-in_err-answer_kept-clause-takes_in g c =
       elim done.1 [
         | inl part ↦ inl (StopsInside-line _ _ start script replies _ i.0 (take c.in-Some.at rest)
             (drop (c.in-Some.at + 1) rest) _ _ _ _ _ _ _ here.0 ends.before c.keep.ensures refl refl part whole
-            (λ held begun. Adds-trans _ _ _ _ _ _ (λ ms ns m l. ManySeen-cut g.W.Sink.contents g.W.Sink.calls
+            (λ reply held begun. Adds-trans _ _ _ _ _ _ (λ ms ns m l. ManySeen-cut g.W.Sink.contents g.W.Sink.calls
             g.F.Flushing.is_sent g.S.Shelf.files g.F.Flushing.may_fail start script replies i.0
-            (take c.in-Some.at rest) (drop (c.in-Some.at + 1) rest) _ _ _ _ _ _ ms here.0 ends.before held whole m _ ns
-            i.3 refl l) here.1 begun))
+            (take c.in-Some.at rest) (drop (c.in-Some.at + 1) rest) _ _ _ _ _ _ ms here.0 ends.before held whole m
+            reply _ ns i.3 refl l) here.1 begun))
         | inr failed ↦ inr (
           failed.0,
           StopsBeside-line _ _ _ start script replies _ i.0 (take c.in-Some.at rest) (drop (c.in-Some.at + 1) rest)
@@ -63,10 +63,10 @@ returns-in_err-answer_kept-clause-takes_in g c =
               g.W.Sink.calls g.F.Flushing.is_sent g.S.Shelf.files g.F.Flushing.may_fail start script replies i.0
               (take c.in-Some.at rest) (drop (c.in-Some.at + 1) rest) _ _ _ _ _ c.loop-at.desk.writer.now ms here.0
               ends.before held whole m) here.1) unseen)
-              (λ held begun. Adds-trans _ _ _ _ _ _ (λ ms ns m l. ManySeen-cut g.W.Sink.contents g.W.Sink.calls
+              (λ reply held begun. Adds-trans _ _ _ _ _ _ (λ ms ns m l. ManySeen-cut g.W.Sink.contents g.W.Sink.calls
               g.F.Flushing.is_sent g.S.Shelf.files g.F.Flushing.may_fail start script replies i.0
-              (take c.in-Some.at rest) (drop (c.in-Some.at + 1) rest) _ _ _ _ _ _ ms here.0 ends.before held whole m _
-              ns i.3 refl l) here.1 begun),
+              (take c.in-Some.at rest) (drop (c.in-Some.at + 1) rest) _ _ _ _ _ _ ms here.0 ends.before held whole m
+              reply _ ns i.3 refl l) here.1 begun),
         )
       ],
     ))
@@ -108,7 +108,7 @@ returns-clause-takes_in g c =
       StandsAfter-rest start script replies _ i.0 c.loop-at.rest.now _ _ _ _ _ here.0 c.in_default.ensures.none
           c.keep-2.ensures refl refl i.1,
       Adds-weaker _ _ _ _ (λ ms m. MoreSeen-rest g.W.Sink.contents g.W.Sink.calls g.F.Flushing.is_sent g.S.Shelf.files
-          g.F.Flushing.may_fail start script replies _ i.0 c.loop-at.rest.now _ _ _ _ _ ms here.0
+          g.F.Flushing.may_fail start script replies _ _ i.0 c.loop-at.rest.now _ _ _ _ _ ms here.0
           c.in_default.ensures.none i.1 m) here.1,
     )
 
