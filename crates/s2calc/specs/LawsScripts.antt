@@ -1,18 +1,21 @@
 -- Laws about whole scripts: they have one run, and undo leads back through the past.
-use Rattle.std.specs.Prelude.{◌≡◌, ℕ, ◌+◌, ◌≤◌, ◌⊎◌, true, List, [], ◌∷◌, length, Some, count_by}
+use Rattle.std.specs.Prelude.{◌≡◌, ℕ, ◌+◌, ◌≤◌, ◌⊎◌, Bool, true, List, [], ◌∷◌, length, Some, count_by}
 use Rattle.s2edit.specs.History.{changed}
 use Rattle.s2edit.specs.Leads.{table_at}
 use Rattle.s2edit.specs.SessionLaws.{IsKept}
-use Rattle.s2file.specs.File.{Bytes}
+use Rattle.s2file.specs.File.{Bytes, File, HasFault}
+use Rattle.s2file.specs.declared.fault.FileFault.{FileFault}
+use Rattle.s2shelf.specs.Shelf.{Finding, NoFile, Holding, Opened, Found}
 use Rattle.s2script.specs.Line.{line_of}
 use Rattle.s2script.specs.declared.command.Command.{Command}
 use Rattle.s2script.specs.declared.command.Command.TheVariants.{Edit, Load, Save, Dump, Restore, Undo, Redo, Ask}
 use Rattle.s2script.specs.declared.command.Parsed.TheVariants.{Does}
 use Rattle.s2calc.specs.World.{World}
 use Rattle.s2calc.specs.declared.engine.Tally.{Tally}
-use Rattle.s2calc.specs.Replies.{Reply, Says, is_refusal, tally_of}
+use Rattle.s2calc.specs.declared.refusal.Refusal.TheVariants.{Missing, Format}
+use Rattle.s2calc.specs.Replies.{Reply, Says, Refuses, is_refusal, tally_of}
 use Rattle.s2calc.specs.Texts.{done_line}
-use Rattle.s2calc.specs.Edits.{leaves_of}
+use Rattle.s2calc.specs.Edits.{leaves_of, Gets}
 use Rattle.s2calc.specs.Step.{Step}
 use Rattle.s2calc.specs.Run.{Known, Ran, AllLines, WholeLines, InsideAnswer, Steps}
 use Rattle.s2calc.specs.Laws.{SameWorld, IsPlain, AllPlain}
@@ -62,6 +65,23 @@ OneEndOfOutput =
     → (run : Ran old new) (other : Ran old' new') → InsideAnswer run → InsideAnswer other → AllPlain run.replies →
     AllPlain other.replies
     → SameEnd new new' run.replies other.replies × (run.done ≡ other.done)
+
+-- What a `load` does with what was found in its line: with bytes, the register gets the leaves of the file that they
+-- are, or they are no file; and with none, the answer says so. A `load` asks for bytes, and opens nothing.
+abbrev pub LoadsFinding : Finding → ℕ → World → Reply → World → Type 0
+LoadsFinding NoFile r old reply new = (reply ≡ Refuses Missing) × (new.state ≡ old.state)
+LoadsFinding (Holding bytes) r old reply new = ((S : ℕ → Bool) × File bytes S × Gets S r old.state reply new.state)
+    ⊎ ((fault : FileFault) × HasFault bytes fault × (reply ≡ Refuses Format) × (new.state ≡ old.state))
+LoadsFinding Opened r old reply new = ⊥
+
+-- A line that loads a file, over a shelf that lists what was found, finds one thing more, under the name that the line
+-- says, and does what it does by that alone, unless it is answered `error memory` or `error file`.
+abbrev pub LoadsWhatWasFound : Type 0
+LoadsWhatWasFound =
+    (old new : World) (line name : List ℕ) (reply : Reply) (r : ℕ) (before : List Found) →
+    line_of line ≡ Does (Load r name) → Step old line reply new → IsPlain reply → old.files.found ≡ Some before
+    → (finding : Finding) × (new.files.found ≡ Some (record { name = name; finding = finding } ∷ before))
+    × LoadsFinding finding r old reply new
 
 -- each line says `undo`
 abbrev pub AllUndo : List (List ℕ) → Type 0

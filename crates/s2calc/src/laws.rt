@@ -1,6 +1,7 @@
 //! Laws about the definitions.
 ghost use Rattle.s2calc.specs.Laws.{TellsWhole, NothingHeld, OneRun, CountsFailures, FilesStay};
 ghost use Rattle.s2calc.specs.LawsScripts.{OneEnd, OneEndOfInput, OneEndOfOutput, LawOfUndo, RestoreGivesBack};
+ghost use Rattle.s2calc.specs.LawsScripts.{LoadsWhatWasFound};
 
 /// If the reader exposes its bytes, a run that finishes has carried out the lines of exactly these bytes.
 pub fn whole_script()
@@ -49,6 +50,11 @@ pub fn one_end_of_output()
 /// As far as the history reaches, undo gives each earlier table back, list for list and byte for byte.
 pub fn undo_goes_back()
     ensures { LawOfUndo }
+{}
+
+/// A `load` is right for the bytes that the shelf handed over in its line, whatever was found before.
+pub fn loads_what_was_found()
+    ensures { LoadsWhatWasFound }
 {}
 
 /// `restore` gives back what `dump` wrote, in the same editor or another one with its limit and depth.
