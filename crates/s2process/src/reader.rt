@@ -41,6 +41,8 @@ impl<R: Source> Source for ListedReader<R> {
     fn read(&mut self, buf: &mut [u8]) -> io::Result<usize>
         ensures bound { ReadsAtMost result buf.new }
         ensures bytes { ReadConsumes (R.remaining self.old.reader) (R.remaining self.new.reader) result buf.new }
+        ensures below { 0 < length buf.old
+            → Gains (R.reads self.old.reader) (R.reads self.new.reader) (what_came result ∷ []) }
         ensures listed { calls_of_reader self.new
             ≡ calls_of_reader self.old ++ read_call result (length buf.old) buf.new ∷ [] }
         ensures room { OnOk result (0 < length buf.old) }
