@@ -4,8 +4,9 @@ use Rattle.std.proofs.Common.{not, nat_cmp, is_lt, eqb, add-zero, refl}
 use Rattle.std.proofs.Common.{drop, get_or, sym, ap, ◌∙◌, subst, arith, eq-eqb, append_assoc, add-one, drop-cons, ◌⊎◌}
 use Rattle.std.proofs.Common.{⊎_elim, take, ◌-◌, length-drop}
 use Rattle.std.proofs.lemmas.Bool.Decides.{nat_tests}
-use Rattle.std.proofs.lemmas.Bool.{cond-true, cond-false, or_left}
-use Rattle.std.proofs.lemmas.List.{take_all, drop_all, take_more, get_or-drop}
+use Rattle.std.proofs.lemmas.Bool.{cond-true, cond-false, or_left, true≢false, cases_lt}
+use Rattle.std.proofs.lemmas.List.Kept.{AllPairs-from_increasing}
+use Rattle.std.proofs.lemmas.List.{take_all, drop_all, take_more, get_or-drop, length-append, length-take-le}
 use mir.Val.{bool_byte}
 use Rattle.std.specs.List.Sorted.{IsStrictlyIncreasing}
 use Rattle.s2union.specs.Apply.{has, cells_without}
@@ -147,3 +148,68 @@ pub lacking_rest : (us os found : List ℕ) (i j : ℕ) → (length us ≤ i) �
 lacking_rest us os found i j h w =
     ap (λ (l : List ℕ). found ++ l) (take_all (length us - i) (drop i us) (omega (arith, length-drop i us))
     ∙ sym (rest_lacking us os i j h)) ∙ w
+
+-- the cells before a place are below a mark, if the last of them is
+below_before : (us : List ℕ) (r k mark : ℕ) → IsStrictlyIncreasing us → r ≤ length us → get_or us (r - 1) 0 < mark →
+    k < r → get_or us k 0 < mark
+below_before us r k mark up l h s =
+    ⊎_elim (λ (before : k < r - 1).
+    let b : get_or us k 0 < get_or us (r - 1) 0 =
+    AllPairs-from_increasing us up k (r - 1) 0 before (omega (arith, l, s)) in
+    omega (arith, b, h))
+    (λ (last : r - 1 ≤ k). let e : r - 1 ≡ k = omega (arith, last, s) in subst (λ n. get_or us n 0 < mark) e h)
+    (cases_lt k (r - 1))
+
+-- Several cells of one list that are below the next one of the other.
+module _ (us vs : List ℕ) (up : IsStrictlyIncreasing us) (vp : IsStrictlyIncreasing vs) (b r : ℕ) (m : b < length vs)
+    (within : r ≤ length us) (last : get_or us (r - 1) 0 < get_or vs b 0) where
+  leapt_from : (whole : List ℕ) (i a n : ℕ) → i ≤ a → a + n ≡ r →
+      take (a - i) (drop i us) ++ cells_without (drop a us) (drop b vs) ≡ whole →
+      take (r - i) (drop i us) ++ cells_without (drop r us) (drop b vs) ≡ whole
+  leapt_from whole i a zero l e h =
+      let here : a ≡ r = omega (arith, e) in
+      subst (λ x. take (x - i) (drop i us) ++ cells_without (drop x us) (drop b vs) ≡ whole) here h
+  leapt_from whole i a (suc n) l e h =
+      let inside : a < r = omega (arith, e) in
+      let below : get_or us a 0 < get_or vs b 0 = below_before us r a (get_or vs b 0) up within last inside in
+      let next : take (a + 1 - i) (drop i us) ++ cells_without (drop (a + 1) us) (drop b vs) ≡ whole =
+      subst (λ x. take (a + 1 - i) (drop i us) ++ cells_without (drop (a + 1) us) (drop x vs) ≡ whole) (add-zero b)
+      (passed us vs whole i a b true false up vp l (omega (arith, within, inside)) m (λ _. below)
+      (λ w. absurd (true≢false (sym w))) h) in
+      leapt_from whole i (a + 1) n (omega (arith, l)) (omega (arith, e)) next
+
+  -- they are lacking in the other
+  pub leapt : (i : ℕ) → i < r →
+      take (r - i) (drop i us) ++ cells_without (drop r us) (drop b vs) ≡ cells_without (drop i us) (drop b vs)
+  leapt i l =
+      let none : i - i ≡ 0 = omega arith in
+      leapt_from (cells_without (drop i us) (drop b vs)) i i (r - i) (omega arith) (omega (arith, l))
+      (ap (λ n. take n (drop i us) ++ cells_without (drop i us) (drop b vs)) none)
+
+  -- and say nothing of the other's
+  leapt_other_from : (a n : ℕ) → a + n ≡ r →
+      cells_without (drop b vs) (drop r us) ≡ cells_without (drop b vs) (drop a us)
+  leapt_other_from a zero e =
+      let here : r ≡ a = omega (arith, e) in
+      ap (λ x. cells_without (drop b vs) (drop x us)) here
+  leapt_other_from a (suc n) e =
+      let inside : a < r = omega (arith, e) in
+      leapt_other_from (a + 1) n (omega (arith, e))
+      ∙ below_turn vs us b a vp m (omega (arith, within, inside))
+      (below_before us r a (get_or vs b 0) up within last inside)
+
+  pub leapt_other : (i : ℕ) → i < r →
+      take (b - b) (drop b vs) ++ cells_without (drop b vs) (drop r us) ≡ cells_without (drop b vs) (drop i us)
+  leapt_other i l =
+      let none : b - b ≡ 0 = omega arith in
+      ap (λ n. take n (drop b vs) ++ cells_without (drop b vs) (drop r us)) none
+      ∙ leapt_other_from i (r - i) (omega (arith, l))
+
+-- how many cells were passed over as lacking
+pub lost_by : (us vs : List ℕ) (i j a b : ℕ) → i ≤ a → a ≤ length us →
+    take (a - i) (drop i us) ++ cells_without (drop a us) (drop b vs) ≡ cells_without (drop i us) (drop j vs) →
+    (a - i) + length (cells_without (drop a us) (drop b vs)) ≡ length (cells_without (drop i us) (drop j vs))
+lost_by us vs i j a b h l e =
+    let n : length (take (a - i) (drop i us)) ≡ a - i =
+    length-take-le (a - i) (drop i us) (omega (arith, h, l, length-drop i us)) in
+    omega (arith, n, ap length e, length-append (take (a - i) (drop i us)) (cells_without (drop a us) (drop b vs)))

@@ -6,11 +6,15 @@ ghost use Rattle.s2union.specs.Apply.{cells_without};
 use s2cell::CellId;
 use std::alloc::{AllocError, Global};
 
+/// Beside a list of this many times its cells, a list is walked along by leaps in the longer one.
+const MUCH_LONGER: usize = 16;
+
 /// The cells of `old` that `new` lacks, and those of `new` that `old` lacks. The two lists have exactly the room that
 /// they need.
 ///
 /// Skips what both lists begin with and what both end with. It walks along the rest of both to count, and if they share
-/// a cell, a second time.
+/// a cell, a second time. If one list is much longer, the walk leaps over its cells, and is logarithmic in how many lie
+/// between two of the other.
 pub(crate) fn unshared_cells(
     alloc: Global,
     old: &[CellId],
@@ -60,8 +64,49 @@ fn same_back(us: &[CellId], vs: &[CellId]) -> usize
     most
 }
 
-/// How many cells of a list another one lacks.
-fn count_lacking(us: &[CellId], others: &[CellId]) -> usize
+/// Whether one of the lists is much longer than the other.
+fn differ_much(us: &[CellId], vs: &[CellId]) -> bool {
+    us.len() / MUCH_LONGER > vs.len() || vs.len() / MUCH_LONGER > us.len()
+}
+
+/// How many cells of a list another one lacks, by leaps or by steps.
+fn count_lacking(us: &[CellId], others: &[CellId], leaps: bool) -> usize
+    requires ascends { IsStrictlyIncreasing us.now }
+    requires others_ascend { IsStrictlyIncreasing others.now }
+    ensures { result ≡ length (cells_without us.now others.now) }
+{
+    if leaps {
+        count_by_leaps(us, others)
+    } else {
+        count_by_steps(us, others)
+    }
+}
+
+/// The same by leaps.
+fn count_by_leaps(us: &[CellId], others: &[CellId]) -> usize
+    requires ascends { IsStrictlyIncreasing us.now }
+    requires others_ascend { IsStrictlyIncreasing others.now }
+    ensures { result ≡ length (cells_without us.now others.now) }
+{
+    let mut count = 0;
+    let mut i = 0;
+    let mut j = 0;
+    while i < us.len() && j < others.len() {
+        if us[i] == others[j] {
+            i += 1;
+            j += 1;
+        } else {
+            let (next_i, next_j) = leap(us, others, i, j);
+            count += next_i - i;
+            i = next_i;
+            j = next_j;
+        }
+    }
+    count + (us.len() - i)
+}
+
+/// The same by steps.
+fn count_by_steps(us: &[CellId], others: &[CellId]) -> usize
     requires ascends { IsStrictlyIncreasing us.now }
     requires others_ascend { IsStrictlyIncreasing others.now }
     ensures { result ≡ length (cells_without us.now others.now) }
@@ -91,7 +136,8 @@ fn unshared_by_walks(
     ensures out { IfOk result (λ lists. lists.0.items ≡ cells_without old.now new.now) }
     ensures put { IfOk result (λ lists. lists.1.items ≡ cells_without new.now old.now) }
 {
-    let lost = count_lacking(old, new);
+    let leaps = differ_much(old, new);
+    let lost = count_lacking(old, new, leaps);
     let shared = old.len() - lost;
     let won = new.len() - shared;
     let mut out = Vec::with_capacity(alloc, lost)?;
@@ -108,7 +154,7 @@ fn unshared_by_walks(
             i += 1;
             j += 1;
         } else {
-            let (next_i, next_j) = next_shared(old, new, i, j);
+            let (next_i, next_j) = next_turn(old, new, i, j, leaps);
             out.extend_from_slice(&old[i..next_i])?;
             put.extend_from_slice(&new[j..next_j])?;
             i = next_i;
@@ -118,6 +164,76 @@ fn unshared_by_walks(
     out.extend_from_slice(&old[i..])?;
     put.extend_from_slice(&new[j..])?;
     Ok((out, put))
+}
+
+/// The indexes up to which, from two cells that differ on, the lists share no cell, by a leap or by steps.
+fn next_turn(us: &[CellId], vs: &[CellId], i: usize, j: usize, leaps: bool) -> (usize, usize)
+    requires us_ascend { IsStrictlyIncreasing us.now }
+    requires vs_ascend { IsStrictlyIncreasing vs.now }
+    requires in_us { i < length us.now }
+    requires in_vs { j < length vs.now }
+    requires differ { slice_index us.now i ≢ slice_index vs.now j }
+    ensures in_us { (i ≤ result.0) × (result.0 ≤ length us.now) }
+    ensures in_vs { (j ≤ result.1) × (result.1 ≤ length vs.now) }
+    ensures further { i + j < result.0 + result.1 }
+    ensures us { take (result.0 - i) (drop i us.now) ++ cells_without (drop result.0 us.now) (drop result.1 vs.now)
+        ≡ cells_without (drop i us.now) (drop j vs.now) }
+    ensures vs { take (result.1 - j) (drop j vs.now) ++ cells_without (drop result.1 vs.now) (drop result.0 us.now)
+        ≡ cells_without (drop j vs.now) (drop i us.now) }
+{
+    if leaps {
+        leap(us, vs, i, j)
+    } else {
+        next_shared(us, vs, i, j)
+    }
+}
+
+/// The indexes after the cells of one list that are below the next one of the other.
+fn leap(us: &[CellId], vs: &[CellId], i: usize, j: usize) -> (usize, usize)
+    requires us_ascend { IsStrictlyIncreasing us.now }
+    requires vs_ascend { IsStrictlyIncreasing vs.now }
+    requires in_us { i < length us.now }
+    requires in_vs { j < length vs.now }
+    requires differ { slice_index us.now i ≢ slice_index vs.now j }
+    ensures in_us { (i ≤ result.0) × (result.0 ≤ length us.now) }
+    ensures in_vs { (j ≤ result.1) × (result.1 ≤ length vs.now) }
+    ensures further { i + j < result.0 + result.1 }
+    ensures us { take (result.0 - i) (drop i us.now) ++ cells_without (drop result.0 us.now) (drop result.1 vs.now)
+        ≡ cells_without (drop i us.now) (drop j vs.now) }
+    ensures vs { take (result.1 - j) (drop j vs.now) ++ cells_without (drop result.1 vs.now) (drop result.0 us.now)
+        ≡ cells_without (drop j vs.now) (drop i us.now) }
+{
+    let u = us[i];
+    let v = vs[j];
+    let is_below = u < v;
+    if is_below {
+        return (leap_below(us, i, v), j);
+    }
+    (i, leap_below(vs, j, u))
+}
+
+/// An index after `at` up to which the cells of an ascending list are below a mark, as the one at `at` is. Each leap is
+/// twice as long as the one before it, as long as it doesn't pass the mark, and then half as long.
+fn leap_below(cells: &[CellId], at: usize, mark: CellId) -> usize
+    requires within { at < length cells.now }
+    requires below { slice_index cells.now at < mark }
+    ensures further { at < result }
+    ensures within { result ≤ length cells.now }
+    ensures below { slice_index cells.now (result - 1) < mark }
+{
+    let mut last = at;
+    let mut leap = 1;
+    while leap < cells.len() - last && cells[last + leap] < mark {
+        last += leap;
+        leap = leap.saturating_mul(2);
+    }
+    while leap > 0 {
+        if leap < cells.len() - last && cells[last + leap] < mark {
+            last += leap;
+        }
+        leap /= 2;
+    }
+    last + 1
 }
 
 /// The indexes of the next cell that both lists have, from two that differ on, or where one list is at its end.

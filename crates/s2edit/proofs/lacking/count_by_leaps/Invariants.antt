@@ -1,6 +1,6 @@
 use Rattle.std.proofs.Common.{◌≡◌, ◌≤◌, ◌+◌, ◌-◌, length, drop}
 use Rattle.s2union.specs.Apply.{cells_without}
-use Rattle.s2edit.proofs.lacking.count_lacking.Given as goal
+use Rattle.s2edit.proofs.lacking.count_by_leaps.Given as goal
 
 -- what is counted, and what is left to count, are the whole list
 abbrev pub invariant-loop-i : goal.invariant-loop-i

@@ -3,8 +3,8 @@ use Rattle.std.proofs.Common.{◌∙◌, arith, length-drop}
 use Rattle.std.proofs.lemmas.Grind.{get_or_default_zero}
 use Rattle.s2union.specs.Apply.{cells_without}
 use Rattle.s2edit.proofs.Differing.{counted, few_counted, is_below, is_not_below, one_more, rest_lacking}
-use Rattle.s2edit.proofs.lacking.count_lacking.Goals as goal
-use Rattle.s2edit.proofs.lacking.count_lacking.Goals.{then-loop-i-test+else-j-others, else-loop-i-test}
+use Rattle.s2edit.proofs.lacking.count_by_steps.Goals as goal
+use Rattle.s2edit.proofs.lacking.count_by_steps.Goals.{then-loop-i-test+else-j-others, else-loop-i-test}
 
 pub loop-i-preserved : goal.loop-i-preserved
 loop-i-preserved c =
