@@ -162,6 +162,16 @@ pub put_alone : (u n w : List ℕ) (x : ℕ) → n ≡ [] →
     (has_leaf w x || (has_leaf u x && not (has_leaf n x))) ≡ (has_leaf u x || has_leaf w x)
 put_alone u n w x e = rw e (adds (has_leaf u x) false (has_leaf w x) (has_leaf w x) refl (λ f. absurd (false≢true f)))
 
+-- what the list has already adds nothing
+pub put_already : (u n w : List ℕ) (x : ℕ) → n ≡ [] → (has_leaf w x ≡ true → has_leaf u x ≡ true) →
+    (has_leaf n x || (has_leaf u x && not (has_leaf n x))) ≡ (has_leaf u x || has_leaf w x)
+put_already u n w x e h = rw e (already (has_leaf u x) (has_leaf w x) h)
+  where
+    already : (a b : Bool) → (b ≡ true → a ≡ true) → (false || (a && not false)) ≡ (a || b)
+    already true b g = refl
+    already false true g = g refl
+    already false false g = refl
+
 pub taken_alone : (u n w : List ℕ) (x : ℕ) → n ≡ [] →
     (has_leaf n x || (has_leaf u x && not (has_leaf w x))) ≡ (has_leaf u x && not (has_leaf w x))
 taken_alone u n w x e = rw e refl

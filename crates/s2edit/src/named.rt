@@ -28,11 +28,20 @@ use std::alloc::{AllocError, Global};
 /// The part is looked for if the register has at least this number of cells for each named one.
 const REGISTER_TO_NAMED: usize = 200;
 
-/// How many cells before and after a named one can make a family with it.
+/// How many cells make a family with a named one.
 const SIBLINGS: usize = 3;
 
 /// How many cells before and after a named one can become one cell with it: three at each of thirty levels.
 const RELATIVES: usize = 90;
+
+/// Which cells of the list, beside those that meet a named cell, the part has.
+#[derive(Clone, Copy)]
+enum Reach {
+    /// Those that become one cell with the named one.
+    Family,
+    /// This many before the named one, and after it.
+    Cells(usize),
+}
 
 impl Editor {
     /// Adds the leaves of a union to a register, and answers how many cells were taken out of its list and put in: what
@@ -142,20 +151,27 @@ fn adding(
     if let Some(change) = change_of_part(alloc, register, union, &nothing, named)? {
         return Ok(Some(change));
     }
-    if let Some(change) = adding_near(alloc, register, union, named, SIBLINGS)? {
+    if union.contains(named) {
+        return change_of_part(alloc, register, union, &nothing, &nothing);
+    }
+    let near = if named.len() == 1 {
+        Reach::Family
+    } else {
+        Reach::Cells(SIBLINGS)
+    };
+    if let Some(change) = adding_near(alloc, register, union, named, near)? {
         return Ok(Some(change));
     }
-    adding_near(alloc, register, union, named, RELATIVES)
+    adding_near(alloc, register, union, named, Reach::Cells(RELATIVES))
 }
 
-/// The change that adds the leaves of the named cells, if it is found in the part of the union that has `reach` cells
-/// before and after each named one.
+/// The change that adds the leaves of the named cells, if it is found in the part of the union that `reach` says.
 fn adding_near(
     alloc: Global,
     register: Register,
     union: &CellUnion,
     named: &CellUnion,
-    reach: usize,
+    reach: Reach,
 ) -> Result<Option<Change>, AllocError>
     ensures { IfOk result (λ found. IfSome found
         (Gives (either (has_leaf union.now.cells) (has_leaf named.now.cells)) register union.now.cells)) }
@@ -185,7 +201,7 @@ fn removing(
     if let Some(change) = change_of_part(alloc, register, union, named, &nothing)? {
         return Ok(Some(change));
     }
-    let found = part_near(alloc, union, named, 1)?;
+    let found = part_near(alloc, union, named, Reach::Cells(1))?;
     let Some(part) = found else {
         return Ok(None);
     };
@@ -197,13 +213,13 @@ fn removing(
     change_of_part(alloc, register, union, &part, &rest)
 }
 
-/// The cells of a union that meet named ones, and others before and after these. `None` if they aren't normalized; as
+/// The cells of a union that meet named ones, and others near these. `None` if they aren't normalized; as
 /// cells of a normalized list they are.
 fn part_near(
     alloc: Global,
     union: &CellUnion,
     named: &CellUnion,
-    reach: usize,
+    reach: Reach,
 ) -> Result<Option<CellUnion>, AllocError>
     ensures { IfOk result (λ found. IfSome found
         (λ part. (c : ℕ) → has part.cells c ≡ true → has union.now.cells c ≡ true)) }
@@ -216,12 +232,12 @@ fn part_near(
     }
 }
 
-/// The cells of a list that meet named ones, and `reach` before and after each.
+/// The cells of a list that meet named ones, and those near each that `reach` says.
 fn cells_near(
     alloc: Global,
     cells: &[CellId],
     named: &[CellId],
-    reach: usize,
+    reach: Reach,
 ) -> Result<Vec<CellId>, AllocError>
     ensures { IfOk result (λ near. (c : ℕ) → has near.items c ≡ true → has cells.now c ≡ true) }
 {
@@ -230,11 +246,67 @@ fn cells_near(
     for cell in named {
         let first = find_from(&CellList { cells }, done, cell.first_leaf());
         let end = find_from(&CellList { cells }, first, cell.end_leaf());
-        let begin = first.saturating_sub(reach).max(done);
-        done = end.saturating_add(reach).min(cells.len());
-        near.extend_from_slice(&cells[begin..done])?;
+        let (from, to) = around(cells, first, end, *cell, reach);
+        let begin = from.max(done);
+        near.extend_from_slice(&cells[begin..to])?;
+        done = to;
     }
     Ok(near)
+}
+
+/// From which index of a list to which the cells lie that `reach` says, around those from `first` to `end`, which meet
+/// the named cell.
+fn around(cells: &[CellId], first: usize, end: usize, named: CellId, reach: Reach) -> (usize, usize)
+    requires { (first ≤ end) × (end ≤ length cells.now) }
+    ensures { (result.0 ≤ first) × (end ≤ result.1) × (result.1 ≤ length cells.now) }
+{
+    match reach {
+        Reach::Family => relatives(cells, first, end, named),
+        Reach::Cells(n) => (
+            first.saturating_sub(n),
+            end.saturating_add(n).min(cells.len()),
+        ),
+    }
+}
+
+/// From which index to which the cells lie that become one with the named cell: as long as three more lie in its
+/// parent, these too.
+fn relatives(cells: &[CellId], first: usize, end: usize, named: CellId) -> (usize, usize)
+    requires { (first ≤ end) × (end ≤ length cells.now) }
+    ensures { (result.0 ≤ first) × (end ≤ result.1) × (result.1 ≤ length cells.now) }
+{
+    let mut from = first;
+    let mut to = end;
+    let mut level = named.level();
+    while level > 0 {
+        level -= 1;
+        let (begin, next) = inside(cells, from, to, named.parent(level));
+        if (from - begin) + (next - to) != SIBLINGS {
+            return (from, to);
+        }
+        from = begin;
+        to = next;
+    }
+    (from, to)
+}
+
+/// From which index to which the cells lie in a parent, which holds those from `from` to `to`. Looks at no more than
+/// four before them, and four after.
+fn inside(cells: &[CellId], from: usize, to: usize, parent: CellId) -> (usize, usize)
+    requires { (from ≤ to) × (to ≤ length cells.now) }
+    ensures { (result.0 ≤ from) × (to ≤ result.1) × (result.1 ≤ length cells.now) }
+{
+    let least = parent.range_min();
+    let mut begin = from;
+    while begin > 0 && from - begin <= SIBLINGS && cells[begin - 1] >= least {
+        begin -= 1;
+    }
+    let most = parent.range_max();
+    let mut next = to;
+    while next < cells.len() && next - to <= SIBLINGS && cells[next] <= most {
+        next += 1;
+    }
+    (begin, next)
 }
 
 /// The change that puts new cells in the place of a part of the union's list, if it can be made. `S` is the set of
