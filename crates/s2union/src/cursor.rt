@@ -7,7 +7,7 @@ ghost use Rattle.s2list.specs.Packed.{IsPacked, FirstEndBy, EndsAfter};
 use crate::search::{find, find_from};
 use crate::union::CellUnion;
 use s2cell::CellId;
-use s2list::{CellList, contains_cell_at, intersects_cell_at};
+use s2list::{CellList, contains_cell_at, first_place, intersects_cell_at};
 use std::marker::Model;
 
 /// A union in which one cell after another is searched, and where the last search ended.
@@ -23,13 +23,13 @@ pub struct Cursor<'a> {
 
 impl<'a> Model for Cursor<'a> {
     ghost use Rattle.std.specs.Prelude.{ℕ, List};
-    ghost use Rattle.s2union.specs.Working.Cursor.{IsCursor};
+    ghost use Rattle.s2list.specs.Union.{IsLocal};
 
     ghost Value = { List ℕ };
 
     ghost view = { λ c. c.cells.now };
 
-    ghost invariant = { λ c. IsCursor c.cells.now c.at };
+    ghost invariant = { λ c. IsLocal c.cells.now };
 }
 
 impl CellUnion {
@@ -69,14 +69,14 @@ impl<'a> Cursor<'a> {
 /// How many cells end by the leaf `lo`. The search starts after the first `near` cells if these do, else from the
 /// beginning.
 fn find_near(cells: &[CellId], near: usize, lo: u64) -> usize
-    requires packed { IsPacked cells.now }
-    requires within { near ≤ length cells.now }
+    requires { IsPacked cells.now }
     ensures within { result ≤ length cells.now }
     ensures ended { FirstEndBy cells.now result lo }
     ensures next { EndsAfter cells.now result lo }
 {
-    if near > 0 && cells[near - 1].end_leaf() <= lo {
-        find_from(cells, near, lo)
+    let start = first_place(&CellList { cells }, near, lo);
+    if start > 0 {
+        find_from(cells, start, lo)
     } else {
         find(cells, lo)
     }

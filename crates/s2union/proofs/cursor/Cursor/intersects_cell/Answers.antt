@@ -4,8 +4,8 @@ use Rattle.s2list.specs.Union.{ShareSome, has_leaf}
 use Rattle.s2list.proofs.Checking.{packed_from_local}
 use Rattle.s2union.proofs.cursor.Cursor.intersects_cell.Goals as goal
 
-pub find_near-at-requires-clause-packed : goal.find_near-at-requires-clause-packed
-find_near-at-requires-clause-packed c = packed_from_local c.self.inside.cells.now c.self.invariant.local
+pub find_near-at-requires : goal.find_near-at-requires
+find_near-at-requires c = packed_from_local c.self.inside.cells.now c.self.invariant
 
 pub returns-clause-answer : goal.returns-clause-answer
 returns-clause-answer c =
@@ -13,5 +13,5 @@ returns-clause-answer c =
     let f = c.find_near-at.ensures in
     subst (λ (u : List ℕ). IsTrue c.intersects_cell_at.result ↔ ShareSome (covers c.args.cell)
     (has_leaf u)) c.self.view_is
-    (c.intersects_cell_at.ensures c.self.invariant.local
+    (c.intersects_cell_at.ensures c.self.invariant
     (record { within = f.within; ended = rw v at f.ended; next = rw v at f.next }))
