@@ -1,13 +1,11 @@
 -- The leaves that a short list of cells shares with a much longer one.
-use Rattle.std.proofs.Common.{◌≡◌, ℕ, zero, suc, [], ◌∷◌, ◌++◌, ◌+◌, ◌-◌, ◌<◌, ◌≤◌, refl, sym, ◌∙◌, ap, arith, true}
+use Rattle.std.proofs.Common.{◌≡◌, ℕ, [], ◌∷◌, ◌++◌, ◌+◌, ◌-◌, ◌<◌, ◌≤◌, refl, sym, ◌∙◌, ap, arith, true}
 use Rattle.std.proofs.Common.{◌&&◌, ◌↔◌, ltb, Bool, IsTrue, List, length, take, drop, get_or, inl}
+use Rattle.std.proofs.Math.Bool.{and_assoc}
 use Rattle.std.proofs.Math.Logic.{⊎_elim}
 use Rattle.std.proofs.lemmas.Bool.{and_parts, cases_lt}
 use Rattle.std.proofs.lemmas.Bool.Decides.{nat_tests}
-use Rattle.std.proofs.Math.Seq.{take-suc}
-use Rattle.std.proofs.lemmas.List.{append_assoc, append-nil, get_or-drop, get_or-take, length-drop, length-take-le}
-use Rattle.std.proofs.lemmas.List.{take_all}
-use Rattle.std.proofs.lemmas.Option.{gets}
+use Rattle.std.proofs.lemmas.List.{append-nil, get_or-take, length-take-le, take_all}
 use Rattle.s2cell.specs.Cell.{IsCell, IsInside, covers, size_of, first_leaf}
 use Rattle.s2cell.proofs.CellLemmas.{cell_leaves}
 use Rattle.s2cell.proofs.Leaves.{before, after, within, around, meeting, inside_from_within, within_from_inside}
@@ -17,10 +15,10 @@ use Rattle.s2union.specs.Working.Sets.{IsShared}
 use Rattle.s2list.proofs.Asking.{held_there}
 use Rattle.s2list.proofs.Checking.{packed_from_local}
 use Rattle.s2list.proofs.Finding.{starts_later}
-use Rattle.s2list.proofs.Packing.{read_at}
+use Rattle.s2list.proofs.Packing.{read_at, reads}
 use Rattle.s2list.proofs.Picking.{Picked}
-use Rattle.s2list.proofs.Shared.{Sharing, both, share_y, sharing_push, sharing_skip}
-use Rattle.s2union.proofs.SubtractingFew.{and_group, has_leaf-take, same_truth}
+use Rattle.s2list.proofs.Shared.{Sharing, both, run_all, share_y, sharing_push, sharing_skip}
+use Rattle.s2union.proofs.SubtractingFew.{has_leaf-take, same_truth}
 use Rattle.s2list.proofs.Walking.{leaf_at, leaf_there}
 
 -- before the first cell
@@ -54,7 +52,7 @@ sharing_start xs ys list i at local h place s =
         ended_y = place.ended;
         leaves = λ x. s.leaves x
             ∙ ap (λ v. v && has_leaf ys x) (has_leaf-take i lo x packed (omega arith) ended (λ _. omega arith))
-            ∙ and_group (ltb x lo) (has_leaf xs x) (has_leaf ys x);
+            ∙ and_assoc (ltb x lo) (has_leaf xs x) (has_leaf ys x);
       };
       from = inl (λ _. omega arith);
       picked = shared_picked s;
@@ -143,9 +141,6 @@ shared_held xs ys list new i at x lx ly s h g rx inside place e =
     rw e (sharing_stop (first_leaf (get_or xs i 0))
     lx ly push (omega arith) place.ended (λ k. starts_later xs i (i + 1) (packed_from_local xs lx) (omega arith) k))
 
-read_there : (u : List ℕ) (i : ℕ) → i < length u → get_or u i 0 ≡ get_or u i (get_or u i 0)
-read_there u i h = grind (arith, gets)
-
 -- the cells of `ys` up to a place lie in a cell of `xs`
 pub shared_run : (xs ys list new : List ℕ) (i at next x : ℕ) → IsLocal xs → IsLocal ys → IsShared xs ys list i →
     i < length xs → x ≡ get_or xs i x → IsPlace ys (first_leaf (get_or xs i 0)) at → (at < length ys → IsInside
@@ -174,7 +169,7 @@ shared_run xs ys list new i at next x lx ly s h rx place not_held le in_y ended_
     ] in
     sharing_stop (first_leaf x + size_of x) lx ly
     (share_y (both xs ys) xs ys list new i at next x y lx ly start h (omega arith) rx
-    (read_there ys at (omega arith)) inside m in_y ended_y after_it e) (omega arith) ended_y ended)
+    (reads ys at (omega arith)) inside m in_y ended_y after_it e) (omega arith) ended_y ended)
     (λ (m : next ≤ at).
     let same : next ≡ at = omega arith in
     let none : next - at ≡ 0 = omega arith in
@@ -245,42 +240,23 @@ shared_passed xs ys list i at next lo lx ly s le in_x ended after_it before_it =
           rw (h, f) refl);
     }
 
-shared_held_more : (n : ℕ) (xs ys list : List ℕ) (from at lo : ℕ) → IsLocal xs → IsLocal ys → FirstEndBy ys at lo →
-    ((k : ℕ) → from ≤ k → k < from + n → lo ≤ first_leaf (get_or xs k 0)) →
-    ((k : ℕ) → from ≤ k → k < from + n → (at < length ys) × IsInside (get_or xs k 0) (get_or ys at 0)) →
-    from + n ≤ length xs → IsShared xs ys list from → IsShared xs ys (list ++ take n (drop from xs)) (from + n)
-shared_held_more zero xs ys list from at lo lx ly ended later held in_x s =
-    let e : from + zero ≡ from = omega arith in
-    rw (append-nil list, e) s
-shared_held_more (suc n) xs ys list from at lo lx ly ended later held in_x s =
-    let x = get_or xs (from + n) 0 in
-    let before = shared_held_more n xs ys list from at lo lx ly ended (λ k h l. later k h (omega arith))
-    (λ k h l. held k h (omega arith)) (omega arith) s in
-    let h = held (from + n) (omega arith) (omega arith) in
-    let l = later (from + n) (omega arith) (omega arith) in
-    let cx : IsCell x = lx.cells (from + n) 0 (omega arith) in
-    let sx = (cell_leaves x cx).some in
-    let high = (within_from_inside x (get_or ys at 0) cx h.1).high in
-    let place : IsPlace ys (first_leaf x) at = record {
-      within = omega arith;
-      ended = λ k b. let z = ended k b in omega arith;
-      next = λ _. omega arith;
-    } in
-    let one : take (suc n) (drop from xs) ≡ take n (drop from xs) ++ x ∷ [] =
-    take-suc (drop from xs) n 0 (let e = length-drop from xs in omega arith)
-    ∙ ap (λ y. take n (drop from xs) ++ y ∷ []) (get_or-drop from xs n 0) in
-    let all : list ++ take (suc n) (drop from xs) ≡ (list ++ take n (drop from xs)) ++ x ∷ [] =
-    ap (λ r. list ++ r) one ∙ sym (append_assoc list (take n (drop from xs)) (x ∷ [])) in
-    let e : from + suc n ≡ from + n + 1 = omega arith in
-    rw e (shared_held xs ys (list ++ take n (drop from xs)) (list ++ take (suc n) (drop from xs)) (from + n) at x lx ly
-    before (omega arith) h.0 (read_there xs (from + n) (omega arith)) h.1 place all)
-
 -- cells of `xs` that lie in the next cell of `ys` are shared as they are
 pub shared_held_run : (xs ys list new : List ℕ) (from next at lo : ℕ) → IsLocal xs → IsLocal ys → from ≤ next →
     next ≤ length xs → FirstEndBy ys at lo → ((k : ℕ) → from ≤ k → k < next → lo ≤ first_leaf (get_or xs k 0)) →
     ((k : ℕ) → from ≤ k → k < next → (at < length ys) × IsInside (get_or xs k 0) (get_or ys at 0)) →
     new ≡ list ++ take (next - from) (drop from xs) → IsShared xs ys list from → IsShared xs ys new next
 shared_held_run xs ys list new from next at lo lx ly le in_x ended later held is s =
-    let e : from + (next - from) ≡ next = omega arith in
-    rw is (rw e at (shared_held_more (next - from) xs ys list from at lo lx ly ended
-    (λ k h l. later k h (omega arith)) (λ k h l. held k h (omega arith)) (omega arith) s))
+    rw is (run_all (λ l k. IsShared xs ys l k) xs list from next le in_x s (λ l k h g before.
+    let x = get_or xs k 0 in
+    let inside = held k h g in
+    let low = later k h g in
+    let cx : IsCell x = lx.cells k 0 (omega arith) in
+    let sx = (cell_leaves x cx).some in
+    let high = (within_from_inside x (get_or ys at 0) cx inside.1).high in
+    let place : IsPlace ys (first_leaf x) at = record {
+      within = omega arith;
+      ended = λ m b. let z = ended m b in omega arith;
+      next = λ _. omega arith;
+    } in
+    shared_held xs ys l (l ++ x ∷ []) k at x lx ly before (omega arith) inside.0 (reads xs k (omega arith)) inside.1
+    place refl))

@@ -1,6 +1,7 @@
 -- The leaves of a short list of cells that a much longer one has not.
 use Rattle.std.proofs.Common.{◌≡◌, ℕ, [], ◌+◌, ◌<◌, ◌≤◌, refl, sym, ◌∙◌, ap, arith}
 use Rattle.std.proofs.Common.{Bool, true, false, ◌&&◌, ltb, List, length, take, get_or, not, max, inl}
+use Rattle.std.proofs.Math.Bool.{and_assoc}
 use Rattle.std.proofs.Math.Logic.{⊎_elim}
 use Rattle.std.proofs.lemmas.Bool.{cases_lt}
 use Rattle.std.proofs.lemmas.Bool.Decides.{nat_tests}
@@ -59,10 +60,6 @@ has_leaf-take {u} n lo x packed w ended next =
     absurd (omega arith))))
     (cases_lt x lo)
 
-pub and_group : (a b c : Bool) → ((a && b) && c) ≡ (a && (b && c))
-and_group true b c = refl
-and_group false b c = refl
-
 -- before the first cell
 pub left_none : (xs ys : List ℕ) → IsLeft xs ys [] 0
 left_none xs ys = record {
@@ -106,7 +103,7 @@ leaving_start xs ys list i at lo end local h el ee place left =
           ended_y = rw el place.ended;
           leaves = λ x. left.leaves x
               ∙ ap (λ v. v && not (has_leaf ys x)) (has_leaf-take i lo x packed (omega arith) ended (λ _. omega arith))
-              ∙ and_group (ltb x lo) (has_leaf xs x) (not (has_leaf ys x));
+              ∙ and_assoc (ltb x lo) (has_leaf xs x) (not (has_leaf ys x));
         };
         edge = λ _. inl (omega arith);
       };
@@ -167,6 +164,6 @@ leaving_done {xs} {ys} {i} {end} local h ee l past =
     record {
       chain = l.picked.chain;
       greatest = l.picked.greatest;
-      leaves = λ x. l.done past x ∙ sym (and_group (ltb x end) (has_leaf xs x) (not (has_leaf ys x)))
+      leaves = λ x. l.done past x ∙ sym (and_assoc (ltb x end) (has_leaf xs x) (not (has_leaf ys x)))
           ∙ ap (λ v. v && not (has_leaf ys x)) (sym (has_leaf-take (i + 1) end x packed (omega arith) ended next));
     }
