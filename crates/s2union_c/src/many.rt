@@ -4,24 +4,16 @@ ghost use Rattle.s2cell.specs.Cell.{IsCell, covers, first_leaf};
 ghost use Rattle.s2list.specs.Union.{IsLocal, IsWithin, ShareSome, has_leaf};
 ghost use Rattle.s2list.specs.Packed.{IsPlace};
 ghost use Rattle.s2list.specs.Search.{IsFirstWrong};
-ghost use Rattle.s2union_c.specs.Working.Many.{Holds};
+ghost use Rattle.s2list.specs.Working.Walk.{Holds};
 ghost use Rattle.s2union_c.specs.Status.{IsBit, made, no_cell, no_room};
 
 use crate::status::{MADE, NO_CELL, NO_ROOM};
 use s2cell::CellId;
 use s2list::{
-    IdList, NEARBY, contains_cell_at, first_wrong, intersects_cell_at, place_near, places_of_four,
+    IdList, NEARBY, Question, contains_cell_at, first_wrong, intersects_cell_at, place_near,
+    places_of_four,
 };
 use s2room::cell_of;
-
-/// The question about each cell.
-#[derive(Clone, Copy, PartialEq, Eq)]
-pub(crate) enum Question {
-    /// Whether the union has all leaves of the cell.
-    Contains,
-    /// Whether the union has a leaf of the cell.
-    Intersects,
-}
 
 /// Whether a union has all leaves of each cell in turn: 1 or 0 for each. `bad` is the index of the first number that is
 /// not a cell, or if there is none, how many answers there are. A search begins at the index of the one before, so
@@ -85,7 +77,7 @@ fn answer_cells(
         → (result ≡ made) × (bad.new ≡ length cells.now) }
     ensures exact { IsLocal ids.now → All IsCell cells.now → length cells.now ≤ length answers.old
         → (k : ℕ) → k < length cells.now
-        → IsBit (slice_index answers.new k) (Holds question (slice_index cells.now k) ids.now) }
+        → IsBit (slice_index answers.new k) (Holds question ids.now (slice_index cells.now k)) }
     ensures bits { All IsCell cells.now → length cells.now ≤ length answers.old
         → (k : ℕ) → k < length cells.now → slice_index answers.new k ≤ 1 }
     ensures rest { drop (length cells.now) answers.new ≡ drop (length cells.now) answers.old }
@@ -112,7 +104,7 @@ fn answer_each(question: Question, ids: &[u64], cells: &[u64], answers: &mut [u8
     requires cells { All IsCell cells.now }
     requires room { length cells.now ≤ length answers.old }
     ensures exact { IsLocal ids.now → (k : ℕ) → k < length cells.now
-        → IsBit (slice_index answers.new k) (Holds question (slice_index cells.now k) ids.now) }
+        → IsBit (slice_index answers.new k) (Holds question ids.now (slice_index cells.now k)) }
     ensures bits { (k : ℕ) → k < length cells.now → slice_index answers.new k ≤ 1 }
     ensures rest { drop (length cells.now) answers.new ≡ drop (length cells.now) answers.old }
 {
@@ -150,8 +142,8 @@ fn answer_four(
     requires room { length cells.now ≤ length answers.old }
     ensures length { length answers.new ≡ length answers.old }
     ensures exact { IsLocal ids.now
-        → ((i : ℕ) → i < k → IsBit (slice_index answers.old i) (Holds question (slice_index cells.now i) ids.now))
-        → (i : ℕ) → i < k + 4 → IsBit (slice_index answers.new i) (Holds question (slice_index cells.now i) ids.now) }
+        → ((i : ℕ) → i < k → IsBit (slice_index answers.old i) (Holds question ids.now (slice_index cells.now i)))
+        → (i : ℕ) → i < k + 4 → IsBit (slice_index answers.new i) (Holds question ids.now (slice_index cells.now i)) }
     ensures bits { ((i : ℕ) → i < k → slice_index answers.old i ≤ 1)
         → (i : ℕ) → i < k + 4 → slice_index answers.new i ≤ 1 }
     ensures rest { drop (length cells.now) answers.new ≡ drop (length cells.now) answers.old }
@@ -171,7 +163,7 @@ fn answer_four(
 /// The answer about a cell, once its index in the union is known: 1 or 0.
 fn bit(question: Question, ids: &[u64], at: usize, cell: CellId) -> u8
     ensures exact { IsLocal ids.now → IsPlace ids.now (first_leaf cell) at
-        → IsBit result (Holds question cell ids.now) }
+        → IsBit result (Holds question ids.now cell) }
     ensures bit { result ≤ 1 }
 {
     let holds = match question {

@@ -1,7 +1,7 @@
 use Rattle.std.proofs.Common.{rules, arith, ◌∙◌, ◌<◌, ◌≤◌, length}
 use Rattle.std.specs.Prelude.{slice_index}
 use Rattle.std.proofs.lemmas.List.{drop-set-lt}
-use Rattle.s2union_c.specs.Working.Many.{Holds}
+use Rattle.s2list.specs.Working.Walk.{Holds}
 use Rattle.s2union_c.specs.Status.{IsBit}
 use Rattle.s2union_c.proofs.Asking.{each_more}
 use Rattle.s2union_c.proofs.many.answer_each.Goals as goal
@@ -12,7 +12,7 @@ loop-k-preserved c =
     let room : c.loop-k.k < length c.loop-k.answers = (let r = c.loop-k.invariant.room in omega arith) in
     record {
       so_far = λ local.
-          each_more (λ n bit. IsBit bit (Holds c.args.question (slice_index c.args.cells.now n) c.args.ids.now))
+          each_more (λ n bit. IsBit bit (Holds c.args.question c.args.ids.now (slice_index c.args.cells.now n)))
           c.loop-k.answers c.loop-k.k c.bit.result room (c.loop-k.invariant.so_far local)
           (rw c.cell_of-cell.ensures at (c.bit.ensures.exact local (c.place_near-at.ensures local)));
       bits = each_more (λ n bit. bit ≤ 1) c.loop-k.answers c.loop-k.k c.bit.result room c.loop-k.invariant.bits

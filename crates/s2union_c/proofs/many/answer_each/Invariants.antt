@@ -1,14 +1,14 @@
 use Rattle.std.proofs.Common.{◌≡◌, ◌-◌, ◌<◌, ◌≤◌, ℕ, length, drop}
 use Rattle.std.specs.Prelude.{slice_index}
 use Rattle.s2list.specs.Union.{IsLocal}
-use Rattle.s2union_c.specs.Working.Many.{Holds}
+use Rattle.s2list.specs.Working.Walk.{Holds}
 use Rattle.s2union_c.specs.Status.{IsBit}
 use Rattle.s2union_c.proofs.many.answer_each.Given as goal
 
 abbrev pub invariant-loop-k : goal.invariant-loop-k
 invariant-loop-k l = record {
   so_far : IsLocal l.ids → (i : ℕ) → i < l.k →
-      IsBit (slice_index l.answers i) (Holds l.question (slice_index l.cells i) l.ids);
+      IsBit (slice_index l.answers i) (Holds l.question l.ids (slice_index l.cells i));
   bits : (i : ℕ) → i < l.k → slice_index l.answers i ≤ 1;
   rest : drop (length l.cells) l.answers ≡ drop (length l.cells) l.fn.answers;
   room : length l.cells ≤ length l.answers;

@@ -1,14 +1,14 @@
 use Rattle.std.proofs.Common.{rules, arith, ◌∙◌, ◌+◌, ◌≤◌, ℕ, length, slice_set}
 use Rattle.std.specs.Prelude.{slice_index}
 use Rattle.std.proofs.lemmas.List.{drop-set-lt}
-use Rattle.s2union_c.specs.Working.Many.{Holds}
+use Rattle.s2list.specs.Working.Walk.{Holds}
 use Rattle.s2union_c.specs.Status.{IsBit}
 use Rattle.s2union_c.proofs.Asking.{each_more}
 use Rattle.s2union_c.proofs.many.answer_four.Goals as goal
 
 pub returns-clause-exact : goal.returns-clause-exact
 returns-clause-exact c local before i h =
-    let P = λ (n bit : ℕ). IsBit bit (Holds c.args.question (slice_index c.args.cells.now n) c.args.ids.now) in
+    let P = λ (n bit : ℕ). IsBit bit (Holds c.args.question c.args.ids.now (slice_index c.args.cells.now n)) in
     let k = c.args.k in
     let room = c.requires.room in
     let there = c.requires.there in
