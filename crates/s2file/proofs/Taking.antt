@@ -1,12 +1,9 @@
 -- What is taken from the bytes that are left, and what these lack.
-use Rattle.std.proofs.Common.{◌≡◌, ℕ, List, [], ◌∷◌, ◌++◌, Option, Some, None, IfSome}
-use Rattle.std.proofs.Common.{flat_map, sym, ap, ◌∙◌, subst, append_assoc}
+use Rattle.std.proofs.Common.{◌≡◌, ℕ, List, ◌++◌, Option, Some, None, IfSome}
+use Rattle.std.proofs.Common.{sym, ap, ◌∙◌, subst, append_assoc}
 use Rattle.std.proofs.lemmas.List.{append-nil}
-use Rattle.std.proofs.lemmas.Grind.{flat_map-append}
-use Rattle.std.proofs.KnownBytes.{Consumes-nil, Consumes-trans}
 use Rattle.std.specs.Io.KnownBytes.{Consumes, IsAtEnd, Keeps, prepend_known}
-use Rattle.std.specs.List.{AllByRecursion}
-use Rattle.s2file.specs.Working.SessionParts.{Refuses, Takes}
+use Rattle.s2file.specs.Working.SessionParts.{Refuses}
 use Rattle.s2file.specs.declared.session.ReadFault.{ReadFault}
 use Rattle.s2file.proofs.SessionReading.{refuses}
 
@@ -58,24 +55,3 @@ held_all None coming held Q k end q = tt
 held_all (Some x) None held Q k end q = absurd k
 held_all (Some x) (Some y) held Q k end q =
     subst Q (sym (append-nil held) ∙ ap (λ (l : List ℕ). held ++ l) (sym end) ∙ k) q
-
--- ---- values one after another
-
-module _ {A : Type 0} (text : A → List ℕ) (Ok : A → Type 0) where
-  pub none_taken : (old : Option (List ℕ)) → Takes (flat_map text) (AllByRecursion Ok) old [] old
-  none_taken old = record { is = Consumes-nil old; ok = tt }
-
-  all_push : (xs : List A) (x : A) → AllByRecursion Ok xs → Ok x → AllByRecursion Ok (xs ++ x ∷ [])
-  all_push [] x a ok = (ok, tt)
-  all_push (y ∷ xs) x a ok = (a.0, all_push xs x a.1 ok)
-
-  pub one_more_taken : (old mid new : Option (List ℕ)) (xs : List A) (x : A) →
-      Takes (flat_map text) (AllByRecursion Ok) old xs mid → Takes text Ok mid x new
-      → Takes (flat_map text) (AllByRecursion Ok) old (xs ++ x ∷ []) new
-  one_more_taken old mid new xs x row one = record {
-    is = subst (λ (l : List ℕ). Consumes old new l)
-        (ap (λ (l : List ℕ). flat_map text xs ++ l) (sym (append-nil (text x)))
-        ∙ sym (flat_map-append text xs (x ∷ [])))
-        (Consumes-trans old mid new (flat_map text xs) (text x) row.is one.is);
-    ok = all_push xs x row.ok one.ok;
-  }

@@ -12,7 +12,7 @@ use Rattle.s2file.specs.Working.SessionParts.{AreRegisters, IsRow, byte_text, re
 use Rattle.s2file.specs.declared.TheConstants.{SESSION_REGISTERS, SESSION_CHANGES}
 use Rattle.s2file.specs.declared.session.ReadFault.{ReadFault}
 use Rattle.s2file.proofs.SessionReading.{register_unmerged}
-use Rattle.s2file.proofs.SessionRows.{move_without_out, move_without_put, move_wrong, registers_none, row_none}
+use Rattle.s2file.proofs.SessionRows.{move_without_put, move_wrong, registers_none, row_none}
 use Rattle.s2file.proofs.SessionRows.{moves_count_many, moves_none}
 use Rattle.s2file.proofs.Taking.{known_front, refuses_later}
 
@@ -45,12 +45,6 @@ row_refused fault {old} {mid} {xs} count t few h =
 -- ---- a change
 
 module _ (old mid : Option (List ℕ)) (r : ℕ) (b : Takes byte_text IsByte old r mid) where
-  pub out_refused : (fault : ReadFault) → Refuses fault (Lacks list_text AreCells mid) →
-      Refuses fault (Lacks move_text IsMove old)
-  out_refused fault h =
-      refuses_later fault old mid (r ∷ []) (λ rest. BeginsNone list_text AreCells rest)
-      (λ bytes. BeginsNone move_text IsMove bytes) b.is (λ rest none. move_without_out (r ∷ rest) rest r refl none) h
-
   module _ (more : Option (List ℕ)) (out : List ℕ) (o : Takes list_text AreCells mid out more) where
     pub put_refused : (fault : ReadFault) → Refuses fault (Lacks list_text AreCells more) →
         Refuses fault (Lacks move_text IsMove old)
@@ -64,10 +58,6 @@ module _ (old mid : Option (List ℕ)) (r : ℕ) (b : Takes byte_text IsByte old
       whole : Consumes old new (r ∷ (list_text out ++ list_text put))
       whole = Consumes-trans old mid new (r ∷ []) (list_text out ++ list_text put) b.is
           (Consumes-trans mid more new (list_text out) (list_text put) o.is p.is)
-
-      pub move_taken : IsMove (record { register = r; out = out; put = put }) →
-          Takes move_text IsMove old (record { register = r; out = out; put = put }) new
-      move_taken ok = record { is = whole; ok = ok }
 
       pub change_wrong : (IsMove (record { register = r; out = out; put = put }) → ⊥) → Lacks move_text IsMove old
       change_wrong wrong =

@@ -3,11 +3,11 @@ use Rattle.std.proofs.Common.{◌≡◌, ◌≢◌, ℕ, ◌+◌, ◌<◌, ◌�
 use Rattle.std.proofs.Common.{slice_index, Option, Some, None, IfSome, Result, Ok, Err, refl, sym, ap, ◌∙◌, subst}
 use Rattle.std.proofs.Common.{arith, append_assoc}
 use Rattle.std.proofs.lemmas.List.{length-append, take_all, get_or_append_left}
-use Rattle.std.proofs.KnownBytes.{Consumes-trans, Consumes-whole, prepend_known-end, prepend_known-nil}
-use Rattle.std.specs.Io.KnownBytes.{Consumes, IsAtEnd, Keeps, prepend_known}
+use Rattle.std.proofs.KnownBytes.{Consumes-trans, prepend_known-nil}
+use Rattle.std.specs.Io.KnownBytes.{Consumes, Keeps, prepend_known}
 use Rattle.std.specs.Prelude.{MatchResult}
 use Rattle.std.specs.Option.{option_map}
-use Rattle.s2file.specs.Session.{Diff, Content, content_of, moves_text, IsContent, IsSessionFile, IsUnionFile, Spells}
+use Rattle.s2file.specs.Session.{Diff, Content, content_of, moves_text, IsSessionFile, IsUnionFile, Spells}
 use Rattle.s2file.specs.Working.SessionParts.{BeginsNone, Refuses, Takes, Lacks, AreMoves, AreRegisters, registers_text}
 use Rattle.s2file.specs.Working.Reading.{Finds}
 use Rattle.s2file.specs.Reading.{RefusesToRead}
@@ -17,7 +17,7 @@ use Rattle.s2file.specs.declared.session.Session.{Session}
 use Rattle.s2file.specs.declared.session.ReadFault.{ReadFault}
 use Rattle.s2file.specs.declared.session.ReadFault.TheVariants.{Form, Device, Memory}
 use Rattle.s2file.proofs.Beginnings.{longest, all_or_more}
-use Rattle.s2file.proofs.SessionRows.{file_without_registers, file_without_past, file_without_future, file_with_more}
+use Rattle.s2file.proofs.SessionRows.{file_without_past, file_without_future, file_with_more}
 use Rattle.s2file.proofs.SessionRows.{file_of_many}
 use Rattle.s2file.proofs.Spelled.{first_of_file, union_content}
 use Rattle.s2file.proofs.Taking.{known_later, known_front, refuses_later, known_weaker, held_front}
@@ -34,19 +34,7 @@ some_left now coming held k some =
     held_front now coming held (λ rest. rest ≢ []) k
     (λ rest e. absurd (omega (arith, ap length e, length-append held rest, some)))
 
--- nothing is left
-pub none_left : (now coming : Option (List ℕ)) (held : List ℕ) → Keeps now (prepend_known held coming) →
-    length held < 1 → IsAtEnd coming → IsAtEnd now
-none_left now coming [] k few end = prepend_known-end now coming [] k refl end
-none_left now coming (x ∷ held) k few end = absurd (omega (arith, few))
-
 module _ (old m1 : Option (List ℕ)) (h : Consumes old m1 (0x73 ∷ 1 ∷ [])) where
-  pub no_registers : (fault : ReadFault) → Refuses fault (Lacks registers_text AreRegisters m1) →
-      Refuses fault (IfSome old NoFile)
-  no_registers fault r =
-      refuses_later fault old m1 (0x73 ∷ 1 ∷ []) (λ rest. BeginsNone registers_text AreRegisters rest) NoFile h
-      (λ rest none. file_without_registers _ rest refl none) r
-
   module _ (m2 : Option (List ℕ)) (lists : List (List ℕ)) (r : Takes registers_text AreRegisters m1 lists m2) where
     pub no_past : (fault : ReadFault) → Refuses fault (Lacks moves_text AreMoves m2) →
         Refuses fault (IfSome old NoFile)
@@ -97,23 +85,6 @@ module _ (old m1 : Option (List ℕ)) (h : Consumes old m1 (0x73 ∷ 1 ∷ [])) 
             (record { is = parts rest; ok = r.ok }) past (moves_text future ++ rest)
             (record { is = append_assoc (moves_text past) (moves_text future) rest; ok = p.ok }) future rest
             (record { is = refl; ok = f.ok }) many)
-
-        pub file_found : IsAtEnd m4 → length past + length future ≤ SESSION_CHANGES
-            → IsContent (record { registers = lists; past = past; future = future })
-            × IfSome old (λ bytes. IsSessionFile bytes (record { registers = lists; past = past; future = future }))
-        file_found end few =
-            let content : IsContent (record { registers = lists; past = past; future = future }) = record {
-              count = r.ok.count;
-              registers = r.ok.each;
-              past = p.ok.each;
-              future = f.ok.each;
-              few = few;
-            } in (
-              content,
-              Consumes-whole old m4 _
-                  (λ bytes. IsSessionFile bytes (record { registers = lists; past = past; future = future })) whole end
-                  (record { content = content; text = refl }),
-            )
 
 -- ---- a union file
 
@@ -188,23 +159,6 @@ module _ (old coming : Option (List ℕ)) (held : List ℕ) (k : Keeps old (prep
       no_file rest none s (inr u) = none s u
   spells_union (Err Device) one h = tt
   spells_union (Err Memory) one h = tt
-
-  pub spells_file : (answer : Result Session ReadFault) → slice_index held 0 ≢ 1 →
-      Finds IsSessionFile (prepend_known held coming) answer → Finds Spells old answer
-  spells_file (Ok session) other h = (
-    h.0,
-    held_known old coming held (λ bytes. IsSessionFile bytes (content_of session))
-        (λ bytes. Spells bytes (content_of session)) k (λ rest f. inl f) h.1,
-  )
-  spells_file (Err Form) other h =
-      held_known old coming held NoFile (λ bytes. (s : Content) → Spells bytes s → ⊥) k
-      (λ rest none s. no_union rest none s) h
-    where
-      no_union : (rest : List ℕ) → NoFile (held ++ rest) → (s : Content) → Spells (held ++ rest) s → ⊥
-      no_union rest none s (inl f) = none s f
-      no_union rest none s (inr u) = other (sym (first rest) ∙ u.file.is.version)
-  spells_file (Err Device) other h = tt
-  spells_file (Err Memory) other h = tt
 
 -- ---- the answer
 
