@@ -1,7 +1,7 @@
 //! The editor: registers, and the history of their changes.
 ghost use Rattle.std.specs.Prelude.{◌≡◌, ◌≢◌, ℕ, ◌+◌, ◌<◌, ◌≤◌, ◌↔◌, [], ◌∷◌, length};
 ghost use Rattle.std.specs.Prelude.{replicate, IfOk, OnOk, OnErr, IsOk, IfSome, IsNone, slice_get, slice_set, Some};
-ghost use Rattle.std.specs.Prelude.{vec_len, MatchBool, MatchOption};
+ghost use Rattle.std.specs.Prelude.{vec_len, MatchBool};
 ghost use Rattle.s2list.specs.Union.{Union, has_leaf, IsLocal, IsNormalForm};
 ghost use Rattle.s2union.specs.Apply.{applied, Fits};
 ghost use Rattle.s2edit.specs.History.{untouched, Assigned, sets, undone, redone, numbers, EachList};

@@ -1,5 +1,4 @@
 //! Lists of edits.
-ghost use Rattle.std.specs.Prelude.{◌≡◌};
 ghost use Rattle.s2list.specs.Union.{has_leaf};
 ghost use Rattle.s2edit.specs.History.{sets};
 ghost use Rattle.s2edit.specs.Edits.{Edited, Ran};

@@ -1,9 +1,8 @@
 //! The parts of a session file, each taken from the front of the bytes that are left.
-ghost use Rattle.std.specs.Prelude.{◌≡◌, ◌*◌, ◌+◌, ◌<◌, ◌≤◌, ◌^◌, ℕ, List, length, map, All, flat_map, drop};
+ghost use Rattle.std.specs.Prelude.{◌≡◌, ◌*◌, ◌+◌, ◌<◌, ◌≤◌, length, map, drop};
 ghost use Rattle.std.specs.Prelude.{MatchResult, MatchBool, OnOk, vec_len};
 ghost use Rattle.std.specs.Vec.{vec_capacity};
 ghost use Rattle.std.specs.List.Sorted.{IsStrictlyIncreasing};
-ghost use Rattle.s2cell.specs.Cell.{IsCell};
 ghost use Rattle.s2list.specs.Union.{Union};
 ghost use Rattle.s2file.specs.File.{number_text};
 ghost use Rattle.s2file.specs.Session.{list_text, move_text, moves_text, diff_of, AreApart, AreCells, IsMove};

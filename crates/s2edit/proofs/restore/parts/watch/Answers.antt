@@ -1,4 +1,4 @@
-use Rattle.std.proofs.Common.{ℕ, true, List, ◌∙◌, sym, subst, arith}
+use Rattle.std.proofs.Common.{ℕ, List, ◌∙◌, sym, subst, arith}
 use Rattle.std.proofs.lemmas.Bool.{false≢true}
 use Rattle.std.proofs.lemmas.List.{at_drop_all}
 use Rattle.s2list.specs.Union.{has_leaf, IsWithin}
