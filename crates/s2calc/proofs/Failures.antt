@@ -4,6 +4,8 @@ use Rattle.std.proofs.Common.{List, [], ◌∷◌, refl, sym, ap, ◌∙◌, sub
 use Rattle.std.proofs.Math.Nat.{mod-add-mod}
 use Rattle.std.proofs.lemmas.List.Sums.{sum_by-cons}
 use Rattle.s2edit.specs.History.{History}
+use Rattle.s2edit.specs.declared.session.RestoreFault.{RestoreFault}
+use Rattle.s2edit.specs.declared.session.RestoreFault.TheVariants.{Fit, TooDeep, TooMany, Memory as NoRoom}
 use Rattle.s2shelf.specs.Shelf.{Files}
 use Rattle.s2shelf.proofs.Opened.{get_fails_for_device, get_fails_for_memory}
 use Rattle.s2calc.specs.declared.refusal.Refusal.{Refusal}
@@ -20,7 +22,7 @@ use Rattle.s2calc.specs.Replies.{Reply, Refuses}
 use Rattle.s2calc.specs.Questions.{AnswersYesIf, ListsSome, Answers}
 use Rattle.s2calc.specs.Edits.{Gets, Moves}
 use Rattle.s2calc.specs.Fetch.{FetchesUnion}
-use Rattle.s2calc.specs.Sessions.{FetchesNoState}
+use Rattle.s2calc.specs.Sessions.{refusal_of, FetchesNoState}
 use Rattle.s2calc.specs.Step.{Loads, WritesFile, Restores, Acts, StepBy}
 use Rattle.s2calc.specs.Run.{Steps}
 use Rattle.s2calc.specs.Laws.{is_of_shelf, is_failure, RoseBy}
@@ -49,7 +51,7 @@ answer_no_failure Sides state x a = ap is_failure a
 
 get_no_failure : (S : ℕ → Bool) (r : ℕ) (old new : History (List ℕ)) (x : Reply) → Gets S r old x new →
     is_failure x ≡ false
-get_no_failure S r old new x (inl a) = ap is_failure a.told
+get_no_failure S r old new x (inl a) = ap is_failure a.1
 get_no_failure S r old new x (inr (inl a)) = ap is_failure a.0
 get_no_failure S r old new x (inr (inr a)) = ap is_failure a.0
 
@@ -93,6 +95,13 @@ count_write P name a c x (inl l) = stays a c x (ap is_failure l.0) l.2.2.failure
 count_write P name a c x (inr (inl l)) = rises a c x (ap is_failure l.0) l.2.failed
 count_write P name a c x (inr (inr l)) = stays a c x (ap is_failure l.0) l.2.0.1
 
+-- what the editor refuses is no failure of the shelf
+not_of_shelf : (fault : RestoreFault) → is_of_shelf (refusal_of fault) ≡ false
+not_of_shelf Fit = refl
+not_of_shelf TooDeep = refl
+not_of_shelf TooMany = refl
+not_of_shelf NoRoom = refl
+
 -- a refusal that is answered, of what was fetched
 count_no_state : (name : List ℕ) (a c : World) (refusal : Refusal) (x : Reply) →
     FetchesNoState name a.files a.state refusal c.files → x ≡ Refuses refusal → IsCounted a c x
@@ -101,14 +110,8 @@ count_no_state name a c refusal x (inl (inr (inl l))) e =
     rises a c x (ap is_failure e ∙ ap is_of_shelf l.0) (get_fails_for_device a.files c.files name l.1).1
 count_no_state name a c refusal x (inl (inr (inr l))) e =
     stays a c x (ap is_failure e ∙ ap is_of_shelf l.0) (get_fails_for_memory a.files c.files name l.1).1
-count_no_state name a c refusal x (inr (bytes, fetched, inl l)) e =
-    stays a c x (ap is_failure e ∙ ap is_of_shelf l.0) fetched.asks.same.1
-count_no_state name a c refusal x (inr (bytes, fetched, inr (inl l))) e =
-    stays a c x (ap is_failure e ∙ ap is_of_shelf l.0) fetched.asks.same.1
-count_no_state name a c refusal x (inr (bytes, fetched, inr (inr (inl l)))) e =
-    stays a c x (ap is_failure e ∙ ap is_of_shelf l.0) fetched.asks.same.1
-count_no_state name a c refusal x (inr (bytes, fetched, inr (inr (inr l)))) e =
-    stays a c x (ap is_failure e ∙ ap is_of_shelf l) fetched.asks.same.1
+count_no_state name a c refusal x (inr (bytes, fetched, l)) e =
+    stays a c x (ap is_failure e ∙ ap is_of_shelf l.1 ∙ not_of_shelf l.0) fetched.asks.same.1
 
 count_restore : (name : List ℕ) (a c : World) (x : Reply) → Restores name a x c → IsCounted a c x
 count_restore name a c x (inl l) = stays a c x (ap is_failure l.3) l.1.asks.same.1

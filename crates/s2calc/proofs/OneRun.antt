@@ -13,8 +13,7 @@ use Rattle.s2cell.proofs.Squares.{one_leaf, one_square}
 use Rattle.s2list.specs.Union.{IsNormalForm}
 use Rattle.s2list.proofs.Normal.{one_normal_form, normal_form_same}
 use Rattle.s2edit.specs.History.{History, Assigned, numbers, undone, redone, sets}
-use Rattle.s2edit.specs.Session.{Text}
-use Rattle.s2edit.specs.SessionLaws.{IsKept}
+use Rattle.s2edit.specs.Session.{Text, Stored, IsKept, Restored}
 use Rattle.s2edit.proofs.OneEnd.{is_there}
 use Rattle.s2edit.proofs.Spelling.{text_is_stored}
 use Rattle.s2shelf.specs.Shelf.{Files, SameFiles, PutsFile}
@@ -33,7 +32,7 @@ use Rattle.s2calc.specs.Replies.{Reply, Says, Refuses}
 use Rattle.s2calc.specs.Texts.{cell_line, square_line, ok_line, done_line}
 use Rattle.s2calc.specs.Questions.{AnswersYesIf, ListsSome, Answers}
 use Rattle.s2calc.specs.Edits.{new_set, leaves_of, IsTooLong, Gets, Moves}
-use Rattle.s2calc.specs.Sessions.{TakesOver, RefusesBytes, FetchesNoState}
+use Rattle.s2calc.specs.Sessions.{RefusesBytes, FetchesNoState}
 use Rattle.s2calc.specs.Step.{Loads, WritesFile, Saves, Dumps, Restores, Acts, Step, StepBy}
 use Rattle.s2calc.specs.Run.{Steps}
 use Rattle.s2calc.specs.Laws.{SameWorld, IsPlain, AllPlain}
@@ -110,15 +109,17 @@ not_too_long S limit u t n h = let same = ap length (one_normal_form S u t.list 
 one_get : (S T : ℕ → Bool) (r : ℕ) (old new other : History (List ℕ)) (x y : Reply) → ((n : ℕ) → S n ≡ T n) →
     Gets S r old x new → Gets T r old y other → IsPlain x → IsPlain y → (x ≡ y) × (new ≡ other)
 one_get S T r old new other x y e (inl a) (inl b) p q =
-    let list : b.list ≡ a.list = one_normal_form T b.list a.list b.normal (normal_form_same S T a.list e a.normal) in
-    let state : new ≡ other = one_assignment old new other r a.list a.state
-    (subst (λ u. Assigned old r u other) list b.state) in
-    (a.told ∙ ap (λ line. Says line) (told_numbers old new other state) ∙ sym b.told, state)
+    let u = a.0.list in
+    let list : b.0.list ≡ u = one_normal_form T b.0.list u b.0.normal (normal_form_same S T u e a.0.normal) in
+    let state : new ≡ other = one_assignment old new other r u a.0.state
+    (subst (λ u. Assigned old r u other) list b.0.state) in
+    (a.1 ∙ ap (λ line. Says line) (told_numbers old new other state) ∙ sym b.1, state)
 one_get S T r old new other x y e (inl a) (inr (inl b)) p q =
-    absurd (not_too_long T old.limit a.list b.1 (normal_form_same S T a.list e a.normal) a.within)
+    absurd (not_too_long T old.limit a.0.list b.1 (normal_form_same S T a.0.list e a.0.normal) a.0.within)
 one_get S T r old new other x y e (inl a) (inr (inr b)) p q = absurd (q.0 b.0)
 one_get S T r old new other x y e (inr (inl a)) (inl b) p q =
-    absurd (not_too_long S old.limit b.list a.1 (normal_form_same T S b.list (λ n. sym (e n)) b.normal) b.within)
+    absurd (not_too_long S old.limit b.0.list a.1 (normal_form_same T S b.0.list (λ n. sym (e n)) b.0.normal)
+    b.0.within)
 one_get S T r old new other x y e (inr (inl a)) (inr (inl b)) p q = (a.0 ∙ sym b.0, a.2 ∙ sym b.2)
 one_get S T r old new other x y e (inr (inl a)) (inr (inr b)) p q = absurd (q.0 b.0)
 one_get S T r old new other x y e (inr (inr a)) b p q = absurd (p.0 a.0)
@@ -247,8 +248,8 @@ one_restored : (name : List ℕ) (a b c d : World) (x y : Reply) → SameWorld a
     Restores name a x c → Restores name b y d → IsPlain x → IsPlain y → (x ≡ y) × SameWorld c d
 one_restored name a b c d x y s t (inl l) (inl m) p q =
     let bytes : m.0 ≡ l.0 = sym (same_bytes a.files b.files c.files d.files name l.0 m.0 t l.1.asks m.1.asks) in
-    let other : TakesOver l.0 a.state d.state = subst (λ (st : History (List ℕ)). TakesOver l.0 st d.state)
-    (sym s.state) (subst (λ (xs : List ℕ). TakesOver xs b.state d.state) bytes m.2) in
+    let other : Restored (Stored l.0) a.state d.state = subst (λ (st : History (List ℕ)). Restored (Stored l.0) st
+    d.state) (sym s.state) (subst (λ (xs : List ℕ). Restored (Stored xs) b.state d.state) bytes m.2) in
     let state = one_taken l.0 a.state c.state d.state l.2 other in
     (l.3 ∙ sym m.3, files_kept a b c d s t.one state l.1.asks.same m.1.asks.same)
 one_restored name a b c d x y s t (inl l) (inr m) p q =
@@ -379,11 +380,13 @@ dumped name a b x t (inr (inr l)) p = absurd (p.0 l.0)
 
 -- a file that is taken over is restored
 is_restored : (name bytes : List ℕ) (c d : World) (state : History (List ℕ)) (y : Reply) → c.files.tells ≡ true →
-    c.files.at name ≡ Some bytes → TakesOver bytes c.state state
+    c.files.at name ≡ Some bytes → Restored (Stored bytes) c.state state
     → Restores name c y d → IsPlain y → (y ≡ Says done_line) × (d.state ≡ state)
 is_restored name bytes c d state y t there f (inl l) p =
-    let same : l.0 ≡ bytes = same_Some l.0 bytes (l.1.asks.holds t ∙ there) in
-    (l.3, one_taken bytes c.state d.state state (subst (λ (xs : List ℕ). TakesOver xs c.state d.state) same l.2) f)
+    let same : l.0 ≡ bytes = same_Some l.0 bytes (l.1.asks.holds t ∙ there) in (
+      l.3,
+      one_taken bytes c.state d.state state (subst (λ (xs : List ℕ). Restored (Stored xs) c.state d.state) same l.2) f,
+    )
 is_restored name bytes c d state y t there f (inr (refusal, inl (inl l), told, kept)) p =
     absurd (none-some bytes (l.1.holds t ∙ there))
 is_restored name bytes c d state y t there f (inr (refusal, inl (inr (inl l)), told, kept)) p =
@@ -405,9 +408,9 @@ gives_back a b c d line other name x y e f kept s r t u at limit depth p q =
     let dumps : StepBy (Does (Dump name)) a x b = subst (λ h. StepBy h a x b) e s.by in
     let restores : StepBy (Does (Restore name)) c y d = subst (λ h. StepBy h c y d) f r.by in
     let was = dumped name a b x t dumps p in
-    let back : TakesOver was.bytes c.state a.state =
+    let back : Restored (Stored was.bytes) c.state a.state =
     record {
-      stored = text_is_stored was.bytes a.state was.text;
+      tells = text_is_stored was.bytes a.state was.text;
       limit = sym limit;
       depth = sym depth;
       kept = kept;

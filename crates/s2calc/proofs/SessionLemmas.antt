@@ -1,5 +1,5 @@
 -- The bytes of a state, and what comes of them.
-use Rattle.std.proofs.Common.{◌≡◌, ◌≢◌, ℕ, ◌+◌, ◌≤◌, inl, inr, List, [], length, Option, None, Some, refl}
+use Rattle.std.proofs.Common.{◌≡◌, ◌≢◌, ℕ, inl, inr, List, [], Option, None, Some, refl}
 use Rattle.std.proofs.Common.{Result, Ok, Err, sym, ap, ◌∙◌, subst, arith}
 use Rattle.std.specs.Prelude.{IfOk, IfSome, MatchResult}
 use Rattle.s2file.specs.declared.session.Session.{Session as FileSession}
@@ -7,51 +7,18 @@ use Rattle.s2file.specs.declared.session.ReadFault.{ReadFault}
 use Rattle.s2file.specs.declared.session.ReadFault.TheVariants.{Form, Device as NotRead, Memory as NotHeld}
 use Rattle.s2file.specs.Reading.{RefusesToRead}
 use Rattle.s2file.specs.Session.{Content, IsContent, Spells, session_text, content_of}
-use Rattle.s2file.proofs.Spelled.{one_spelled}
-use Rattle.s2edit.specs.History.{History, EachList}
-use Rattle.s2edit.specs.Session.{Records, Stored, Restored, IsTooDeep, IsTooMany}
-use Rattle.s2edit.proofs.Spelling.{one_history}
+use Rattle.s2edit.specs.History.{History}
+use Rattle.s2edit.specs.Session.{Stored, Restored}
+use Rattle.s2edit.specs.declared.session.RestoreFault.TheVariants.{Fit}
+use Rattle.s2edit.proofs.Spelling.{one_history, fits_editor, one_fault}
 use Rattle.s2shelf.specs.Shelf.{Files, SameFiles, SameShelf, MayFind, Opens, Fails}
 use Rattle.s2shelf.specs.declared.shelf.ShelfFault.TheVariants.{Device, Memory as NoRoom}
 use Rattle.s2shelf.proofs.Opened.{opened_fails, opened_closes, get_fails_for_device, get_fails_for_memory}
 use Rattle.s2calc.specs.declared.refusal.Refusal.{Refusal}
 use Rattle.s2calc.specs.declared.refusal.Refusal.TheVariants.{File as NoFile, Memory, Session}
 use Rattle.s2calc.specs.Working.Sessions.{ReadAs}
-use Rattle.s2calc.specs.Sessions.{TakesOver, AreTooDeep, AreTooMany, RefusesBytes, FetchesNoState}
+use Rattle.s2calc.specs.Sessions.{refusal_of, RefusesBytes, FetchesNoState}
 use Rattle.s2calc.proofs.FetchLemmas.{TellSame, IsSettled, turned, same_bytes, bytes_or_none, same_fetch_refusal}
-
--- ---- a session that bytes spell
-
--- bytes whose session tells none stand for none
-pub unfit : (bytes : List ℕ) (s : Content) → Spells bytes s → ((h : History (List ℕ)) → Records s h → ⊥) →
-    (h : History (List ℕ)) → Stored bytes h → ⊥
-unfit bytes s p f h st = f h (subst (λ (x : Content). Records x h) (one_spelled bytes st.content s st.spells p)
-    st.tells)
-
-pub stored_by : (bytes : List ℕ) (s : Content) (h : History (List ℕ)) → Spells bytes s → Records s h → Stored bytes h
-stored_by bytes s h p t = record { content = s; spells = p; tells = t }
-
-pub taken : (bytes : List ℕ) (s : Content) (old new : History (List ℕ)) → Spells bytes s → Restored s old new →
-    TakesOver bytes old new
-taken bytes s old new p r = record {
-  stored = stored_by bytes s new p r.tells;
-  limit = r.limit;
-  depth = r.depth;
-  kept = record { few = r.few; kept = r.kept };
-}
-
-pub too_deep : (bytes : List ℕ) (s : Content) (old : History (List ℕ)) → Spells bytes s → IsTooDeep s old →
-    AreTooDeep bytes old
-too_deep bytes s old p d = record { history = d.history; stored = stored_by bytes s d.history p d.tells; deep = d.deep }
-
-pub too_many : (bytes : List ℕ) (s : Content) (old : History (List ℕ)) → Spells bytes s → IsTooMany s old →
-    AreTooMany bytes old
-too_many bytes s old p d = record {
-  history = d.history;
-  stored = stored_by bytes s d.history p d.tells;
-  kept = d.kept;
-  many = d.many;
-}
 
 -- ---- a session that is read from an opened file, of which reads will give the bytes `ahead`, if these are known, and
 -- which is closed afterwards
@@ -80,12 +47,12 @@ pub none_found : (old opened new : Files) (name : List ℕ) (ahead : Option (Lis
 none_found old opened new name None state opens same none = inr (
   [],
   opened_closes old opened new name None [] opens tt same,
-  inl (refl, λ h stored. nothing_spelled stored.content stored.spells),
+  (Fit, refl, λ h stored. nothing_spelled stored.content stored.spells),
 )
 none_found old opened new name (Some bytes) state opens same none = inr (
   bytes,
   opened_closes old opened new name (Some bytes) bytes opens refl same,
-  inl (refl, λ h stored. none stored.content stored.spells),
+  (Fit, refl, λ h stored. none stored.content stored.spells),
 )
 
 -- no session was read, since there was no memory
@@ -137,86 +104,35 @@ none_for_device old opened new name ahead state opens fails =
 -- the session of bytes that were found is taken over, or the bytes are refused
 pub found_and_taken : {T : Type 0} (r : Result T Refusal) (a c : Files) (name bytes : List ℕ)
     (old new : History (List ℕ)) → MayFind a name (Some bytes) c
-    → MatchResult r (λ _. TakesOver bytes old new) (λ refusal. RefusesBytes bytes old refusal)
-    → MatchResult r (λ _. (xs : List ℕ) × MayFind a name (Some xs) c × TakesOver xs old new)
+    → MatchResult r (λ _. Restored (Stored bytes) old new) (λ refusal. RefusesBytes bytes old refusal)
+    → MatchResult r (λ _. (xs : List ℕ) × MayFind a name (Some xs) c × Restored (Stored xs) old new)
     (λ refusal. FetchesNoState name a old refusal c)
 found_and_taken (Ok done) a c name bytes old new fetched taken = (bytes, fetched, taken)
 found_and_taken (Err refusal) a c name bytes old new fetched refuses = inr (bytes, fetched, refuses)
 
 -- ---- bytes stand for one history
 
--- the history in an editor of another limit and depth
-abbrev moved_to : History (List ℕ) → History (List ℕ) → History (List ℕ)
-moved_to h k = record { limit = k.limit; depth = k.depth; past = h.past; now = h.now; future = h.future }
-
-stored_moved : (bytes : List ℕ) (h k : History (List ℕ)) → Stored bytes h → Stored bytes (moved_to h k)
-stored_moved bytes h k st = record {
-  content = st.content;
-  spells = st.spells;
-  tells = record {
-    now = st.tells.now;
-    count = st.tells.count;
-    past = st.tells.past;
-    future = st.tells.future;
-    lists = record { past = st.tells.lists.past; now = st.tells.lists.now; future = st.tells.lists.future };
-    few = st.tells.few;
-  };
-}
-
--- what they stand for is one, but for limit and depth
-one_moved : (bytes : List ℕ) (h k : History (List ℕ)) → Stored bytes h → Stored bytes k → moved_to h k ≡ k
-one_moved bytes h k f g = one_history bytes (moved_to h k) k (stored_moved bytes h k f) g refl refl
-
-abbrev places : History (List ℕ) → ℕ
-places h = length h.past + length h.future
-
-one_length : (bytes : List ℕ) (h k : History (List ℕ)) → Stored bytes h → Stored bytes k → places h ≡ places k
-one_length bytes h k f g = ap places (one_moved bytes h k f g)
-
-pub one_taken : (bytes : List ℕ) (old c d : History (List ℕ)) → TakesOver bytes old c → TakesOver bytes old d → c ≡ d
-one_taken bytes old c d f g = one_history bytes c d f.stored g.stored (f.limit ∙ sym g.limit) (f.depth ∙ sym g.depth)
+pub one_taken : (bytes : List ℕ) (old c d : History (List ℕ)) → Restored (Stored bytes) old c →
+    Restored (Stored bytes) old d → c ≡ d
+one_taken bytes old c d f g = one_history bytes c d f.tells g.tells (f.limit ∙ sym g.limit) (f.depth ∙ sym g.depth)
 
 -- bytes that are taken over are refused only if there is no memory
 pub taken_or_refused : (bytes : List ℕ) (old new : History (List ℕ)) (refusal : Refusal) →
-    TakesOver bytes old new → RefusesBytes bytes old refusal → IsSettled refusal → ⊥
-taken_or_refused bytes old new refusal f (inl r) p = r.1 new f.stored
-taken_or_refused bytes old new refusal f (inr (inl r)) p =
-    let same = one_length bytes r.1.history new r.1.stored f.stored in
-    absurd (omega (arith, same, r.1.deep, f.kept.kept, f.depth))
-taken_or_refused bytes old new refusal f (inr (inr (inl r))) p =
-    let each : EachList (λ u. length u ≤ old.limit) new =
-    subst (λ (n : ℕ). EachList (λ u. length u ≤ n) new) f.limit f.kept.few in
-    let back : EachList (λ u. length u ≤ old.limit) (moved_to r.1.history new) =
-    subst (EachList (λ u. length u ≤ old.limit)) (sym (one_moved bytes r.1.history new r.1.stored f.stored))
-    each in
-    r.1.many (record { past = back.past; now = back.now; future = back.future })
-taken_or_refused bytes old new refusal f (inr (inr (inr r))) p = p.0 r
-
-deep_and_many : (bytes : List ℕ) (old : History (List ℕ)) → AreTooDeep bytes old → AreTooMany bytes old → ⊥
-deep_and_many bytes old f g = let same = one_length bytes f.history g.history f.stored g.stored in
-    absurd (omega (arith, same, f.deep, g.kept))
+    Restored (Stored bytes) old new → RefusesBytes bytes old refusal → IsSettled refusal → ⊥
+taken_or_refused bytes old new refusal f (fault, is, r) p =
+    p.0 (is ∙ ap refusal_of (fits_editor bytes new old fault f.tells f.kept (sym f.limit) (sym f.depth) r))
 
 pub one_refusal : (bytes : List ℕ) (old : History (List ℕ)) (x y : Refusal) → RefusesBytes bytes old x →
     RefusesBytes bytes old y → IsSettled x → IsSettled y → x ≡ y
-one_refusal bytes old x y (inl f) (inl g) p q = f.0 ∙ sym g.0
-one_refusal bytes old x y (inl f) (inr (inl g)) p q = absurd (f.1 g.1.history g.1.stored)
-one_refusal bytes old x y (inl f) (inr (inr (inl g))) p q = absurd (f.1 g.1.history g.1.stored)
-one_refusal bytes old x y (inl f) (inr (inr (inr g))) p q = absurd (q.0 g)
-one_refusal bytes old x y (inr (inl f)) (inl g) p q = absurd (g.1 f.1.history f.1.stored)
-one_refusal bytes old x y (inr (inl f)) (inr (inl g)) p q = f.0 ∙ sym g.0
-one_refusal bytes old x y (inr (inl f)) (inr (inr (inl g))) p q = absurd (deep_and_many bytes old f.1 g.1)
-one_refusal bytes old x y (inr (inl f)) (inr (inr (inr g))) p q = absurd (q.0 g)
-one_refusal bytes old x y (inr (inr (inl f))) (inl g) p q = absurd (g.1 f.1.history f.1.stored)
-one_refusal bytes old x y (inr (inr (inl f))) (inr (inl g)) p q = absurd (deep_and_many bytes old g.1 f.1)
-one_refusal bytes old x y (inr (inr (inl f))) (inr (inr (inl g))) p q = f.0 ∙ sym g.0
-one_refusal bytes old x y (inr (inr (inl f))) (inr (inr (inr g))) p q = absurd (q.0 g)
-one_refusal bytes old x y (inr (inr (inr f))) g p q = absurd (p.0 f)
+one_refusal bytes old x y (a, is, f) (b, are, g) p q =
+    is ∙ ap refusal_of (one_fault bytes old a b f g (λ e. p.0 (is ∙ ap refusal_of e))
+    (λ e. q.0 (are ∙ ap refusal_of e))) ∙ sym are
 
 -- ---- files
 
 -- a file that one shelf has, and whose bytes are taken over, is so over the other
 pub fetched_or_not : (a b c d : Files) (name bytes : List ℕ) (old new : History (List ℕ)) (y : Refusal) →
-    TellSame a b → MayFind a name (Some bytes) c → TakesOver bytes old new
+    TellSame a b → MayFind a name (Some bytes) c → Restored (Stored bytes) old new
     → FetchesNoState name b old y d → IsSettled y → ⊥
 fetched_or_not a b c d name bytes old new y s f t (inl g) q = bytes_or_none a b c d name bytes y s f.asks g q
 fetched_or_not a b c d name bytes old new y s f t (inr g) q =

@@ -30,8 +30,8 @@ KeepsOrGives r old new = (new ≡ old) ⊎ ((u : List ℕ) × (new ≡ changed o
 
 gets_gives : (S : ℕ → Bool) (r : ℕ) (old new : History (List ℕ)) (reply : Reply) → Gets S r old reply new →
     KeepsOrGives r old new
-gets_gives S r old new reply (inl h) = ⊎_elim (λ e. inl (h.state.same e)) (λ n. inr (h.list, h.state.differs n))
-    (is_there old.now r h.list)
+gets_gives S r old new reply (inl h) =
+    ⊎_elim (λ e. inl (h.0.state.same e)) (λ n. inr (h.0.list, h.0.state.differs n)) (is_there old.now r h.0.list)
 gets_gives S r old new reply (inr (inl h)) = inl h.2
 gets_gives S r old new reply (inr (inr h)) = inl h.1
 

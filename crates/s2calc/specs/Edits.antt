@@ -1,12 +1,13 @@
 -- What an edit does to a register.
-use Rattle.std.specs.Prelude.{◌≡◌, ◌≢◌, ℕ, ◌+◌, ◌<◌, ◌≤◌, ◌⊎◌, ◌&&◌, Bool, false, List, [], length}
+use Rattle.std.specs.Prelude.{◌≡◌, ◌≢◌, ℕ, ◌+◌, ◌<◌, ◌⊎◌, ◌&&◌, Bool, false, List, [], length}
 use Rattle.std.specs.Prelude.{Option, Some, None}
 use Rattle.s2cell.specs.Cell.{first_leaf, size_of}
 use Rattle.s2list.specs.Union.{has_leaf, between, IsNormalForm}
 use Rattle.s2list.specs.Sets.{either, shared, without}
 use Rattle.s2cover.specs.Rectangles.{Rect, rect_set}
 use Rattle.s2cover.specs.Coverings.{outer_set, inner_set}
-use Rattle.s2edit.specs.History.{History, Assigned, sets, numbers}
+use Rattle.s2edit.specs.History.{History, sets, numbers}
+use Rattle.s2edit.specs.Named.{Becomes}
 use Rattle.s2edit.specs.Leads.{list_at}
 use Rattle.s2script.specs.declared.command.RegisterEdit.{RegisterEdit}
 use Rattle.s2script.specs.declared.command.RegisterEdit.TheVariants.{Add, Remove, Keep, Clear, Copy}
@@ -45,16 +46,9 @@ new_set table r (Inner level rect) = inner_set (rect_set rect) level
 new_set table r (OuterOf s level rect) = outer_set (within rect (leaves_of table s)) level
 new_set table r (InnerOf s level rect) = inner_set (within rect (leaves_of table s)) level
 
--- The register r holds the normal form of S, which has at most `limit` cells; the history records the change, list for
--- list and set for set; and the reply is the numbers of cells taken out and put in.
-pub record RegisterBecomes (S : ℕ → Bool) (r : ℕ) (old : History (List ℕ)) (reply : Reply) (new : History (List ℕ)) :
-    Type 0 where
-  pub list : List ℕ
-  pub normal : IsNormalForm S list
-  pub within : length list ≤ old.limit
-  pub state : Assigned old r list new
-  pub state_sets : Assigned (sets old) r (has_leaf list) (sets new)
-  pub told : reply ≡ Says (ok_line (numbers old.now new.now).0 (numbers old.now new.now).1)
+-- the reply is the numbers of cells that were taken out and put in
+abbrev pub SaysNumbers : History (List ℕ) → Reply → History (List ℕ) → Type 0
+SaysNumbers old reply new = reply ≡ Says (ok_line (numbers old.now new.now).0 (numbers old.now new.now).1)
 
 -- S has a normal form, and it has more than `limit` cells
 pub record IsTooLong (S : ℕ → Bool) (limit : ℕ) : Type 0 where
@@ -62,10 +56,11 @@ pub record IsTooLong (S : ℕ → Bool) (limit : ℕ) : Type 0 where
   pub normal : IsNormalForm S list
   pub above : limit < length list
 
--- the register r gets the leaves of S; or their normal form has too many cells; or there is no memory
+-- the register r gets the leaves of S, and the reply is the numbers of cells; or their normal form has too many cells;
+-- or there is no memory
 abbrev pub Gets : (ℕ → Bool) → ℕ → History (List ℕ) → Reply → History (List ℕ) → Type 0
 Gets S r old reply new =
-    RegisterBecomes S r old reply new
+    (Becomes S r old new × SaysNumbers old reply new)
     ⊎ ((reply ≡ Refuses TooMany) × IsTooLong S old.limit × (new ≡ old))
     ⊎ ((reply ≡ Refuses Memory) × (new ≡ old))
 
@@ -74,6 +69,5 @@ Gets S r old reply new =
 abbrev pub Moves : List (List (List ℕ)) → History (List ℕ) → History (List ℕ) → History (ℕ → Bool) → Reply →
     History (List ℕ) → Type 0
 Moves side old moved moved_sets reply new =
-    ((side ≢ []) × (new ≡ moved) × (sets new ≡ moved_sets)
-    × (reply ≡ Says (ok_line (numbers old.now new.now).0 (numbers old.now new.now).1)))
+    ((side ≢ []) × (new ≡ moved) × (sets new ≡ moved_sets) × SaysNumbers old reply new)
     ⊎ ((side ≡ []) × (new ≡ old) × (reply ≡ Refuses Nothing))

@@ -2,7 +2,7 @@
 use Rattle.std.specs.Prelude.{◌≡◌, ℕ, ◌+◌, ◌≤◌, ◌⊎◌, Bool, true, List, [], ◌∷◌, length, Some, count_by}
 use Rattle.s2edit.specs.History.{changed}
 use Rattle.s2edit.specs.Leads.{table_at}
-use Rattle.s2edit.specs.SessionLaws.{IsKept}
+use Rattle.s2edit.specs.Session.{IsKept}
 use Rattle.s2file.specs.File.{Bytes, File, HasFault}
 use Rattle.s2file.specs.declared.fault.FileFault.{FileFault}
 use Rattle.s2shelf.specs.Shelf.{Finding, NoFile, Holding, Opened, Found}

@@ -10,12 +10,12 @@ use Rattle.s2calc.specs.declared.refusal.Refusal.{Refusal}
 use Rattle.s2calc.specs.declared.refusal.Refusal.TheVariants.{Words, File as NoFile, Memory}
 use Rattle.s2script.specs.Line.{line_of}
 use Rattle.s2edit.specs.History.{undone, redone, sets}
-use Rattle.s2edit.specs.Session.{Text}
+use Rattle.s2edit.specs.Session.{Text, Stored, Restored}
 use Rattle.s2calc.specs.World.{World}
 use Rattle.s2calc.specs.Replies.{Reply, Silent, Says, Refuses}
 use Rattle.s2calc.specs.Texts.{done_line}
 use Rattle.s2calc.specs.Fetch.{FetchesUnion}
-use Rattle.s2calc.specs.Sessions.{TakesOver, FetchesNoState}
+use Rattle.s2calc.specs.Sessions.{FetchesNoState}
 use Rattle.s2calc.specs.Questions.{Answers}
 use Rattle.s2calc.specs.Edits.{new_set, leaves_of, Gets, Moves}
 
@@ -47,8 +47,8 @@ Dumps name old reply new = WritesFile (Text old.state) name old reply new
 -- was
 abbrev pub Restores : List ℕ → World → Reply → World → Type 0
 Restores name old reply new =
-    ((bytes : List ℕ) × MayFind old.files name (Some bytes) new.files × TakesOver bytes old.state new.state
-    × (reply ≡ Says done_line))
+    ((bytes : List ℕ) × MayFind old.files name (Some bytes) new.files
+    × Restored (Stored bytes) old.state new.state × (reply ≡ Says done_line))
     ⊎ ((refusal : Refusal) × FetchesNoState name old.files old.state refusal new.files × (reply ≡ Refuses refusal)
     × (new.state ≡ old.state))
 

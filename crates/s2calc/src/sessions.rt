@@ -6,7 +6,8 @@ ghost use Rattle.s2shelf.specs.Shelf.{MayFind, Opens};
 ghost use Rattle.s2calc.specs.Working.Answer.{reply_of};
 ghost use Rattle.s2calc.specs.Working.Sessions.{ReadAs};
 ghost use Rattle.s2calc.specs.Fetch.{Fetches};
-ghost use Rattle.s2calc.specs.Sessions.{TakesOver, RefusesBytes, FetchesNoState};
+ghost use Rattle.s2edit.specs.Session.{Stored, Restored};
+ghost use Rattle.s2calc.specs.Sessions.{refusal_of, RefusesBytes, FetchesNoState};
 ghost use Rattle.s2calc.specs.Step.{Dumps, Restores};
 ghost use Rattle.s2calc.specs.World.{world};
 
@@ -63,7 +64,7 @@ fn take_over_file<S: Shelf>(
 ) -> Result<(), Refusal>
     ensures answer { MatchResult result
         (λ _. (bytes : List ℕ) × MayFind (S.files shelf.old) name.now (Some bytes) (S.files shelf.new)
-        × TakesOver bytes editor.old editor.new)
+        × Restored (Stored bytes) editor.old editor.new)
         (λ refusal. FetchesNoState name.now (S.files shelf.old) editor.old refusal (S.files shelf.new)) }
     ensures err { OnErr result (editor.new ≡ editor.old) }
 {
@@ -118,19 +119,28 @@ fn open_file<S: Shelf>(shelf: &mut S, name: &str) -> Result<S::Opened, Refusal>
 }
 
 /// Takes over the session that the bytes encode, or says why it can't.
-#[tactic(auto, using(crate::proofs::SessionLemmas::taken))]
+#[tactic(auto, using(s2edit::proofs::Spelling::restores_bytes))]
 fn take_over(editor: &mut Editor, session: Session) -> Result<(), Refusal>
     requires { IsContent (content_of session) }
     ensures answer { (bytes : List ℕ) → Spells bytes (content_of session) → MatchResult result
-        (λ _. TakesOver bytes editor.old editor.new)
+        (λ _. Restored (Stored bytes) editor.old editor.new)
         (λ refusal. RefusesBytes bytes editor.old refusal) }
     ensures err { OnErr result (editor.new ≡ editor.old) }
 {
     match editor.restore(session) {
         Ok(()) => Ok(()),
-        Err(RestoreFault::Fit) => Err(Refusal::Session),
-        Err(RestoreFault::TooDeep) => Err(Refusal::TooDeep),
-        Err(RestoreFault::TooMany) => Err(Refusal::TooMany),
-        Err(RestoreFault::Memory) => Err(Refusal::Memory),
+        Err(fault) => Err(refusal_of(fault)),
+    }
+}
+
+/// What is answered if the editor doesn't restore a session.
+fn refusal_of(fault: RestoreFault) -> Refusal
+    ensures { result ≡ refusal_of fault }
+{
+    match fault {
+        RestoreFault::Fit => Refusal::Session,
+        RestoreFault::TooDeep => Refusal::TooDeep,
+        RestoreFault::TooMany => Refusal::TooMany,
+        RestoreFault::Memory => Refusal::Memory,
     }
 }

@@ -12,7 +12,7 @@ use Rattle.s2edit.specs.History.{History, AllLists, AllTables}
 use Rattle.s2edit.specs.Diff.{inverse}
 use Rattle.s2edit.specs.Leads.{list_at}
 use Rattle.s2edit.specs.Working.Chain.{list_after, table_after, tables_after, FitAlong, lists_of, AllWithin, history}
-use Rattle.s2edit.specs.Session.{Records, Restored, IsTooDeep, IsTooMany, RefusesSession}
+use Rattle.s2edit.specs.Session.{Records, Restored, IsTooDeep, IsTooMany, RefusesToRestore}
 use Rattle.s2edit.specs.Working.Following.{FailsToFollow, MakesChanges}
 use Rattle.s2edit.specs.declared.session.RestoreFault.{RestoreFault}
 use Rattle.s2edit.specs.declared.session.RestoreFault.TheVariants.{Fit, TooDeep, TooMany, Memory}
@@ -69,7 +69,8 @@ module _ (s : Content) (content : IsContent s) where
   future_count : (t : List (List ℕ)) → length (tables_after t s.future) ≡ length s.future
   future_count t = length-tables_after t s.future
 
-  pub too_deep : (h : History (List ℕ)) → CanFollow s → h.depth < length s.past + length s.future → IsTooDeep s h
+  pub too_deep : (h : History (List ℕ)) → CanFollow s → h.depth < length s.past + length s.future →
+      IsTooDeep (Records s) h
   too_deep h can deep = record {
     history = history_told h.limit h.depth s;
     tells = tells_it h.limit h.depth s can content.few;
@@ -80,7 +81,7 @@ module _ (s : Content) (content : IsContent s) where
       → (AllLists (λ u. length u ≤ h.limit) s.registers →
       FitAlong h.limit s.registers (map inverse (reverse s.past)) →
       FitAlong h.limit s.registers s.future → ⊥)
-      → IsTooMany s h
+      → IsTooMany (Records s) h
   too_many h can kept none = record {
     history = history_told h.limit h.depth s;
     tells = tells_it h.limit h.depth s can content.few;
@@ -94,19 +95,20 @@ module _ (s : Content) (content : IsContent s) where
       length s.past + length s.future ≤ old.depth
       → AllWithin old.limit s.registers → FitAlong old.limit s.registers
       (map inverse (reverse s.past)) → FitAlong old.limit s.registers s.future
-      → Restored s old new
-  restored old new is can kept a p f = subst (Restored s old) (sym is) (record {
+      → Restored (Records s) old new
+  restored old new is can kept a p f = subst (Restored (Records s) old) (sym is) (record {
     tells = tells_it old.limit old.depth s can content.few;
     limit = refl;
     depth = refl;
-    few = record {
-      past = AllTables-within (λ u. length u ≤ old.limit) old.limit (λ u w. w.few) s.registers
-          (map inverse (reverse s.past)) a p;
-      now = AllLists-within (λ u. length u ≤ old.limit) old.limit (λ u w. w.few) s.registers a;
-      future = AllTables-within (λ u. length u ≤ old.limit) old.limit (λ u w. w.few) s.registers
-          s.future a f;
+    kept = record {
+      few = record {
+        past = AllTables-within (λ u. length u ≤ old.limit) old.limit (λ u w. w.few) s.registers
+            (map inverse (reverse s.past)) a p;
+        now = AllLists-within (λ u. length u ≤ old.limit) old.limit (λ u w. w.few) s.registers a;
+        future = AllTables-within (λ u. length u ≤ old.limit) old.limit (λ u w. w.few) s.registers s.future a f;
+      };
+      kept = omega (arith, kept, past_count s.registers, future_count s.registers);
     };
-    kept = omega (arith, kept, past_count s.registers, future_count s.registers);
   })
 
 -- a session whose changes can't be made tells no history
@@ -116,14 +118,14 @@ tells_none s none h w = none (can_follow s h w)
 -- a side that can't be followed
 pub past_fails : (s : Content) (h : History (List ℕ)) (fault : RestoreFault) →
     FailsToFollow fault (FitAlong SESSION_CELLS s.registers (map inverse (reverse s.past))) →
-    RefusesSession s h fault
+    RefusesToRestore (Records s) h fault
 past_fails s h Fit n = tells_none s (λ can. n can.past)
 past_fails s h TooDeep n = absurd n
 past_fails s h TooMany n = absurd n
 past_fails s h Memory n = tt
 
 pub future_fails : (s : Content) (h : History (List ℕ)) (fault : RestoreFault) →
-    FailsToFollow fault (FitAlong SESSION_CELLS s.registers s.future) → RefusesSession s h fault
+    FailsToFollow fault (FitAlong SESSION_CELLS s.registers s.future) → RefusesToRestore (Records s) h fault
 future_fails s h Fit n = tells_none s (λ can. n can.future)
 future_fails s h TooDeep n = absurd n
 future_fails s h TooMany n = absurd n
@@ -252,7 +254,7 @@ module _ (limit depth : ℕ) (us us' : List Union) (past' future' : List Diff) (
       }) future_is
 
   pub left_restored : (past future : List Diff) →
-      Restored s (history limit depth us past future) (history limit depth us' past' future')
+      Restored (Records s) (history limit depth us past future) (history limit depth us' past' future')
   left_restored past future =
       restored s content (history limit depth us past future) (history limit depth us' past' future') left_is
       (follows s content limit p f a b) kept now_within

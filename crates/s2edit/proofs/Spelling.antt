@@ -1,13 +1,13 @@
 -- Bytes and the histories that they stand for.
-use Rattle.std.proofs.Common.{◌≡◌, ℕ, ◌≤◌, Bool, List, length, inl, refl, sym, ap, ◌∙◌, subst, arith}
+use Rattle.std.proofs.Common.{◌≡◌, ◌≢◌, ℕ, ◌+◌, ◌≤◌, Bool, List, length, inl, refl, sym, ap, ◌∙◌, subst, arith}
 use Rattle.s2file.specs.Session.{Content, Spells}
 use Rattle.s2file.proofs.Spelled.{one_spelled}
 use Rattle.s2edit.specs.History.{History, EachList, sets}
-use Rattle.s2edit.specs.Session.{Records, Text, Stored, StoredSets, Restored, RefusesSession}
-use Rattle.s2edit.specs.SessionLaws.{IsKept}
+use Rattle.s2edit.specs.Session.{Records, Text, Stored, StoredSets, IsKept, Restored, IsTooDeep, IsTooMany}
+use Rattle.s2edit.specs.Session.{RefusesToRestore}
 use Rattle.s2edit.specs.declared.session.RestoreFault.{RestoreFault}
 use Rattle.s2edit.specs.declared.session.RestoreFault.TheVariants.{Fit, TooDeep, TooMany, Memory}
-use Rattle.s2edit.proofs.Telling.{one_told, told_past, told_future}
+use Rattle.s2edit.proofs.Telling.{one_told}
 use Rattle.s2edit.proofs.Contents.{told_content}
 
 pub spelled_text : (bytes : List ℕ) (h : History (List ℕ)) (t : Text h bytes) → Spells bytes t.content
@@ -36,49 +36,106 @@ tells_again bytes s h t p = subst (λ (x : Content). Records x h)
     (one_spelled bytes t.content s (spelled_text bytes h t) p) t.tells
 
 pub comes_back : (bytes : List ℕ) (s : Content) (h old new : History (List ℕ)) → Text h bytes → Spells bytes s →
-    old.limit ≡ h.limit → old.depth ≡ h.depth → Restored s old new → new ≡ h
+    old.limit ≡ h.limit → old.depth ≡ h.depth → Restored (Records s) old new → new ≡ h
 comes_back bytes s h old new t p e d r = one_told s new h r.tells (tells_again bytes s h t p) (r.limit ∙ e)
     (r.depth ∙ d)
 
--- a session that tells a history which the editor may keep is not refused
-fits_editor : (s : Content) (h old : History (List ℕ)) (fault : RestoreFault) → Records s h → IsKept h →
-    old.limit ≡ h.limit → old.depth ≡ h.depth
-    → RefusesSession s old fault → fault ≡ Memory
-fits_editor s h old Fit w k e d r = absurd (r h w)
-fits_editor s h old TooDeep w k e d r =
-    absurd (omega (
-      arith,
-      r.deep,
-      d,
-      k.kept,
-      told_past s r.history r.tells,
-      told_future s r.history r.tells,
-      told_past s h w,
-      told_future s h w,
-    ))
-fits_editor s h old TooMany w k e d r =
-    let same : record r.history { limit = h.limit; depth = h.depth } ≡ h =
-    one_told s (record r.history { limit = h.limit; depth = h.depth }) h
-    (moved_to s r.history h.limit h.depth r.tells) w refl refl in
+-- ---- what bytes stand for, by what the session that they spell tells
+
+pub stored_by : (bytes : List ℕ) (s : Content) (h : History (List ℕ)) → Spells bytes s → Records s h → Stored bytes h
+stored_by bytes s h p t = record { content = s; spells = p; tells = t }
+
+pub restores_bytes : (bytes : List ℕ) (s : Content) (old new : History (List ℕ)) → Spells bytes s →
+    Restored (Records s) old new → Restored (Stored bytes) old new
+restores_bytes bytes s old new p r = record {
+  tells = stored_by bytes s new p r.tells;
+  limit = r.limit;
+  depth = r.depth;
+  kept = r.kept;
+}
+
+pub refuses_bytes : (bytes : List ℕ) (s : Content) (old : History (List ℕ)) (fault : RestoreFault) → Spells bytes s →
+    RefusesToRestore (Records s) old fault → RefusesToRestore (Stored bytes) old fault
+refuses_bytes bytes s old Fit p r =
+    λ h st. r h (subst (λ (x : Content). Records x h) (one_spelled bytes st.content s st.spells p) st.tells)
+refuses_bytes bytes s old TooDeep p r =
+    record { history = r.history; tells = stored_by bytes s r.history p r.tells; deep = r.deep }
+refuses_bytes bytes s old TooMany p r = record {
+  history = r.history;
+  tells = stored_by bytes s r.history p r.tells;
+  kept = r.kept;
+  many = r.many;
+}
+refuses_bytes bytes s old Memory p r = tt
+
+-- ---- bytes stand for one history, but for limit and depth
+
+-- the history in an editor of another limit and depth
+abbrev moved_to : History (List ℕ) → History (List ℕ) → History (List ℕ)
+moved_to h k = record { limit = k.limit; depth = k.depth; past = h.past; now = h.now; future = h.future }
+
+stored_moved : (bytes : List ℕ) (h k : History (List ℕ)) → Stored bytes h → Stored bytes (moved_to h k)
+stored_moved bytes h k st = record {
+  content = st.content;
+  spells = st.spells;
+  tells = record {
+    now = st.tells.now;
+    count = st.tells.count;
+    past = st.tells.past;
+    future = st.tells.future;
+    lists = record { past = st.tells.lists.past; now = st.tells.lists.now; future = st.tells.lists.future };
+    few = st.tells.few;
+  };
+}
+
+one_moved : (bytes : List ℕ) (h k : History (List ℕ)) → Stored bytes h → Stored bytes k → moved_to h k ≡ k
+one_moved bytes h k f g = one_history bytes (moved_to h k) k (stored_moved bytes h k f) g refl refl
+
+abbrev places : History (List ℕ) → ℕ
+places h = length h.past + length h.future
+
+one_length : (bytes : List ℕ) (h k : History (List ℕ)) → Stored bytes h → Stored bytes k → places h ≡ places k
+one_length bytes h k f g = ap places (one_moved bytes h k f g)
+
+-- ---- one refusal
+
+-- bytes that stand for a history which the editor may keep are refused only if there is no memory
+pub fits_editor : (bytes : List ℕ) (h old : History (List ℕ)) (fault : RestoreFault) → Stored bytes h → IsKept h →
+    old.limit ≡ h.limit → old.depth ≡ h.depth → RefusesToRestore (Stored bytes) old fault → fault ≡ Memory
+fits_editor bytes h old Fit f k e d r = absurd (r h f)
+fits_editor bytes h old TooDeep f k e d r =
+    absurd (omega (arith, one_length bytes r.history h r.tells f, r.deep, k.kept, d))
+fits_editor bytes h old TooMany f k e d r =
     let each : EachList (λ u. length u ≤ old.limit) h =
     subst (λ (n : ℕ). EachList (λ u. length u ≤ n) h) (sym e) k.few in
-    let back : EachList (λ u. length u ≤ old.limit) (record r.history { limit = h.limit; depth = h.depth }) =
-    subst (EachList (λ u. length u ≤ old.limit)) (sym same) each in
+    let back : EachList (λ u. length u ≤ old.limit) (moved_to r.history h) =
+    subst (EachList (λ u. length u ≤ old.limit)) (sym (one_moved bytes r.history h r.tells f)) each in
     absurd (r.many (record { past = back.past; now = back.now; future = back.future }))
-  where
-    moved_to : (s : Content) (h : History (List ℕ)) (limit depth : ℕ) → Records s h →
-        Records s (record h { limit = limit; depth = depth })
-    moved_to s h limit depth w = record {
-      now = w.now;
-      count = w.count;
-      past = w.past;
-      future = w.future;
-      lists = record { past = w.lists.past; now = w.lists.now; future = w.lists.future };
-      few = w.few;
-    }
-fits_editor s h old Memory w k e d r = refl
+fits_editor bytes h old Memory f k e d r = refl
+
+deep_and_many : (bytes : List ℕ) (old : History (List ℕ)) → IsTooDeep (Stored bytes) old →
+    IsTooMany (Stored bytes) old → ⊥
+deep_and_many bytes old f g = let same = one_length bytes f.history g.history f.tells g.tells in
+    absurd (omega (arith, same, f.deep, g.kept))
+
+pub one_fault : (bytes : List ℕ) (old : History (List ℕ)) (x y : RestoreFault) →
+    RefusesToRestore (Stored bytes) old x → RefusesToRestore (Stored bytes) old y → x ≢ Memory → y ≢ Memory → x ≡ y
+one_fault bytes old Memory y f g p q = absurd (p refl)
+one_fault bytes old Fit Memory f g p q = absurd (q refl)
+one_fault bytes old TooDeep Memory f g p q = absurd (q refl)
+one_fault bytes old TooMany Memory f g p q = absurd (q refl)
+one_fault bytes old Fit Fit f g p q = refl
+one_fault bytes old Fit TooDeep f g p q = absurd (f g.history g.tells)
+one_fault bytes old Fit TooMany f g p q = absurd (f g.history g.tells)
+one_fault bytes old TooDeep Fit f g p q = absurd (g f.history f.tells)
+one_fault bytes old TooDeep TooDeep f g p q = refl
+one_fault bytes old TooDeep TooMany f g p q = absurd (deep_and_many bytes old f g)
+one_fault bytes old TooMany Fit f g p q = absurd (g f.history f.tells)
+one_fault bytes old TooMany TooDeep f g p q = absurd (deep_and_many bytes old g f)
+one_fault bytes old TooMany TooMany f g p q = refl
 
 pub not_refused : (bytes : List ℕ) (s : Content) (h old : History (List ℕ)) (fault : RestoreFault) → Text h bytes →
     Spells bytes s → IsKept h →
-    old.limit ≡ h.limit → old.depth ≡ h.depth → RefusesSession s old fault → fault ≡ Memory
-not_refused bytes s h old fault t p k e d r = fits_editor s h old fault (tells_again bytes s h t p) k e d r
+    old.limit ≡ h.limit → old.depth ≡ h.depth → RefusesToRestore (Records s) old fault → fault ≡ Memory
+not_refused bytes s h old fault t p k e d r =
+    fits_editor bytes h old fault (text_is_stored bytes h t) k e d (refuses_bytes bytes s old fault p r)

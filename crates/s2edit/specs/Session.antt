@@ -52,31 +52,37 @@ pub record StoredSets (bytes : List ℕ) (h : History (ℕ → Bool)) : Type 0 w
   pub stored : Stored bytes lists
   pub are : h ≡ sets lists
 
--- the new history is the one that the session tells, with the limit and depth of the old one, and keeps to them
-pub record Restored (s : Content) (old new : History (List ℕ)) : Type 0 where
-  pub tells : Records s new
-  pub limit : new.limit ≡ old.limit
-  pub depth : new.depth ≡ old.depth
-  pub few : EachList (λ u. length u ≤ new.limit) new
-  pub kept : length new.past + length new.future ≤ new.depth
+-- The lists of the history keep to its limit, and the number of its states to its depth, as those of an editor do.
+pub record IsKept (h : History (List ℕ)) : Type 0 where
+  pub few : EachList (λ u. length u ≤ h.limit) h
+  pub kept : length h.past + length h.future ≤ h.depth
 
--- the session tells a history with more states than the editor keeps
-pub record IsTooDeep (s : Content) (editor : History (List ℕ)) : Type 0 where
-  pub history : History (List ℕ)
-  pub tells : Records s history
-  pub deep : editor.depth < length history.past + length history.future
+-- `Tells` says whether a history is the one to restore: a session tells it, or bytes stand for it
+module _ (Tells : History (List ℕ) → Type 0) where
+  -- the new history is the one to restore, with the limit and depth of the old one, and keeps to them
+  pub record Restored (old new : History (List ℕ)) : Type 0 where
+    pub tells : Tells new
+    pub limit : new.limit ≡ old.limit
+    pub depth : new.depth ≡ old.depth
+    pub kept : IsKept new
 
--- the session tells a history that is not too deep, but has a list of more cells than a register may have
-pub record IsTooMany (s : Content) (editor : History (List ℕ)) : Type 0 where
-  pub history : History (List ℕ)
-  pub tells : Records s history
-  pub kept : length history.past + length history.future ≤ editor.depth
-  pub many : EachList (λ u. length u ≤ editor.limit) history → ⊥
+  -- the history to restore has more states than the editor keeps
+  pub record IsTooDeep (editor : History (List ℕ)) : Type 0 where
+    pub history : History (List ℕ)
+    pub tells : Tells history
+    pub deep : editor.depth < length history.past + length history.future
 
--- why a session is refused: it tells no history, or the history is too deep, or a list has too many cells; or memory
--- ran out
-abbrev pub RefusesSession : Content → History (List ℕ) → RestoreFault → Type 0
-RefusesSession s editor Fit = (h : History (List ℕ)) → Records s h → ⊥
-RefusesSession s editor TooDeep = IsTooDeep s editor
-RefusesSession s editor TooMany = IsTooMany s editor
-RefusesSession s editor Memory = Unit {0}
+  -- the history to restore is not too deep, but has a list of more cells than a register may have
+  pub record IsTooMany (editor : History (List ℕ)) : Type 0 where
+    pub history : History (List ℕ)
+    pub tells : Tells history
+    pub kept : length history.past + length history.future ≤ editor.depth
+    pub many : EachList (λ u. length u ≤ editor.limit) history → ⊥
+
+  -- why nothing is restored: there is no history to restore, or it is too deep, or a list has too many cells; or memory
+  -- ran out
+  abbrev pub RefusesToRestore : History (List ℕ) → RestoreFault → Type 0
+  RefusesToRestore editor Fit = (h : History (List ℕ)) → Tells h → ⊥
+  RefusesToRestore editor TooDeep = IsTooDeep editor
+  RefusesToRestore editor TooMany = IsTooMany editor
+  RefusesToRestore editor Memory = Unit {0}

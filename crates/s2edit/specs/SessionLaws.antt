@@ -1,15 +1,10 @@
 -- The laws of sessions.
-use Rattle.std.specs.Prelude.{◌≡◌, ℕ, ◌+◌, ◌≤◌, Bool, List, length}
+use Rattle.std.specs.Prelude.{◌≡◌, ℕ, Bool, List}
 use Rattle.s2file.specs.Session.{Content, Spells}
-use Rattle.s2edit.specs.History.{History, EachList}
-use Rattle.s2edit.specs.Session.{Text, Stored, StoredSets, Restored, RefusesSession}
+use Rattle.s2edit.specs.History.{History}
+use Rattle.s2edit.specs.Session.{Records, Text, Stored, StoredSets, IsKept, Restored, RefusesToRestore}
 use Rattle.s2edit.specs.declared.session.RestoreFault.{RestoreFault}
 use Rattle.s2edit.specs.declared.session.RestoreFault.TheVariants.{Memory}
-
--- The lists of the history keep to its limit, and the number of its states to its depth, as those of an editor do.
-pub record IsKept (h : History (List ℕ)) : Type 0 where
-  pub few : EachList (λ u. length u ≤ h.limit) h
-  pub kept : length h.past + length h.future ≤ h.depth
 
 -- For a given limit and depth, bytes stand for at most one history, list for list and set for set. The text of a
 -- history stands for it. If an editor with the history's limit and depth restores the session that the text spells, its
@@ -21,7 +16,7 @@ pub record LawOfSessions : Type 0 where
       h.limit ≡ k.limit → h.depth ≡ k.depth → h ≡ k
   pub text_is_stored : (bytes : List ℕ) (h : History (List ℕ)) → Text h bytes → Stored bytes h
   pub comes_back : (bytes : List ℕ) (s : Content) (h old new : History (List ℕ)) → Text h bytes → Spells bytes s →
-      old.limit ≡ h.limit → old.depth ≡ h.depth → Restored s old new → new ≡ h
+      old.limit ≡ h.limit → old.depth ≡ h.depth → Restored (Records s) old new → new ≡ h
   pub not_refused : (bytes : List ℕ) (s : Content) (h old : History (List ℕ)) (fault : RestoreFault) →
       Text h bytes → Spells bytes s → IsKept h →
-      old.limit ≡ h.limit → old.depth ≡ h.depth → RefusesSession s old fault → fault ≡ Memory
+      old.limit ≡ h.limit → old.depth ≡ h.depth → RefusesToRestore (Records s) old fault → fault ≡ Memory

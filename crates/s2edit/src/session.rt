@@ -7,7 +7,7 @@ ghost use Rattle.s2file.specs.Session.{content_of, diff_of, IsContent, IsMove};
 ghost use Rattle.s2edit.specs.History.{AllLists};
 ghost use Rattle.s2edit.specs.Diff.{inverse};
 ghost use Rattle.s2edit.specs.Working.Chain.{lists_of};
-ghost use Rattle.s2edit.specs.Session.{Records, Text, Restored, RefusesSession};
+ghost use Rattle.s2edit.specs.Session.{Records, Text, Restored, RefusesToRestore};
 ghost use Rattle.s2edit.specs.Working.Following.{HaveRoom, KeepRoom};
 ghost use Rattle.s2edit.specs.declared.session.RestoreFault.TheVariants.{Memory};
 
@@ -89,8 +89,8 @@ impl Editor {
     /// list of m cells.
     pub fn restore(&mut self, session: Session) -> Result<(), RestoreFault>
         requires { IsContent (content_of session) }
-        ensures answer { MatchResult result (λ _. Restored (content_of session) self.old self.new)
-            (λ fault. RefusesSession (content_of session) self.old fault) }
+        ensures answer { MatchResult result (λ _. Restored (Records (content_of session)) self.old self.new)
+            (λ fault. RefusesToRestore (Records (content_of session)) self.old fault) }
         ensures err { OnErr result (self.new ≡ self.old) }
     {
         let Session {

@@ -10,7 +10,7 @@ use Rattle.s2file.specs.declared.TheConstants.{SESSION_CELLS}
 use Rattle.s2edit.specs.History.{History, AllLists}
 use Rattle.s2edit.specs.Diff.{inverse}
 use Rattle.s2edit.specs.Working.Chain.{lists_of, AllWithin, FitAlong, history}
-use Rattle.s2edit.specs.Session.{Restored, IsTooDeep, IsTooMany}
+use Rattle.s2edit.specs.Session.{Records, Restored, IsTooDeep, IsTooMany}
 use Rattle.s2edit.specs.Working.Following.{FailsToFollow, MakesChanges}
 use Rattle.s2edit.proofs.Contents.{turned, all_reverse}
 use Rattle.s2edit.proofs.Following.{have_room, keep_room, keep_count}
@@ -83,7 +83,7 @@ returns-then-len-self-clause-answer c =
       c.invert-2.new.moves.ok,
       length-map s.future.items diff_of,
     ) in
-    subst (IsTooDeep (content_of s)) c.self.view_is
+    subst (IsTooDeep (Records (content_of s))) c.self.view_is
     (too_deep (content_of s) c.requires (history e.limit e.depth e.registers.items e.past.items e.future.items)
     (follows (content_of s) c.requires e.limit c.in_ok-past_within.past_within c.in_ok-future_within.future_within
     a b) deep)
@@ -116,7 +116,7 @@ returns-then-not-both-clause-answer c =
     ) in
     let failed = sym (c.both.ensures ∙ ap (λ (x : Bool). x && c.are_within.result) c.both-changes_within.ensures)
     ∙ c.if-not-both.true in
-    subst (IsTooMany (content_of s)) c.self.view_is
+    subst (IsTooMany (Records (content_of s))) c.self.view_is
     (too_many (content_of s) c.requires (history e.limit e.depth e.registers.items e.past.items e.future.items)
     (follows (content_of s) c.requires e.limit p f a b) kept
     (λ now past future. not_three p f c.are_within.result failed (a.many past) (b.many future)
@@ -150,7 +150,7 @@ pub record Taken (limit depth : ℕ) (us us' : List Union) (past' future' : List
   pub past : FitAlong limit (lists_of us') (map inverse past')
   pub future : FitAlong limit (lists_of us') future'
   pub bound : length past' + length future' ≤ depth
-  pub restored : (past future : List Diff) → Restored s (history limit depth us past future)
+  pub restored : (past future : List Diff) → Restored (Records s) (history limit depth us past future)
       (history limit depth us' past' future')
 
 taken : (c : goal.After-drop-registers-2) → Taken c.self.inside.limit c.self.inside.depth
@@ -209,7 +209,7 @@ returns-clause-answer c =
     let e = c.self.inside in
     let new : History (List ℕ) = history e.limit e.depth c.take_all.new.unions.items c.fill.new.ring.items
     c.fill-2.new.ring.items in
-    subst (λ (h : History (List ℕ)). Restored (content_of c.args.session) h new) c.self.view_is
+    subst (λ (h : History (List ℕ)). Restored (Records (content_of c.args.session)) h new) c.self.view_is
     ((taken c).restored e.past.items e.future.items)
 
 pub invariant_of-self : goal.invariant_of-self
