@@ -9,6 +9,7 @@ use Rattle.s2calc.specs.declared.refusal.Refusal.{Refusal}
 use Rattle.s2calc.specs.declared.refusal.Refusal.TheVariants.{Words, Missing, File, Format, Session, TooDeep, TooMany}
 use Rattle.s2calc.specs.declared.refusal.Refusal.TheVariants.{Nothing, Memory}
 use Rattle.s2calc.specs.Refusals.{name_of}
+use Rattle.s2calc.specs.Calls.{Call, NoneFailed, LastFailed}
 use Rattle.s2calc.specs.Replies.{Reply, Silent, Says, Refuses}
 
 -- where a line does not fit, if it does not
@@ -53,18 +54,21 @@ notes_from n (line ∷ ls) (reply ∷ replies) = note_of (number_of n) line repl
 abbrev pub notes_of : List (List ℕ) → List Reply → List ℕ
 notes_of ls replies = notes_from 1 ls replies
 
--- what is known of a writer of notes: the bytes that were written, and whether it has stopped
+-- what is known of a writer of notes: the bytes that were written, the calls of the writer below, and whether it has
+-- stopped
 pub record Noted : Type 0 where
   pub contents : Option (List ℕ)
+  pub calls : Option (List Call)
   pub stopped : Bool
 
--- A beginning of the notes was written, and all of them if the writer has not stopped. It stops only where some byte of
--- a note was not written, and writes nothing after that.
+-- A beginning of the notes was written. If the writer has not stopped, all of them were, and no call of the writer
+-- below failed. It stops only where such a call failed, the last one, and some byte of a note was not written. After
+-- that it calls and writes nothing.
 pub record WritesNotes (old : Noted) (notes : List ℕ) (new : Noted) : Type 0 where
   pub part : List ℕ
   pub rest : List ℕ
   pub notes_are : notes ≡ part ++ rest
   pub written : Appends old.contents new.contents part
-  pub whole : new.stopped ≡ false → rest ≡ []
-  pub lacking : old.stopped ≡ false → new.stopped ≡ true → 0 < length rest
-  pub stays : old.stopped ≡ true → (part ≡ []) × (new.stopped ≡ true)
+  pub whole : new.stopped ≡ false → (rest ≡ []) × NoneFailed ⊥ old.calls new.calls
+  pub lacking : old.stopped ≡ false → new.stopped ≡ true → (0 < length rest) × LastFailed ⊥ old.calls new.calls
+  pub stays : old.stopped ≡ true → (part ≡ []) × (new.calls ≡ old.calls) × (new.stopped ≡ true)

@@ -1,5 +1,6 @@
 -- What a contract sees of a `NoteWriter`.
 use Rattle.std.specs.Prelude.{ℕ, List, Bool, Option}
+use Rattle.s2calc.specs.Calls.{Call}
 use Rattle.s2calc.specs.Notes.{Noted}
 
 -- the writer below, and whether it has stopped
@@ -8,6 +9,7 @@ pub record Noting (W : Type 0) : Type 0 where
   pub stopped : Bool
 
 module _ {W : Type 0} where
-  -- what is known of a writer of notes, if this is known of the writer below
-  abbrev pub noted_by : (W → Option (List ℕ)) → Noting W → Noted
-  noted_by contents n = record { contents = contents n.writer; stopped = n.stopped }
+  -- what is known of a writer of notes, if this is known of the writer below: its bytes, and its calls
+  abbrev pub noted_by : (W → Option (List ℕ)) → (W → Option (List Call)) → Noting W → Noted
+  noted_by contents calls n =
+      record { contents = contents n.writer; calls = calls n.writer; stopped = n.stopped }

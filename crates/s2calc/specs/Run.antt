@@ -39,7 +39,7 @@ known world input reads output calls noted =
 
 -- nothing is known of the notes, since none are written
 abbrev pub no_notes : Noted
-no_notes = record { contents = None; stopped = false }
+no_notes = record { contents = None; calls = None; stopped = false }
 
 -- the replies that came out whole, if these bytes of their texts are left: all of them, or all but the last
 abbrev pub came_out : List Reply → List ℕ → List Reply

@@ -269,9 +269,9 @@ pub fn run_explained<R: Source, W: Sink, S: Shelf, N: Sink>(
 ) -> Result<Tally, RunFault>
     ensures runs { Runs (Unit {0})
         (known (world editor.old (S.files shelf.old)) (input_of R.remaining R.given reader.old) (R.reads reader.old)
-        (written_to W.contents writer.old) (W.calls writer.old.writer) (noted_by N.contents notes.old))
+        (written_to W.contents writer.old) (W.calls writer.old.writer) (noted_by N.contents N.calls notes.old))
         (known (world editor.new (S.files shelf.new)) (input_of R.remaining R.given reader.new) (R.reads reader.new)
-        (written_to W.contents writer.new) (W.calls writer.new.writer) (noted_by N.contents notes.new)) result }
+        (written_to W.contents writer.new) (W.calls writer.new.writer) (noted_by N.contents N.calls notes.new)) result }
     ensures nothing_waits { MatchResult result (λ _. writer.new.waiting ≡ []) (λ fault. fault ≡ RunFault.Input →
         writer.new.waiting ≡ []) }
     ensures few_wait { length writer.new.waiting ≤ MOST_WAITING }
@@ -300,9 +300,9 @@ pub fn run_explained_observed<
 ) -> Result<Tally, RunFault>
     ensures runs { (run : Runs (Unit {0})
         (known (world editor.old (S.files shelf.old)) (input_of R.remaining R.given reader.old) (R.reads reader.old)
-        (written_to W.contents writer.old) (W.calls writer.old.writer) (noted_by N.contents notes.old))
+        (written_to W.contents writer.old) (W.calls writer.old.writer) (noted_by N.contents N.calls notes.old))
         (known (world editor.new (S.files shelf.new)) (input_of R.remaining R.given reader.new) (R.reads reader.new)
-        (written_to W.contents writer.new) (W.calls writer.new.writer) (noted_by N.contents notes.new)) result)
+        (written_to W.contents writer.new) (W.calls writer.new.writer) (noted_by N.contents N.calls notes.new)) result)
         × Ordered (written_to W.contents) (λ b. W.calls b.writer) (λ b. b.waiting ≡ []) S.files (Unit {0})
         (world editor.old (S.files shelf.old)) writer.old run.ran (O.seen observer.old) (O.seen observer.new) result }
     ensures nothing_waits { MatchResult result (λ _. writer.new.waiting ≡ []) (λ fault. fault ≡ RunFault.Input →

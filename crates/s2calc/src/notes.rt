@@ -1,20 +1,21 @@
 //! What a run says of the lines that it refuses.
-ghost use Rattle.std.specs.Prelude.{◌≡◌, false, IfOk, IfErr, [], ◌∷◌, ◌++◌};
-ghost use Rattle.std.specs.Fmt.{WritesOnOk};
+ghost use Rattle.std.specs.Prelude.{◌≡◌, false, IfOk, IfErr, [], ◌∷◌, ◌++◌, codes, decimal};
+ghost use Rattle.std.specs.Fmt.{WritesInCalls};
 ghost use Rattle.s2script.specs.Line.{misfit_of};
 ghost use Rattle.s2calc.specs.Replies.{Reply};
 ghost use Rattle.s2calc.specs.Working.Execute.{IsOutcome};
 ghost use Rattle.s2calc.specs.Notes.{WritesNotes, note_of, note_text, reason_of, misfit_reason};
 ghost use Rattle.s2calc.specs.Noting.{noted_by};
+ghost use Rattle.s2calc.specs.Refusals.{name_of};
+ghost use Rattle.s2calc.specs.Working.Noting.{noted};
 
 use crate::execute::Outcome;
 use crate::limits::NOTE_ROOM;
 use crate::output::emit;
 use crate::refusal::Refusal;
 use crate::streams::Sink;
-use s2script::misfit_of;
+use s2script::{TextSink, misfit_of, put_number, put_part};
 use std::alloc::Global;
-use std::fmt;
 use std::marker::Model;
 
 /// Where notes on refused lines go.
@@ -42,68 +43,126 @@ impl Notes for NoNotes {
     fn note(&mut self, _number: u64, _line: &[u8], _outcome: Outcome) {}
 }
 
-/// Why a line is refused, as it is shown: `line 7: error cell: 'zz' is not a cell (a token or a debug text)`.
-#[derive(Drop)]
-struct Note<'a> {
-    number: u64,
-    line: &'a [u8],
-    refusal: Refusal,
+/// Puts the note on a line: `line 7: error cell: 'zz' is not a cell (a token or a debug text)`.
+#[tactic(auto, using(s2script::proofs::TextLemmas::parts))]
+fn put_note<T: TextSink>(number: u64, line: &[u8], refusal: Refusal, text: &mut T)
+    ensures { WritesInCalls T.puts text.old (note_text number line.now refusal ++ 10 ∷ []) text.new }
+{
+    put_head(number, refusal, text);
+    put_reason(line, refusal, text);
+    put_part(b"\n", text);
 }
 
-/// Writes why a line is refused.
-fn write_reason<W: fmt::Write>(
-    line: &[u8],
-    refusal: Refusal,
-    f: &mut fmt::Formatter<W>,
-) -> fmt::Result
-    ensures { WritesOnOk W.write_str_gives f.old result (reason_of line.now refusal) f.new }
+/// Puts the number of a line, and the name of its refusal.
+#[tactic(auto, using(s2script::proofs::TextLemmas::parts))]
+fn put_head<T: TextSink>(number: u64, refusal: Refusal, text: &mut T)
+    ensures { WritesInCalls T.puts text.old
+        (codes "line " ++ decimal number ++ codes ": error " ++ name_of refusal ++ codes ": ") text.new }
+{
+    put_part(b"line ", text);
+    put_number(number, text);
+    put_part(b": error ", text);
+    put_part(refusal.name().as_bytes(), text);
+    put_part(b": ", text);
+}
+
+/// Puts why a line is refused.
+fn put_reason<T: TextSink>(line: &[u8], refusal: Refusal, text: &mut T)
+    ensures { WritesInCalls T.puts text.old (reason_of line.now refusal) text.new }
 {
     match refusal {
-        Refusal::Words(_) => write_misfit(line, f),
-        Refusal::Missing => f.write_str("there is no file of that name"),
-        Refusal::File => f.write_str("the file could not be read or written"),
-        Refusal::Format => f.write_str("the file is not a union file"),
-        Refusal::Session => f.write_str("the file is not a session file"),
-        Refusal::TooDeep => f.write_str("the session has more states than the depth"),
-        Refusal::TooMany => f.write_str("there would be more cells than are allowed"),
-        Refusal::Nothing => f.write_str("there is nothing to undo or redo"),
-        Refusal::Memory => f.write_str("out of memory"),
+        Refusal::Words(_) => put_misfit(line, text),
+        Refusal::Missing => put_part(b"there is no file of that name", text),
+        Refusal::File => put_part(b"the file could not be read or written", text),
+        Refusal::Format => put_part(b"the file is not a union file", text),
+        Refusal::Session => put_part(b"the file is not a session file", text),
+        Refusal::TooDeep => put_part(b"the session has more states than the depth", text),
+        Refusal::TooMany => put_part(b"there would be more cells than are allowed", text),
+        Refusal::Nothing => put_part(b"there is nothing to undo or redo", text),
+        Refusal::Memory => put_part(b"out of memory", text),
     }
 }
 
-/// Writes where a line does not fit, if it does not.
-fn write_misfit<W: fmt::Write>(line: &[u8], f: &mut fmt::Formatter<W>) -> fmt::Result
-    ensures { WritesOnOk W.write_str_gives f.old result (misfit_reason (misfit_of line.now)) f.new }
+/// Puts where a line does not fit, if it does not.
+#[tactic(auto, using(s2script::proofs::TextLemmas::parts))]
+fn put_misfit<T: TextSink>(line: &[u8], text: &mut T)
+    ensures { WritesInCalls T.puts text.old (misfit_reason (misfit_of line.now)) text.new }
 {
     match misfit_of(line) {
-        Some(misfit) => write!(f, "{misfit}"),
-        None => Ok(()),
+        Some(misfit) => misfit.put_text(text),
+        None => {}
     }
 }
 
-impl<'a> fmt::Display for Note<'a> {
-    ghost use Rattle.std.specs.Prelude.{Some};
-    ghost use Rattle.s2calc.specs.Notes.{note_text};
+/// Notes on their way to a writer. The parts of a note wait until it is complete, so that one write has all of it.
+#[derive(Drop)]
+struct NoteText<W> {
+    writer: W,
+    waiting: Vec<u8>,
+    stopped: bool,
+}
 
-    ghost output = { λ note. Some (note_text note.number note.line.now note.refusal) };
+/// Writes bytes, unless a write has failed before.
+fn pass<W: Sink>(writer: &mut W, stopped: &mut bool, bytes: &[u8])
+    ensures { WritesNotes (noted W.contents W.calls writer.old stopped.old) bytes.now
+        (noted W.contents W.calls writer.new stopped.new) }
+{
+    if *stopped {
+        return;
+    }
+    match emit(writer, bytes) {
+        Ok(()) => {}
+        Err(_) => *stopped = true,
+    }
+}
 
-    fn fmt<W: fmt::Write>(&self, f: &mut fmt::Formatter<W>) -> fmt::Result {
-        write!(f, "line {}: error {}: ", self.number, self.refusal.name())?;
-        write_reason(self.line, self.refusal, f)
+impl<W: Sink> NoteText<W> {
+    /// Writes what waits.
+    fn pass_on(&mut self)
+        ensures passes { WritesNotes (noted W.contents W.calls self.old.writer self.old.stopped) self.old.waiting.items
+            (noted W.contents W.calls self.new.writer self.new.stopped) }
+        ensures nothing_waits { self.new.waiting.items ≡ [] }
+    {
+        pass(&mut self.writer, &mut self.stopped, self.waiting.as_slice());
+        self.waiting.clear();
+    }
+
+    /// Writes what waits, and then a part.
+    fn pass_with(&mut self, part: &[u8])
+        ensures passes { WritesNotes (noted W.contents W.calls self.old.writer self.old.stopped)
+            (self.old.waiting.items ++ part.now) (noted W.contents W.calls self.new.writer self.new.stopped) }
+        ensures nothing_waits { self.new.waiting.items ≡ [] }
+    {
+        self.pass_on();
+        pass(&mut self.writer, &mut self.stopped, part);
+    }
+}
+
+impl<W: Sink> TextSink for NoteText<W> {
+    ghost use Rattle.s2calc.specs.Working.Noting.{Puts};
+
+    ghost puts = { Puts W.contents W.calls };
+
+    /// A part that finds no room waits for nothing.
+    fn put(&mut self, part: &[u8]) {
+        match self.waiting.extend_from_slice(part) {
+            Ok(()) => {}
+            Err(_) => self.pass_with(part),
+        }
     }
 }
 
 /// A writer of notes: one line for each refused line of a run, with its number, the refusal and the reason.
 ///
-/// If a note can't be written, the writer stops: it writes no more notes, and the run goes on.
+/// If a call of the writer below fails, this stops: it calls that no more, and the run goes on. So a note is missing
+/// only if such a call failed.
 #[derive(Drop)]
 pub struct NoteWriter<W> {
-    writer: W,
-    text: String,
-    stopped: bool,
+    notes: NoteText<W>,
 }
 
 impl<W> Model for NoteWriter<W> {
+    ghost use Rattle.std.specs.Prelude.{◌≡◌, []};
     ghost use Rattle.s2calc.specs.Noting.{Noting};
     ghost use Rattle.s2calc.specs.Working.Noting.{noting_code};
 
@@ -111,7 +170,9 @@ impl<W> Model for NoteWriter<W> {
 
     ghost coded = { noting_code W.code };
 
-    ghost view = { λ n. record { writer = n.writer; stopped = n.stopped } };
+    ghost view = { λ n. record { writer = n.notes.writer; stopped = n.notes.stopped } };
+
+    ghost invariant = { λ n. n.notes.waiting.items ≡ [] };
 }
 
 impl<W: Sink + Drop> NoteWriter<W> {
@@ -122,11 +183,13 @@ impl<W: Sink + Drop> NoteWriter<W> {
         ensures writes { IfOk result (λ n. n.stopped ≡ false) }
         ensures given_back { IfErr result (λ w. w ≡ writer) }
     {
-        match String::with_capacity(alloc, NOTE_ROOM) {
-            Ok(text) => Ok(NoteWriter {
-                writer,
-                text,
-                stopped: false,
+        match Vec::with_capacity(alloc, NOTE_ROOM) {
+            Ok(waiting) => Ok(NoteWriter {
+                notes: NoteText {
+                    writer,
+                    waiting,
+                    stopped: false,
+                },
             }),
             Err(_) => Err(writer),
         }
@@ -138,48 +201,34 @@ impl<W> NoteWriter<W> {
     pub fn into_writer(self) -> W
         ensures { result ≡ self.writer }
     {
-        self.writer
+        self.notes.writer
     }
 
     /// Whether a note could not be written.
     pub fn has_stopped(&self) -> bool
         ensures { result ≡ self.now.stopped }
     {
-        self.stopped
+        self.notes.stopped
     }
 }
 
 impl<W: Sink> NoteWriter<W> {
     /// Writes a note, unless it has stopped.
-    fn write_note(&mut self, note: Note<'_>)
-        ensures { WritesNotes (noted_by W.contents self.old)
-            (note_text note.entry.number note.entry.line.now note.entry.refusal ++ 10 ∷ [])
-            (noted_by W.contents self.new) }
+    fn write_note(&mut self, number: u64, line: &[u8], refusal: Refusal)
+        ensures { WritesNotes (noted_by W.contents W.calls self.old) (note_text number line.now refusal ++ 10 ∷ [])
+            (noted_by W.contents W.calls self.new) }
     {
-        if self.stopped {
-            return;
-        }
-        self.text.clear();
-        if self.text.writeln(note).is_err() {
-            self.stopped = true;
-            return;
-        }
-        if emit(&mut self.writer, self.text.as_bytes()).is_err() {
-            self.stopped = true;
-        }
+        put_note(number, line, refusal, &mut self.notes);
+        self.notes.pass_on();
     }
 }
 
 impl<W: Sink> Notes for NoteWriter<W> {
-    ghost noted = { noted_by W.contents };
+    ghost noted = { noted_by W.contents W.calls };
 
     fn note(&mut self, number: u64, line: &[u8], outcome: Outcome) {
         if let Outcome::Refused(refusal) = outcome {
-            self.write_note(Note {
-                number,
-                line,
-                refusal,
-            });
+            self.write_note(number, line, refusal);
         }
     }
 }

@@ -1,17 +1,20 @@
 -- What a writer was given, by its calls.
-use Rattle.std.proofs.Common.{◌≡◌, ◌<◌, ℕ, ◌⊎◌, List, [], ◌∷◌, ◌++◌, length, Some, Result, Ok, Err, OnOk, OnErr}
+use Rattle.std.proofs.Common.{◌≡◌, ◌<◌, ℕ, ◌⊎◌, false, List, [], ◌∷◌, ◌++◌, length, Some, Result, Ok, Err, OnOk, OnErr}
 use Rattle.std.proofs.Common.{refl, sym, ap, ◌∙◌, subst, inl, inr, append-nil, append_assoc, length-append, arith}
+use Rattle.std.specs.Fmt.{WritesInCalls}
 use Rattle.std.specs.Io.KnownBytes.{Appends}
+use Rattle.std.specs.List.{FoldsTo, concat}
 use Rattle.s2calc.specs.Output.{AppendsPart}
 use Rattle.s2calc.specs.Calls as calls
 use Rattle.s2calc.specs.Calls.{Call, AllWell}
 use Rattle.s2calc.proofs.CallLemmas.{all_well_may, all_well_more}
+use Rattle.s2process.specs.declared.errors.TextInMemory.{TextInMemory}
 use Rattle.s2process.specs.declared.writer.ListedWriter.{ListedWriter}
 use Rattle.s2process.specs.StreamCalls.{taken_in, ended_in}
 use Rattle.s2process.specs.Listed.{calls_of, taken, called}
 use Rattle.s2process.specs.Ends.{NoneFailed, LastFailed}
 use Rattle.s2process.specs.Errors.{Tells}
-use Rattle.s2process.specs.Working.Errors.{TellsMore}
+use Rattle.s2process.specs.Working.Errors.{TellsMore, Puts}
 use Rattle.s2process.proofs.ProcessLemmas.{gained_known}
 
 module _ {E : Type 0} (old new : ListedWriter E) where
@@ -137,3 +140,20 @@ said_or_not {E} said old new (inr same) = (
   inr refl,
   subst (λ (w : ListedWriter E). TellsMore [] old w) (sym same) (nothing_given old),
 )
+
+puts_parts : (a : TextInMemory) (parts : List (List ℕ)) (b : TextInMemory) → FoldsTo Puts a parts b → b.lost ≡ false →
+    (a.lost ≡ false) × (b.bytes.items ≡ a.bytes.items ++ concat parts)
+puts_parts a [] b is kept = subst (λ (x : TextInMemory). (a.lost ≡ false) × (x.bytes.items ≡ a.bytes.items ++ [])) is
+    (ap (λ (x : TextInMemory). x.lost) is ∙ kept, sym (append-nil a.bytes.items))
+puts_parts a (x ∷ xs) b p kept =
+    let after = puts_parts p.0 xs b p.2 kept in
+    let before = p.1 after.0 in (
+      before.0,
+      after.1 ∙ ap (λ bytes. bytes ++ concat xs) before.1 ∙ append_assoc a.bytes.items x (concat xs),
+    )
+
+-- a text that was put where nothing was, and of which nothing is lost
+pub put_whole : (a b : TextInMemory) (text : List ℕ) → a.bytes.items ≡ [] → WritesInCalls Puts a text b →
+    b.lost ≡ false → b.bytes.items ≡ text
+put_whole a b text none p kept =
+    (puts_parts a p.parts b p.calls kept).1 ∙ ap (λ bytes. bytes ++ concat p.parts) none ∙ p.whole

@@ -22,6 +22,7 @@ use Rattle.s2calc.specs.Moments.{Event, Came, NotCame, LineBegins, LineEnds, Mom
 use Rattle.s2calc.specs.Moments.{Adds}
 use Rattle.s2calc.specs.Order as order
 use Rattle.s2calc.specs.Order.{InOrder, Ordered, HasEnded}
+use Rattle.s2calc.proofs.CallLemmas.{none_failed_may, last_failed_may}
 use Rattle.s2process.specs.Ends.{NoneFailed, LastFlushed, LastFailed, ReadsLast, ReadsStop, ReadsWell}
 use Rattle.s2process.specs.Order.{AllOut, GoneOut, ReadsWhen, LineWhen, MayCome, EachMay}
 use Rattle.s2process.specs.Process.{Did, WereReadWhole, InsideAnswer, AllLines, WholeLines, BesideFile}
@@ -314,10 +315,17 @@ module _ {V S : Type 0} (taken : V → List ℕ) (called : V → List Call) (fil
         }
 
     -- the notes, where none was written before
-    module _ (taken_old taken_new : List ℕ) (stopped : Bool) (none_taken : taken_old ≡ [])
-        (old_is : noted_old.contents ≡ Some taken_old) (new_is : noted_new.contents ≡ Some taken_new)
-        (writes : noted_old.stopped ≡ false) (stopped_is : noted_new.stopped ≡ stopped) where
-      notes_written : (ran : Ran old new) → Explains (did ran) taken_new stopped
+    module _ (taken_old taken_new : List ℕ) (called_old called_new : List Call) (stopped : Bool)
+        (none_taken : taken_old ≡ []) (none_called : called_old ≡ []) (old_is : noted_old.contents ≡ Some taken_old)
+        (new_is : noted_new.contents ≡ Some taken_new) (old_calls : noted_old.calls ≡ Some called_old)
+        (new_calls : noted_new.calls ≡ Some called_new) (writes : noted_old.stopped ≡ false)
+        (stopped_is : noted_new.stopped ≡ stopped) where
+      -- what is said of the calls that are known
+      of_calls : (P : Option (List Call) → Option (List Call) → Type 0) → P noted_old.calls noted_new.calls →
+          P (Some called_old) (Some called_new)
+      of_calls P p = subst (P (Some called_old)) new_calls (subst (λ o. P o noted_new.calls) old_calls p)
+
+      notes_written : (ran : Ran old new) → Explains (did ran) taken_new called_new stopped
       notes_written ran =
           let w = ran.noted in
           let all : taken_new ≡ taken_old ++ w.part = subst (λ (o : Option (List ℕ)). Appends o (Some taken_new)
@@ -326,8 +334,16 @@ module _ {V S : Type 0} (taken : V → List ℕ) (called : V → List Call) (fil
           record {
             rest = w.rest;
             notes_are = w.notes_are ∙ ap (λ xs. xs ++ w.rest) (sym (all ∙ ap (λ xs. xs ++ w.part) none_taken));
-            whole = λ e. w.whole (stopped_is ∙ e);
-            lacking = λ e. w.lacking writes (stopped_is ∙ e);
+            whole = λ e. let h = w.whole (stopped_is ∙ e) in (
+              h.0,
+              none_failed called_old called_new none_called (none_failed_may (Unit {0}) (Some called_old)
+                  (Some called_new) (of_calls (calls.NoneFailed ⊥) h.1)),
+            );
+            lacking = λ e. let h = w.lacking writes (stopped_is ∙ e) in (
+              h.0,
+              last_failed called_old called_new none_called (last_failed_may (Unit {0}) (Some called_old)
+                  (Some called_new) (of_calls (calls.LastFailed ⊥) h.1)),
+            );
           }
 
       pub explains : (seen_old seen_new : List (Moment (Buffered V) S)) (result : Result Tally RunFault) →
@@ -336,7 +352,7 @@ module _ {V S : Type 0} (taken : V → List ℕ) (called : V → List Call) (fil
           × Ordered contents known_calls sent files (Unit {0}) start first r.ran (Some seen_old) (Some seen_new) result)
           → (waits : MatchResult result (λ _. last.waiting ≡ []) (λ fault. fault ≡ Input → last.waiting ≡ []))
           → (few : length last.waiting ≤ MOST_WAITING)
-          → Explains (process seen_old seen_new result none runs waits few).did taken_new stopped
+          → Explains (process seen_old seen_new result none runs waits few).did taken_new called_new stopped
       unfolding process
       explains seen_old seen_new (Ok tally) none (r, ordered) waits few = notes_written r.ran
       explains seen_old seen_new (Err Input) none (r, ordered) waits few = notes_written r.ran

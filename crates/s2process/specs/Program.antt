@@ -79,10 +79,10 @@ module _ {R W E S : Type 0} (ended : Ended R W E S) where
   pub record TellsNotes {start now : World} {written waiting : List ℕ} (did : Did start now written waiting)
       (text : List ℕ) : Type 0 where
     pub notes : List ℕ
-    pub stopped : Bool
-    pub explains : Explains did notes stopped
-    pub bytes : List ℕ
     pub noted : List Call
+    pub stopped : Bool
+    pub explains : Explains did notes noted stopped
+    pub bytes : List ℕ
     pub calls : List Call
     pub taken_are : taken ended.streams.errors ≡ notes ++ bytes
     pub called_are : called ended.streams.errors ≡ noted ++ calls

@@ -1,13 +1,14 @@
 //! What standard error gets.
-ghost use Rattle.std.specs.Prelude.{◌≡◌, ◌++◌, ◌⊎◌, ℕ, List, Ok, IfOk, string_bytes, map};
+ghost use Rattle.std.specs.Prelude.{◌≡◌, ◌⊎◌, ℕ, List, Ok, IfSome, string_bytes, map};
+ghost use Rattle.std.specs.Fmt.{WritesInCalls};
 ghost use Rattle.s2process.specs.Working.Errors.{TellsMore};
 ghost use Rattle.s2process.specs.Errors.{IsSaidAfter, fault_line, fault_line_of, usage_text};
 ghost use Rattle.s2process.specs.Errors.{misnamed_line, misnamed_lines};
 
 use crate::writer::ListedWriter;
 use s2calc::{RunFault, Sink, emit};
-use s2script::misnamed_in;
-use std::alloc::{AllocError, Global};
+use s2script::{TextSink, misnamed_in, put_part};
+use std::alloc::Global;
 
 /// Tells a text. If a call fails, the rest of it is left out.
 fn tell<E: Sink>(errors: &mut ListedWriter<E>, text: &[u8])
@@ -86,28 +87,64 @@ fn tell_misnamed<E: Sink>(alloc: Global, errors: &mut ListedWriter<E>, words: &[
         ⊎ (errors.new ≡ errors.old) }
 {
     match misnamed_lines(alloc, words) {
-        Ok(lines) => tell(errors, lines.as_bytes()),
-        Err(_) => {}
+        Some(lines) => tell(errors, lines.as_slice()),
+        None => {}
     }
 }
 
-/// Of each word that is no file's name the line that says why.
-fn misnamed_lines(alloc: Global, words: &[String]) -> Result<String, AllocError>
-    ensures { IfOk result (λ lines. string_bytes lines ≡ misnamed_lines (map string_bytes words.now)) }
+/// A text that is made in memory. If there is none for a part, that is lost.
+#[derive(Drop)]
+struct TextInMemory {
+    bytes: Vec<u8>,
+    lost: bool,
+}
+
+impl TextSink for TextInMemory {
+    ghost use Rattle.s2process.specs.Working.Errors.{Puts};
+
+    ghost puts = { Puts };
+
+    fn put(&mut self, part: &[u8]) {
+        match self.bytes.extend_from_slice(part) {
+            Ok(()) => {}
+            Err(_) => self.lost = true,
+        }
+    }
+}
+
+/// Of each word that is no file's name the line that says why, if there is memory for all of them.
+fn misnamed_lines(alloc: Global, words: &[String]) -> Option<Vec<u8>>
+    ensures { IfSome result (λ lines. lines.items ≡ misnamed_lines (map string_bytes words.now)) }
 {
-    let mut lines = String::new(alloc);
-    for word in words {
-        add_misnamed_line(&mut lines, word.as_str())?;
-    }
-    Ok(lines)
+    let mut lines = TextInMemory {
+        bytes: Vec::new(alloc),
+        lost: false,
+    };
+    put_misnamed_lines(words, &mut lines);
+    if lines.lost { None } else { Some(lines.bytes) }
 }
 
-/// Adds the line on a word, if it is no file's name.
-fn add_misnamed_line(lines: &mut String, word: &str) -> Result<(), AllocError>
-    ensures { IfOk result (λ _. string_bytes lines.new ≡ string_bytes lines.old ++ misnamed_line word.now) }
+/// Puts of each word that is no file's name the line that says why.
+#[tactic(auto, using(s2script::proofs::TextLemmas::parts))]
+fn put_misnamed_lines<T: TextSink>(words: &[String], text: &mut T)
+    ensures { WritesInCalls T.puts text.old (misnamed_lines (map string_bytes words.now)) text.new }
+{
+    for word in words {
+        put_misnamed_line(word.as_str(), text);
+    }
+}
+
+/// Puts the line on a word, if it is no file's name.
+#[tactic(auto, using(s2script::proofs::TextLemmas::parts))]
+fn put_misnamed_line<T: TextSink>(word: &str, text: &mut T)
+    ensures { WritesInCalls T.puts text.old (misnamed_line word.now) text.new }
 {
     match misnamed_in(word.as_bytes()) {
-        Some(misnamed) => writeln!(lines, "s2calc: {misnamed}"),
-        None => Ok(()),
+        Some(misnamed) => {
+            put_part(b"s2calc: ", text);
+            misnamed.put_text(text);
+            put_part(b"\n", text);
+        }
+        None => {}
     }
 }

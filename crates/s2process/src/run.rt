@@ -59,7 +59,7 @@ pub fn run_explained_listed<R: Source, W: Sink, S: Shelf, N: Sink>(
     ensures { (runs : RunsListed taken called S.files (given reader.new) (reads reader.new)
         (world editor.old (S.files shelf.old)) (world editor.new (S.files shelf.new)) (moments_of witness.new)
         writer.new.writer writer.new.waiting result)
-        × Explains runs.did (taken notes.new.writer) notes.new.stopped }
+        × Explains runs.did (taken notes.new.writer) (called notes.new.writer) notes.new.stopped }
 {
     run_explained_observed(alloc, editor, reader, writer, shelf, notes, witness)
 }

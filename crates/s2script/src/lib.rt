@@ -29,6 +29,7 @@ mod refusal;
 mod similar;
 mod span;
 mod table;
+mod text;
 mod words;
 mod worked;
 
@@ -45,5 +46,6 @@ pub use place::Place;
 pub use refusal::Refusal;
 pub use span::Span;
 pub use table::HELP;
+pub use text::{TextSink, put_number, put_part};
 pub use words::Word;
 pub use worked::examples;

@@ -1,8 +1,11 @@
-//! What is printed for a line that does not fit. Each `Display` writes the text that the definitions give.
-ghost use Rattle.std.specs.Prelude.{flat_map, filter};
-ghost use Rattle.std.specs.Fmt.{WritesOnOk};
+//! What is said of a line that does not fit. Each function puts the text that the definitions give.
+#![tactic(auto, using(crate::proofs::TextLemmas::parts))]
+
+ghost use Rattle.std.specs.Prelude.{◌++◌, ◌<◌, codes, flat_map, filter, length, Some};
+ghost use Rattle.std.specs.Fmt.{WritesInCalls};
 ghost use Rattle.s2script.specs.FileName.{unfit_index};
 ghost use Rattle.s2script.specs.MisfitTexts.{shown_byte, word_text, ranged, byte_text, other_text, question_text};
+ghost use Rattle.s2script.specs.MisfitTexts.{wanted_text, unfit_text, misfit_text};
 ghost use Rattle.s2script.specs.Similar.{is_like, commands_like};
 
 use crate::limits::{
@@ -12,165 +15,188 @@ use crate::limits::{
 use crate::misfit::{Misfit, Wanted};
 use crate::name::unfit_index;
 use crate::similar::{names, next_like};
-use crate::words::{Word, Words};
-use std::fmt;
+use crate::text::{TextSink, put_char, put_number, put_part};
+use crate::words::Words;
 
-/// Writes a byte as `escape_ascii` does.
-fn write_byte<W: fmt::Write>(byte: u8, f: &mut fmt::Formatter<W>) -> fmt::Result
-    ensures { WritesOnOk W.write_str_gives f.old result (shown_byte byte) f.new }
+/// Puts a byte as `escape_ascii` does.
+fn put_byte<T: TextSink>(byte: u8, text: &mut T)
+    ensures { WritesInCalls T.puts text.old (shown_byte byte) text.new }
 {
     let mut rest = byte.escape_ascii();
     'escape: while let Some(escaped) = rest.next() {
-        f.write_char(char::from(escaped))?;
+        put_char(char::from(escaped), text);
     }
-    Ok(())
 }
 
-/// Writes each of the bytes as `escape_ascii` does.
-pub(crate) fn write_bytes<W: fmt::Write>(bytes: &[u8], f: &mut fmt::Formatter<W>) -> fmt::Result
-    ensures { WritesOnOk W.write_str_gives f.old result (flat_map shown_byte bytes.now) f.new }
+/// Puts each of the bytes as `escape_ascii` does.
+pub(crate) fn put_bytes<T: TextSink>(bytes: &[u8], text: &mut T)
+    ensures { WritesInCalls T.puts text.old (flat_map shown_byte bytes.now) text.new }
 {
     for byte in bytes {
-        write_byte(*byte, f)?;
+        put_byte(*byte, text);
     }
-    Ok(())
 }
 
-/// Writes a word between quotes.
-fn write_word<W: fmt::Write>(word: &[u8], f: &mut fmt::Formatter<W>) -> fmt::Result
-    ensures { WritesOnOk W.write_str_gives f.old result (word_text word.now) f.new }
+/// Puts a word between quotes.
+fn put_word<T: TextSink>(word: &[u8], text: &mut T)
+    ensures { WritesInCalls T.puts text.old (word_text word.now) text.new }
 {
-    f.write_str("'")?;
-    write_bytes(word, f)?;
-    f.write_str("'")
+    put_part(b"'", text);
+    put_bytes(word, text);
+    put_part(b"'", text);
 }
 
-/// Writes which byte of a word is the first that may not stand there in a file's name, if there is one.
-fn write_unfit_byte<W: fmt::Write>(word: &[u8], f: &mut fmt::Formatter<W>) -> fmt::Result
-    ensures { WritesOnOk W.write_str_gives f.old result (byte_text word.now (unfit_index word.now)) f.new }
+/// Puts which byte of a word is the first that may not stand there in a file's name, if there is one.
+fn put_unfit_byte<T: TextSink>(word: &[u8], text: &mut T)
+    ensures { WritesInCalls T.puts text.old (byte_text word.now (unfit_index word.now)) text.new }
 {
     match unfit_index(word) {
-        None => Ok(()),
-        Some(index) => {
-            write!(f, ": byte {} is '", index + 1)?;
-            write_byte(word[index], f)?;
-            f.write_str("'")
-        }
+        None => {}
+        Some(index) => put_byte_at(word, index, text),
     }
 }
 
-/// Writes each of these names that a word is like, after a comma.
-fn write_others<W: fmt::Write>(
-    word: &[u8],
-    mut names: Words<'_>,
-    f: &mut fmt::Formatter<W>,
-) -> fmt::Result
-    ensures { WritesOnOk W.write_str_gives f.old result
-        (flat_map other_text (filter (is_like word.now) names.entry)) f.new }
+/// Puts the byte of a word at an index: its place, counted from 1, and the byte.
+fn put_byte_at<T: TextSink>(word: &[u8], index: usize, text: &mut T)
+    requires { index < length word.now }
+    ensures { WritesInCalls T.puts text.old (byte_text word.now (Some index)) text.new }
+{
+    put_part(b": byte ", text);
+    put_number(index as u64 + 1, text);
+    put_part(b" is '", text);
+    put_byte(word[index], text);
+    put_part(b"'", text);
+}
+
+/// Puts another name that may be meant.
+fn put_other<T: TextSink>(name: &[u8], text: &mut T)
+    ensures { WritesInCalls T.puts text.old (other_text name.now) text.new }
+{
+    put_part(b", ", text);
+    put_word(name, text);
+}
+
+/// Puts each of these names that a word is like, after a comma.
+fn put_others<T: TextSink>(word: &[u8], mut names: Words<'_>, text: &mut T)
+    ensures { WritesInCalls T.puts text.old (flat_map other_text (filter (is_like word.now) names.entry)) text.new }
 {
     while let Some(name) = next_like(word, &mut names) {
-        f.write_str(", ")?;
-        write_word(name, f)?;
+        put_other(name, text);
     }
-    Ok(())
 }
 
-/// Writes the question whether a command is meant whose name a word is like, if there is one.
-fn write_question<W: fmt::Write>(word: &[u8], f: &mut fmt::Formatter<W>) -> fmt::Result
-    ensures { WritesOnOk W.write_str_gives f.old result (question_text (commands_like word.now)) f.new }
+/// Puts the question whether a command is meant whose name a word is like, if there is one.
+fn put_question<T: TextSink>(word: &[u8], text: &mut T)
+    ensures { WritesInCalls T.puts text.old (question_text (commands_like word.now)) text.new }
 {
     let mut names = names();
     let Some(name) = next_like(word, &mut names) else {
-        return Ok(());
+        return;
     };
-    f.write_str("; did you mean ")?;
-    write_word(name, f)?;
-    write_others(word, names, f)?;
-    f.write_str("?")
+    put_part(b"; did you mean ", text);
+    put_word(name, text);
+    put_others(word, names, text);
+    put_part(b"?", text);
 }
 
-/// Writes what a number stands for, and its least and greatest value.
-fn write_ranged<W: fmt::Write>(
-    what: &str,
-    least: u64,
-    most: u64,
-    f: &mut fmt::Formatter<W>,
-) -> fmt::Result
-    ensures { WritesOnOk W.write_str_gives f.old result (ranged what.now least most) f.new }
+/// Puts what a number stands for, and its least and greatest value.
+fn put_ranged<T: TextSink>(what: &[u8], least: u64, most: u64, text: &mut T)
+    ensures { WritesInCalls T.puts text.old (ranged what.now least most) text.new }
 {
-    write!(f, "{what} ({least} to {most})")
+    put_part(what, text);
+    put_part(b" (", text);
+    put_number(least, text);
+    put_part(b" to ", text);
+    put_number(most, text);
+    put_part(b")", text);
 }
 
-impl<'a> fmt::Display for Word<'a> {
-    ghost use Rattle.std.specs.Prelude.{Some};
-    ghost use Rattle.s2script.specs.MisfitTexts.{word_text};
+/// Puts what the name of a file is.
+fn put_name_form<T: TextSink>(text: &mut T)
+    ensures { WritesInCalls T.puts text.old (wanted_text Wanted.FileName) text.new }
+{
+    put_part(b"a file name (1 to ", text);
+    put_number(LONGEST_NAME as u64, text);
+    put_part(
+        b" letters, digits, '.', '_' or '-', the first no '.' and no '-'; --dir names the folder)",
+        text,
+    );
+}
 
-    ghost output = { λ word. Some (word_text word) };
-
-    fn fmt<W: fmt::Write>(&self, f: &mut fmt::Formatter<W>) -> fmt::Result {
-        write_word(self.as_bytes(), f)
+/// Puts what is wanted in the place of a word.
+fn put_wanted<T: TextSink>(wanted: Wanted, text: &mut T)
+    ensures { WritesInCalls T.puts text.old (wanted_text wanted) text.new }
+{
+    match wanted {
+        Wanted::CommandName => put_part(b"a command", text),
+        Wanted::EndOfLine => put_part(b"the end of the line", text),
+        Wanted::Register => put_part(b"a register (a to z)", text),
+        Wanted::Cell => put_part(b"a cell (a token or a debug text)", text),
+        Wanted::RangeEnd => put_part(
+            b"a second cell that does not end before the first begins",
+            text,
+        ),
+        Wanted::Level => put_ranged(b"a level", 0, GREATEST_LEVEL, text),
+        Wanted::Modulus => put_ranged(b"a modulus", 1, GREATEST_MODULUS, text),
+        Wanted::Face => put_ranged(b"a face", 0, GREATEST_FACE, text),
+        Wanted::Coordinate { least } => {
+            put_ranged(b"a coordinate", u64::from(least), GREATEST_COORDINATE, text)
+        }
+        Wanted::FileName => put_name_form(text),
     }
 }
 
-impl fmt::Display for Wanted {
-    ghost use Rattle.std.specs.Prelude.{Some};
-    ghost use Rattle.s2script.specs.MisfitTexts.{wanted_text};
+/// Puts that a word is not what is wanted.
+fn put_is_not<T: TextSink>(word: &[u8], wanted: Wanted, text: &mut T)
+    ensures { WritesInCalls T.puts text.old (word_text word.now ++ codes " is not " ++ wanted_text wanted) text.new }
+{
+    put_word(word, text);
+    put_part(b" is not ", text);
+    put_wanted(wanted, text);
+}
 
-    ghost output = { λ wanted. Some (wanted_text wanted) };
+/// Puts what is said about a word that is not what is wanted.
+pub(crate) fn put_unfit<T: TextSink>(word: &[u8], wanted: Wanted, text: &mut T)
+    ensures { WritesInCalls T.puts text.old (unfit_text word.now wanted) text.new }
+{
+    match wanted {
+        Wanted::CommandName => {
+            put_is_not(word, wanted, text);
+            put_question(word, text);
+        }
+        Wanted::EndOfLine => {
+            put_word(word, text);
+            put_part(b" is a word too many", text);
+        }
+        Wanted::FileName => {
+            put_is_not(word, wanted, text);
+            put_unfit_byte(word, text);
+        }
+        _ => put_is_not(word, wanted, text),
+    }
+}
 
-    fn fmt<W: fmt::Write>(&self, f: &mut fmt::Formatter<W>) -> fmt::Result {
+impl<'a> Misfit<'a> {
+    /// Puts the text that tells where the line does not fit.
+    pub fn put_text<T: TextSink>(&self, text: &mut T)
+        ensures { WritesInCalls T.puts text.old (misfit_text self.now) text.new }
+    {
         match self {
-            Wanted::CommandName => f.write_str("a command"),
-            Wanted::EndOfLine => f.write_str("the end of the line"),
-            Wanted::Register => f.write_str("a register (a to z)"),
-            Wanted::Cell => f.write_str("a cell (a token or a debug text)"),
-            Wanted::RangeEnd => f.write_str(
-                "a second cell that does not end before the first begins",
-            ),
-            Wanted::Level => write_ranged("a level", 0, GREATEST_LEVEL, f),
-            Wanted::Modulus => write_ranged("a modulus", 1, GREATEST_MODULUS, f),
-            Wanted::Face => write_ranged("a face", 0, GREATEST_FACE, f),
-            Wanted::Coordinate { least } => {
-                write_ranged("a coordinate", u64::from(*least), GREATEST_COORDINATE, f)
+            Misfit::LongLine => put_long_line(text),
+            Misfit::Missing { wanted } => {
+                put_wanted(*wanted, text);
+                put_part(b" is missing", text);
             }
-            Wanted::FileName => write!(
-                f,
-                "a file name (1 to {LONGEST_NAME} letters, digits, '.', '_' or '-', the first no '.' and no '-'; \
-                 --dir names the folder)"
-            ),
+            Misfit::Unfit { word, wanted } => put_unfit(word.as_bytes(), *wanted, text),
         }
     }
 }
 
-impl<'a> fmt::Display for Misfit<'a> {
-    ghost use Rattle.std.specs.Prelude.{Some};
-    ghost use Rattle.s2script.specs.MisfitTexts.{misfit_text};
-
-    ghost output = { λ misfit. Some (misfit_text misfit) };
-
-    fn fmt<W: fmt::Write>(&self, f: &mut fmt::Formatter<W>) -> fmt::Result {
-        match self {
-            Misfit::LongLine => write!(f, "more than {LONGEST_LINE} bytes"),
-            Misfit::Missing { wanted } => write!(f, "{wanted} is missing"),
-            Misfit::Unfit {
-                word,
-                wanted: Wanted::CommandName,
-            } => {
-                write!(f, "{word} is not {}", Wanted::CommandName)?;
-                write_question(word.as_bytes(), f)
-            }
-            Misfit::Unfit {
-                word,
-                wanted: Wanted::EndOfLine,
-            } => write!(f, "{word} is a word too many"),
-            Misfit::Unfit {
-                word,
-                wanted: Wanted::FileName,
-            } => {
-                write!(f, "{word} is not {}", Wanted::FileName)?;
-                write_unfit_byte(word.as_bytes(), f)
-            }
-            Misfit::Unfit { word, wanted } => write!(f, "{word} is not {wanted}"),
-        }
-    }
+/// Puts that a line is too long.
+fn put_long_line<T: TextSink>(text: &mut T)
+    ensures { WritesInCalls T.puts text.old (misfit_text Misfit.LongLine) text.new }
+{
+    put_part(b"more than ", text);
+    put_number(LONGEST_LINE as u64, text);
+    put_part(b" bytes", text);
 }

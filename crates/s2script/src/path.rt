@@ -1,13 +1,13 @@
 //! A word that is no file's name, and may be the path of a file.
 ghost use Rattle.std.specs.Prelude.{◌≡◌, ◌≤◌, length, take, drop};
-ghost use Rattle.std.specs.Fmt.{WritesOnOk};
+ghost use Rattle.std.specs.Fmt.{WritesInCalls};
 ghost use Rattle.s2script.specs.Paths.{folder_length, misnamed_word, is_path, instead, advice, reason_text};
 ghost use Rattle.s2script.specs.Paths.{misnamed_text};
 
-use crate::misfit::{Misfit, Wanted};
-use crate::misfit_text::write_bytes;
+use crate::misfit::Wanted;
+use crate::misfit_text::{put_bytes, put_unfit};
 use crate::name::name_in;
-use std::fmt;
+use crate::text::{TextSink, put_part};
 use std::marker::Model;
 
 /// A word that is not a file's name. It is shown with the reason, as in the note on a line; and if it is a path whose
@@ -58,64 +58,49 @@ fn is_path(folder: &[u8], name: &[u8]) -> bool
     !folder.is_empty() && name_in(name).is_some()
 }
 
-/// Writes the words that name a folder and a file in it.
-fn write_instead<W: fmt::Write>(
-    folder: &[u8],
-    name: &[u8],
-    f: &mut fmt::Formatter<W>,
-) -> fmt::Result
-    ensures { WritesOnOk W.write_str_gives f.old result (instead folder.now name.now) f.new }
+/// Puts the words that name a folder and a file in it.
+#[tactic(auto, using(crate::proofs::TextLemmas::parts))]
+fn put_instead<T: TextSink>(folder: &[u8], name: &[u8], text: &mut T)
+    ensures { WritesInCalls T.puts text.old (instead folder.now name.now) text.new }
 {
-    f.write_str("; write --dir '")?;
-    write_bytes(folder, f)?;
-    f.write_str("' ")?;
-    write_bytes(name, f)
+    put_part(b"; write --dir '", text);
+    put_bytes(folder, text);
+    put_part(b"' ", text);
+    put_bytes(name, text);
 }
 
-/// Writes what to write in place of a path, if the word is one.
-fn write_advice<W: fmt::Write>(folder: &[u8], name: &[u8], f: &mut fmt::Formatter<W>) -> fmt::Result
-    ensures { WritesOnOk W.write_str_gives f.old result (advice folder.now name.now) f.new }
+/// Puts what to write in place of a path, if the word is one.
+fn put_advice<T: TextSink>(folder: &[u8], name: &[u8], text: &mut T)
+    ensures { WritesInCalls T.puts text.old (advice folder.now name.now) text.new }
 {
     if is_path(folder, name) {
-        write_instead(folder, name, f)
-    } else {
-        Ok(())
+        put_instead(folder, name, text);
     }
 }
 
-/// Writes why a word is not a name.
-#[tactic(auto, unfolding(crate::specs::Paths::reason_text))]
-fn write_reason<W: fmt::Write>(word: &[u8], f: &mut fmt::Formatter<W>) -> fmt::Result
-    ensures { WritesOnOk W.write_str_gives f.old result (reason_text word.now) f.new }
-{
-    let misfit = Misfit::unfit(word, Wanted::FileName);
-    write!(f, "{misfit}")
-}
-
-/// Writes what to write in place of a word whose folder has this length, if the word is a path.
-fn write_advice_at<W: fmt::Write>(word: &[u8], len: usize, f: &mut fmt::Formatter<W>) -> fmt::Result
+/// Puts what to write in place of a word whose folder has this length, if the word is a path.
+fn put_advice_at<T: TextSink>(word: &[u8], len: usize, text: &mut T)
     requires { len ≤ length word.now }
-    ensures { WritesOnOk W.write_str_gives f.old result (advice (take len word.now) (drop len word.now)) f.new }
+    ensures { WritesInCalls T.puts text.old (advice (take len word.now) (drop len word.now)) text.new }
 {
-    write_advice(&word[..len], &word[len..], f)
+    put_advice(&word[..len], &word[len..], text);
 }
 
-/// Writes all that is said of a word that is not a name.
-#[tactic(auto, unfolding(crate::specs::Paths::misnamed_text))]
-fn write_misnamed<W: fmt::Write>(word: &[u8], f: &mut fmt::Formatter<W>) -> fmt::Result
-    ensures { WritesOnOk W.write_str_gives f.old result (misnamed_text word.now) f.new }
+/// Puts why a word is not a name.
+#[tactic(auto, unfolding(crate::specs::Paths::reason_text))]
+fn put_reason<T: TextSink>(word: &[u8], text: &mut T)
+    ensures { WritesInCalls T.puts text.old (reason_text word.now) text.new }
 {
-    write_reason(word, f)?;
-    write_advice_at(word, folder_len(word), f)
+    put_unfit(word, Wanted::FileName, text);
 }
 
-impl<'a> fmt::Display for Misnamed<'a> {
-    ghost use Rattle.std.specs.Prelude.{Some};
-    ghost use Rattle.s2script.specs.Paths.{misnamed_text};
-
-    ghost output = { λ m. Some (misnamed_text m) };
-
-    fn fmt<W: fmt::Write>(&self, f: &mut fmt::Formatter<W>) -> fmt::Result {
-        write_misnamed(self.word, f)
+impl<'a> Misnamed<'a> {
+    /// Puts all that is said of the word.
+    #[tactic(auto, using(crate::proofs::TextLemmas::parts), unfolding(crate::specs::Paths::misnamed_text))]
+    pub fn put_text<T: TextSink>(&self, text: &mut T)
+        ensures { WritesInCalls T.puts text.old (misnamed_text self.now) text.new }
+    {
+        put_reason(self.word, text);
+        put_advice_at(self.word, folder_len(self.word), text);
     }
 }

@@ -1,7 +1,5 @@
-use Rattle.std.proofs.Common.{arith}
-use Rattle.std.proofs.lemmas.Grind.{common_steps, flat_map-append}
-use Rattle.std.proofs.lemmas.List.{map-append}
+use Rattle.s2process.proofs.ErrorLemmas.{put_whole}
 use Rattle.s2process.proofs.errors.misnamed_lines.Goals as goal
 
-pub loop-word-preserved : goal.loop-word-preserved
-loop-word-preserved c = grind (arith, common_steps, flat_map-append, map-append)
+pub returns-else-lines : goal.returns-else-lines
+returns-else-lines c = put_whole _ _ _ c.new.ensures.items c.put_misnamed_lines.ensures c.if-lines.false

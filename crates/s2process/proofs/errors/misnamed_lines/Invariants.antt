@@ -1,8 +1,0 @@
-use Rattle.std.proofs.Common.{◌≡◌, take, map}
-use Rattle.std.specs.Prelude.{string_bytes}
-use Rattle.s2process.specs.Errors.{misnamed_lines}
-use Rattle.s2process.proofs.errors.misnamed_lines.Given as goal
-
--- the lines on the words so far
-abbrev pub invariant-loop-word : goal.invariant-loop-word
-invariant-loop-word l = string_bytes l.lines ≡ misnamed_lines (map string_bytes (take l.word-index l.words))
