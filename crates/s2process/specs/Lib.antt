@@ -8,4 +8,5 @@ pub mod Explained
 pub mod Streams
 pub mod Errors
 pub mod Program
+pub mod Laws
 pub mod Working

@@ -12,6 +12,7 @@ mod calls;
 mod ended;
 mod errors;
 mod folders;
+pub mod laws;
 mod moments;
 mod process;
 mod reader;

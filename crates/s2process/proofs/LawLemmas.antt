@@ -1,0 +1,64 @@
+-- What an exit status says of a run.
+use Rattle.std.proofs.Common.{◌≡◌, ℕ, zero, suc, ◌-◌, ◌^◌, min, List, [], ◌++◌, Option, Result, Ok, Err, refl, sym}
+use Rattle.std.proofs.Common.{ap, ◌∙◌, subst, append-nil, arith, count_by, replicate, inl, inr}
+use Rattle.s2edit.specs.History.{untouched}
+use Rattle.s2edit.specs.declared.TheConstants.{REGISTERS}
+use Rattle.s2shelf.specs.Shelf.{Files}
+use Rattle.s2calc.specs.declared.engine.Tally.{Tally}
+use Rattle.s2calc.specs.declared.fault.RunFault.{RunFault}
+use Rattle.s2calc.specs.declared.fault.RunFault.TheVariants.{Input, Output, Memory}
+use Rattle.s2calc.specs.Buffered.{Buffered}
+use Rattle.s2calc.specs.Calls.{Call}
+use Rattle.s2calc.specs.Moments.{Moment}
+use Rattle.s2calc.specs.Program.{status_of, status_of_refused}
+use Rattle.s2calc.specs.Replies.{is_refusal}
+use Rattle.s2calc.specs.Run.{Steps}
+use Rattle.s2calc.specs.World.{World, world}
+use Rattle.s2process.specs.Laws.{AnswersAll, AllAnswered}
+use Rattle.s2process.specs.Listed.{given, reads, taken, called}
+use Rattle.s2process.specs.Process.{RunsListed}
+
+none_of : (n : ℕ) → status_of_refused n ≡ 0 → n ≡ 0
+none_of zero e = refl
+none_of (suc n) e = absurd cc
+
+-- a run that has status 0 came to the end, and nothing was refused
+answers_all : {V S : Type 0} (taken : V → List ℕ) (called : V → List Call) (files : S → Files) (script : List ℕ)
+    (reads : List (Option ℕ)) (start now : World) (moments : List (Moment (Buffered V) S)) (below : V)
+    (waiting : List ℕ) (result : Result Tally RunFault)
+    → RunsListed taken called files script reads start now moments below waiting result → status_of result ≡ 0
+    → AnswersAll start now script reads (taken below) (called below)
+answers_all taken called files script reads start now moments below waiting (Ok tally) runs e =
+    let d = runs.did in
+    let all = runs.ends in
+    let refused : min (count_by is_refusal d.replies) (2 ^ 64 - 1) ≡ 0 =
+    sym (ap (λ (t : Tally). t.refused) all.1) ∙ none_of tally.refused e in
+    record {
+      replies = d.replies;
+      steps = subst (λ ls. Steps start ls d.replies now) all.0.0 d.steps;
+      none_refused = grind (arith, refused);
+      to_the_end = all.0.1;
+      all_taken = sym (d.texts_are ∙ ap (λ left. (taken below ++ waiting) ++ left) all.0.2
+          ∙ ap (λ waits. (taken below ++ waits) ++ []) all.2 ∙ append-nil (taken below ++ [])
+          ∙ append-nil (taken below));
+      flushed = all.4;
+    }
+answers_all taken called files script reads start now moments below waiting (Err Input) runs e = absurd cc
+answers_all taken called files script reads start now moments below waiting (Err Output) runs e = absurd cc
+answers_all taken called files script reads start now moments below waiting (Err Memory) runs e = absurd cc
+
+-- the same of the program
+pub all_answered : (R W E : Type 0) {S : Type 0} (files : S → Files) (opened : S → List ℕ → Type 0) →
+    AllAnswered R W E files opened
+all_answered R W E files opened limit depth path explains moments ended (inl (none, unseen)) e =
+    let three = none.status_is in absurd cc
+all_answered R W E files opened limit depth path explains moments ended (inr runs) e = (
+  runs.first,
+  runs.last,
+  runs.now,
+  runs.at_path,
+  runs.folder_is,
+  answers_all taken called files (given ended.streams.input) (reads ended.streams.input)
+      (world (untouched limit depth (replicate REGISTERS [])) (files runs.first)) (world runs.now (files runs.last))
+      moments ended.streams.output runs.waiting runs.result runs.runs (sym runs.status_is ∙ e),
+)
