@@ -290,8 +290,7 @@ class CellUnionOf {
   CellUnionOf Union(const CellUnionOf& y, int32_t* status = nullptr) const {
     return Both(s2u_union, size() + y.size(), y, status);
   }
-  /// The leaves of any of many unions, up to 32 of which are merged in pairs. Takes memory for four times their cells.
-  /// S2U_MEMORY.
+  /// The leaves of any of many unions, which are merged in pairs. Takes memory for four times their cells. S2U_MEMORY.
   static CellUnionOf UnionOf(const std::vector<CellUnionOf>& unions, int32_t* status = nullptr) {
     CellUnionOf made;
     std::vector<uint64_t> ids, work;

@@ -72,8 +72,8 @@ func RangeUnion(first, last CellID) (CellUnion, error) {
 // WholeSphere is the union of all leaves.
 func WholeSphere() CellUnion { return always(RangeUnion(firstFace, lastFace)) }
 
-// CellUnionFromUnion is the union of any number of unions, in one call: up to 32 are merged in pairs, and the cells of
-// more are sorted together. If there are more than two, it takes memory for four times their cells.
+// CellUnionFromUnion is the union of any number of unions, in one call, which merges them in pairs. If there are more
+// than two, it takes memory for four times their cells.
 func CellUnionFromUnion(unions ...CellUnion) CellUnion {
 	switch len(unions) {
 	case 0:

@@ -338,7 +338,7 @@ class Core {
     return new BigUint64Array(this.calls.memory.buffer, at, count).slice();
   }
 
-  /** The union of many lists: up to 32 that ascend are merged in pairs, and the cells of others are sorted. */
+  /** The union of many lists: those that ascend are merged in pairs, and others are sorted first. */
   unionOf(lists) {
     const count = lists.reduce((sum, list) => sum + list.length, 0);
     const size = 8 * count;

@@ -180,8 +180,8 @@ impl CellUnion {
         CellUnion::made(lists::union(self.as_ref(), other.as_ref()))
     }
 
-    /// The leaves of any of many unions, in one call: up to 32 are merged in pairs, and the cells of more are sorted
-    /// together. It takes memory for about four times their cells. [`Error::Memory`], where `collect` panics.
+    /// The leaves of any of many unions, in one call, which merges them in pairs. It takes memory for about four times
+    /// their cells. [`Error::Memory`], where `collect` panics.
     ///
     /// ```
     /// use s2union::CellUnion;

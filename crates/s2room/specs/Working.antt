@@ -3,3 +3,4 @@
 pub mod Room
 pub mod Ancestors
 pub mod Rows
+pub mod Merging

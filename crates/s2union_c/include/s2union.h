@@ -203,11 +203,11 @@ int32_t s2u_compare(const uint64_t* xs, size_t nx, const uint64_t* ys, size_t ny
 int32_t s2u_normalise(uint64_t* ids, size_t n, size_t* len);
 
 /* [pure] The union of many lists of cells, which lie one after another in ids: each ends before the place that is next
- * in `ends`, where the next begins, and the last one ends with ids. Up to 32 lists that ascend, as unions do, are
- * merged in pairs: n steps for each doubling of their number. Else all cells are sorted. `work` is room for at least
- * 2 n numbers, and means nothing afterward. S2U_ROOM (at most n cells; nothing is written to out), S2U_ARGUMENT: `ends`
- * descends or does not end with n, or work is too short; S2U_NO_CELL: *len is the place of the first number that is not
- * a cell. */
+ * in `ends`, where the next begins, and the last one ends with ids. Lists that ascend, as unions do, are merged in
+ * pairs: n steps for each doubling of their number. Others are sorted first, and short ones together. `work` is room
+ * for at least 2 n numbers, and means nothing afterward. S2U_ROOM (at most n cells; nothing is written to out),
+ * S2U_ARGUMENT: `ends` descends or does not end with n, or work is too short; S2U_NO_CELL: *len is the place of the
+ * first number that is not a cell. */
 int32_t s2u_union_of_many(const uint64_t* ids, size_t n, const size_t* ends, size_t lists, uint64_t* work,
                           size_t work_room, uint64_t* out, size_t room, size_t* len);
 

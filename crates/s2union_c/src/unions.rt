@@ -40,9 +40,9 @@ pub extern "C" fn s2u_normalise(ids: &mut [u64], len: &mut usize) -> i32
 }
 
 /// The union of many lists of cells that lie one after another in `ids`: each ends at the next of `ends`, and the last
-/// one with `ids`. Up to 32 lists that ascend, as those of unions do, are merged; else all cells are sorted. `work` is
-/// room for twice as many numbers as `ids` has, and means nothing afterward. If a number is not a cell, `len` is the
-/// place of the first.
+/// one with `ids`. Lists that ascend, as those of unions do, are merged in pairs; others are sorted first, and short
+/// ones together. `work` is room for twice as many numbers as `ids` has, and means nothing afterward. If a number is
+/// not a cell, `len` is the place of the first.
 #[unsafe(no_mangle)]
 pub extern "C" fn s2u_union_of_many(
     ids: &[u64],

@@ -1,18 +1,15 @@
-use Rattle.std.proofs.Common.{◌≤◌, sym, subst, arith, rules, length, All}
-use Rattle.std.proofs.lemmas.List.Elements.{All-drop, All-take}
-use Rattle.s2cell.specs.Cell.{IsCell}
+use Rattle.std.proofs.Common.{◌≡◌, ◌++◌, subst}
+use Rattle.std.proofs.lemmas.List.{take-append-drop}
+use Rattle.std.proofs.lemmas.List.Sorted.{IsPermutation-append, IsPermutation-trans}
+use Rattle.std.specs.List.Sorted.{IsPermutation}
 use Rattle.s2room.proofs.merge.+gather.Goals as goal
 
-pub gather-m-requires : goal.gather-m-requires
-gather-m-requires t c =
-    let own : All IsCell c.split_at.result.0.now = subst (All IsCell) (sym c.split_at.ensures.front)
-    (All-take IsCell _ c.args.ids.now c.requires.cells) in
-    let many : 2 ≤ length c.args.ends.now = omega (arith, c.if-ends-lt2.false) in
-    search rules
-
-pub gather-n-requires : goal.gather-n-requires
-gather-n-requires t c =
-    let own : All IsCell c.split_at.result.1.now = subst (All IsCell) (sym c.split_at.ensures.back)
-    (All-drop IsCell _ c.args.ids.now c.requires.cells) in
-    let many : 2 ≤ length c.args.ends.now = omega (arith, c.if-ends-lt2.false) in
-    search rules
+pub returns-clause-all : goal.returns-clause-all
+returns-clause-all t c =
+    let ids = c.args.ids.now in
+    let parts = c.split_at-2.ensures in
+    let whole : c.split_at-2.result.0.now ++ c.split_at-2.result.1.now ≡ ids =
+    rw (parts.front, parts.back) (take-append-drop c.min-cut.result ids) in
+    IsPermutation-trans _ _ _
+    (subst (λ l. IsPermutation l (c.gather.new.room ++ c.gather-2.new.room)) whole
+    (IsPermutation-append _ _ _ _ c.gather.ensures.all c.gather-2.ensures.all)) c.merge.ensures.all

@@ -1,39 +1,15 @@
-use Rattle.std.proofs.Common.{◌≡◌, ◌+◌, ◌-◌, ◌≤◌, length}
-use Rattle.s2room.proofs.Merging.{Merged}
+use Rattle.std.proofs.Common.{◌+◌, ◌-◌}
+use Rattle.s2room.specs.Working.Merging.{IsMerging}
 use Rattle.s2room.proofs.merge.merge.Given as goal
 
-abbrev pub invariant-loop-i : goal.invariant-loop-i
-invariant-loop-i l = record {
-  in_x : l.i ≤ length l.xs;
-  in_y : l.j ≤ length l.ys;
-  few : l.n ≤ l.i + l.j;
-  len : length l.out ≡ length l.fn.out;
-  so_far : Merged l.xs l.ys l.out l.i l.j l.n;
-}
+abbrev pub invariant-loop-left : goal.invariant-loop-left
+invariant-loop-left l = IsMerging l.xs l.ys l.out l.left
 
-abbrev pub decreases-loop-i : goal.decreases-loop-i
-decreases-loop-i l = (length l.xs - l.i) + (length l.ys - l.j)
+abbrev pub decreases-loop-left : goal.decreases-loop-left
+decreases-loop-left l = l.left.x_end + l.left.y_end - (l.left.x + l.left.y)
 
-abbrev pub invariant-loop-i-2 : goal.invariant-loop-i-2
-invariant-loop-i-2 l = record {
-  in_x : l.i ≤ length l.xs;
-  in_y : l.j ≤ length l.ys;
-  few : l.n ≤ l.i + l.j;
-  len : length l.out ≡ length l.fn.out;
-  so_far : Merged l.xs l.ys l.out l.i l.j l.n;
-}
+abbrev pub invariant-loop-left-2 : goal.invariant-loop-left-2
+invariant-loop-left-2 l = IsMerging l.xs l.ys l.out l.left
 
-abbrev pub decreases-loop-i-2 : goal.decreases-loop-i-2
-decreases-loop-i-2 l = length l.xs - l.i
-
-abbrev pub invariant-loop-j : goal.invariant-loop-j
-invariant-loop-j l = record {
-  in_x : length l.xs ≤ l.i;
-  in_y : l.j ≤ length l.ys;
-  few : l.n ≤ length l.xs + l.j;
-  len : length l.out ≡ length l.fn.out;
-  so_far : Merged l.xs l.ys l.out l.i l.j l.n;
-}
-
-abbrev pub decreases-loop-j : goal.decreases-loop-j
-decreases-loop-j l = length l.ys - l.j
+abbrev pub decreases-loop-left-2 : goal.decreases-loop-left-2
+decreases-loop-left-2 l = l.left.x_end + l.left.y_end - (l.left.x + l.left.y)

@@ -1,17 +1,18 @@
-use Rattle.std.proofs.Common.{sym, subst, arith, take, drop}
-use Rattle.std.proofs.lemmas.List.{take-append-le}
-use Rattle.s2list.specs.Union.{IsNormalForm, has_leaf}
+use Rattle.std.proofs.Common.{take}
+use Rattle.std.proofs.lemmas.List.Sorted.{All-permutation, list_any-IsPermutation}
+use Rattle.s2cell.specs.Cell.{IsCell, covers}
+use Rattle.s2list.specs.Union.{has_leaf}
 use Rattle.s2list.proofs.Normal.{normal_form_same}
+use Rattle.std.proofs.Common.{sym}
 use Rattle.s2room.proofs.merge.union_of_many.Goals as goal
+
+pub normalise-requires : goal.normalise-requires
+normalise-requires c = All-permutation IsCell c.args.ids.now c.gather.new.room c.gather.ensures.all c.requires.cells
 
 pub returns-clause-normal : goal.returns-clause-normal
 returns-clause-normal c =
     let ids = c.args.ids.now in
-    let n = c.normalise.result in
-    let packed = c.normalise.new.ids in
-    let within = c.normalise.ensures.within in
-    let same = c.normalise.ensures.same_length in
-    subst (IsNormalForm (has_leaf ids))
-    (sym (take-append-le n packed (drop c.gather-n.result c.gather-n.new.room) (omega arith)))
-    (normal_form_same (has_leaf (take c.gather-n.result c.gather-n.new.room)) (has_leaf ids) (take n packed)
-    c.gather-n.ensures.leaves c.normalise.ensures.normal)
+    let gathered = c.gather.new.room in
+    normal_form_same (has_leaf gathered) (has_leaf ids) (take c.normalise.result c.normalise.new.ids)
+    (λ x. sym (list_any-IsPermutation (λ n. covers n x) ids gathered c.gather.ensures.all))
+    c.normalise.ensures.normal
