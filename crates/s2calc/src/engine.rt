@@ -1,6 +1,6 @@
 //! The run of a script.
-ghost use Rattle.std.specs.Prelude.{◌≡◌, ◌<◌, ◌≤◌, List, [], ◌∷◌, ◌++◌, OnOk, IfOk, IfErr, IfSome, IfNone};
-ghost use Rattle.std.specs.Prelude.{length, MatchResult};
+ghost use Rattle.std.specs.Prelude.{◌≡◌, ◌<◌, ◌≤◌, ◌+◌, ℕ, List, [], ◌∷◌, ◌++◌, OnOk, IfOk, IfErr, IfSome, IfNone};
+ghost use Rattle.std.specs.Prelude.{length, take, MatchResult};
 ghost use Rattle.std.specs.Io.KnownBytes.{Keeps};
 ghost use Rattle.s2list.specs.Union.{IsNormalForm, has_leaf};
 ghost use Rattle.s2edit.specs.History.{EachList};
@@ -14,15 +14,18 @@ ghost use Rattle.s2calc.specs.Buffered.{written_to};
 ghost use Rattle.s2calc.specs.World.{world};
 ghost use Rattle.s2calc.specs.Working.Calls.{FailedIfErr, FlushedIfOk};
 ghost use Rattle.s2calc.specs.Working.Desk.{SameReferences, AnswersKept, TakesIn, Finishes, RunsOver};
+ghost use Rattle.s2calc.specs.Working.Stands.{keeping};
 ghost use Rattle.s2calc.specs.Order.{Ordered};
 ghost use Rattle.s2calc.specs.Noting.{noted_by};
+ghost use Rattle.s2calc.specs.Notes.{number_of};
 
 use crate::answer_buffer::AnswerBuffer;
 use crate::desk::Desk;
 use crate::execute::{Outcome, asks_for_file, execute};
 use crate::fault::RunFault;
 use crate::flushing::{AtTheEnd, Flushing, Promptly};
-use crate::limits::{MOST_WAITING, READ_SIZE};
+use crate::kept::beginning;
+use crate::limits::{KEPT, MOST_WAITING, READ_SIZE};
 use crate::notes::{NoNotes, NoteWriter, Notes};
 use crate::observer::{Observer, Unobserved, begin_line, end_line};
 use crate::progress::Progress;
@@ -79,34 +82,84 @@ fn take_in<W: Sink, S: Shelf, F: Flushing<W>, N: Notes, O: Observer<W, S>>(
 {
     let mut rest = chunk;
     while let Some(at) = newline_in(rest) {
-        progress.kept.keep(&rest[..at]);
-        answer_kept::<W, S, F, N, O>(desk, progress)?;
-        progress.kept.clear();
+        answer_next::<W, S, F, N, O>(desk, progress, &rest[..at])?;
         rest = &rest[at + 1..];
     }
     progress.kept.keep(rest);
     Ok(())
 }
 
-/// Carries out the line that is kept, writes its answer, counts it, and says why it is refused, if it is. If it asks
-/// for a command with a file, all earlier answers are handed over before it is carried out, and its own after that.
-fn answer_kept<W: Sink, S: Shelf, F: Flushing<W>, N: Notes, O: Observer<W, S>>(
+/// Carries out the line that these bytes end, as `answer_line` does. A line that was read at once isn't copied.
+fn answer_next<W: Sink, S: Shelf, F: Flushing<W>, N: Notes, O: Observer<W, S>>(
     desk: &mut Desk<'_, '_, '_, '_, '_, W, S, N, O>,
     progress: &mut Progress,
+    end: &[u8],
 ) -> Result<(), RunFault>
     ensures same { SameReferences desk.old desk.new }
-    ensures answers { AnswersKept W.contents W.calls F.is_sent F.may_fail S.files N.noted O.seen desk.old progress.old
-        desk.new progress.new result }
+    ensures answers { AnswersKept W.contents W.calls F.is_sent F.may_fail S.files N.noted O.seen desk.old
+        (keeping (take KEPT (progress.old.kept ++ end.now)) progress.old) desk.new
+        (keeping (take KEPT (progress.old.kept ++ end.now)) progress.new) result }
+    ensures cleared { OnOk result (progress.new.kept ≡ []) }
     ensures calls { FailedIfErr F.may_fail (W.calls desk.old.writer.now) (W.calls desk.new.writer.now) result }
 {
-    let said = parse(progress.kept.as_slice());
+    if progress.kept.as_slice().is_empty() {
+        let line = beginning(end);
+        answer_line::<W, S, F, N, O>(desk, &mut progress.tally, &mut progress.lines, line)
+    } else {
+        answer_cut::<W, S, F, N, O>(desk, progress, end)
+    }
+}
+
+/// Carries out the line of which earlier reads have kept the beginning, and which these bytes end.
+fn answer_cut<W: Sink, S: Shelf, F: Flushing<W>, N: Notes, O: Observer<W, S>>(
+    desk: &mut Desk<'_, '_, '_, '_, '_, W, S, N, O>,
+    progress: &mut Progress,
+    end: &[u8],
+) -> Result<(), RunFault>
+    ensures same { SameReferences desk.old desk.new }
+    ensures answers { AnswersKept W.contents W.calls F.is_sent F.may_fail S.files N.noted O.seen desk.old
+        (keeping (take KEPT (progress.old.kept ++ end.now)) progress.old) desk.new
+        (keeping (take KEPT (progress.old.kept ++ end.now)) progress.new) result }
+    ensures cleared { OnOk result (progress.new.kept ≡ []) }
+    ensures calls { FailedIfErr F.may_fail (W.calls desk.old.writer.now) (W.calls desk.new.writer.now) result }
+{
+    progress.kept.keep(end);
+    let line = progress.kept.as_slice();
+    answer_line::<W, S, F, N, O>(desk, &mut progress.tally, &mut progress.lines, line)?;
+    progress.kept.clear();
+    Ok(())
+}
+
+/// Carries out a line, of which at most the first `KEPT` bytes are given, writes its answer, counts it, and says why it
+/// is refused, if it is. If it asks for a command with a file, all earlier answers are handed over before it is carried
+/// out, and its own after that.
+fn answer_line<W: Sink, S: Shelf, F: Flushing<W>, N: Notes, O: Observer<W, S>>(
+    desk: &mut Desk<'_, '_, '_, '_, '_, W, S, N, O>,
+    tally: &mut Tally,
+    lines: &mut u64,
+    line: &[u8],
+) -> Result<(), RunFault>
+    ensures same { SameReferences desk.old desk.new }
+    ensures answers { (kept : List ℕ) → line.now ≡ kept → AnswersKept W.contents W.calls F.is_sent F.may_fail S.files
+        N.noted O.seen desk.old (record { kept = kept; tally = tally.old; lines = lines.old }) desk.new
+        (record { kept = kept; tally = tally.new; lines = lines.new }) result }
+    ensures calls { FailedIfErr F.may_fail (W.calls desk.old.writer.now) (W.calls desk.new.writer.now) result }
+{
+    let said = parse(line);
     let has_file = asks_for_file(&said);
     begin_line::<W, S, F, O>(has_file, desk.writer, desk.shelf, desk.observer)?;
     let outcome = execute::<W, S, F>(desk.alloc, desk.editor, said, desk.writer, desk.shelf)?;
-    progress.count(outcome);
-    let line = progress.kept.as_slice();
-    desk.notes.note(progress.lines, line, outcome);
+    tally.count(outcome);
+    *lines = next_number(*lines);
+    desk.notes.note(*lines, line, outcome);
     end_line::<W, S, F, O>(has_file, desk.writer, desk.shelf, desk.observer)
+}
+
+/// How many lines were carried out, with one more. It stops at its greatest value.
+fn next_number(lines: u64) -> u64
+    ensures { result ≡ number_of (lines + 1) }
+{
+    lines.saturating_add(1)
 }
 
 /// Runs a script: its lines come from the reader, its answers go to the writer, and its files are on the shelf.
@@ -404,7 +457,8 @@ fn finish<W: Sink, S: Shelf, F: Flushing<W>, N: Notes, O: Observer<W, S>>(
     if progress.kept.as_slice().is_empty() {
         return flush_at_the_end::<W, F>(progress.tally, desk.writer);
     }
-    answer_kept::<W, S, F, N, O>(desk, &mut progress)?;
+    let last = progress.kept.as_slice();
+    answer_line::<W, S, F, N, O>(desk, &mut progress.tally, &mut progress.lines, last)?;
     flush_at_the_end::<W, F>(progress.tally, desk.writer)
 }
 

@@ -1,11 +1,8 @@
 //! How far a run has come.
-ghost use Rattle.std.specs.Prelude.{◌≡◌, ◌+◌, List, [], ◌∷◌, ◌++◌};
-ghost use Rattle.s2calc.specs.Replies.{Reply, tally_of};
-ghost use Rattle.s2calc.specs.Working.Execute.{IsOutcome};
-ghost use Rattle.s2calc.specs.Notes.{number_of};
+ghost use Rattle.std.specs.Prelude.{◌≡◌, []};
+ghost use Rattle.s2calc.specs.Replies.{tally_of};
 
 use crate::engine::Tally;
-use crate::execute::Outcome;
 use crate::kept::Kept;
 
 /// What a run keeps from one line to the next.
@@ -34,16 +31,5 @@ impl Progress {
             },
             lines: 0,
         }
-    }
-
-    /// Counts one line.
-    pub(crate) fn count(&mut self, outcome: Outcome)
-        ensures kept { self.new.kept ≡ self.old.kept }
-        ensures tally { (reply : Reply) (before : List Reply) → IsOutcome outcome reply →
-            self.old.tally ≡ tally_of before → self.new.tally ≡ tally_of (before ++ reply ∷ []) }
-        ensures lines { self.new.lines ≡ number_of (self.old.lines + 1) }
-    {
-        self.tally.count(outcome);
-        self.lines = self.lines.saturating_add(1);
     }
 }

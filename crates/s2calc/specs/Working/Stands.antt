@@ -50,6 +50,10 @@ pub record Stands (start : Point) (script : List ℕ) (replies : List Reply) (no
   pub lines_are : progress.lines ≡ number_of (length replies)
   pub noted : Explains start now done replies
 
+-- the progress, with this line kept
+abbrev pub keeping : List ℕ → Progress → Progress
+keeping line progress = record { kept = line; tally = progress.tally; lines = progress.lines }
+
 -- the line that is kept was carried out, answered and counted, and the note on it was written
 pub record Answered (old : Point) (before : Progress) (new : Point) (after : Progress)
     (output_old output_new : Option (List ℕ)) : Type 0 where

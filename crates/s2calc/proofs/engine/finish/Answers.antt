@@ -22,11 +22,11 @@ returns-then-is_empty-clause-finishes g c =
           g.F.Flushing.may_fail start script replies [] _ _ _ s none)))),
     ))
 
-pub returns-in_err-answer_kept-clause-finishes : goal.returns-in_err-answer_kept-clause-finishes
-returns-in_err-answer_kept-clause-finishes g c =
+pub returns-in_err-answer_line-clause-finishes : goal.returns-in_err-answer_line-clause-finishes
+returns-in_err-answer_line-clause-finishes g c =
     let some : 0 < length c.args.progress.kept = grind (arith, common_steps) in
     let p = err_from_is_err_and c.from_residual.result c.from_residual.ensures.1 in
-    let done = c.in_err-answer_kept.ensures.answers in
+    let done = c.in_err-answer_line.ensures.answers _ c.as_slice-last.ensures in
     rw (p.1, p.2) (λ start script replies s. (
       done.0,
       elim done.1 [
@@ -45,8 +45,8 @@ returns-in_err-answer_kept-clause-finishes g c =
 pub returns-clause-finishes : goal.returns-clause-finishes
 returns-clause-finishes g c =
     let some : 0 < length c.args.progress.kept = grind (arith, common_steps) in
-    let done = c.in_ok-answer_kept.ensures.answers in
-    let well = c.in_ok-answer_kept.ensures.calls in
+    let done = c.in_ok-answer_line.ensures.answers _ c.as_slice-last.ensures in
+    let well = c.in_ok-answer_line.ensures.calls in
     λ start script replies s. MatchResult-weaker c.flush_at_the_end-2.result c.flush_at_the_end-2.ensures.result
     (λ told t. Ended-line start script replies _ _ s _ some _ _ _ _ done.0 c.flush_at_the_end-2.ensures.kept _ told
     t (Adds-weaker _ _ _ _ (λ ms l. LastSeen-line g.W.Sink.contents g.W.Sink.calls g.F.Flushing.is_sent
@@ -61,5 +61,11 @@ returns-clause-finishes g c =
     ))
 
 pub returns-clause-calls : goal.returns-clause-calls
-returns-clause-calls g c = flushed_if_ok_after _ _ _ _ c.flush_at_the_end-2.result c.in_ok-answer_kept.ensures.calls
+returns-clause-calls g c = flushed_if_ok_after _ _ _ _ c.flush_at_the_end-2.result c.in_ok-answer_line.ensures.calls
     c.flush_at_the_end-2.ensures.calls
+
+pub returns-in_err-answer_line-clause-sent : goal.returns-in_err-answer_line-clause-sent
+returns-in_err-answer_line-clause-sent g c =
+    let p = err_from_is_err_and c.from_residual.result c.from_residual.ensures.1 in
+    let done = c.in_err-answer_line.ensures.answers _ c.as_slice-last.ensures in
+    rw (p.1, p.2) done.0

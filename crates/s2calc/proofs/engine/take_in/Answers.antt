@@ -37,20 +37,20 @@ loop-at-init g c = (
   (refl, refl, refl, refl, refl),
 )
 
-pub returns-in_err-answer_kept-clause-takes_in : goal.returns-in_err-answer_kept-clause-takes_in
-returns-in_err-answer_kept-clause-takes_in g c =
+pub returns-in_err-answer_next-clause-takes_in : goal.returns-in_err-answer_next-clause-takes_in
+returns-in_err-answer_next-clause-takes_in g c =
     let p = err_from_is_err_and c.from_residual.result c.from_residual.ensures.1 in
     let i = c.loop-at.invariant in
     let rest = c.loop-at.rest.now in
     let ends = c.in-Some.ensures.some in
-    let done = c.in_err-answer_kept.ensures.answers in
+    let done = c.in_err-answer_next.ensures.answers in
     rw (p.1, p.2) (λ start script replies s.
     let here = i.2 start script replies s in
     let whole = cut_at _ i.0 rest c.in-Some.at i.1 ends in (
       done.0,
       elim done.1 [
         | inl part ↦ inl (StopsInside-line _ _ start script replies _ i.0 (take c.in-Some.at rest)
-            (drop (c.in-Some.at + 1) rest) _ _ _ _ _ _ _ here.0 ends.before c.keep.ensures refl refl part whole
+            (drop (c.in-Some.at + 1) rest) _ _ _ _ _ _ _ here.0 ends.before refl refl refl part whole
             (λ reply held begun. Adds-trans _ _ _ _ _ _ (λ ms ns m l. ManySeen-cut g.W.Sink.contents g.W.Sink.calls
             g.F.Flushing.is_sent g.S.Shelf.files g.F.Flushing.may_fail start script replies i.0
             (take c.in-Some.at rest) (drop (c.in-Some.at + 1) rest) _ _ _ _ _ _ ms here.0 ends.before held whole m
@@ -58,7 +58,7 @@ returns-in_err-answer_kept-clause-takes_in g c =
         | inr failed ↦ inr (
           failed.0,
           StopsBeside-line _ _ _ start script replies _ i.0 (take c.in-Some.at rest) (drop (c.in-Some.at + 1) rest)
-              _ _ _ _ _ _ _ _ here.0 ends.before c.keep.ensures refl refl failed.1 whole
+              _ _ _ _ _ _ _ _ here.0 ends.before refl refl refl failed.1 whole
               (λ held unseen. Adds-same _ _ _ _ (Adds-weaker _ _ _ _ (λ ms m. ManySeen-before g.W.Sink.contents
               g.W.Sink.calls g.F.Flushing.is_sent g.S.Shelf.files g.F.Flushing.may_fail start script replies i.0
               (take c.in-Some.at rest) (drop (c.in-Some.at + 1) rest) _ _ _ _ _ c.loop-at.desk.writer.now ms here.0
@@ -71,34 +71,34 @@ returns-in_err-answer_kept-clause-takes_in g c =
       ],
     ))
 
-pub returns-in_err-answer_kept-clause-calls : goal.returns-in_err-answer_kept-clause-calls
-returns-in_err-answer_kept-clause-calls g c =
+pub returns-in_err-answer_next-clause-calls : goal.returns-in_err-answer_next-clause-calls
+returns-in_err-answer_next-clause-calls g c =
     let p = err_from_is_err_and c.from_residual.result c.from_residual.ensures.1 in
-    rw p.1 (last_failed_after _ _ _ _ c.loop-at.invariant.3 c.in_err-answer_kept.ensures.calls)
+    rw p.1 (last_failed_after _ _ _ _ c.loop-at.invariant.3 c.in_err-answer_next.ensures.calls)
 
-pub returns-in_err-answer_kept-clause-same : goal.returns-in_err-answer_kept-clause-same
-returns-in_err-answer_kept-clause-same g c =
-    SameReferences-trans c.args.desk.now c.loop-at.desk c.answer_kept.new.desk c.loop-at.invariant.4
-    c.answer_kept.ensures.same
+pub returns-in_err-answer_next-clause-same : goal.returns-in_err-answer_next-clause-same
+returns-in_err-answer_next-clause-same g c =
+    SameReferences-trans c.args.desk.now c.loop-at.desk c.answer_next.new.desk c.loop-at.invariant.4
+    c.answer_next.ensures.same
 
 pub loop-at-preserved : goal.loop-at-preserved
 loop-at-preserved g c =
     let i = c.loop-at.invariant in
     let rest = c.loop-at.rest.now in
     let ends = c.in-Some.ensures.some in
-    let done = c.in_ok-answer_kept.ensures.answers in
-    let well = c.in_ok-answer_kept.ensures.calls in (
+    let done = c.in_ok-answer_next.ensures.answers in
+    let well = c.in_ok-answer_next.ensures.calls in (
       (i.0 ++ take c.in-Some.at rest) ++ 10 ∷ [],
       cut_after _ i.0 rest c.in-Some.at i.1 ends,
       λ start script replies s. let here = i.2 start script replies s in (
         StandsAfter-line start script replies i.0 (take c.in-Some.at rest) _ _ _ _ _ _ _ _ _ here.0 ends.before
-            c.keep.ensures refl refl done.0 c.clear.ensures refl refl,
+            refl refl refl done.0 c.in_ok-answer_next.ensures.cleared refl refl,
         Adds-trans _ _ _ _ _ _ (λ ms ns p q. MoreSeen-line g.W.Sink.contents g.W.Sink.calls g.F.Flushing.is_sent
             g.S.Shelf.files g.F.Flushing.may_fail start script replies i.0 (take c.in-Some.at rest) _ _ _ _ _ _ _ _ _ _
-            ms ns here.0 ends.before c.keep.ensures refl refl done.0 i.3 well refl refl p q) here.1 done.1,
+            ms ns here.0 ends.before refl refl refl done.0 i.3 well refl refl p q) here.1 done.1,
       ),
       none_failed_more _ _ _ _ i.3 well,
-      SameReferences-trans c.args.desk.now c.loop-at.desk c.answer_kept.new.desk i.4 c.answer_kept.ensures.same,
+      SameReferences-trans c.args.desk.now c.loop-at.desk c.answer_next.new.desk i.4 c.answer_next.ensures.same,
     )
 
 pub returns-clause-takes_in : goal.returns-clause-takes_in
@@ -106,7 +106,7 @@ returns-clause-takes_in g c =
     let i = c.loop-at.invariant in
     λ start script replies s. let here = i.2 start script replies s in (
       StandsAfter-rest start script replies _ i.0 c.loop-at.rest.now _ _ _ _ _ here.0 c.in_default.ensures.none
-          c.keep-2.ensures refl refl i.1,
+          c.keep.ensures refl refl i.1,
       Adds-weaker _ _ _ _ (λ ms m. MoreSeen-rest g.W.Sink.contents g.W.Sink.calls g.F.Flushing.is_sent g.S.Shelf.files
           g.F.Flushing.may_fail start script replies _ _ i.0 c.loop-at.rest.now _ _ _ _ _ ms here.0
           c.in_default.ensures.none i.1 m) here.1,
