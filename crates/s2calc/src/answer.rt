@@ -110,23 +110,25 @@ fn write_line<W: Sink>(writer: &mut W, answer: &Answer, editor: &Editor) -> Resu
     ensures failed { OnErr result (LastFailed ⊥ (W.calls writer.old) (W.calls writer.new)) }
 {
     let _ = editor;
-    let line = line_of(answer);
+    let mut line = ArrayVec::new();
+    put_answer(&mut line, answer);
     emit(writer, line.as_slice())
 }
 
-/// The line of an answer that is one line of numbers or names.
+/// Makes the line of an answer that is one line of numbers or names, in its place: it isn't copied.
 #[inline(never)]
-fn line_of(answer: &Answer) -> Line
-    requires { is_line answer.now ≡ true }
-    ensures { (state : History (List ℕ)) → result.items ≡ text_of (reply_of answer.now state) }
+fn put_answer(line: &mut Line, answer: &Answer)
+    requires empty { line.old.items ≡ [] }
+    requires one_line { is_line answer.now ≡ true }
+    ensures { (state : History (List ℕ)) → line.new.items ≡ text_of (reply_of answer.now state) }
 {
     match answer {
-        Answer::Cell(cell) => cell_line(*cell),
-        Answer::Square(square) => square_line(*square),
-        Answer::Moved { out, put } => ok_line(*out as u64, *put as u64),
-        Answer::Count { cells, leaves } => count_line(*cells as u64, *leaves),
-        Answer::Sides { undos, redos } => history_line(*undos as u64, *redos as u64),
-        Answer::Refused(refusal) => error_line(*refusal),
+        Answer::Cell(cell) => put_cell(line, *cell),
+        Answer::Square(square) => put_square(line, *square),
+        Answer::Moved { out, put } => put_ok(line, *out as u64, *put as u64),
+        Answer::Count { cells, leaves } => put_count(line, *cells as u64, *leaves),
+        Answer::Sides { undos, redos } => put_history(line, *undos as u64, *redos as u64),
+        Answer::Refused(refusal) => put_error(line, *refusal),
         Answer::Nothing
         | Answer::YesOrNo(_)
         | Answer::Done
@@ -162,85 +164,111 @@ pub(crate) fn error_line(refusal: Refusal) -> Line
     ensures { result.items ≡ codes "error " ++ name_of refusal ++ 10 ∷ [] }
 {
     let mut line = ArrayVec::new();
-    put(&mut line, b"error ");
-    put(&mut line, refusal.name().as_bytes());
-    put(&mut line, b"\n");
+    put_error(&mut line, refusal);
     line
 }
 
 /// The line that says what is known of a cell.
-#[tactic(auto, unfolding(crate::specs::Texts::cell_line))]
 pub(crate) fn cell_line(cell: CellId) -> Line
     ensures { result.items ≡ cell_line cell }
 {
     let mut line = ArrayVec::new();
-    put_names(&mut line, cell);
-    put(&mut line, b" level ");
-    put_number(&mut line, u64::from(cell.level()));
-    put(&mut line, b" face ");
-    put_number(&mut line, u64::from(cell.face()));
-    put(&mut line, b" leaves ");
-    put_number(&mut line, cell.first_leaf());
-    put(&mut line, b" ");
-    put_number(&mut line, cell.end_leaf() - 1);
-    put(&mut line, b"\n");
+    put_cell(&mut line, cell);
     line
-}
-
-/// The line of a square.
-#[tactic(auto, unfolding(crate::specs::Texts::square_line))]
-fn square_line(square: Square) -> Line
-    ensures { result.items ≡ square_line square.face square.i square.j square.size }
-{
-    let mut line = ArrayVec::new();
-    put(&mut line, b"face ");
-    put_number(&mut line, u64::from(square.face));
-    put(&mut line, b" i ");
-    put_number(&mut line, u64::from(square.i));
-    put(&mut line, b" j ");
-    put_number(&mut line, u64::from(square.j));
-    put(&mut line, b" size ");
-    put_number(&mut line, u64::from(square.size));
-    put(&mut line, b"\n");
-    line
-}
-
-/// The line of an edit.
-#[tactic(auto, unfolding(crate::specs::Texts::ok_line))]
-fn ok_line(out: u64, put_in: u64) -> Line
-    ensures { result.items ≡ ok_line out put_in }
-{
-    two_numbers(b"ok ", out, b" ", put_in)
 }
 
 /// The line with the numbers of cells and leaves.
-#[tactic(auto, unfolding(crate::specs::Texts::count_line))]
 pub(crate) fn count_line(cells: u64, leaves: u64) -> Line
     ensures { result.items ≡ count_line cells leaves }
 {
-    two_numbers(b"cells ", cells, b" leaves ", leaves)
-}
-
-/// The line with the numbers of states that can be undone and redone.
-#[tactic(auto, unfolding(crate::specs::Texts::history_line))]
-fn history_line(undos: u64, redos: u64) -> Line
-    ensures { result.items ≡ history_line undos redos }
-{
-    two_numbers(b"undo ", undos, b" redo ", redos)
-}
-
-/// A line with two numbers, each after a few bytes.
-fn two_numbers(before: &[u8], first: u64, between: &[u8], second: u64) -> Line
-    requires { length before.now + length between.now ≤ 100 }
-    ensures { result.items ≡ before.now ++ decimal first ++ between.now ++ decimal second ++ 10 ∷ [] }
-{
     let mut line = ArrayVec::new();
-    put(&mut line, before);
-    put_number(&mut line, first);
-    put(&mut line, between);
-    put_number(&mut line, second);
-    put(&mut line, b"\n");
+    put_count(&mut line, cells, leaves);
     line
+}
+
+/// Puts the line of a refusal.
+fn put_error(line: &mut Line, refusal: Refusal)
+    requires { line.old.items ≡ [] }
+    ensures { line.new.items ≡ codes "error " ++ name_of refusal ++ 10 ∷ [] }
+{
+    put(line, b"error ");
+    put(line, refusal.name().as_bytes());
+    put(line, b"\n");
+}
+
+/// Puts the line that says what is known of a cell.
+#[tactic(auto, unfolding(crate::specs::Texts::cell_line))]
+fn put_cell(line: &mut Line, cell: CellId)
+    requires { line.old.items ≡ [] }
+    ensures { line.new.items ≡ cell_line cell }
+{
+    put_names(line, cell);
+    put(line, b" level ");
+    put_number(line, u64::from(cell.level()));
+    put(line, b" face ");
+    put_number(line, u64::from(cell.face()));
+    put(line, b" leaves ");
+    put_number(line, cell.first_leaf());
+    put(line, b" ");
+    put_number(line, cell.end_leaf() - 1);
+    put(line, b"\n");
+}
+
+/// Puts the line of a square.
+#[tactic(auto, unfolding(crate::specs::Texts::square_line))]
+fn put_square(line: &mut Line, square: Square)
+    requires { line.old.items ≡ [] }
+    ensures { line.new.items ≡ square_line square.face square.i square.j square.size }
+{
+    put(line, b"face ");
+    put_number(line, u64::from(square.face));
+    put(line, b" i ");
+    put_number(line, u64::from(square.i));
+    put(line, b" j ");
+    put_number(line, u64::from(square.j));
+    put(line, b" size ");
+    put_number(line, u64::from(square.size));
+    put(line, b"\n");
+}
+
+/// Puts the line of an edit.
+#[tactic(auto, unfolding(crate::specs::Texts::ok_line))]
+fn put_ok(line: &mut Line, out: u64, put_in: u64)
+    requires { line.old.items ≡ [] }
+    ensures { line.new.items ≡ ok_line out put_in }
+{
+    put_two(line, b"ok ", out, b" ", put_in);
+}
+
+/// Puts the line with the numbers of cells and leaves.
+#[tactic(auto, unfolding(crate::specs::Texts::count_line))]
+fn put_count(line: &mut Line, cells: u64, leaves: u64)
+    requires { line.old.items ≡ [] }
+    ensures { line.new.items ≡ count_line cells leaves }
+{
+    put_two(line, b"cells ", cells, b" leaves ", leaves);
+}
+
+/// Puts the line with the numbers of states that can be undone and redone.
+#[tactic(auto, unfolding(crate::specs::Texts::history_line))]
+fn put_history(line: &mut Line, undos: u64, redos: u64)
+    requires { line.old.items ≡ [] }
+    ensures { line.new.items ≡ history_line undos redos }
+{
+    put_two(line, b"undo ", undos, b" redo ", redos);
+}
+
+/// Puts a line with two numbers, each after a few bytes.
+fn put_two(line: &mut Line, before: &[u8], first: u64, between: &[u8], second: u64)
+    requires empty { line.old.items ≡ [] }
+    requires short { length before.now + length between.now ≤ 100 }
+    ensures { line.new.items ≡ before.now ++ decimal first ++ between.now ++ decimal second ++ 10 ∷ [] }
+{
+    put(line, before);
+    put_number(line, first);
+    put(line, between);
+    put_number(line, second);
+    put(line, b"\n");
 }
 
 /// Adds a cell's token and its debug text.
