@@ -11,7 +11,7 @@ ghost use Rattle.s2edit.specs.Working.Part.{around, IsPartFor, IsWatched, HoldsN
 
 use s2cell::CellId;
 use s2file::Move;
-use s2list::{CellList, find_from};
+use s2list::{CellList, find_from, first_place};
 use s2union::{CellUnion, normalise};
 use std::alloc::{AllocError, Global};
 
@@ -98,26 +98,11 @@ fn watch_siblings(
 {
     let _ = cell.id();
     let parent = around(cell);
-    let mut at = first_place(list, near, parent.first_leaf());
+    let mut at = first_place(&CellList { cells: list }, near, parent.first_leaf());
     for k in 0..4 {
         at = watch_holder(watched, list, at, parent.child(k))?;
     }
     Ok(at)
-}
-
-/// The index `near` if the cells of a list before it end by the leaf `lo`, and otherwise 0.
-fn first_place(list: &[CellId], near: usize, lo: u64) -> usize
-    requires { IsLocal list.now }
-    ensures within { result ≤ length list.now }
-    ensures ended { FirstEndBy list.now result lo }
-{
-    if near == 0 || near > list.len() {
-        return 0;
-    }
-    if list[near - 1].end_leaf() > lo {
-        return 0;
-    }
-    near
 }
 
 /// Appends the cell of a list in which a cell lies, if there is one. The search begins at an index, and the answer is

@@ -4,6 +4,7 @@ use Rattle.std.proofs.lemmas.Bool.{cases_lt}
 use Rattle.s2cell.specs.Cell.{first_leaf, child_of}
 use Rattle.s2list.specs.Packed.{FirstEndBy}
 use Rattle.s2list.specs.Union.{has_leaf, LiesIn}
+use Rattle.s2list.proofs.Checking.{packed_from_local}
 use Rattle.s2union.specs.Apply.{has}
 use Rattle.s2edit.proofs.Watching.{parent_cell, first_ended, next_ended}
 use Rattle.s2edit.proofs.restore.parts.watch_siblings.Goals as goal
@@ -13,7 +14,7 @@ loop-k-init c = record {
   within = c.first_place-at.ensures.within;
   ended = λ l. first_ended c.args.list.now c.first_place-at.result c.around-parent.result
       (parent_cell c.id.ensures.cell c.around-parent.ensures.value) c.around-parent.ensures.level
-      c.first_leaf.ensures.value c.first_place-at.ensures.ended;
+      c.first_leaf.ensures.value (c.first_place-at.ensures.ended (packed_from_local c.args.list.now c.requires));
   kept = λ x h. h;
   siblings = λ i l. absurd (omega (arith, l));
 }
