@@ -21,6 +21,7 @@ import tracemalloc
 import unittest
 from array import array
 from collections.abc import Set
+from itertools import accumulate
 from pathlib import Path
 from types import SimpleNamespace
 from unittest import mock
@@ -524,6 +525,21 @@ class TheModule(unittest.TestCase):
         for _ in range(200):
             lists = [random.cells() for _ in range(random.randrange(5))]
             self.assertEqual(Union.of(map(Union, lists)), Union(sum(lists, [])))
+
+    def test_many_long_lists(self):
+        """In turns, apart, a long one among short ones, each twice as long, all the same, and cells of any size; also
+        with the lists in another order, and with their cells in any order."""
+        random = Random(20261127)
+        turns = [[2 * (k + 100 * n) + 1 for n in range(100)] for k in range(0, 80, 2)]
+        apart = [[2 * (1000 * k + 3 * n) + 1 for n in range(100 + k)] for k in range(40)]
+        long = [[4 * n + 1 for n in range(8000)], *([random.randrange(1, 40000, 2)] for _ in range(50)), []]
+        twice = [sorted(random.sample(range(1, 40000, 2), 2**k)) for k in range(13)]
+        cells = [list(Union(random.cell(0, 12) for _ in range(random.randrange(200)))) for _ in range(40)]
+        for lists in (turns, apart, long, twice, turns[:1] * 40, cells, []):
+            want = array("Q", model.normal(model.runs(sum(lists, [])))).tobytes()
+            for given in (lists, lists[::-1], [random.sample(one, len(one)) for one in lists]):
+                ids, ends = array("Q", sum(given, [])), array("Q", accumulate(map(len, given)))
+                self.assertEqual(bytes(s2union._library.union_of_many(ids.tobytes(), memoryview(ends))), want)
 
     def test_room_is_taken_for_the_shorter_of_two(self):
         many, one, none = Union(range(1, 8 * 1000, 8)), Union([1]), Union()
