@@ -129,8 +129,8 @@ in_sqlite() { # FOLDER TEST..
   )
 }
 counting() {
-  cp "$top/tests/sqlite/counted.c" "$work/" &&
-    extension counted LDFLAGS="$work/counted.c -Wl,--wrap=s2u_file_check,--wrap=s2u_decode,--wrap=s2u_encode"
+  cp "$top/tests/sqlite/counted."{c,flags} "$work/" &&
+    extension counted LDFLAGS="$work/counted.c @$work/counted.flags"
 }
 step "SQLite: build" extension sqlite
 step "SQLite: build, counting steps" counting

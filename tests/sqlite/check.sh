@@ -36,8 +36,8 @@ build() { # FOLDER FLAGS..
 step "build" build plain
 step "build, with the sanitizers" build sanitized CFLAGS="-O1 -g -fsanitize=address,undefined -fno-sanitize-recover"
 with_counts() {
-  cp "$top/tests/sqlite/counted.c" "$work/"
-  build counted LDFLAGS="$work/counted.c -Wl,--wrap=s2u_file_check,--wrap=s2u_decode,--wrap=s2u_encode,--wrap=memcmp"
+  cp "$top/tests/sqlite/counted."{c,flags} "$work/"
+  build counted LDFLAGS="$work/counted.c @$work/counted.flags"
 }
 step "build, counting steps" with_counts
 [ "$failed" -eq 0 ] || finish
