@@ -24,7 +24,7 @@ import sys
 import tempfile
 from pathlib import Path
 
-from mutant_texts import ALWAYS, FUNCTION, all_functions, functions_at, functions_of, make
+from mutant_texts import ALWAYS, FUNCTION, all_functions, functions_at, functions_of, make, misfit
 
 sys.path.insert(0, str(Path(__file__).resolve().parents[2] / "tools"))
 from over_gate import TOP, crate_of, has_libraries, words_of_check  # noqa: E402
@@ -174,9 +174,7 @@ class Copy:
 
     def alone(self, mutant):
         """What was found of a mutant that its functions alone don't refuse: those that call them may do."""
-        texts = made(mutant, self.folder)
-        if texts is None:
-            return mutant.says(NOT_TRIED, ": it can't be made")
+        texts = make(mutant.file, self.folder)
         status, lines = self.check()
         restore(texts)
         if status == 0:
@@ -233,16 +231,20 @@ def words_of(crates):
 
 def tried(chosen, is_proved=False):
     """What was found of each of these mutants, counted; each crate's are tried beside those of others. The crates are
-    proved without them, or the functions have to be asked."""
-    crates = collections.defaultdict(list)
+    proved without them, or the functions have to be asked. One that can't be tried would keep those of its crate from
+    being checked together."""
+    crates, found = collections.defaultdict(list), []
     for mutant in chosen:
-        crates[mutant.crate].append(mutant)
+        if why := misfit(mutant.file, mutant.folder):
+            found.append(mutant.says(NOT_TRIED, f": {why}"))
+        else:
+            crates[mutant.crate].append(mutant)
     words = words_of(crates)
     checks = int(os.environ.get("RT_JOBS", 1))  # at once, by memory: tests/run sets it
     with tempfile.TemporaryDirectory() as room, concurrent.futures.ThreadPoolExecutor(checks) as pool:
         try:
             return collections.Counter(sum(pool.map(
-                lambda it: Copy(it[0], words[it[0]], room, is_proved).tried(it[1]), crates.items()), []))
+                lambda it: Copy(it[0], words[it[0]], room, is_proved).tried(it[1]), crates.items()), found))
         except KeyboardInterrupt:  # the threads would go on to their next checks, which end with this process
             shutil.rmtree(room, ignore_errors=True)
             os._exit(130)

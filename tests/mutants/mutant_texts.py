@@ -21,7 +21,7 @@ ALWAYS = re.compile(r"^gate: always$", re.M)
 FN = re.compile(r'^ *(?:pub(?:\([a-z]+\))? )?(?:const )?(?:extern "C" )?fn (\w+)')
 TYPE = re.compile(r"^(?:pub(?:\([a-z]+\))? )?(?:struct|enum) (\w+)", re.M)
 TRAIT = ("trait ", "pub trait ")
-BLOCK = re.compile(r"^(?:pub )?(?:impl(?:<.*?>)? (?:(\w+)(?:<(.*?)>)? for )?|trait )(?:&(?:mut )?)?(\w+)")
+BLOCK = re.compile(r"^(?:pub )?(?:impl(?:<(.*?)>)? (?:(\w+)(?:<(.*?)>)? for )?|trait )(?:&(?:mut )?)?(\w+)")
 
 
 def changes(mutant):
@@ -82,16 +82,28 @@ def text_before(path, olds):
 
 def function_at(path, before):
     """The function of a source that the last line of this beginning of it is in, as the end of the name that a check
-    prints, or None. A method of a trait's impl is printed as of the type's name and the trait's in one word."""
+    prints, or None."""
     if path.suffix != ".rt":
         return None
-    *_, (block, name) = places_of_lines(before)
+    *_, place = places_of_lines(before)
+    return name_at(path, *place)
+
+
+def name_at(path, block, name):
+    """The end of the name of the function at such a place of a source, or None."""
     if name is None:
         return None
     if block:
-        trait, arguments, kind = block.groups()
-        return f"{kind}{trait or ''}{arguments or '' if trait == 'From' else ''}::{name}"
+        return f"{owner(block)}::{name}"
     return f"{path.stem}::{name}" if path.stem not in ("lib", "main") else name
+
+
+def owner(block):
+    """What a check prints of an impl or a trait, in one word: the type, then the trait of an impl, and then what the
+    trait is given, unless that is a parameter of the impl."""
+    parameters, trait, argument, kind = block.groups()
+    given = re.match(r"\w*", argument or "")[0]
+    return kind + (trait or "") + ("" if given in re.findall(r"\w+", parameters or "") else given)
 
 
 def places_of_lines(text):
@@ -117,9 +129,24 @@ def all_functions(folder):
     homes = {kind: modules for modules, text in texts.items() for kind in TYPE.findall(text)}
     places = {(modules, *place) for modules, text in texts.items() for place in places_of_lines(text) if place[1]}
     free = {(*modules, name) for modules, block, name in places if not block}
-    blocks = {(*block.groups(), name) for _, block, name in places if block and not block[0].startswith(TRAIT)}
-    return free | {(*homes[kind], kind + (trait or ""), name)
-                   for trait, arguments, kind, name in blocks if kind in homes and not arguments}
+    blocks = {(block, name) for _, block, name in places if block and not block[0].startswith(TRAIT)}
+    return free | {(*homes[block[4]], owner(block), name)
+                   for block, name in blocks if block[4] in homes and not block[3]}
+
+
+def misfit(mutant, folder):
+    """Why a mutant of the folder can't be tried, or None: it can't be made, or names a function that isn't there."""
+    try:
+        texts = changed_texts(mutant, folder)
+    except ValueError as why:
+        return str(why)
+    named = FUNCTION.search(Path(mutant).read_text())
+    if not named:
+        return None
+    texts = {**{path: path.read_text() for path in Path(folder, "src").rglob("*.rt")}, **texts}
+    ends = {name_at(path, *place) for path, text in texts.items() for place in places_of_lines(text)} - {None}
+    is_there = any(f"::{end}".endswith(f"::{named[1]}") or named[1].endswith(f"::{end}") for end in ends)
+    return None if is_there else f"no function has the name {named[1]}"
 
 
 def modules_of(path):
