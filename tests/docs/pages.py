@@ -4,9 +4,10 @@ specs/Working if no public contract needs it; every relative link of every page 
 the link's text is names of the sources, the file has them, as it has those that a page says are in it; each path in
 backticks is there; the files that docs/ARCHITECTURE.md walks through have the functions that it names, and one calls
 another where it says so; each language has what docs/FROM_S2.md says it has; what can't read the file VERSION has the
-version that it gives; CHANGELOG.md says nothing twice; and a contract has a limit as a number only where
-docs/EXTENDING.md says so. The last line is 'N passed, M failed', where N counts the definitions, the links, the paths,
-the names, the calls, the places of the version, the changes and the limits.
+version that it gives; CHANGELOG.md says nothing twice; a contract has a limit as a number only where docs/EXTENDING.md
+says so; and each command of tools/ and bench/ prints its usage with --help, and does nothing else. The last line is 'N
+passed, M failed', where N counts the definitions, the links, the paths, the names, the calls, the places of the
+version, the changes, the limits and the commands.
 """
 import functools
 import re
@@ -224,6 +225,26 @@ def other_versions():
             yield f"{name}: {', '.join(found) or 'none'}, not {wanted}"
 
 
+def without_usage():
+    """The number of commands of tools/ and bench/, and those that don't answer --help by the text at their head."""
+    commands = [path for folder in ("tools", "bench") for path in sorted((ROOT / folder).iterdir())
+                if path.is_file() and not path.suffix and path.read_bytes().startswith(b"#!")]
+    return len(commands), [str(path.relative_to(ROOT)) for path in commands if not prints_usage(path)]
+
+
+def prints_usage(command):
+    """Whether a command prints the text at its head, which names it, if it is asked for help."""
+    shell, head = command.read_text().split("\n", 1)
+    is_python = shell.endswith("python3")
+    usage = head.split('"""')[1] if is_python else re.match("(?:#.*\n)*", head)[0].replace("# ", "").replace("#", "")
+    try:
+        done = subprocess.run(["python3" if is_python else "bash", command, "--help"], stdin=subprocess.DEVNULL,
+                              capture_output=True, text=True, check=False, timeout=10)
+    except subprocess.TimeoutExpired:
+        return False
+    return done.returncode == 0 and done.stdout.strip() == usage.strip() and command.name in usage
+
+
 def main():
     statement = subprocess.run([ROOT / "tools" / "statement", "--check"], capture_output=True, text=True, check=False)
     sys.stdout.write(statement.stdout + statement.stderr)
@@ -241,12 +262,14 @@ def main():
     unmade = [f"{name} doesn't call {called}" for name, called, is_made in calls if not is_made]
     changes, twice = said_twice()
     limits, as_numbers = limits_as_numbers()
+    commands, silent = without_usage()
     for what, places in (("docs/ARCHITECTURE.md", unmade), ("CHANGELOG.md says twice", twice),
-                         ("a limit as a number", as_numbers)):
+                         ("a limit as a number", as_numbers), ("--help is not answered by its usage", silent)):
         for place in places:
             print(f"{what}: {place}")
     wrong = len(broken) + len(lost) + len(others) + len(unmade) + len(twice) + len(as_numbers)
-    passed += count + names + len(VERSIONS) + len(calls) + changes + limits - wrong
+    wrong += len(silent)
+    passed += count + names + len(VERSIONS) + len(calls) + changes + limits + commands - wrong
     failed += wrong
     print(f"{passed} passed, {failed} failed")
     return 0 if failed == 0 else 1
