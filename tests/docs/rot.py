@@ -14,13 +14,17 @@ from pathlib import Path
 
 ROOT = Path(__file__).resolve().parents[2]
 MOST = 120
-INSIDE = (" ", "}", ")", "]")
 BETWEEN = ("use ", "pub use ", "--", "pub mod ", "mod ", "module ", "infix", "#")
 KEYWORDS = {"abbrev", "unfoldable", "pub", "record", "data", "opaque", "ruleset"}
+SIGNATURE = re.compile(rf"(?:(?:{'|'.join(KEYWORDS)}) |[^\s]+ :(?: |$))")
 TOKEN = re.compile(r"[^\s(){}\[\],.;:`]+")
+QUALIFIED = re.compile(rf"{TOKEN.pattern}\.{TOKEN.pattern}")
+USE = re.compile(r"^\s*(?:ghost |pub )*use (Rattle\.[^\s;{]+?)(?:\.\{(.*)\})?(?: as ([^\s;]+))?;?\s*$", re.M)
+PATH = re.compile(r"\b(\w+)::((?:specs|proofs)(?:::[\w-]+)+)")
+BOUND = re.compile(r"\blet ([^\s(){}:=]+)|λ ([^.]*)\.|[({]([^\s(){}:]+(?: [^\s(){}:]+)*) : ")
 HOSTS = re.compile(r"\b(?:(?:static\.)?crates[.]io|pypi[.]org|pythonhosted[.]org|npmjs[.](?:com|org)|"
                    r"proxy[.]golang[.]org|rubygems[.]org|docker[.]io|repo1?[.]maven)\b")
-UNCITED = 1
+UNCITED = 6
 DOUBLES = 22
 ARMS = 7
 MANY_ARMS = 9
@@ -65,54 +69,107 @@ def blocks(lines_of_module):
             if name:
                 yield name, lines
             name, lines = None, []
-        elif line and not line.startswith(INSIDE):
-            found = next(word for word in line.split() if word not in KEYWORDS).rstrip(":")
-            if name and found != name:
+        elif SIGNATURE.match(line):
+            if name:
                 yield name, lines
-            if found != name:
-                name, lines = found, []
+            name, lines = next(word for word in line.split() if word not in KEYWORDS), []
         if name:
             lines.append(line)
 
 
 def statement(lines):
     """The type of a declaration, in one line, or None if it has none: all between the colon and the first equation."""
-    text = " ".join(line.strip() for line in lines)
+    text = " ".join(line.strip() for line in lines if not line.startswith("unfolding "))
     name = next(word for word in lines[0].split() if word not in KEYWORDS)
     found = re.match(rf"(?:pub )?{re.escape(name)} : (.*?) {re.escape(name)}\b.* = ", text)
     return re.sub(r"\s+", " ", found[1]) if found else None
 
 
 def without_imports(text):
-    """The tokens of a module or a source, without its lines of imports and its comments."""
+    """The words of a module or a source, without its lines of imports and its comments, and those that a dot joins."""
     kept = [line for line in text.splitlines() if not re.match(r"\s*(?:ghost |pub )*use |\s*(?:--|//)", line)]
-    return TOKEN.findall("\n".join(kept))
+    return [*TOKEN.findall("\n".join(kept)), *QUALIFIED.findall("\n".join(kept))]
 
 
 def modules():
-    """The modules of specs/ and proofs/ of all crates, and those below a folder of proofs/, which the checker reads."""
-    named = [name for name in tracked() if re.match(r"crates/[^/]+/(?:specs|proofs)/.*\.antt$", name)]
-    return named, [name for name in named if name.count("/") == 3 and not name.endswith("/Lib.antt")]
+    """The modules of specs/, and those of proofs/ but for the files of single functions: what others may import."""
+    named = [name for name in tracked() if re.match(r"crates/[^/]+/(?:specs/.*|proofs/[^/]+)\.antt$", name)]
+    return [name for name in named if not name.endswith("/Lib.antt")]
+
+
+def path_of(file):
+    """The path by which the modules of all crates import a module."""
+    _, crate, module = file.removesuffix(".antt").split("/", 2)
+    return f"Rattle.{crate}.{module.replace('/', '.')}"
+
+
+def declared():
+    """What each module declares, by the module's path: each name with its lines."""
+    found = {}
+    for file in modules():
+        names = found.setdefault(path_of(file), {})
+        for name, lines in blocks(flat(text_of(file))):
+            names.setdefault(name, []).extend(lines)
+    return found
+
+
+def bound(name, lines):
+    """The words that a declaration binds itself, so that they cite nothing."""
+    equations = re.findall(rf"^{re.escape(name)}((?: [^=\n]*)?) =", "\n".join(lines), re.M)
+    return set(TOKEN.findall(" ".join(equations + [" ".join(it) for it in BOUND.findall("\n".join(lines))]))) - {name}
+
+
+def names_in(file, declarations):
+    """What the words of a file may cite: its own declarations, those that it imports, and after a dot those of modules
+    that it imports whole."""
+    own = path_of(file)
+    names = {name: (own, name) for name in declarations.get(own, ())}
+    for module, some, alias in USE.findall(text_of(file)):
+        pairs = [part.strip().split(" as ") for part in some.split(",")]
+        names.update({pair[-1]: (module, pair[0]) for pair in pairs if some})
+        names.update({f"{alias or module.split('.')[-1]}.{name}": (module, name)
+                      for name in declarations.get(module, ()) if not some})
+    return names
+
+
+def cited_by(file, declarations):
+    """What a source or a function's answers cite, or a module outside of its declarations."""
+    words = collections.Counter(without_imports("\n".join(flat(text_of(file)))))
+    for lines in declarations.get(path_of(file), {}).values():
+        words -= collections.Counter(without_imports("\n".join(lines)))
+    names = names_in(file, declarations)
+    yield from (names[word] for word in words if word in names)
+    for crate, path in PATH.findall(text_of(file)):
+        crate = file.split("/")[1] if crate == "crate" else crate
+        *module, name = f"Rattle.{crate}.{path.replace('::', '.')}".split(".")
+        yield ".".join(module), name
 
 
 def uncited():
-    """The number of declarations that may be cited, and those that are not, as 'file: name'."""
-    everywhere, own, places = collections.Counter(), collections.Counter(), {}
-    named, top = modules()
-    for name in [*named, *(name for name in tracked() if re.match(r"crates/.*\.rt$", name))]:
-        everywhere.update(without_imports(text_of(name)))
-    for file in top:
-        for name, lines in blocks(flat(text_of(file))):
-            places.setdefault(name, []).append(file)
-            own[name] += without_imports("\n".join(lines)).count(name)
-    left = [name for name in places if everywhere[name] <= own[name] and "◌" not in name]
-    return len(places), [f"{file}: {name}" for name in left for file in places[name]]
+    """The number of declarations that may be cited, and those to which no source and no function's answers lead, from
+    one to the next, as 'file: name'. A name leads to the module that its file imports it from."""
+    declarations, cites = declared(), {}
+    for file in modules():
+        own, names = path_of(file), names_in(file, declarations)
+        for name, lines in declarations[own].items():
+            words = set(without_imports("\n".join(lines))) - bound(name, lines)
+            cites[own, name] = {names[word] for word in words if word in names}
+    readers = [name for name in tracked() if re.match(r"crates/.*\.(?:antt|rt)$", name)]
+    waiting, live = [it for file in readers for it in cited_by(file, declarations)], set()
+    while waiting:
+        one = waiting.pop()
+        if one not in live:
+            live.add(one)
+            waiting += cites.get(one, ())
+    files = {path_of(file): file for file in modules()}
+    return len(cites), [f"{files[module]}: {name}" for module, name in cites
+                        if (module, name) not in live and "◌" not in name]
 
 
 def doubles():
     """The number of lemmas with a statement, and those that are stated before, as 'file: name, as file: name'."""
     first, found, count = {}, [], 0
-    for file in [name for name in modules()[1] if "/proofs/" in name]:
+    for file in [name for name in modules() if "/proofs/" in name]:
         for name, lines in blocks(text_of(file).splitlines()):
             said = statement(lines)
             if said is None:
