@@ -26,8 +26,8 @@ Loads r name old reply new =
     ⊎ ((refusal : Refusal) × FetchesUnion name old.files (Err refusal) new.files × (reply ≡ Refuses refusal)
     × (new.state ≡ old.state))
 
--- the file becomes bytes of this kind; or the shelf fails, and the content of that one file is not known; or there is
--- no memory
+-- the file becomes bytes of this kind, which says more than that there are such bytes only of a shelf that exposes its
+-- contents; or the shelf fails, and the content of that one file is not known; or there is no memory
 abbrev pub WritesFile : (List ℕ → Type 0) → List ℕ → World → Reply → World → Type 0
 WritesFile AreThose name old reply new =
     ((reply ≡ Says done_line) × (new.state ≡ old.state)

@@ -1,4 +1,4 @@
--- The tables that kept changes lead to, one after another.
+-- The lists that a register may have.
 use Rattle.std.specs.Prelude.{ℕ, ◌≤◌, List, length}
 use Rattle.s2list.specs.Union.{IsLocal}
 

@@ -15,8 +15,11 @@ use std::marker::Model;
 /// ascending by identifier, that share no cell. Either may be empty.
 #[derive(Drop)]
 pub struct Change {
+    /// The register that changes.
     pub register: Register,
+    /// The cells that are taken out of its list.
     pub out: Vec<CellId>,
+    /// The cells that are put in.
     pub put: Vec<CellId>,
 }
 

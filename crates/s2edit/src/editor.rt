@@ -22,8 +22,10 @@ use std::mem;
 /// Why an assignment was refused. The editor is then unchanged, and the given union is dropped.
 #[derive(Clone, Copy, Debug, PartialEq, Eq, Drop, thiserror::Error)]
 pub enum EditFault {
+    /// The union has more cells than the limit.
     #[error("the union has more cells than a register may")]
     TooMany,
+    /// An allocation failed.
     #[error("out of memory")]
     Memory,
 }

@@ -10,25 +10,33 @@ use s2union::CellUnion;
 /// One edit.
 #[derive(Drop)]
 pub enum Edit {
+    /// To give a register a union, which stays with the edit: the register gets a copy.
     Assign(Register, CellUnion),
+    /// To go back to the state before the present one.
     Undo,
+    /// To go ahead to the state that was undone last.
     Redo,
 }
 
-/// How an edit ended: it was done, it was refused (a union above the limit, or nothing to undo or to redo), or it ran
-/// out of memory. In the last two cases the editor is as it was.
+/// How an edit ended.
 #[derive(Clone, Copy, Debug, PartialEq, Eq)]
 pub enum EditOutcome {
+    /// It was done. A register that had the union already is as it was, and so is the history.
     Done,
+    /// It was refused: a union above the limit, or nothing to undo or to redo. The editor is as it was.
     Refused,
+    /// It ran out of memory. The editor is as it was.
     NoMemory,
 }
 
 /// How many edits ended in each way.
 #[derive(Clone, Copy, Debug, PartialEq, Eq)]
 pub struct EditTally {
+    /// The edits that were done.
     pub done: usize,
+    /// Those that were refused.
     pub refused: usize,
+    /// Those that ran out of memory.
     pub memory: usize,
 }
 

@@ -33,6 +33,7 @@ pub enum RestoreFault {
     /// A list of the present state, of an earlier state or of an undone state is too long.
     #[error("a list of the session has more cells than a register may")]
     TooMany,
+    /// An allocation failed.
     #[error("out of memory")]
     Memory,
 }

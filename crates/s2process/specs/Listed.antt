@@ -43,7 +43,7 @@ abbrev pub shelf_below : {S : Type 0} → ListedShelf S → S
 shelf_below s = s.shelf
 
 -- what is known of a shelf whose calls are listed, of which this is known: what was found, and how many failures were
--- counted
+-- counted, but not what its files hold
 abbrev pub listed_files : {S : Type 0} → (S → Files) → ListedShelf S → Files
 listed_files files s = record {
   tells = false;

@@ -20,8 +20,8 @@ use Rattle.s2process.specs.Ends.{NoneFailed, LastFlushed, LastFailed, ReadsLast,
 use Rattle.s2process.specs.Order.{EachMay}
 
 -- What a run did between these two worlds: it carried out some lines, with these replies. Of the texts of these
--- `written` are the bytes that the writer took, `waiting` are those that wait in the buffer, and what is left is of the
--- last.
+-- `written` are the bytes that the writer took, and `waiting` those that wait in the buffer; what is left came to
+-- neither, and is of the last.
 pub record Did (start now : World) (written waiting : List ℕ) : Type 0 where
   pub done : List (List ℕ)
   pub replies : List Reply

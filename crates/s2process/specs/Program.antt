@@ -30,34 +30,36 @@ use Rattle.s2process.specs.Listed.{given, reads, taken, called}
 use Rattle.s2process.specs.Process.{Did, RunsListed}
 use Rattle.s2process.specs.Streams.{Unread, Unwritten}
 
--- A writer took these bytes of an answer, by calls that ended so. The result is true unless the answer is a refusal:
--- then all of it was taken and flushed. Or a write or the flush failed, the last call.
+-- A writer took these bytes of an answer, by calls that ended so. After `Ok` all of it was taken, and then flushed; the
+-- result is true unless the answer is a refusal. After `Err` a beginning of it was taken, and then a write or the flush
+-- failed, the last call.
 abbrev pub Shows : Reply → List ℕ → List Call → Result Bool RunFault → Type 0
 Shows reply bytes calls (Ok passed) = (passed ≡ not (is_refusal reply)) × (bytes ≡ text_of reply) × LastFlushed calls
 Shows reply bytes calls (Err fault) =
     (fault ≡ Output) × ((rest : List ℕ) × (text_of reply ≡ bytes ++ rest)) × LastFailed calls
 
 module _ {R W E S : Type 0} (ended : Ended R W E S) where
-  -- standard error got this text, and nothing else
+  -- standard error got this text and nothing else, or a beginning of it, and then a call of it failed
   abbrev pub GetsAlone : List ℕ → Type 0
   GetsAlone text = Tells text (taken ended.streams.errors) (called ended.streams.errors)
 
-  -- there was no memory to begin with: nothing was read or written
+  -- there was no memory to begin with: nothing was read from the input or written to the output
   pub record NotBegun : Type 0 where
     pub unread : Unread ended.streams
     pub unwritten : Unwritten ended.streams
     pub tells : GetsAlone (fault_line Memory)
     pub status_is : ended.status ≡ 3
 
-  -- the words of the command line made no sense, and this is what is wrong with them: nothing was read or written
+  -- the words of the command line made no sense, and this is what is wrong with them: nothing was read from the input
+  -- or written to the output
   pub record ShowsUsage (wrong : List ℕ) : Type 0 where
     pub unread : Unread ended.streams
     pub unwritten : Unwritten ended.streams
     pub tells : GetsAlone (usage_text wrong)
     pub status_is : ended.status ≡ 2
 
-  -- An answer was written and flushed, one that it may be; or a write or the flush failed. If it is a refusal, this was
-  -- said of it.
+  -- An answer was written and flushed, one that it may be; or a beginning of it was, and then a write or the flush
+  -- failed. Nothing was read from the input. If the answer is a refusal, this is what standard error gets.
   pub record Answers (MayBe : Reply → Type 0) (said : List ℕ) : Type 0 where
     pub reply : Reply
     pub may_be : MayBe reply
@@ -75,7 +77,7 @@ module _ {R W E S : Type 0} (ended : Ended R W E S) where
   Stops (Usage text) = ShowsUsage (string_bytes text)
   Stops NoMemory = NotBegun
 
-  -- standard error got the notes on what a run did, as far as it took them, and then this text
+  -- standard error got the notes on what a run did, as far as it took them, and then this text, as far as it took that
   pub record TellsNotes {start now : World} {written waiting : List ℕ} (did : Did start now written waiting)
       (text : List ℕ) : Type 0 where
     pub notes : List ℕ
@@ -99,12 +101,13 @@ module _ {R W E S : Type 0} (files : S → Files) (opened : S → List ℕ → T
 -- `moments` are what was seen of the run
 module _ {R W E S : Type 0} (files : S → Files) (opened : S → List ℕ → Type 0)
     (moments : List (Moment (Buffered (ListedWriter W)) S)) (ended : Ended R W E S) where
-  -- what was done from this state of the editor, with the folder at this path
+  -- what was done from this state of the editor, with the folder at this path, and with notes if it explains
   pub record RunsFrom (start : History (List ℕ)) (path : List ℕ) (explains : Bool) : Type 0 where
     pub first : S
     pub last : S
     pub at_path : opened first path
     pub folder_is : ended.folder ≡ Some last
+    -- the state of the editor when the run ended
     pub now : History (List ℕ)
     -- the bytes of answers that still waited when the run ended, and are lost: none but after `Output`
     pub waiting : List ℕ

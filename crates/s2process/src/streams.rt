@@ -7,8 +7,11 @@ use crate::writer::ListedWriter;
 /// Standard input, output and error of a process. Each call of them stands in a list that only proofs read.
 #[derive(Drop)]
 pub struct Streams<R, W, E> {
+    /// Standard input, from which a script is read.
     pub input: ListedReader<R>,
+    /// Standard output, which gets the answers.
     pub output: ListedWriter<W>,
+    /// Standard error, which gets notes and what failed.
     pub errors: ListedWriter<E>,
 }
 
