@@ -6,7 +6,7 @@ use Rattle.s2file.specs.File.{File, HasFault}
 use Rattle.s2file.specs.declared.fault.FileFault.{FileFault}
 use Rattle.s2file.specs.declared.fault.FileFault.TheVariants.{Memory as NoMemory}
 use Rattle.s2calc.specs.declared.refusal.Refusal.{Refusal}
-use Rattle.s2calc.specs.declared.refusal.Refusal.TheVariants.{Missing, File as NoFile, Format, Memory}
+use Rattle.s2calc.specs.declared.refusal.Refusal.TheVariants.{Missing, File as FileFailed, Format, Memory}
 
 -- a file with these bytes was found; or there is no file of that name; or the shelf failed, and its count rose; or
 -- there was no memory for the bytes
@@ -14,7 +14,7 @@ abbrev pub Fetches : List ℕ → Files → Result (List ℕ) Refusal → Files 
 Fetches name old (Ok bytes) new = Finds old name (Some bytes) new
 Fetches name old (Err refusal) new =
     ((refusal ≡ Missing) × Finds old name None new)
-    ⊎ ((refusal ≡ NoFile) × FailsToGet old name new Device)
+    ⊎ ((refusal ≡ FileFailed) × FailsToGet old name new Device)
     ⊎ ((refusal ≡ Memory) × FailsToGet old name new NoRoom)
 
 -- the bytes are a file whose leaves are this set; or they are not a file; or there is no memory for its cells

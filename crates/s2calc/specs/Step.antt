@@ -7,7 +7,7 @@ use Rattle.s2script.specs.declared.command.Command.TheVariants.{Edit, Load, Save
 use Rattle.s2script.specs.declared.command.Parsed.{Parsed}
 use Rattle.s2script.specs.declared.command.Parsed.TheVariants.{Nothing, Does, Fails}
 use Rattle.s2calc.specs.declared.refusal.Refusal.{Refusal}
-use Rattle.s2calc.specs.declared.refusal.Refusal.TheVariants.{Words, File as NoFile, Memory}
+use Rattle.s2calc.specs.declared.refusal.Refusal.TheVariants.{Words, File as FileFailed, Memory}
 use Rattle.s2script.specs.Line.{line_of}
 use Rattle.s2edit.specs.History.{undone, redone, sets}
 use Rattle.s2edit.specs.Session.{Text, Stored, Restored}
@@ -32,7 +32,7 @@ abbrev pub WritesFile : (List ℕ → Type 0) → List ℕ → World → Reply �
 WritesFile AreThose name old reply new =
     ((reply ≡ Says done_line) × (new.state ≡ old.state)
     × ((bytes : List ℕ) × AreThose bytes × PutsFile old.files new.files name bytes))
-    ⊎ ((reply ≡ Refuses NoFile) × (new.state ≡ old.state) × LosesFile old.files new.files name)
+    ⊎ ((reply ≡ Refuses FileFailed) × (new.state ≡ old.state) × LosesFile old.files new.files name)
     ⊎ ((reply ≡ Refuses Memory) × (new.state ≡ old.state) × SameShelf old.files new.files)
 
 -- if nothing fails, the file becomes the text of the register's leaves
