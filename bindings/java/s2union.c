@@ -1,6 +1,6 @@
-/* The calls of s2union.h for Java: Calls.java has the natives and the numbers of the calls. A list is a long[], whose
- * signs mean nothing. Lists of up to SHORT elements are passed where they lie, which holds the collector up meanwhile;
- * longer ones are copied. There is no arithmetic on cells here. */
+/* The calls of s2union.h for Java: Calls.java has the natives, and the numbers of the calls, which tools/calls makes of
+ * the cases here. A list is a long[], whose signs mean nothing. Lists of up to SHORT elements are passed where they
+ * lie, which holds the collector up meanwhile; longer ones are copied. There is no arithmetic on cells here. */
 #include <jni.h>
 #include <s2union.h>
 
@@ -152,7 +152,7 @@ CALL(jlong, ask)(JNIEnv* env, jclass of, jint call, jlongArray xs, jlongArray ys
   return answer;
 }
 
-static int32_t normalised(const passed* given, size_t* len) {
+static int32_t normalise(const passed* given, size_t* len) {
   passed lists = *given;
   uint64_t *from = lists.at[0], *to = lists.at[2];
   for (jsize k = 0; k < lists.length[0]; k++) to[k] = from[k];
@@ -168,7 +168,7 @@ static int32_t made(jint call, const passed* given, const uint32_t* n, size_t* l
     case 0: return s2u_union(LIST(0), LIST(1), LIST(2), len);
     case 1: return s2u_intersection(LIST(0), LIST(1), LIST(2), len);
     case 2: return s2u_difference(LIST(0), LIST(1), LIST(2), len);
-    case 3: return normalised(given, len);
+    case 3: return normalise(given, len);
     case 4: return s2u_range(*first, *last, LIST(2), len);
     case 5: return s2u_denormalised(LIST(0), n[0], n[1], LIST(2), len);
     case 6: return s2u_ancestors(LIST(0), LIST(2), len);

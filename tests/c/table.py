@@ -12,8 +12,8 @@ from typing import NamedTuple
 
 TOP = Path(__file__).resolve().parents[2]
 READ = ["tools/calls", "crates/s2union_c/src", "crates/s2union_c/include", "crates/s2cover/src/lib.rt",
-        "bindings/rust/src", "bindings/python/s2union", "bindings/java/s2union", "bindings/page/core.js",
-        "tests/c/calls.h"]
+        "bindings/rust/src", "bindings/python/s2union", "bindings/java/s2union", "bindings/java/s2union.c",
+        "bindings/page/core.js", "tests/c/calls.h"]
 HEADER = "crates/s2union_c/include/s2union.h"
 
 
@@ -56,6 +56,8 @@ MISTAKES = [
     Mistake("a text of another refusal in JavaScript", "bindings/page/core.js", '[-2]: "out of memory"',
             '[-2]: "not a cell"'),
     Mistake("another number of a status in Java", "bindings/java/s2union/Calls.java", "NO_CELL = -3", "NO_CELL = -4"),
+    Mistake("the number of another call in Java", "bindings/java/s2union/Calls.java", " CONTAINS_CELL = 2,",
+            " CONTAINS_CELL = 3,"),
     Mistake("a text of another refusal in Java", "bindings/java/s2union/Refusal.java",
             'case -6: return "too many cells"', 'case -6: return "not a cell"'),
     Mistake("another limit in JavaScript", "bindings/page/core.js", "const MOST_TOKEN = 16;",

@@ -10,20 +10,25 @@ import java.util.Arrays;
 /** The calls of s2union.h, by their numbers in s2union.c, and what their statuses mean. */
 final class Calls {
   static final int ROOM = -1, MEMORY = -2, NO_CELL = -3, NO_UNION = -4, ARGUMENT = -5, MANY = -6;
-  static final int VERSION = 0, IS_CELL = 1, LEVEL = 2, FACE = 3, PARENT = 4, CHILD = 5, RANGE_MIN = 6, RANGE_MAX = 7,
-      SIZE = 8, NEXT = 9, PREV = 10, COMMON_ANCESTOR = 11, CELL_CONTAINS = 12, CELL_INTERSECTS = 13;
   static final int TOKEN = 0, DEBUG = 1;
-  static final int IS_UNION = 0, LEAF_COUNT = 1, CONTAINS_CELL = 2, INTERSECTS_CELL = 3, CONTAINS = 4, INTERSECTS = 5,
-      COMPARE = 6;
-  static final int UNION = 0, INTERSECTION = 1, DIFFERENCE = 2, NORMALISE = 3, RANGE = 4, DENORMALISED = 5,
-      ANCESTORS = 6, OUTER = 7, INNER = 8, OUTER_OF = 9, INNER_OF = 10, OUTER_IN = 11, INNER_IN = 12, PARENTS = 13,
-      RANGE_MINS = 14, RANGE_MAXES = 15, SYMMETRIC_DIFFERENCE = 16, COMPLEMENT = 17;
-  static final int ENCODE = 0, TOKENS = 1, LEVELS = 2, TOKEN_FIELDS = 3, CONTAINS_CELLS = 4, INTERSECTS_CELLS = 5;
   static final int DECODE = 0, FILE_ANCESTORS = 1, FROM_TOKENS = 2;
-  static final int FILE_CHECK = 0, FILE_COUNT = 1, FILE_LEAF_COUNT = 2, FILE_CELL = 3, FILE_CONTAINS_CELL = 4,
-      FILE_INTERSECTS_CELL = 5, FILE_CONTAINS = 6, FILE_INTERSECTS = 7;
   static final int LAST_LEVEL = 30, MOST_TOKEN = 16, MOST_DEBUG = 32, HEAD = 9;
   static final long[] NONE = {};
+
+  // made by tools/calls, of the cases of s2union.c
+  static final int VERSION = 0, IS_CELL = 1, LEVEL = 2, FACE = 3, PARENT = 4, CHILD = 5, RANGE_MIN = 6,
+      RANGE_MAX = 7, SIZE = 8, NEXT = 9, PREV = 10, COMMON_ANCESTOR = 11, CELL_CONTAINS = 12,
+      CELL_INTERSECTS = 13;
+  static final int IS_UNION = 0, LEAF_COUNT = 1, CONTAINS_CELL = 2, INTERSECTS_CELL = 3, CONTAINS = 4,
+      INTERSECTS = 5, COMPARE = 6;
+  static final int UNION = 0, INTERSECTION = 1, DIFFERENCE = 2, NORMALISE = 3, RANGE = 4,
+      DENORMALISED = 5, ANCESTORS = 6, OUTER = 7, INNER = 8, OUTER_OF = 9, INNER_OF = 10, OUTER_IN = 11,
+      INNER_IN = 12, PARENTS = 13, RANGE_MINS = 14, RANGE_MAXES = 15, SYMMETRIC_DIFFERENCE = 16,
+      COMPLEMENT = 17;
+  static final int ENCODE = 0, TOKENS = 1, LEVELS = 2, TOKEN_FIELDS = 3, CONTAINS_CELLS = 4,
+      INTERSECTS_CELLS = 5;
+  static final int FILE_CHECK = 0, FILE_COUNT = 1, FILE_LEAF_COUNT = 2, FILE_CELL = 3,
+      FILE_CONTAINS_CELL = 4, FILE_INTERSECTS_CELL = 5, FILE_CONTAINS = 6, FILE_INTERSECTS = 7;
 
   private Calls() {}
 
