@@ -7,9 +7,9 @@ use Rattle.s2calc.specs.Notes.{notes_of}
 use Rattle.s2process.specs.Ends.{NoneFailed, LastFailed}
 use Rattle.s2process.specs.Process.{Did}
 
--- The notes on the lines whose answers came out whole were written, and no call of the writer below failed. Or a
--- beginning of them was written, then such a call failed, the last one, and the writer of notes has stopped. `taken`
--- are the bytes that the writer below took, and `called` says how its calls ended.
+-- The notes on the lines whose answers came whole, to the buffer at least, were written, and no call of the writer
+-- below failed. Or a beginning of them was written, then such a call failed, the last one, and the writer of notes has
+-- stopped. `taken` are the bytes that the writer below took, and `called` says how its calls ended.
 pub record Explains {start now : World} {written waiting : List ℕ} (did : Did start now written waiting)
     (taken : List ℕ) (called : List Call) (stopped : Bool) : Type 0 where
   pub rest : List ℕ
