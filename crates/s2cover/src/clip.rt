@@ -20,7 +20,7 @@ use crate::placing::placed_cell;
 use crate::rect::FaceRect;
 use crate::region::CoverFault;
 use s2cell::{CellId, GREATEST_LEVEL};
-use s2list::{CellList, Cells};
+use s2list::{CellList, Listed};
 use s2room::union_cut;
 use s2union::CellUnion;
 use std::alloc::{AllocError, Global};

@@ -2,15 +2,14 @@
 ghost use Rattle.std.specs.Prelude.{◌≡◌, ◌+◌, ◌-◌, ◌*◌, ◌^◌, ◌<◌, ◌≤◌, ℕ, min, length};
 ghost use Rattle.s2list.specs.Packed.{EndsAfter, FirstEndBy, IsPacked};
 
-use crate::cells::Cells;
 use crate::find::{ends_by, find_from_counted, narrow};
-use crate::looks::{Count, look};
+use crate::looks::{Count, LookedAt};
 
 /// How many cells end by the leaf `lo`, on a walk that stands at index `at`, if the first `start` cells are known to
 /// end by it. At the beginning of a list nothing says how far that is. So the search from there goes by halves, unless
 /// the next cell decides, or the last. A later one leaps, and is logarithmic in how far it gets.
 #[inline(always)]
-pub fn find_along<C: Cells, K: Count>(
+pub fn find_along<C: LookedAt<K>, K: Count>(
     cells: &C,
     at: usize,
     start: usize,
@@ -36,14 +35,14 @@ pub fn find_along<C: Cells, K: Count>(
     if start >= len {
         return start;
     }
-    if !ends_by(look(cells, start, count), lo) {
+    if !ends_by(cells.look(start, count), lo) {
         return start;
     }
     let next = start + 1;
     if next >= len {
         return next;
     }
-    if ends_by(look(cells, len - 1, count), lo) {
+    if ends_by(cells.look(len - 1, count), lo) {
         return len;
     }
     narrow(cells, next, len - 1, lo, count)

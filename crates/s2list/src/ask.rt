@@ -8,7 +8,7 @@ ghost use Rattle.s2list.specs.Working.Walk.{Holds};
 
 use crate::cells::Cells;
 use crate::find::{find_counted, find_near, first_of};
-use crate::looks::{Count, Counted, Looks, Uncounted, look};
+use crate::looks::{Count, Counted, LookedAt, Looks, Uncounted};
 use crate::walk::{Question, lies_in};
 use s2cell::CellId;
 
@@ -21,7 +21,7 @@ pub fn contains_cell<C: Cells>(cells: &C, cell: CellId) -> bool
 
 /// The same, with how often it looks at a number: at least once if there is one, and at most `k + 3` times if there are
 /// at most `2^k`.
-pub fn contains_cell_counted<C: Cells>(cells: &C, cell: CellId) -> Counted
+pub fn contains_cell_counted<C: LookedAt<Looks>>(cells: &C, cell: CellId) -> Counted
     ensures answer { IsLocal (C.ids cells.now)
         → (IsTrue result.answer ↔ IsWithin (covers cell) (has_leaf (C.ids cells.now))) }
     ensures looks { FewForCell (length (C.ids cells.now)) result.looks }
@@ -38,7 +38,7 @@ pub fn intersects_cell<C: Cells>(cells: &C, cell: CellId) -> bool
 }
 
 /// The same, with how often it looks at a number, which is bounded as for `contains_cell_counted`.
-pub fn intersects_cell_counted<C: Cells>(cells: &C, cell: CellId) -> Counted
+pub fn intersects_cell_counted<C: LookedAt<Looks>>(cells: &C, cell: CellId) -> Counted
     ensures answer { IsLocal (C.ids cells.now)
         → (IsTrue result.answer ↔ ShareSome (covers cell) (has_leaf (C.ids cells.now))) }
     ensures looks { FewForCell (length (C.ids cells.now)) result.looks }
@@ -49,7 +49,7 @@ pub fn intersects_cell_counted<C: Cells>(cells: &C, cell: CellId) -> Counted
 
 /// The answer to the question about a cell, counted.
 #[inline(always)]
-fn counted<C: Cells>(question: Question, cells: &C, cell: CellId) -> Counted
+fn counted<C: LookedAt<Looks>>(question: Question, cells: &C, cell: CellId) -> Counted
     ensures answer { IsLocal (C.ids cells.now) → (IsTrue result.answer ↔ Holds question (C.ids cells.now) cell) }
     ensures looks { FewForCell (length (C.ids cells.now)) result.looks }
     ensures least { 0 < length (C.ids cells.now) → 0 < result.looks }
@@ -64,7 +64,12 @@ fn counted<C: Cells>(question: Question, cells: &C, cell: CellId) -> Counted
 
 /// The answer to the question about a cell, for any counter.
 #[inline(always)]
-fn is_so<C: Cells, K: Count>(question: Question, cells: &C, cell: CellId, count: &mut K) -> bool
+fn is_so<C: LookedAt<K>, K: Count>(
+    question: Question,
+    cells: &C,
+    cell: CellId,
+    count: &mut K,
+) -> bool
     ensures answer { IsLocal (C.ids cells.now) → (IsTrue result ↔ Holds question (C.ids cells.now) cell) }
     ensures looks { (k : ℕ) → length (C.ids cells.now) ≤ 2 ^ k → K.looks count.new ≤ K.looks count.old + k + 3 }
     ensures least { min (K.looks count.old) K.most ≤ K.looks count.new }
@@ -76,7 +81,7 @@ fn is_so<C: Cells, K: Count>(question: Question, cells: &C, cell: CellId, count:
 
 /// The answer to the question about a cell, once its index is known, for any counter.
 #[inline(always)]
-fn is_so_at<C: Cells, K: Count>(
+fn is_so_at<C: LookedAt<K>, K: Count>(
     question: Question,
     cells: &C,
     at: usize,
@@ -113,7 +118,7 @@ pub fn contains_cell_at<C: Cells>(cells: &C, at: usize, cell: CellId) -> bool
 
 /// The same, counted.
 #[inline(always)]
-pub fn contains_cell_at_counted<C: Cells, K: Count>(
+pub fn contains_cell_at_counted<C: LookedAt<K>, K: Count>(
     cells: &C,
     at: usize,
     cell: CellId,
@@ -127,7 +132,7 @@ pub fn contains_cell_at_counted<C: Cells, K: Count>(
     if at >= cells.len() {
         return false;
     }
-    lies_in(cell.id(), look(cells, at, count))
+    lies_in(cell.id(), cells.look(at, count))
 }
 
 /// Whether a union has a leaf of the cell, once its index is known.
@@ -141,7 +146,7 @@ pub fn intersects_cell_at<C: Cells>(cells: &C, at: usize, cell: CellId) -> bool
 
 /// The same, counted.
 #[inline(always)]
-pub fn intersects_cell_at_counted<C: Cells, K: Count>(
+pub fn intersects_cell_at_counted<C: LookedAt<K>, K: Count>(
     cells: &C,
     at: usize,
     cell: CellId,
@@ -157,7 +162,7 @@ pub fn intersects_cell_at_counted<C: Cells, K: Count>(
 
 /// Whether there is a number at index `at`, and its cell begins before the leaf `end`.
 #[inline(always)]
-pub fn begins_at<C: Cells, K: Count>(cells: &C, at: usize, end: u64, count: &mut K) -> bool
+pub fn begins_at<C: LookedAt<K>, K: Count>(cells: &C, at: usize, end: u64, count: &mut K) -> bool
     ensures answer { All IsCell (C.ids cells.now)
         → (IsTrue result ↔ (at < length (C.ids cells.now) × first_leaf (slice_index (C.ids cells.now) at) < end)) }
     ensures within { IsTrue result → at < length (C.ids cells.now) }
@@ -168,5 +173,5 @@ pub fn begins_at<C: Cells, K: Count>(cells: &C, at: usize, end: u64, count: &mut
     if at >= cells.len() {
         return false;
     }
-    first_of(look(cells, at, count)) < end
+    first_of(cells.look(at, count)) < end
 }

@@ -3,18 +3,21 @@ ghost use Rattle.std.specs.Prelude.{◌≡◌, ◌<◌, ℕ, List, length, slice
 
 use s2cell::CellId;
 
-/// Numbers that can be read by their indexes.
-pub trait Cells {
+/// Numbers in a list. Only how many there are can be read.
+pub trait Listed {
     ghost ids: { Self → List ℕ };
 
     /// How many numbers there are.
     fn len(&self) -> usize
         ensures { result ≡ length (ids self.now) };
+}
 
+/// Numbers that can be read by their indexes.
+pub trait Cells: Listed {
     /// The number at index `k`, counted from 0.
     fn id(&self, k: usize) -> u64
-        requires { k < length (ids self.now) }
-        ensures { result ≡ slice_index (ids self.now) k };
+        requires { k < length (Self.ids self.now) }
+        ensures { result ≡ slice_index (Self.ids self.now) k };
 }
 
 /// The numbers of a list.
@@ -24,13 +27,15 @@ pub struct IdList<'a> {
     pub ids: &'a [u64],
 }
 
-impl<'a> Cells for IdList<'a> {
+impl<'a> Listed for IdList<'a> {
     ghost ids = { λ s. s.ids.now };
 
     fn len(&self) -> usize {
         self.ids.len()
     }
+}
 
+impl<'a> Cells for IdList<'a> {
     fn id(&self, k: usize) -> u64 {
         self.ids[k]
     }
@@ -43,13 +48,15 @@ pub struct CellList<'a> {
     pub cells: &'a [CellId],
 }
 
-impl<'a> Cells for CellList<'a> {
+impl<'a> Listed for CellList<'a> {
     ghost ids = { λ s. s.cells.now };
 
     fn len(&self) -> usize {
         self.cells.len()
     }
+}
 
+impl<'a> Cells for CellList<'a> {
     fn id(&self, k: usize) -> u64 {
         self.cells[k].id()
     }

@@ -8,7 +8,7 @@ ghost use Rattle.s2list.specs.Search.{Brackets};
 ghost use Rattle.s2list.specs.Working.Search.{IsFrom};
 
 use crate::cells::Cells;
-use crate::looks::{Count, Uncounted, look};
+use crate::looks::{Count, LookedAt, Uncounted};
 
 /// How far after an index that is thought to be near a search goes on from there. One farther away is looked for among
 /// all cells.
@@ -27,7 +27,7 @@ pub(crate) fn find<C: Cells>(cells: &C, lo: u64) -> usize
 }
 
 /// The same, counted. Where the leaf lies before all cells or after them, two looks decide.
-pub fn find_counted<C: Cells, K: Count>(cells: &C, lo: u64, count: &mut K) -> usize
+pub fn find_counted<C: LookedAt<K>, K: Count>(cells: &C, lo: u64, count: &mut K) -> usize
     ensures within { result ≤ length (C.ids cells.now) }
     ensures ended { IsPacked (C.ids cells.now) → FirstEndBy (C.ids cells.now) result lo }
     ensures next { IsPacked (C.ids cells.now) → EndsAfter (C.ids cells.now) result lo }
@@ -39,10 +39,10 @@ pub fn find_counted<C: Cells, K: Count>(cells: &C, lo: u64, count: &mut K) -> us
     if len == 0 {
         return 0;
     }
-    if ends_by(look(cells, len - 1, count), lo) {
+    if ends_by(cells.look(len - 1, count), lo) {
         return len;
     }
-    if !ends_by(look(cells, 0, count), lo) {
+    if !ends_by(cells.look(0, count), lo) {
         return 0;
     }
     narrow_until(FEW, cells, 0, len - 1, lo, count)
@@ -65,7 +65,7 @@ pub fn find_from<C: Cells>(cells: &C, start: usize, lo: u64) -> usize
 /// The same, counted. Looks at the next two cells one by one, since in lists of similar length it is mostly one of
 /// these.
 #[inline(always)]
-pub fn find_from_counted<C: Cells, K: Count>(
+pub fn find_from_counted<C: LookedAt<K>, K: Count>(
     cells: &C,
     start: usize,
     lo: u64,
@@ -96,7 +96,7 @@ pub fn find_from_counted<C: Cells, K: Count>(
 /// where it would stand. Logarithmic in how many there are. A cell that ends by the leaf in the middle of the mark is
 /// below it, and of the others only the first may be.
 #[inline(always)]
-pub fn find_id_counted<C: Cells, K: Count>(cells: &C, mark: u64, count: &mut K) -> usize
+pub fn find_id_counted<C: LookedAt<K>, K: Count>(cells: &C, mark: u64, count: &mut K) -> usize
     ensures within { result ≤ length (C.ids cells.now) }
     ensures place { IsPacked (C.ids cells.now) → Brackets (C.ids cells.now) mark result result }
     ensures looks { (k : ℕ) → result < 2 ^ k → K.looks count.new ≤ K.looks count.old + 2 * k + 4 }
@@ -115,7 +115,7 @@ pub fn find_id_counted<C: Cells, K: Count>(cells: &C, mark: u64, count: &mut K) 
 
 /// Whether there is a number at index `at`, and it is below `mark`.
 #[inline(always)]
-fn is_below_at<C: Cells, K: Count>(cells: &C, at: usize, mark: u64, count: &mut K) -> bool
+fn is_below_at<C: LookedAt<K>, K: Count>(cells: &C, at: usize, mark: u64, count: &mut K) -> bool
     ensures answer { IsTrue result ↔ (at < length (C.ids cells.now) × slice_index (C.ids cells.now) at < mark) }
     ensures fits { IsTrue result → at + 1 < 2 ^ 64 }
     ensures looks { K.looks count.new ≤ K.looks count.old + 1 }
@@ -124,12 +124,12 @@ fn is_below_at<C: Cells, K: Count>(cells: &C, at: usize, mark: u64, count: &mut 
     if at >= cells.len() {
         return false;
     }
-    look(cells, at, count) < mark
+    cells.look(at, count) < mark
 }
 
 /// Whether there is a number at index `at`, and its cell ends by the leaf `lo`.
 #[inline(always)]
-fn ends_at<C: Cells, K: Count>(cells: &C, at: usize, lo: u64, count: &mut K) -> bool
+fn ends_at<C: LookedAt<K>, K: Count>(cells: &C, at: usize, lo: u64, count: &mut K) -> bool
     ensures answer { All IsCell (C.ids cells.now) → (IsTrue result ↔ EndsAt (C.ids cells.now) at lo) }
     ensures within { IsTrue result → at < length (C.ids cells.now) }
     ensures fits { IsTrue result → at + 1 < 2 ^ 64 }
@@ -140,12 +140,12 @@ fn ends_at<C: Cells, K: Count>(cells: &C, at: usize, lo: u64, count: &mut K) -> 
     if at >= cells.len() {
         return false;
     }
-    ends_by(look(cells, at, count), lo)
+    ends_by(cells.look(at, count), lo)
 }
 
 /// How many cells end by the leaf `lo`, if the first `start + 2` are known to. Leaps ahead, each leap three times as
 /// long as all before it, and then searches what the last leap passed over.
-fn leap_on<C: Cells, K: Count>(cells: &C, start: usize, lo: u64, count: &mut K) -> usize
+fn leap_on<C: LookedAt<K>, K: Count>(cells: &C, start: usize, lo: u64, count: &mut K) -> usize
     requires { start + 2 ≤ length (C.ids cells.now) }
     ensures from { start + 2 ≤ result }
     ensures within { result ≤ length (C.ids cells.now) }
@@ -160,7 +160,7 @@ fn leap_on<C: Cells, K: Count>(cells: &C, start: usize, lo: u64, count: &mut K) 
     let mut base = start + 2;
     let mut leap = 6;
     while leap <= len - base {
-        if !ends_by(look(cells, base + (leap - 1), count), lo) {
+        if !ends_by(cells.look(base + (leap - 1), count), lo) {
             return narrow(cells, base, base + (leap - 1), lo, count);
         }
         base += leap;
@@ -170,7 +170,7 @@ fn leap_on<C: Cells, K: Count>(cells: &C, start: usize, lo: u64, count: &mut K) 
 }
 
 /// How many cells end by the leaf `lo`, if they are known to be from `start` to `end`. Each look halves what is left.
-pub(crate) fn narrow<C: Cells, K: Count>(
+pub(crate) fn narrow<C: LookedAt<K>, K: Count>(
     cells: &C,
     start: usize,
     end: usize,
@@ -199,7 +199,7 @@ pub(crate) fn narrow<C: Cells, K: Count>(
 /// A number is first compared with twice the leaf, which is soon known: a branch on it is mispredicted half the time,
 /// and one on where the cell ends hardly ever.
 #[inline(always)]
-fn narrow_until<C: Cells, K: Count>(
+fn narrow_until<C: LookedAt<K>, K: Count>(
     few: usize,
     cells: &C,
     start: usize,
@@ -224,7 +224,7 @@ fn narrow_until<C: Cells, K: Count>(
     let mut last = end;
     while last - first > few {
         let middle = first + (last - first) / 2;
-        let id = look(cells, middle, count);
+        let id = cells.look(middle, count);
         if id >= mark {
             last = middle;
         } else if ends_by(id, lo) {
@@ -239,7 +239,7 @@ fn narrow_until<C: Cells, K: Count>(
 /// The same, with no branch on what is found. It keeps the last number below twice the leaf: of the cells before the
 /// places that are left only that one may end after the leaf.
 #[inline(always)]
-fn among_few<C: Cells, K: Count>(
+fn among_few<C: LookedAt<K>, K: Count>(
     cells: &C,
     start: usize,
     end: usize,
@@ -265,7 +265,7 @@ fn among_few<C: Cells, K: Count>(
     let mut below = 0;
     while size > 0 {
         let half = size - size / 2;
-        let id = look(cells, base + (half - 1), count);
+        let id = cells.look(base + (half - 1), count);
         let is_on = is_below(id, mark);
         base += half * is_on;
         below = chosen(is_on, id, below);
@@ -298,7 +298,7 @@ fn ends_after(id: u64, lo: u64) -> usize
 /// end. It compares three numbers at once and sums the results, since a branch on each would be mispredicted half the
 /// time.
 #[inline(always)]
-pub(crate) fn quarter<C: Cells, K: Count>(
+pub(crate) fn quarter<C: LookedAt<K>, K: Count>(
     cells: &C,
     base: usize,
     size: usize,
@@ -315,9 +315,9 @@ pub(crate) fn quarter<C: Cells, K: Count>(
     ensures least { min (K.looks count.old + 1) K.most ≤ K.looks count.new }
 {
     let quarter = size / 4;
-    let first = is_below(look(cells, base + (quarter - 1), count), mark);
-    let second = is_below(look(cells, base + (2 * quarter - 1), count), mark);
-    let third = is_below(look(cells, base + (3 * quarter - 1), count), mark);
+    let first = is_below(cells.look(base + (quarter - 1), count), mark);
+    let second = is_below(cells.look(base + (2 * quarter - 1), count), mark);
+    let third = is_below(cells.look(base + (3 * quarter - 1), count), mark);
     base + quarter * (first + second + third)
 }
 

@@ -7,7 +7,7 @@ ghost use Rattle.s2list.specs.Search.{Brackets};
 
 use crate::cells::Cells;
 use crate::find::{narrow, quarter};
-use crate::looks::{Count, Uncounted};
+use crate::looks::{Count, LookedAt, Uncounted};
 use s2cell::{CellId, LEAVES};
 
 /// Where the parts of a list begin in which four leaves lie. Each part has `size` numbers.
@@ -51,7 +51,7 @@ pub fn places_of_four<C: Cells>(
 }
 
 /// The same, counted: it looks at most as often as four searches that don't take turns.
-pub fn places_of_four_counted<C: Cells, K: Count>(
+pub fn places_of_four_counted<C: LookedAt<K>, K: Count>(
     cells: &C,
     first: CellId,
     second: CellId,
@@ -81,7 +81,13 @@ pub fn places_of_four_counted<C: Cells, K: Count>(
 
 /// How many cells end by the leaf `lo`, if the first number from `2 * lo` on is at one of the `size` indexes from
 /// `base` on, or at their end.
-fn settle<C: Cells, K: Count>(cells: &C, base: usize, size: usize, lo: u64, count: &mut K) -> usize
+fn settle<C: LookedAt<K>, K: Count>(
+    cells: &C,
+    base: usize,
+    size: usize,
+    lo: u64,
+    count: &mut K,
+) -> usize
     requires fits { length (C.ids cells.now) < 2 ^ 64 }
     requires few { size ≤ 3 }
     requires within { base + size ≤ length (C.ids cells.now) }
@@ -95,7 +101,7 @@ fn settle<C: Cells, K: Count>(cells: &C, base: usize, size: usize, lo: u64, coun
 }
 
 /// The parts of a list that have the indexes of four numbers: at most three indexes, or their end.
-fn parts_of_four<C: Cells, K: Count>(
+fn parts_of_four<C: LookedAt<K>, K: Count>(
     cells: &C,
     a: u64,
     b: u64,

@@ -40,7 +40,7 @@ pub use ask::{
     intersects_cell, intersects_cell_at, intersects_cell_at_counted, intersects_cell_counted,
     place_near,
 };
-pub use cells::{CellList, Cells, IdList};
+pub use cells::{CellList, Cells, IdList, Listed};
 pub use differing::write_symmetric_difference;
 pub use find::{
     NEARBY, end_of, find_counted, find_from, find_from_counted, find_id_counted, first_of,
@@ -48,7 +48,7 @@ pub use find::{
 };
 pub use four::{Places, places_of_four, places_of_four_counted};
 pub use join::write_union;
-pub use looks::{Count, Counted, Looks, Uncounted, look};
+pub use looks::{Count, Counted, LookedAt, Looks, Uncounted};
 pub use output::{Copies, Output};
 pub use outside::write_complement;
 pub use run::cells_at;

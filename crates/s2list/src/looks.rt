@@ -1,7 +1,7 @@
 //! How a call counts the numbers that it looks at, or doesn't: the counter is a type of its own.
 ghost use Rattle.std.specs.Prelude.{◌≡◌, ◌+◌, ◌-◌, ◌^◌, ◌<◌, ℕ, min, length, slice_index};
 
-use crate::cells::Cells;
+use crate::cells::{Cells, Listed};
 
 /// What counts the looks of a call.
 pub trait Count {
@@ -53,13 +53,20 @@ impl Count for Uncounted {
     fn look(&mut self) {}
 }
 
-/// The number at an index. A search that is counted sees numbers only through this call.
-#[inline(always)]
-pub fn look<C: Cells, K: Count>(cells: &C, at: usize, count: &mut K) -> u64
-    requires { at < length (C.ids cells.now) }
-    ensures id { result ≡ slice_index (C.ids cells.now) at }
-    ensures count { K.looks count.new ≡ min (K.looks count.old + 1) K.most }
-{
-    count.look();
-    cells.id(at)
+/// A list whose numbers are seen only by looks that `K` counts. What is written for any such list and any counter has
+/// no other way to a number: it can't read one, and it has no counter but the one that it is given.
+pub trait LookedAt<K: Count>: Listed {
+    /// The number at an index, counted.
+    fn look(&self, at: usize, count: &mut K) -> u64
+        requires { at < length (Self.ids self.now) }
+        ensures id { result ≡ slice_index (Self.ids self.now) at }
+        ensures count { K.looks count.new ≡ min (K.looks count.old + 1) K.most };
+}
+
+impl<C: Cells, K: Count> LookedAt<K> for C {
+    #[inline(always)]
+    fn look(&self, at: usize, count: &mut K) -> u64 {
+        count.look();
+        self.id(at)
+    }
 }

@@ -2,7 +2,7 @@
 ghost use Rattle.std.specs.Prelude.{◌≡◌, ◌-◌, ◌^◌, ◌<◌, ◌≤◌, ◌++◌, ℕ, List, IfErr, IfOk, length, take, drop};
 ghost use Rattle.s2list.specs.Output.{Fills};
 
-use crate::cells::Cells;
+use crate::cells::Listed;
 use s2cell::LEAVES;
 use std::alloc::AllocError;
 
@@ -34,7 +34,7 @@ pub trait Output {
 }
 
 /// An output that takes runs of a list.
-pub trait Copies<C: Cells>: Output {
+pub trait Copies<C: Listed>: Output {
     /// Writes the numbers of the list at the indexes from `from` to before `to` after the first `n`.
     fn put_run(&mut self, n: usize, cells: &C, from: usize, to: usize) -> Result<usize, AllocError>
         requires order { from ≤ to }

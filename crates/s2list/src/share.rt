@@ -6,9 +6,8 @@ ghost use Rattle.s2list.specs.Looks.{Alternates, FewForTurnsAndCells};
 ghost use Rattle.s2list.specs.Output.{Writes};
 
 use crate::along::find_along;
-use crate::cells::Cells;
 use crate::find::{end_of, find_from_counted, first_of};
-use crate::looks::{Count, look};
+use crate::looks::{Count, LookedAt};
 use crate::output::Copies;
 use std::alloc::AllocError;
 
@@ -18,7 +17,7 @@ use std::alloc::AllocError;
 /// Let unions have `m` and `n` cells, which in the order of their first leaves are `d` runs of each, and the result `r`
 /// cells. Then it looks at most `8 (d + 1) (1 + log2((m + n) / (d + 1))) + 4 r` times at a number of either list, with
 /// the logarithm rounded up. What reads a cell to write it isn't counted.
-pub fn write_shared<X: Cells, Y: Cells, W: Copies<X> + Copies<Y>, K: Count>(
+pub fn write_shared<X: LookedAt<K>, Y: LookedAt<K>, W: Copies<X> + Copies<Y>, K: Count>(
     xs: &X,
     ys: &Y,
     out: &mut W,
@@ -44,8 +43,8 @@ pub fn write_shared<X: Cells, Y: Cells, W: Copies<X> + Copies<Y>, K: Count>(
     let mut i = 0;
     let mut j = 0;
     while i < x_len && j < y_len {
-        let x = look(xs, i, count);
-        let y = look(ys, j, count);
+        let x = xs.look(i, count);
+        let y = ys.look(j, count);
         let x_first = first_of(x);
         let y_first = first_of(y);
         let x_end = end_of(x);

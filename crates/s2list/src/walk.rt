@@ -10,7 +10,7 @@ ghost use Rattle.s2list.specs.Working.Walk.{Decides, LeavesOpen, Lacks, Settles,
 use crate::along::find_along;
 use crate::cells::Cells;
 use crate::find::{end_of, first_of};
-use crate::looks::{Count, Counted, Looks, Uncounted, look};
+use crate::looks::{Count, Counted, LookedAt, Looks, Uncounted};
 
 /// Whether a union has all leaves of another. Its work follows how the two interleave, as `contains_counted` says.
 pub fn contains<X: Cells, Y: Cells>(whole: &X, part: &Y) -> bool
@@ -25,7 +25,7 @@ pub fn contains<X: Cells, Y: Cells>(whole: &X, part: &Y) -> bool
 /// 1) (1 + log2((m + n) / (d + 1)))` times, the logarithm rounded up: neither list is gone through. By the sizes alone
 /// it is at most `42 m (1 + k) + 42` times if the shorter list has `m` cells and the longer one at most `(m + 1) 2^k`,
 /// and at most `8 (m + n) + 8` times.
-pub fn contains_counted<X: Cells, Y: Cells>(whole: &X, part: &Y) -> Counted
+pub fn contains_counted<X: LookedAt<Looks>, Y: LookedAt<Looks>>(whole: &X, part: &Y) -> Counted
     ensures answer { IsLocal (X.ids whole.now) → IsLocal (Y.ids part.now)
         → (IsTrue result.answer ↔ IsWithin (has_leaf (Y.ids part.now)) (has_leaf (X.ids whole.now))) }
     ensures looks { IsLocal (X.ids whole.now) → IsLocal (Y.ids part.now) → (d i j : ℕ)
@@ -52,7 +52,7 @@ pub fn intersects<X: Cells, Y: Cells>(xs: &X, ys: &Y) -> bool
 }
 
 /// The same, with how often it looks at a number of either list, which is bounded as for `contains_counted`.
-pub fn intersects_counted<X: Cells, Y: Cells>(xs: &X, ys: &Y) -> Counted
+pub fn intersects_counted<X: LookedAt<Looks>, Y: LookedAt<Looks>>(xs: &X, ys: &Y) -> Counted
     ensures answer { IsLocal (X.ids xs.now) → IsLocal (Y.ids ys.now)
         → (IsTrue result.answer ↔ ShareSome (has_leaf (X.ids xs.now)) (has_leaf (Y.ids ys.now))) }
     ensures looks { IsLocal (X.ids xs.now) → IsLocal (Y.ids ys.now) → (d i j : ℕ)
@@ -80,7 +80,7 @@ pub enum Question {
 }
 
 /// Whether `xs` has all leaves of `ys`, for any counter, which counts on from where it is.
-pub fn holds_all<X: Cells, Y: Cells, K: Count>(xs: &X, ys: &Y, count: &mut K) -> bool
+pub fn holds_all<X: LookedAt<K>, Y: LookedAt<K>, K: Count>(xs: &X, ys: &Y, count: &mut K) -> bool
     ensures answer { IsLocal (X.ids xs.now) → IsLocal (Y.ids ys.now)
         → (IsTrue result ↔ IsWithin (has_leaf (Y.ids ys.now)) (has_leaf (X.ids xs.now))) }
     ensures looks { IsLocal (X.ids xs.now) → IsLocal (Y.ids ys.now) → (d i j : ℕ)
@@ -99,7 +99,7 @@ pub fn holds_all<X: Cells, Y: Cells, K: Count>(xs: &X, ys: &Y, count: &mut K) ->
 }
 
 /// Whether `xs` and `ys` share a leaf, for any counter, which counts on from where it is.
-pub fn meets_any<X: Cells, Y: Cells, K: Count>(xs: &X, ys: &Y, count: &mut K) -> bool
+pub fn meets_any<X: LookedAt<K>, Y: LookedAt<K>, K: Count>(xs: &X, ys: &Y, count: &mut K) -> bool
     ensures answer { IsLocal (X.ids xs.now) → IsLocal (Y.ids ys.now)
         → (IsTrue result ↔ ShareSome (has_leaf (X.ids xs.now)) (has_leaf (Y.ids ys.now))) }
     ensures looks { IsLocal (X.ids xs.now) → IsLocal (Y.ids ys.now) → (d i j : ℕ)
@@ -116,7 +116,7 @@ pub fn meets_any<X: Cells, Y: Cells, K: Count>(xs: &X, ys: &Y, count: &mut K) ->
 
 /// Whether both have cells, and the last of `ys` ends after the last of `xs`.
 #[inline(always)]
-fn ends_later<X: Cells, Y: Cells, K: Count>(ys: &Y, xs: &X, count: &mut K) -> bool
+fn ends_later<X: LookedAt<K>, Y: LookedAt<K>, K: Count>(ys: &Y, xs: &X, count: &mut K) -> bool
     ensures answer { IsLocal (X.ids xs.now) → IsLocal (Y.ids ys.now) → IsTrue result
         → IsWithin (has_leaf (Y.ids ys.now)) (has_leaf (X.ids xs.now)) → ⊥ }
     ensures looks { K.looks count.new ≤ K.looks count.old + 2 }
@@ -131,13 +131,13 @@ fn ends_later<X: Cells, Y: Cells, K: Count>(ys: &Y, xs: &X, count: &mut K) -> bo
     if m == 0 || n == 0 {
         return false;
     }
-    end_of(look(xs, m - 1, count)) < end_of(look(ys, n - 1, count))
+    end_of(xs.look(m - 1, count)) < end_of(ys.look(n - 1, count))
 }
 
 /// Whether a cell of `ys` decides the question. Each turn passes the cells of `xs` before the next of `ys`, and then
 /// the cells of `ys` that the next of `xs` leaves open: those in it, or those before it.
 #[inline(always)]
-fn is_decided<X: Cells, Y: Cells, K: Count>(
+fn is_decided<X: LookedAt<K>, Y: LookedAt<K>, K: Count>(
     question: Question,
     xs: &X,
     ys: &Y,
@@ -160,12 +160,12 @@ fn is_decided<X: Cells, Y: Cells, K: Count>(
     let mut i = 0;
     let mut j = 0;
     while j < n {
-        let y = look(ys, j, count);
+        let y = ys.look(j, count);
         i = find_along(xs, i, i, first_of(y), count);
         if i >= m {
             return lacks(question);
         }
-        let x = look(xs, i, count);
+        let x = xs.look(i, count);
         if settles(question, x, y) {
             return true;
         }

@@ -6,7 +6,7 @@ ghost use Rattle.s2room.specs.Numbers.{number_in, numbers_in};
 
 use byteorder::{ByteOrder, LittleEndian};
 use s2cell::CellId;
-use s2list::Cells;
+use s2list::{Cells, Listed};
 
 /// The size of a number in a file, in bytes.
 pub const NUMBER_SIZE: usize = 8;
@@ -18,13 +18,15 @@ pub struct FileIds<'a> {
     pub bytes: &'a [u8],
 }
 
-impl<'a> Cells for FileIds<'a> {
+impl<'a> Listed for FileIds<'a> {
     ghost ids = { λ s. numbers_in s.bytes.now };
 
     fn len(&self) -> usize {
         self.bytes.len() / NUMBER_SIZE
     }
+}
 
+impl<'a> Cells for FileIds<'a> {
     fn id(&self, k: usize) -> u64 {
         number_at(self.bytes, k)
     }

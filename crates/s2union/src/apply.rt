@@ -14,11 +14,13 @@ ghost use Rattle.s2union.specs.Working.Merge.{IsTurn, IsHead, IsFrontOf, IsRest,
 ghost use Rattle.s2list.specs.Packed.{IsPacked};
 ghost use Rattle.s2union.specs.Working.Tail.{Follows, Passes};
 
-use crate::search::look;
+use crate::search::CellsLookedAt;
 use crate::sets::extend_reserved;
 use crate::union::CellUnion;
 use s2cell::CellId;
-use s2list::{CellList, Count, Counted, Looks, Uncounted, find_id_counted, parent_of_family};
+use s2list::{
+    CellList, Count, Counted, Listed, Looks, Uncounted, find_id_counted, parent_of_family,
+};
 use std::alloc::{AllocError, Global};
 use std::cmp::Ordering;
 use std::marker::Model;
@@ -60,7 +62,7 @@ impl CellUnion {
         requires put_ascends { IsStrictlyIncreasing put.now }
         ensures { IsTrue result ↔ Fits out.now put.now self.now.cells }
     {
-        fits_cells(self.cells(), out, put, &mut Uncounted)
+        fits_cells(self.list(), out, put, &mut Uncounted)
     }
 
     /// The same, with how often it looks at a cell of the list. If that has `n` cells, and `out` and `put` together
@@ -75,7 +77,7 @@ impl CellUnion {
         ensures some { 0 < length self.now.cells → 0 < result.looks }
     {
         let mut count = Looks { looks: 0 };
-        let answer = fits_cells(self.cells(), out, put, &mut count);
+        let answer = fits_cells(self.list(), out, put, &mut count);
         Counted {
             answer,
             looks: count.looks,
@@ -159,7 +161,7 @@ impl CellUnion {
     {
         let none = Vec::new(*into.cells.allocator());
         let room = mem::replace(&mut into.cells, none);
-        into.cells = applied_in(room, self.cells(), out, put, count);
+        into.cells = applied_in(room, self.list(), out, put, count);
     }
 }
 
@@ -187,7 +189,7 @@ fn changed_part(room: Vec<CellId>, cells: &[CellId], out: &[CellId], put: &[Cell
 {
     let mut list = room;
     list.clear();
-    let mut merge = Merge::new(cells, out, put);
+    let mut merge = Merge::new(CellList { cells }, out, put);
     let from = merge.run(&mut Uncounted).len();
     loop {
         if merge.is_done() {
@@ -280,22 +282,22 @@ fn grow(list: &mut Vec<CellId>, at: usize, more: &[CellId])
 ///
 /// The list is handed over and back: the copy of a run is several times as fast if the length of the list is the
 /// function's own and not behind a reference.
-fn applied_in<K: Count>(
+fn applied_in<C: CellsLookedAt<K>, K: Count>(
     mut list: Vec<CellId>,
-    cells: &[CellId],
+    cells: C,
     out: &[CellId],
     put: &[CellId],
     count: &mut K,
 ) -> Vec<CellId>
-    requires local { IsLocal cells.now }
-    requires fits { Fits out.now put.now cells.now }
-    requires room { length (applied out.now put.now cells.now) ≤ vec_capacity list }
+    requires local { IsLocal (C.ids cells) }
+    requires fits { Fits out.now put.now (C.ids cells) }
+    requires room { length (applied out.now put.now (C.ids cells)) ≤ vec_capacity list }
     requires count { K.looks count.old ≡ 0 }
-    ensures items { result.items ≡ applied out.now put.now cells.now }
+    ensures items { result.items ≡ applied out.now put.now (C.ids cells) }
     ensures capacity { vec_capacity result ≡ vec_capacity list }
-    ensures looks { FewForChange (length cells.now) (length out.now + length put.now)
-        (K.looks count.new - length cells.now) }
-    ensures least { min (length cells.now) K.most ≤ K.looks count.new }
+    ensures looks { FewForChange (length (C.ids cells)) (length out.now + length put.now)
+        (K.looks count.new - length (C.ids cells)) }
+    ensures least { min (length (C.ids cells)) K.most ≤ K.looks count.new }
 {
     list.clear();
     let mut merge = Merge::new(cells, out, put);
@@ -311,35 +313,39 @@ fn applied_in<K: Count>(
 }
 
 /// A list with cells after it, for which it has room, in the room that it has. Looks at each once.
-fn with_cells<K: Count>(mut list: Vec<CellId>, cells: &[CellId], count: &mut K) -> Vec<CellId>
-    requires { vec_len list + length cells.now ≤ vec_capacity list }
-    ensures items { result.items ≡ list.items ++ cells.now }
+fn with_cells<C: CellsLookedAt<K>, K: Count>(
+    mut list: Vec<CellId>,
+    cells: C,
+    count: &mut K,
+) -> Vec<CellId>
+    requires { vec_len list + length (C.ids cells) ≤ vec_capacity list }
+    ensures items { result.items ≡ list.items ++ C.ids cells }
     ensures capacity { vec_capacity result ≡ vec_capacity list }
-    ensures looks { K.looks count.new ≤ K.looks count.old + length cells.now }
-    ensures least { min (K.looks count.old + length cells.now) K.most ≤ K.looks count.new }
+    ensures looks { K.looks count.new ≤ K.looks count.old + length (C.ids cells) }
+    ensures least { min (K.looks count.old + length (C.ids cells)) K.most ≤ K.looks count.new }
 {
     for k in 0..cells.len() {
-        list.push_reserved(look(cells, k, count));
+        list.push_reserved(cells.look_at(k, count));
     }
     list
 }
 
 /// Whether the change fits the cells: the walk finds no misfit, and the cells that it gives are packed. Skips runs of
 /// cells that stay.
-fn fits_cells<'a, K: Count>(
-    cells: &'a [CellId],
+fn fits_cells<'a, C: CellsLookedAt<K>, K: Count>(
+    cells: C,
     out: &'a [CellId],
     put: &'a [CellId],
     count: &mut K,
 ) -> bool
-    requires local { IsLocal cells.now }
+    requires local { IsLocal (C.ids cells) }
     requires out_ascends { IsStrictlyIncreasing out.now }
     requires put_ascends { IsStrictlyIncreasing put.now }
     requires count { K.looks count.old ≡ 0 }
-    ensures answer { IsTrue result ↔ Fits out.now put.now cells.now }
-    ensures looks { FewForChange (length cells.now) (length out.now + length put.now) (K.looks count.new) }
+    ensures answer { IsTrue result ↔ Fits out.now put.now (C.ids cells) }
+    ensures looks { FewForChange (length (C.ids cells)) (length out.now + length put.now) (K.looks count.new) }
     ensures least { IsTrue result → min (length out.now) K.most ≤ K.looks count.new }
-    ensures some { 0 < length cells.now → min 1 K.most ≤ K.looks count.new }
+    ensures some { 0 < length (C.ids cells) → min 1 K.most ≤ K.looks count.new }
 {
     let mut merge = Merge::new(cells, out, put);
     let mut tail = Tail::new();
@@ -364,20 +370,20 @@ fn fits_cells<'a, K: Count>(
 
 /// What is left of a list, of the cells to take out of it, and of those to put in.
 #[derive(Drop)]
-pub(crate) struct Merge<'a> {
-    cells: &'a [CellId],
+pub(crate) struct Merge<'a, C: Listed + Copy> {
+    cells: C,
     out: &'a [CellId],
     put: &'a [CellId],
 }
 
-impl<'a> Model for Merge<'a> {
+impl<'a, C: Listed + Copy> Model for Merge<'a, C> {
     ghost use Rattle.s2union.specs.Working.Merge.{Left, Ascend};
 
     ghost Value = { Left };
 
-    ghost view = { λ m. record { out = m.out.now; put = m.put.now; cells = m.cells.now } };
+    ghost view = { λ m. record { out = m.out.now; put = m.put.now; cells = C.ids m.cells } };
 
-    ghost invariant = { λ m. Ascend (record { out = m.out.now; put = m.put.now; cells = m.cells.now }) };
+    ghost invariant = { λ m. Ascend (record { out = m.out.now; put = m.put.now; cells = C.ids m.cells }) };
 }
 
 /// One step of the walk.
@@ -393,13 +399,13 @@ pub(crate) enum Turn {
     End,
 }
 
-impl<'a> Merge<'a> {
+impl<'a, C: Listed + Copy> Merge<'a, C> {
     /// The walk from the beginning.
-    pub(crate) fn new(cells: &'a [CellId], out: &'a [CellId], put: &'a [CellId]) -> Merge<'a>
-        requires cells_packed { IsPacked cells.now }
+    pub(crate) fn new(cells: C, out: &'a [CellId], put: &'a [CellId]) -> Merge<'a, C>
+        requires cells_packed { IsPacked (C.ids cells) }
         requires out_ascends { IsStrictlyIncreasing out.now }
         requires put_ascends { IsStrictlyIncreasing put.now }
-        ensures { result ≡ record { out = out.now; put = put.now; cells = cells.now } }
+        ensures { result ≡ record { out = out.now; put = put.now; cells = C.ids cells } }
     {
         Merge { cells, out, put }
     }
@@ -413,21 +419,24 @@ impl<'a> Merge<'a> {
 
     /// The cells of the list before the next one that is taken out or put in, which stay. The walk goes on after them.
     /// The number of looks is logarithmic in theirs.
-    pub(crate) fn run<K: Count>(&mut self, count: &mut K) -> &'a [CellId]
-        ensures keeps { Keeps result.now self.old self.new }
-        ensures front { take (length result.now) self.old.cells ≡ result.now }
+    pub(crate) fn run<K: Count>(&mut self, count: &mut K) -> C
+    where
+        C: CellsLookedAt<K>,
+        ensures keeps { Keeps (C.ids result) self.old self.new }
+        ensures front { take (length (C.ids result)) self.old.cells ≡ C.ids result }
         ensures rest { IsRest self.new.cells self.old.cells }
-        ensures packed { IsPacked result.now }
-        ensures uses { Uses 0 0 (length result.now) self.old self.new }
+        ensures packed { IsPacked (C.ids result) }
+        ensures uses { Uses 0 0 (length (C.ids result)) self.old self.new }
         ensures at_change { AtChange self.new }
-        ensures looks { (k : ℕ) → length result.now < 2 ^ k → K.looks count.new ≤ K.looks count.old + 2 * k + 4 }
+        ensures looks { (k : ℕ) → length (C.ids result) < 2 ^ k → K.looks count.new ≤ K.looks count.old + 2 * k + 4 }
         ensures least { min (K.looks count.old) K.most ≤ K.looks count.new }
     {
         let next = first_id(self.out).min(first_id(self.put));
         let cells = self.cells;
-        let at = find_id_counted(&CellList { cells }, next, count);
-        self.cells = &cells[at..];
-        &cells[..at]
+        let at = find_id_counted(&cells, next, count);
+        let (front, back) = cells.split_at(at);
+        self.cells = back;
+        front
     }
 
     /// The step if no cell of the list is left.
@@ -449,6 +458,8 @@ impl<'a> Merge<'a> {
 
     /// Takes one step. After a run it's one by a cell of the change.
     pub(crate) fn turn<K: Count>(&mut self, count: &mut K) -> Turn
+    where
+        C: CellsLookedAt<K>,
         ensures turn { IsTurn result self.old self.new }
         ensures takes { AtChange self.old → TakesOne result self.old self.new }
         ensures rest { IsRest self.new.cells self.old.cells }
@@ -456,10 +467,10 @@ impl<'a> Merge<'a> {
         ensures least { min (K.looks count.old) K.most ≤ K.looks count.new }
         ensures some { 0 < length self.old.cells → min (K.looks count.old + 1) K.most ≤ K.looks count.new }
     {
-        if self.cells.is_empty() {
+        if self.cells.len() == 0 {
             return self.turn_after_cells();
         }
-        let cell = look(self.cells, 0, count);
+        let cell = self.cells.look_at(0, count);
         match head_order(self.put, cell) {
             Ordering::Less => {
                 let put = self.put[0];
@@ -471,11 +482,11 @@ impl<'a> Merge<'a> {
                 Ordering::Less => Turn::Misfit,
                 Ordering::Equal => {
                     self.out = &self.out[1..];
-                    self.cells = &self.cells[1..];
+                    self.cells = self.cells.split_at(1).1;
                     Turn::Skip
                 }
                 Ordering::Greater => {
-                    self.cells = &self.cells[1..];
+                    self.cells = self.cells.split_at(1).1;
                     Turn::Write(cell)
                 }
             },
@@ -550,24 +561,26 @@ impl Tail {
 
     /// Whether the cells of a run of a list may come next, one after another; if so, they are passed. Only the first
     /// three of them can share leaves or make a family with those before; the others follow each other as in the list.
-    pub(crate) fn pass<K: Count>(&mut self, run: &[CellId], count: &mut K) -> bool
-        requires packed { IsPacked run.now }
-        ensures passes { Passes (IsTrue result) self.old self.new run.now }
+    pub(crate) fn pass<C: CellsLookedAt<K>, K: Count>(&mut self, run: C, count: &mut K) -> bool
+        requires packed { IsPacked (C.ids run) }
+        ensures passes { Passes (IsTrue result) self.old self.new (C.ids run) }
         ensures looks { K.looks count.new ≤ K.looks count.old + 6 }
         ensures least { min (K.looks count.old) K.most ≤ K.looks count.new }
-        ensures some { (IsTrue result → 0 < length run.now) → min (K.looks count.old + 1) K.most ≤ K.looks count.new }
+        ensures some { (IsTrue result → 0 < length (C.ids run))
+            → min (K.looks count.old + 1) K.most ≤ K.looks count.new }
     {
-        for k in 0..run.len().min(3) {
-            let cell = look(run, k, count);
+        let len = run.len();
+        for k in 0..len.min(3) {
+            let cell = run.look_at(k, count);
             if !self.takes(cell) {
                 return false;
             }
             self.push(cell);
         }
-        if run.len() > 3 {
-            self.push(look(run, run.len() - 3, count));
-            self.push(look(run, run.len() - 2, count));
-            self.push(look(run, run.len() - 1, count));
+        if len > 3 {
+            self.push(run.look_at(len - 3, count));
+            self.push(run.look_at(len - 2, count));
+            self.push(run.look_at(len - 1, count));
         }
         true
     }

@@ -12,10 +12,10 @@ ghost use Rattle.s2list.specs.Looks.{FewForUnion};
 ghost use Rattle.s2list.specs.Working.Walk.{Decides, LeavesOpen};
 ghost use Rattle.s2union.specs.Working.Sets.{OpenBetween};
 
-use crate::search::look;
+use crate::search::CellsLookedAt;
 use s2cell::CellId;
 use s2list::{
-    CellList, Count, Question, contains_cell_at_counted, find_counted, find_from_counted,
+    Count, LookedAt, Question, contains_cell_at_counted, find_counted, find_from_counted,
     intersects_cell_at_counted, places_of_four_counted,
 };
 
@@ -25,45 +25,50 @@ pub(crate) const MUCH_LONGER: usize = 64;
 
 /// Whether `xs` has all leaves of `ys`, which is much shorter.
 #[inline(never)]
-pub(crate) fn holds_few<K: Count>(xs: &[CellId], ys: &[CellId], count: &mut K) -> bool
-    requires x_local { IsLocal xs.now }
-    requires y_local { IsLocal ys.now }
-    requires few { 64 * length ys.now ≤ length xs.now }
+pub(crate) fn holds_few<C: CellsLookedAt<K>, K: Count>(xs: &C, ys: &C, count: &mut K) -> bool
+    requires x_local { IsLocal (C.ids xs.now) }
+    requires y_local { IsLocal (C.ids ys.now) }
+    requires few { 64 * length (C.ids ys.now) ≤ length (C.ids xs.now) }
     requires count { K.looks count.old ≡ 0 }
-    ensures answer { IsTrue result ↔ IsWithin (has_leaf ys.now) (has_leaf xs.now) }
-    ensures looks { FewForUnion (length xs.now) (length ys.now) (K.looks count.new) }
-    ensures least { 0 < length ys.now → min 2 K.most ≤ K.looks count.new }
+    ensures answer { IsTrue result ↔ IsWithin (has_leaf (C.ids ys.now)) (has_leaf (C.ids xs.now)) }
+    ensures looks { FewForUnion (length (C.ids xs.now)) (length (C.ids ys.now)) (K.looks count.new) }
+    ensures least { 0 < length (C.ids ys.now) → min 2 K.most ≤ K.looks count.new }
 {
     !is_decided(Question::Contains, xs, ys, count)
 }
 
 /// Whether `xs` and `ys`, which is much shorter, share a leaf.
 #[inline(never)]
-pub(crate) fn meets_few<K: Count>(xs: &[CellId], ys: &[CellId], count: &mut K) -> bool
-    requires x_local { IsLocal xs.now }
-    requires y_local { IsLocal ys.now }
-    requires few { 64 * length ys.now ≤ length xs.now }
+pub(crate) fn meets_few<C: CellsLookedAt<K>, K: Count>(xs: &C, ys: &C, count: &mut K) -> bool
+    requires x_local { IsLocal (C.ids xs.now) }
+    requires y_local { IsLocal (C.ids ys.now) }
+    requires few { 64 * length (C.ids ys.now) ≤ length (C.ids xs.now) }
     requires count { K.looks count.old ≡ 0 }
-    ensures answer { IsTrue result ↔ ShareSome (has_leaf xs.now) (has_leaf ys.now) }
-    ensures looks { FewForUnion (length xs.now) (length ys.now) (K.looks count.new) }
-    ensures least { 0 < length ys.now → min 2 K.most ≤ K.looks count.new }
+    ensures answer { IsTrue result ↔ ShareSome (has_leaf (C.ids xs.now)) (has_leaf (C.ids ys.now)) }
+    ensures looks { FewForUnion (length (C.ids xs.now)) (length (C.ids ys.now)) (K.looks count.new) }
+    ensures least { 0 < length (C.ids ys.now) → min 2 K.most ≤ K.looks count.new }
 {
     is_decided(Question::Intersects, xs, ys, count)
 }
 
 /// Whether a cell of `ys`, which is much shorter, decides the question.
 #[inline(always)]
-fn is_decided<K: Count>(question: Question, xs: &[CellId], ys: &[CellId], count: &mut K) -> bool
-    requires x_local { IsLocal xs.now }
-    requires y_local { IsLocal ys.now }
-    requires few { 64 * length ys.now ≤ length xs.now }
+fn is_decided<C: CellsLookedAt<K>, K: Count>(
+    question: Question,
+    xs: &C,
+    ys: &C,
+    count: &mut K,
+) -> bool
+    requires x_local { IsLocal (C.ids xs.now) }
+    requires y_local { IsLocal (C.ids ys.now) }
+    requires few { 64 * length (C.ids ys.now) ≤ length (C.ids xs.now) }
     requires count { K.looks count.old ≡ 0 }
     ensures found { IsTrue result
-        → (k : ℕ) × (k < length ys.now) × Decides question xs.now (slice_index ys.now k) }
+        → (k : ℕ) × (k < length (C.ids ys.now)) × Decides question (C.ids xs.now) (slice_index (C.ids ys.now) k) }
     ensures none { result ≡ false
-        → (k : ℕ) → k < length ys.now → LeavesOpen question xs.now (slice_index ys.now k) }
-    ensures looks { FewForUnion (length xs.now) (length ys.now) (K.looks count.new) }
-    ensures least { 0 < length ys.now → min 2 K.most ≤ K.looks count.new }
+        → (k : ℕ) → k < length (C.ids ys.now) → LeavesOpen question (C.ids xs.now) (slice_index (C.ids ys.now) k) }
+    ensures looks { FewForUnion (length (C.ids xs.now)) (length (C.ids ys.now)) (K.looks count.new) }
+    ensures least { 0 < length (C.ids ys.now) → min 2 K.most ≤ K.looks count.new }
 {
     let mut j = 0;
     while j < ys.len() {
@@ -89,31 +94,31 @@ pub(crate) fn by_four(at: usize, n: usize) -> bool
 /// index `at` on: one or four, and those after them that the same cell of the list leaves open as the last of these.
 /// None if one of them decides.
 #[inline(always)]
-fn pass_next<K: Count>(
+fn pass_next<C: CellsLookedAt<K>, K: Count>(
     question: Question,
-    cells: &[CellId],
-    few: &[CellId],
+    cells: &C,
+    few: &C,
     at: usize,
     count: &mut K,
 ) -> Option<usize>
-    requires local { IsLocal cells.now }
-    requires few_packed { IsPacked few.now }
-    requires there { at < length few.now }
+    requires local { IsLocal (C.ids cells.now) }
+    requires few_packed { IsPacked (C.ids few.now) }
+    requires there { at < length (C.ids few.now) }
     ensures answer { MatchOption result
-        ((k : ℕ) × (k < length few.now) × Decides question cells.now (slice_index few.now k))
-        (λ next. OpenBetween question cells.now few.now at next) }
-    ensures within { IfSome result (λ next. (at < next) × (next ≤ length few.now)) }
-    ensures most { K.looks count.new ≤ K.looks count.old + 250 * (length few.now - at) }
+        ((k : ℕ) × (k < length (C.ids few.now)) × Decides question (C.ids cells.now) (slice_index (C.ids few.now) k))
+        (λ next. OpenBetween question (C.ids cells.now) (C.ids few.now) at next) }
+    ensures within { IfSome result (λ next. (at < next) × (next ≤ length (C.ids few.now))) }
+    ensures most { K.looks count.new ≤ K.looks count.old + 250 * (length (C.ids few.now) - at) }
     ensures looks { IfSome result (λ next. K.looks count.new ≤ K.looks count.old + 250 * (next - at)) }
-    ensures least { 0 < length cells.now → min 2 K.most ≤ K.looks count.new }
+    ensures least { 0 < length (C.ids cells.now) → min 2 K.most ≤ K.looks count.new }
 {
     if by_four(at, few.len()) {
         return pass_four(question, cells, few, at, count);
     }
-    let cell = look(few, at, count);
-    let list = CellList { cells };
-    let place = find_counted(&list, cell.first_leaf(), count);
-    if decides_at(question, &list, place, cell, count) {
+    let cell = few.look_at(at, count);
+    let _ = cells.len();
+    let place = find_counted(cells, cell.first_leaf(), count);
+    if decides_at(question, cells, place, cell, count) {
         None
     } else {
         Some(pass_open(question, few, at + 1, cells, place, count))
@@ -122,34 +127,35 @@ fn pass_next<K: Count>(
 
 /// As `pass_next`, if four cells are left.
 #[inline(always)]
-fn pass_four<K: Count>(
+fn pass_four<C: CellsLookedAt<K>, K: Count>(
     question: Question,
-    cells: &[CellId],
-    few: &[CellId],
+    cells: &C,
+    few: &C,
     at: usize,
     count: &mut K,
 ) -> Option<usize>
-    requires local { IsLocal cells.now }
-    requires few_packed { IsPacked few.now }
-    requires there { at + 4 ≤ length few.now }
+    requires local { IsLocal (C.ids cells.now) }
+    requires few_packed { IsPacked (C.ids few.now) }
+    requires there { at + 4 ≤ length (C.ids few.now) }
     ensures answer { MatchOption result
-        ((k : ℕ) × (k < length few.now) × Decides question cells.now (slice_index few.now k))
-        (λ next. OpenBetween question cells.now few.now at next) }
-    ensures within { IfSome result (λ next. (at < next) × (next ≤ length few.now)) }
-    ensures most { K.looks count.new ≤ K.looks count.old + 250 * (length few.now - at) }
+        ((k : ℕ) × (k < length (C.ids few.now)) × Decides question (C.ids cells.now) (slice_index (C.ids few.now) k))
+        (λ next. OpenBetween question (C.ids cells.now) (C.ids few.now) at next) }
+    ensures within { IfSome result (λ next. (at < next) × (next ≤ length (C.ids few.now))) }
+    ensures most { K.looks count.new ≤ K.looks count.old + 250 * (length (C.ids few.now) - at) }
     ensures looks { IfSome result (λ next. K.looks count.new ≤ K.looks count.old + 250 * (next - at)) }
-    ensures least { 0 < length cells.now → min 2 K.most ≤ K.looks count.new }
+    ensures least { 0 < length (C.ids cells.now) → min 2 K.most ≤ K.looks count.new }
 {
-    let list = CellList { cells };
-    let a = look(few, at, count);
-    let b = look(few, at + 1, count);
-    let c = look(few, at + 2, count);
-    let d = look(few, at + 3, count);
-    let places = places_of_four_counted(&list, a, b, c, d, count);
-    let first = decides_at(question, &list, places.first, a, count);
-    let second = decides_at(question, &list, places.second, b, count);
-    let third = decides_at(question, &list, places.third, c, count);
-    let fourth = decides_at(question, &list, places.fourth, d, count);
+    let _ = cells.len();
+    let _ = few.len();
+    let a = few.look_at(at, count);
+    let b = few.look_at(at + 1, count);
+    let c = few.look_at(at + 2, count);
+    let d = few.look_at(at + 3, count);
+    let places = places_of_four_counted(cells, a, b, c, d, count);
+    let first = decides_at(question, cells, places.first, a, count);
+    let second = decides_at(question, cells, places.second, b, count);
+    let third = decides_at(question, cells, places.third, c, count);
+    let fourth = decides_at(question, cells, places.fourth, d, count);
     if first | second | third | fourth {
         None
     } else {
@@ -159,17 +165,17 @@ fn pass_four<K: Count>(
 
 /// Whether a cell decides the question about a list, once its place there is known.
 #[inline(always)]
-fn decides_at<'a, K: Count>(
+fn decides_at<C: LookedAt<K>, K: Count>(
     question: Question,
-    list: &CellList<'a>,
+    list: &C,
     at: usize,
     cell: CellId,
     count: &mut K,
 ) -> bool
-    ensures decided { IsLocal list.now.cells.now → IsPlace list.now.cells.now (first_leaf cell) at → IsTrue result
-        → Decides question list.now.cells.now cell }
-    ensures left_open { IsLocal list.now.cells.now → IsPlace list.now.cells.now (first_leaf cell) at → result ≡ false
-        → LeavesOpen question list.now.cells.now cell }
+    ensures decided { IsLocal (C.ids list.now) → IsPlace (C.ids list.now) (first_leaf cell) at → IsTrue result
+        → Decides question (C.ids list.now) cell }
+    ensures left_open { IsLocal (C.ids list.now) → IsPlace (C.ids list.now) (first_leaf cell) at → result ≡ false
+        → LeavesOpen question (C.ids list.now) cell }
     ensures looks { K.looks count.new ≤ K.looks count.old + 1 }
     ensures least { min (K.looks count.old) K.most ≤ K.looks count.new }
 {
@@ -182,22 +188,22 @@ fn decides_at<'a, K: Count>(
 /// Passes over the cells of `few`, from index `from` on, that the cell at index `at` of the list leaves open as the one
 /// before them: those in it, or those before it.
 #[inline(always)]
-fn pass_open<K: Count>(
+fn pass_open<C: CellsLookedAt<K>, K: Count>(
     question: Question,
-    few: &[CellId],
+    few: &C,
     from: usize,
-    cells: &[CellId],
+    cells: &C,
     at: usize,
     count: &mut K,
 ) -> usize
-    requires local { IsLocal cells.now }
-    requires few_packed { IsPacked few.now }
-    requires there { from ≤ length few.now }
+    requires local { IsLocal (C.ids cells.now) }
+    requires few_packed { IsPacked (C.ids few.now) }
+    requires there { from ≤ length (C.ids few.now) }
     ensures from { from ≤ result }
-    ensures within { result ≤ length few.now }
+    ensures within { result ≤ length (C.ids few.now) }
     ensures left_open { (before : ℕ) → before + 1 ≡ from
-        → IsPlace cells.now (first_leaf (slice_index few.now before)) at
-        → OpenBetween question cells.now few.now from result }
+        → IsPlace (C.ids cells.now) (first_leaf (slice_index (C.ids few.now) before)) at
+        → OpenBetween question (C.ids cells.now) (C.ids few.now) from result }
     ensures looks { K.looks count.new ≤ K.looks count.old + 3 + 2 * (result - from) }
     ensures least { min (K.looks count.old) K.most ≤ K.looks count.new }
 {
@@ -209,64 +215,65 @@ fn pass_open<K: Count>(
 
 /// Passes over the cells of `few`, from index `from` on, that end before the cell at index `at` of the list begins;
 /// over all of them if there is no such cell. So cells of `few` in a gap of the list cost one search.
-pub(crate) fn pass_free<K: Count>(
-    few: &[CellId],
+pub(crate) fn pass_free<C: CellsLookedAt<K>, K: Count>(
+    few: &C,
     from: usize,
-    cells: &[CellId],
+    cells: &C,
     at: usize,
     count: &mut K,
 ) -> usize
-    requires few_packed { IsPacked few.now }
-    requires cells { All IsCell cells.now }
-    requires there { from ≤ length few.now }
+    requires few_packed { IsPacked (C.ids few.now) }
+    requires cells { All IsCell (C.ids cells.now) }
+    requires there { from ≤ length (C.ids few.now) }
     ensures from { from ≤ result }
-    ensures within { result ≤ length few.now }
-    ensures free { (k : ℕ) → from ≤ k → k < result → at < length cells.now
-        → EndsBefore (slice_index few.now k) (slice_index cells.now at) }
+    ensures within { result ≤ length (C.ids few.now) }
+    ensures free { (k : ℕ) → from ≤ k → k < result → at < length (C.ids cells.now)
+        → EndsBefore (slice_index (C.ids few.now) k) (slice_index (C.ids cells.now) at) }
     ensures looks { K.looks count.new ≤ K.looks count.old + 3 + 2 * (result - from) }
     ensures least { min (K.looks count.old) K.most ≤ K.looks count.new }
 {
-    if from >= few.len() {
+    let len = few.len();
+    if from >= len {
         return from;
     }
     if at >= cells.len() {
-        return few.len();
+        return len;
     }
-    let begin = look(cells, at, count).first_leaf();
-    if look(few, from, count).end_leaf() > begin {
+    let begin = cells.look_at(at, count).first_leaf();
+    if few.look_at(from, count).end_leaf() > begin {
         return from;
     }
-    if look(few, few.len() - 1, count).end_leaf() <= begin {
-        return few.len();
+    if few.look_at(len - 1, count).end_leaf() <= begin {
+        return len;
     }
-    find_from_counted(&CellList { cells: few }, from + 1, begin, count)
+    find_from_counted(few, from + 1, begin, count)
 }
 
 /// Passes over the cells of `few`, from index `from` on, that lie in the cell at index `at` of the list, if the first
 /// of them does. So cells of `few` in a large cell of the list cost one search.
-pub(crate) fn pass_held<K: Count>(
-    few: &[CellId],
+pub(crate) fn pass_held<C: CellsLookedAt<K>, K: Count>(
+    few: &C,
     from: usize,
-    cells: &[CellId],
+    cells: &C,
     at: usize,
     count: &mut K,
 ) -> usize
-    requires few_packed { IsPacked few.now }
-    requires cells { All IsCell cells.now }
-    requires there { from ≤ length few.now }
+    requires few_packed { IsPacked (C.ids few.now) }
+    requires cells { All IsCell (C.ids cells.now) }
+    requires there { from ≤ length (C.ids few.now) }
     ensures from { from ≤ result }
-    ensures within { result ≤ length few.now }
-    ensures held { (k : ℕ) → from ≤ k → k < result
-        → (at < length cells.now) × IsInside (slice_index few.now k) (slice_index cells.now at) }
+    ensures within { result ≤ length (C.ids few.now) }
+    ensures held { (k : ℕ) → from ≤ k → k < result → (at < length (C.ids cells.now))
+        × IsInside (slice_index (C.ids few.now) k) (slice_index (C.ids cells.now) at) }
     ensures looks { K.looks count.new ≤ K.looks count.old + 3 + 2 * (result - from) }
     ensures least { min (K.looks count.old) K.most ≤ K.looks count.new }
 {
     if from >= few.len() || at >= cells.len() {
         return from;
     }
-    let cell = look(cells, at, count);
-    if !cell.contains(look(few, from, count)) {
+    let cell = cells.look_at(at, count);
+    if !cell.contains(few.look_at(from, count)) {
         return from;
     }
-    find_from_counted(&CellList { cells: few }, from + 1, cell.end_leaf(), count)
+    find_from_counted(few, from + 1, cell.end_leaf(), count)
 }

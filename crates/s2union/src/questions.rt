@@ -6,9 +6,10 @@ ghost use Rattle.s2list.specs.Looks.{FewForCell, FewForUnion};
 ghost use Rattle.s2list.specs.Search.{IsRunAt};
 
 use crate::few::{MUCH_LONGER, holds_few, meets_few};
+use crate::search::CellsLookedAt;
 use crate::union::CellUnion;
 use s2cell::CellId;
-use s2list::{CellList, Count, Counted, Looks, Uncounted};
+use s2list::{Count, Counted, Looks, Uncounted};
 
 impl CellUnion {
     /// Whether it has all leaves of the cell. Logarithmic in the number of its cells. S2 calls it `Contains`.
@@ -51,7 +52,7 @@ impl CellUnion {
     pub fn contains(&self, other: &CellUnion) -> bool
         ensures { IsTrue result ↔ IsWithin (has_leaf other.now.cells) (has_leaf self.now.cells) }
     {
-        holds_all(self.cells(), other.cells(), &mut Uncounted)
+        holds_all(&self.list(), &other.list(), &mut Uncounted)
     }
 
     /// The same, with the number of cells of both lists that it looks at: at least 2 if neither list is empty, and at
@@ -63,7 +64,7 @@ impl CellUnion {
         ensures least { 0 < length self.now.cells → 0 < length other.now.cells → 2 ≤ result.looks }
     {
         let mut count = Looks { looks: 0 };
-        let answer = holds_all(self.cells(), other.cells(), &mut count);
+        let answer = holds_all(&self.list(), &other.list(), &mut count);
         Counted {
             answer,
             looks: count.looks,
@@ -75,7 +76,7 @@ impl CellUnion {
     pub fn intersects(&self, other: &CellUnion) -> bool
         ensures { IsTrue result ↔ ShareSome (has_leaf self.now.cells) (has_leaf other.now.cells) }
     {
-        meets_any(self.cells(), other.cells(), &mut Uncounted)
+        meets_any(&self.list(), &other.list(), &mut Uncounted)
     }
 
     /// The same, with the number of cells of both lists that it looks at, bounded as for `contains_counted`.
@@ -85,7 +86,7 @@ impl CellUnion {
         ensures least { 0 < length self.now.cells → 0 < length other.now.cells → 2 ≤ result.looks }
     {
         let mut count = Looks { looks: 0 };
-        let answer = meets_any(self.cells(), other.cells(), &mut count);
+        let answer = meets_any(&self.list(), &other.list(), &mut count);
         Counted {
             answer,
             looks: count.looks,
@@ -107,28 +108,28 @@ impl CellUnion {
 }
 
 /// Whether `xs` has all leaves of `ys`.
-fn holds_all<K: Count>(xs: &[CellId], ys: &[CellId], count: &mut K) -> bool
-    requires x_local { IsLocal xs.now }
-    requires y_local { IsLocal ys.now }
+fn holds_all<C: CellsLookedAt<K>, K: Count>(xs: &C, ys: &C, count: &mut K) -> bool
+    requires x_local { IsLocal (C.ids xs.now) }
+    requires y_local { IsLocal (C.ids ys.now) }
     requires count { K.looks count.old ≡ 0 }
-    ensures answer { IsTrue result ↔ IsWithin (has_leaf ys.now) (has_leaf xs.now) }
-    ensures looks { FewForUnion (length xs.now) (length ys.now) (K.looks count.new) }
-    ensures least { 0 < length xs.now → 0 < length ys.now → min 2 K.most ≤ K.looks count.new }
+    ensures answer { IsTrue result ↔ IsWithin (has_leaf (C.ids ys.now)) (has_leaf (C.ids xs.now)) }
+    ensures looks { FewForUnion (length (C.ids xs.now)) (length (C.ids ys.now)) (K.looks count.new) }
+    ensures least { 0 < length (C.ids xs.now) → 0 < length (C.ids ys.now) → min 2 K.most ≤ K.looks count.new }
 {
     if ys.len() <= xs.len() / MUCH_LONGER {
         return holds_few(xs, ys, count);
     }
-    s2list::holds_all(&CellList { cells: xs }, &CellList { cells: ys }, count)
+    s2list::holds_all(xs, ys, count)
 }
 
 /// Whether `xs` and `ys` share a leaf.
-fn meets_any<K: Count>(xs: &[CellId], ys: &[CellId], count: &mut K) -> bool
-    requires x_local { IsLocal xs.now }
-    requires y_local { IsLocal ys.now }
+fn meets_any<C: CellsLookedAt<K>, K: Count>(xs: &C, ys: &C, count: &mut K) -> bool
+    requires x_local { IsLocal (C.ids xs.now) }
+    requires y_local { IsLocal (C.ids ys.now) }
     requires count { K.looks count.old ≡ 0 }
-    ensures answer { IsTrue result ↔ ShareSome (has_leaf xs.now) (has_leaf ys.now) }
-    ensures looks { FewForUnion (length xs.now) (length ys.now) (K.looks count.new) }
-    ensures least { 0 < length xs.now → 0 < length ys.now → min 2 K.most ≤ K.looks count.new }
+    ensures answer { IsTrue result ↔ ShareSome (has_leaf (C.ids xs.now)) (has_leaf (C.ids ys.now)) }
+    ensures looks { FewForUnion (length (C.ids xs.now)) (length (C.ids ys.now)) (K.looks count.new) }
+    ensures least { 0 < length (C.ids xs.now) → 0 < length (C.ids ys.now) → min 2 K.most ≤ K.looks count.new }
 {
     if ys.len() <= xs.len() / MUCH_LONGER {
         return meets_few(xs, ys, count);
@@ -136,5 +137,5 @@ fn meets_any<K: Count>(xs: &[CellId], ys: &[CellId], count: &mut K) -> bool
     if xs.len() <= ys.len() / MUCH_LONGER {
         return meets_few(ys, xs, count);
     }
-    s2list::meets_any(&CellList { cells: xs }, &CellList { cells: ys }, count)
+    s2list::meets_any(xs, ys, count)
 }

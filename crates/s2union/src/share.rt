@@ -119,8 +119,10 @@ fn share_near(
     ensures within { IfOk result (λ next. (i ≤ next) × (next ≤ length xs.now)) }
     ensures shared { IfOk result (λ next. IsShared xs.now ys.now list.new.items next) }
 {
-    let free = pass_free(xs, i, ys, at, &mut Uncounted);
-    let next = pass_held(xs, free, ys, at, &mut Uncounted);
+    let few = CellList { cells: xs };
+    let cells = CellList { cells: ys };
+    let free = pass_free(&few, i, &cells, at, &mut Uncounted);
+    let next = pass_held(&few, free, &cells, at, &mut Uncounted);
     extend(list, &xs[free..next])?;
     Ok(next)
 }

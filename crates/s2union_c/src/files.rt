@@ -23,7 +23,7 @@ use crate::unions::LEVELS;
 use byteorder::{ByteOrder, LittleEndian};
 use s2cell::{CellId, LEAVES};
 use s2file::{HEAD_SIZE, VERSION};
-use s2list::{Cells, first_wrong, is_union};
+use s2list::{Cells, Listed, first_wrong, is_union};
 use s2room::{FileIds, NUMBER_SIZE, ancestors, number, read_numbers};
 use s2union::normalise;
 use std::alloc::Global;

@@ -7,7 +7,7 @@ use Rattle.s2cover.proofs.listed.union_near.Goals.{then-is_new+in_ok-add_met, el
 
 pub loop-k-preserved : goal.loop-k-preserved
 loop-k-preserved g c local =
-    let u = g.C.Cells.ids c.args.cells.now in
+    let u = g.C.Listed.ids c.args.cells.now in
     let S = rect_set c.args.rect.now in
     let around = c.cells_around-around.result in
     let k = c.loop-k.k in
@@ -27,7 +27,7 @@ loop-k-preserved g c local =
 pub returns : goal.returns
 returns g c = record {
   leaves = λ local x.
-      let u = g.C.Cells.ids c.args.cells.now in
+      let u = g.C.Listed.ids c.args.cells.now in
       let S = rect_set c.args.rect.now in
       let around = c.cells_around-around.result in
       let four = c.cells_around-around.type_inv in

@@ -5,5 +5,5 @@ use Rattle.s2cover.proofs.Near.{HasNear}
 use Rattle.s2cover.proofs.listed.union_near.Given as goal
 
 abbrev pub invariant-loop-k : goal.invariant-loop-k
-invariant-loop-k g l = IsLocal (g.C.Cells.ids l.cells)
-    → HasNear (rect_set l.rect) l.level (g.C.Cells.ids l.cells) (take l.k l.around) l.list.items
+invariant-loop-k g l = IsLocal (g.C.Listed.ids l.cells)
+    → HasNear (rect_set l.rect) l.level (g.C.Listed.ids l.cells) (take l.k l.around) l.list.items

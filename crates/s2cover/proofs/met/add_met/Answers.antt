@@ -6,7 +6,7 @@ use Rattle.s2cover.proofs.met.add_met.Goals.{in-Some+then-is_met+in_ok-push, in-
 
 pub loop-k-preserved : goal.loop-k-preserved
 loop-k-preserved g c =
-    let u = g.C.Cells.ids c.args.cells.now in
+    let u = g.C.Listed.ids c.args.cells.now in
     let S = rect_set c.args.rect.now in
     let k = c.loop-k.k in
     let first = c.args.first in

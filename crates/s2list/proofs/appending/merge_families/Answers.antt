@@ -6,7 +6,7 @@ use Rattle.s2list.proofs.appending.merge_families.Goals.{else-loop-kept-test, th
 
 pub loop-kept-preserved : goal.loop-kept-preserved
 loop-kept-preserved g c =
-    let u = g.C.Cells.ids c.args.front.now in
+    let u = g.C.Listed.ids c.args.front.now in
     let n = c.args.from in
     let k = c.loop-kept.kept in
     let w = c.loop-kept.invariant.within in
@@ -20,7 +20,7 @@ loop-kept-preserved g c =
 
 pub returns : goal.returns
 returns g c =
-    let u = g.C.Cells.ids c.args.front.now in
+    let u = g.C.Listed.ids c.args.front.now in
     let n = c.args.from in
     let k = c.loop-kept.kept in
     let w = c.loop-kept.invariant.within in

@@ -9,7 +9,7 @@ use Rattle.s2list.proofs.appending.new_end.Goals.{else-n-gt0-via-else-n-gt0}
 
 pub returns-then-lies_in-clause-cases : goal.returns-then-lies_in-clause-cases
 returns-then-lies_in-clause-cases g c =
-    let u = g.C.Cells.ids c.args.front.now in
+    let u = g.C.Listed.ids c.args.front.now in
     let n = c.len-n.ensures in
     let k = c.len-n.result - 1 in
     let own : IsCell (get_or u k 0) = c.requires.packed.cells k 0 (omega arith) in
@@ -20,7 +20,7 @@ returns-then-lies_in-clause-cases g c =
 
 pub outside-kept-requires-clause-not_held : goal.outside-kept-requires-clause-not_held
 outside-kept-requires-clause-not_held g c =
-    let u = g.C.Cells.ids c.args.front.now in
+    let u = g.C.Listed.ids c.args.front.now in
     let n = c.len-n.ensures in
     let cell : IsCell c.args.cell = (level_of c.args.cell, place_of c.args.cell, c.id-id.ensures.cell) in
     elim c.else-n-gt0.branch [
@@ -34,7 +34,7 @@ outside-kept-requires-clause-not_held g c =
 
 pub returns-clause-starts : goal.returns-clause-starts
 returns-clause-starts g c =
-    let u = g.C.Cells.ids c.args.front.now in
+    let u = g.C.Listed.ids c.args.front.now in
     let i : IsCell c.args.cell = (level_of c.args.cell, place_of c.args.cell, c.id-id.ensures.cell) in
     starts_kept u c.merge_families-kept.result.0 c.merge_families-kept.result.1 c.args.cell
     c.requires.starts i c.merge_families-kept.ensures.start

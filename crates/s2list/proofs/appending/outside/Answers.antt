@@ -8,7 +8,7 @@ use Rattle.s2list.proofs.appending.outside.Goals as goal
 
 pub loop-kept-preserved : goal.loop-kept-preserved
 loop-kept-preserved g c =
-    let u = g.C.Cells.ids c.args.front.now in
+    let u = g.C.Listed.ids c.args.front.now in
     let k = c.loop-kept.kept in
     let w = c.loop-kept.invariant.within in
     let x = get_or u (k - 1) 0 in
@@ -20,7 +20,7 @@ loop-kept-preserved g c =
 
 pub returns-else-lies_in-clause-after : goal.returns-else-lies_in-clause-after
 returns-else-lies_in-clause-after g c =
-    let u = g.C.Cells.ids c.args.front.now in
+    let u = g.C.Listed.ids c.args.front.now in
     let k = c.loop-kept.kept in
     let w = c.loop-kept.invariant.within in
     let x = get_or u (k - 1) 0 in

@@ -12,7 +12,7 @@ returns-then-at-len-clause-answer g c all = (
 
 pub returns-clause-answer : goal.returns-clause-answer
 returns-clause-answer g c all =
-    let u = g.C.Cells.ids c.args.cells.now in
+    let u = g.C.Listed.ids c.args.cells.now in
     let h : c.args.at < length u = omega arith in
     let first : c.first_of.result ≡ first_leaf (get_or u c.args.at 0) =
     rw c.look.ensures.id at (c.first_of.ensures (rw c.look.ensures.id (all c.args.at 0 h))) in (

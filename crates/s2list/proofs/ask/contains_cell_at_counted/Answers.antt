@@ -8,14 +8,14 @@ use Rattle.s2list.proofs.ask.contains_cell_at_counted.Goals as goal
 pub returns-then-at-len-clause-answer : goal.returns-then-at-len-clause-answer
 returns-then-at-len-clause-answer g c local place =
     let own : IsCell c.args.cell = search rules in
-    let held = held_there (g.C.Cells.ids c.args.cells.now) c.args.at c.args.cell local own place.ended place.next in (
+    let held = held_there (g.C.Listed.ids c.args.cells.now) c.args.at c.args.cell local own place.ended place.next in (
       λ e. absurd (false≢true e),
       λ w. let there = (held.1 w).0 in absurd (omega arith),
     )
 
 pub returns-clause-answer : goal.returns-clause-answer
 returns-clause-answer g c local place =
-    let u = g.C.Cells.ids c.args.cells.now in
+    let u = g.C.Listed.ids c.args.cells.now in
     let h : c.args.at < length u = omega arith in
     let x : IsCell (get_or u c.args.at 0) = local.cells c.args.at 0 h in
     let own : IsCell c.args.cell = (level_of c.args.cell, place_of c.args.cell, c.id.ensures.cell) in

@@ -4,7 +4,7 @@ use Rattle.s2list.proofs.ask.is_so.Goals as goal
 
 pub returns-clause-answer : goal.returns-clause-answer
 returns-clause-answer g c local =
-    let p = packed_from_local (g.C.Cells.ids c.args.cells.now) local in
+    let p = packed_from_local (g.C.Listed.ids c.args.cells.now) local in
     let v = c.first_leaf.ensures.value in
     let f = c.find_counted-at.ensures in
     c.is_so_at.ensures.answer local

@@ -3,7 +3,7 @@ use Rattle.s2list.proofs.ask.place_near.Goals as goal
 
 pub returns : goal.returns
 returns g c local =
-    let u = g.C.Cells.ids c.args.cells.now in
+    let u = g.C.Listed.ids c.args.cells.now in
     let v = c.first_leaf.ensures.value in
     let p = packed_from_local u local in
     record {

@@ -8,8 +8,8 @@ use Rattle.s2list.proofs.differing.write_symmetric_difference.Goals.{then-i-x_le
 
 pub loop-i-init : goal.loop-i-init
 loop-i-init g c =
-    let xs = g.X.Cells.ids c.args.xs.now in
-    let ys = g.Y.Cells.ids c.args.ys.now in
+    let xs = g.X.Listed.ids c.args.xs.now in
+    let ys = g.Y.Listed.ids c.args.ys.now in
     record {
       in_x = omega arith;
       in_y = omega arith;
@@ -21,8 +21,8 @@ loop-i-init g c =
 
 pub loop-i-smaller : goal.loop-i-smaller
 loop-i-smaller g c =
-    let xs = g.X.Cells.ids c.args.xs.now in
-    let ys = g.Y.Cells.ids c.args.ys.now in
+    let xs = g.X.Listed.ids c.args.xs.now in
+    let ys = g.Y.Listed.ids c.args.ys.now in
     let nx = c.len-x_len.ensures in
     let ny = c.len-y_len.ensures in
     let x = c.rest_of-x in
@@ -75,8 +75,8 @@ loop-i-preserved-then-j-y_stop g c =
 
 pub loop-i-preserved : goal.loop-i-preserved
 loop-i-preserved g c =
-    let xs = g.X.Cells.ids c.args.xs.now in
-    let ys = g.Y.Cells.ids c.args.ys.now in
+    let xs = g.X.Listed.ids c.args.xs.now in
+    let ys = g.Y.Listed.ids c.args.ys.now in
     let v = c.loop-i.invariant in
     let x = c.rest_of-x in
     let y = c.rest_of-y in

@@ -10,7 +10,7 @@ returns-then-at-len-clause-answer g c all = (
 
 pub returns-clause-answer : goal.returns-clause-answer
 returns-clause-answer g c all =
-    let u = g.C.Cells.ids c.args.cells.now in
+    let u = g.C.Listed.ids c.args.cells.now in
     let h : c.args.at < length u = omega arith in
     let test = rw c.look.ensures.id at (c.ends_by.ensures (rw c.look.ensures.id (all c.args.at 0 h))) in
     (λ e. (h, test.0 e), λ p. test.1 p.1)

@@ -10,7 +10,7 @@ pub returns-then-ends_by-clause-ended : goal.returns-then-ends_by-clause-ended
 returns-then-ends_by-clause-ended g c p k h =
     let n = c.len-len.ensures in
     let last = c.len-len.result - 1 in
-    let l : last < length (g.C.Cells.ids c.args.cells.now) = omega arith in
+    let l : last < length (g.C.Listed.ids c.args.cells.now) = omega arith in
     let test = c.ends_by.ensures (rw c.look.ensures.id (p.cells last 0 l)) in
     ended_to _ last c.args.lo p l (rw c.look.ensures.id at (test.0 c.if-ends_by.true)) k (omega arith)
 
@@ -21,8 +21,8 @@ returns-then-not-ends_by-clause-next g c p h =
 
 -- the last cell doesn't end by the leaf, so the first that doesn't is there or before
 before_last : (g : Over) (c : goal.After-narrow_until g) →
-    IsPacked (g.C.Cells.ids c.args.cells.now) →
-    IsFrom (g.C.Cells.ids c.args.cells.now) c.args.lo 0 (c.len-len.result - 1)
+    IsPacked (g.C.Listed.ids c.args.cells.now) →
+    IsFrom (g.C.Listed.ids c.args.cells.now) c.args.lo 0 (c.len-len.result - 1)
 before_last g c p = record {
   ended = λ k h. absurd (omega arith);
   next = λ l.

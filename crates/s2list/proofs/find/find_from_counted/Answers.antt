@@ -7,7 +7,7 @@ use Rattle.s2list.proofs.find.find_from_counted.Goals as goal
 
 pub returns-then-not-ends_at-clause-next : goal.returns-then-not-ends_at-clause-next
 returns-then-not-ends_at-clause-next g c p b h =
-    let u = g.C.Cells.ids c.args.cells.now in
+    let u = g.C.Listed.ids c.args.cells.now in
     let t = c.ends_at.ensures.answer p.cells in
     let test : IsTrue c.ends_at.result
     ↔ (first_leaf (get_or u c.args.start 0) + size_of (get_or u c.args.start 0) ≤ c.args.lo) =
@@ -27,7 +27,7 @@ returns-then-not-ends_at-2-clause-ended g c p b =
 
 pub returns-then-not-ends_at-2-clause-next : goal.returns-then-not-ends_at-2-clause-next
 returns-then-not-ends_at-2-clause-next g c p b h =
-    let u = g.C.Cells.ids c.args.cells.now in
+    let u = g.C.Listed.ids c.args.cells.now in
     let t = c.ends_at-2.ensures.answer p.cells in
     let test : IsTrue c.ends_at-2.result
     ↔ (first_leaf (get_or u (c.args.start + 1) 0) + size_of (get_or u (c.args.start + 1) 0) ≤ c.args.lo) =
@@ -45,7 +45,7 @@ leap_on-requires g c = let w = c.ends_at-2.ensures.within c.if-not-ends_at-2.fal
 
 pub returns-clause-ended : goal.returns-clause-ended
 returns-clause-ended g c p b =
-    let u = g.C.Cells.ids c.args.cells.now in
+    let u = g.C.Listed.ids c.args.cells.now in
     let e = (c.ends_at-2.ensures.answer p.cells).0 c.if-not-ends_at-2.false in
     let same : (c.args.start + 1) + 1 ≡ c.args.start + 2 = omega arith in
     c.leap_on.ensures.ended p
@@ -53,7 +53,7 @@ returns-clause-ended g c p b =
 
 pub returns-clause-next : goal.returns-clause-next
 returns-clause-next g c p b =
-    let u = g.C.Cells.ids c.args.cells.now in
+    let u = g.C.Listed.ids c.args.cells.now in
     let e = (c.ends_at-2.ensures.answer p.cells).0 c.if-not-ends_at-2.false in
     let same : (c.args.start + 1) + 1 ≡ c.args.start + 2 = omega arith in
     c.leap_on.ensures.next p

@@ -4,7 +4,7 @@ use Rattle.s2list.proofs.find.find_near.Goals as goal
 
 pub returns : goal.returns
 returns g c =
-    let u = g.C.Cells.ids c.args.cells.now in
+    let u = g.C.Listed.ids c.args.cells.now in
     let same : c.first_place.result ≡ c.min-at.result = (let t = c.first_place.ensures.to in omega arith) in
     let start : IsPacked u → FirstEndBy u c.min-at.result c.args.lo = rw same at c.first_place.ensures.ended in
     record {

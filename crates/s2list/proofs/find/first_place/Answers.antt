@@ -5,7 +5,7 @@ use Rattle.s2list.proofs.find.first_place.Goals as goal
 
 pub returns-clause-ended : goal.returns-clause-ended
 returns-clause-ended g c p =
-    let u = g.C.Cells.ids c.args.cells.now in
+    let u = g.C.Listed.ids c.args.cells.now in
     let k = c.args.near - 1 in
     let h : k < length u = omega arith in
     let same : k + 1 ≡ c.args.near = omega arith in

@@ -11,7 +11,7 @@ returns-then-at-len-clause-answer g c = (
 
 pub returns-clause-answer : goal.returns-clause-answer
 returns-clause-answer g c =
-    let u = g.C.Cells.ids c.args.cells.now in
+    let u = g.C.Listed.ids c.args.cells.now in
     let e = c.look.ensures.id in
     let h : c.args.at < length u = omega arith in (
       λ t.

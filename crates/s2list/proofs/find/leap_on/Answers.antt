@@ -18,7 +18,7 @@ loop-leap-init g c = record {
 
 pub loop-leap-preserved : goal.loop-leap-preserved
 loop-leap-preserved g c =
-    let u = g.C.Cells.ids c.args.cells.now in
+    let u = g.C.Listed.ids c.args.cells.now in
     let v = c.loop-leap.invariant in
     let from = v.from in
     let leap = v.leap in
@@ -43,7 +43,7 @@ loop-leap-preserved g c =
 
 pub returns-then-not-ends_by : goal.returns-then-not-ends_by
 returns-then-not-ends_by g c =
-    let u = g.C.Cells.ids c.args.cells.now in
+    let u = g.C.Listed.ids c.args.cells.now in
     let v = c.loop-leap.invariant in
     let start = v.from in
     let leap = v.leap in

@@ -18,7 +18,7 @@ loop-last-init g c = record {
 
 pub loop-last-preserved-then-id-mark : goal.loop-last-preserved-then-id-mark
 loop-last-preserved-then-id-mark g c =
-    let u = g.C.Cells.ids c.args.cells.now in
+    let u = g.C.Listed.ids c.args.cells.now in
     let m = c.loop-last.first + (c.loop-last.last - c.loop-last.first) / 2 in
     let v = c.loop-last.invariant in
     let f = v.from in
@@ -41,7 +41,7 @@ loop-last-preserved-then-id-mark g c =
 
 pub loop-last-preserved : goal.loop-last-preserved
 loop-last-preserved g c =
-    let u = g.C.Cells.ids c.args.cells.now in
+    let u = g.C.Listed.ids c.args.cells.now in
     let m = c.loop-last.first + (c.loop-last.last - c.loop-last.first) / 2 in
     let v = c.loop-last.invariant in
     let f = v.from in
@@ -65,7 +65,7 @@ loop-last-preserved g c =
 
 pub returns-else-ends_by-clause-ended : goal.returns-else-ends_by-clause-ended
 returns-else-ends_by-clause-ended g c p f =
-    let u = g.C.Cells.ids c.args.cells.now in
+    let u = g.C.Listed.ids c.args.cells.now in
     let m = c.loop-last.first + (c.loop-last.last - c.loop-last.first) / 2 in
     let w = c.requires.within in
     let t = c.loop-last.invariant.to in

@@ -9,8 +9,8 @@ invariant-loop-last g l = record {
   from : l.start ≤ l.first;
   order : l.first ≤ l.last;
   to : l.last ≤ l.end;
-  found : IsPacked (g.C.Cells.ids l.cells) → IsFrom (g.C.Cells.ids l.cells) l.lo l.start l.end
-      → IsFrom (g.C.Cells.ids l.cells) l.lo l.first l.last;
+  found : IsPacked (g.C.Listed.ids l.cells) → IsFrom (g.C.Listed.ids l.cells) l.lo l.start l.end
+      → IsFrom (g.C.Listed.ids l.cells) l.lo l.first l.last;
   halved : (k : ℕ) → l.end - l.start < 2 ^ k → Halved (l.last - l.first) (g.K.Count.looks l.initial.count)
       (g.K.Count.looks l.count) k;
   least : min (g.K.Count.looks l.initial.count) g.K.Count.most ≤ g.K.Count.looks l.count;

@@ -13,7 +13,7 @@ returns-clause-within g c =
 
 pub returns-clause-brackets : goal.returns-clause-brackets
 returns-clause-brackets g c packed brackets =
-    let u = g.C.Cells.ids c.args.cells.now in
+    let u = g.C.Listed.ids c.args.cells.now in
     let size = c.args.size in
     seeking_quarter u c.args.mark c.args.base size (size / 4) c.is_below-first.result c.is_below-second.result
     c.is_below-third.result (ascends u packed) brackets (omega arith) (omega arith)

@@ -5,7 +5,7 @@ use Rattle.s2list.proofs.four.parts_of_four.Goals as goal
 
 pub loop-size-init : goal.loop-size-init
 loop-size-init g c =
-    let u = g.C.Cells.ids c.args.cells.now in
+    let u = g.C.Listed.ids c.args.cells.now in
     let n : c.len-size.result ≡ length u = c.len-size.ensures in
     record {
       fits = omega arith;

@@ -6,7 +6,7 @@ pub returns-clause-place : goal.returns-clause-place
 returns-clause-place g c packed brackets =
     let n = c.narrow.ensures in
     let to = n.to in
-    let in_cells : c.narrow.result ≤ length (g.C.Cells.ids c.args.cells.now) = omega arith in
+    let in_cells : c.narrow.result ≤ length (g.C.Listed.ids c.args.cells.now) = omega arith in
     let from = from_brackets c.args.lo _ packed brackets (omega arith) in
     record { within = in_cells; ended = n.ended packed from; next = n.next packed from }
 

@@ -9,11 +9,11 @@ use Rattle.s2list.proofs.join.add_next.Goals.{After-end_of-end}
 
 -- where the next cell begins and ends
 record Next (g : Over) (c : After-end_of-end g) : Type 0 where
-  first : c.first_of-first.result ≡ first_leaf (get_or (g.X.Cells.ids c.args.xs.now) c.args.i 0)
-  end : c.end_of-end.result ≡ first_leaf (get_or (g.X.Cells.ids c.args.xs.now) c.args.i 0)
-      + size_of (get_or (g.X.Cells.ids c.args.xs.now) c.args.i 0)
+  first : c.first_of-first.result ≡ first_leaf (get_or (g.X.Listed.ids c.args.xs.now) c.args.i 0)
+  end : c.end_of-end.result ≡ first_leaf (get_or (g.X.Listed.ids c.args.xs.now) c.args.i 0)
+      + size_of (get_or (g.X.Listed.ids c.args.xs.now) c.args.i 0)
 
-next : (g : Over) (c : After-end_of-end g) → IsLocal (g.X.Cells.ids c.args.xs.now) → Next g c
+next : (g : Over) (c : After-end_of-end g) → IsLocal (g.X.Listed.ids c.args.xs.now) → Next g c
 next g c lx =
     let own : IsCell c.id-x.result = rw c.id-x.ensures (lx.cells c.args.i 0 c.requires.there) in
     record {
@@ -42,7 +42,7 @@ returns-clause-joined g c lx ly order S same old s =
     let at = next g (goal.at.returns-clause-joined g c).After-end_of-end lx in
     let first = at.first in
     let end = at.end in
-    let x = get_or (g.X.Cells.ids c.args.xs.now) c.args.i 0 in
+    let x = get_or (g.X.Listed.ids c.args.xs.now) c.args.i 0 in
     let some = (cell_leaves x (lx.cells c.args.i 0 c.requires.there)).some in
     let high = c.in_ok-more.ensures.end (omega arith) in
     along_more c.in_ok-more.more s (omega (arith, c.if-first-pile.false))

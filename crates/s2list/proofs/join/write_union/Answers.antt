@@ -9,16 +9,16 @@ use Rattle.s2list.proofs.join.write_union.Goals.{After-first_of-in-loop-i}
 
 -- where the next cells of both begin
 record Firsts (g : Over) (c : After-first_of-in-loop-i g) : Type 0 where
-  x : c.first_of.result ≡ first_leaf (get_or (g.X.Cells.ids c.args.xs.now) c.loop-i.i 0)
-  y : c.first_of-in-loop-i.result ≡ first_leaf (get_or (g.Y.Cells.ids c.args.ys.now) c.loop-i.j 0)
+  x : c.first_of.result ≡ first_leaf (get_or (g.X.Listed.ids c.args.xs.now) c.loop-i.i 0)
+  y : c.first_of-in-loop-i.result ≡ first_leaf (get_or (g.Y.Listed.ids c.args.ys.now) c.loop-i.j 0)
 
-firsts : (g : Over) (c : After-first_of-in-loop-i g) → IsLocal (g.X.Cells.ids c.args.xs.now) →
-    IsLocal (g.Y.Cells.ids c.args.ys.now) → Firsts g c
+firsts : (g : Over) (c : After-first_of-in-loop-i g) → IsLocal (g.X.Listed.ids c.args.xs.now) →
+    IsLocal (g.Y.Listed.ids c.args.ys.now) → Firsts g c
 firsts g c lx ly =
     let nx = c.len-x_len.ensures in
     let ny = c.len-y_len.ensures in
-    let hx : c.loop-i.i < length (g.X.Cells.ids c.args.xs.now) = omega (arith, c.loop-i-test.true) in
-    let hy : c.loop-i.j < length (g.Y.Cells.ids c.args.ys.now) = omega (arith, c.if-j-y_len.true) in
+    let hx : c.loop-i.i < length (g.X.Listed.ids c.args.xs.now) = omega (arith, c.loop-i-test.true) in
+    let hy : c.loop-i.j < length (g.Y.Listed.ids c.args.ys.now) = omega (arith, c.if-j-y_len.true) in
     record {
       x = c.first_of.ensures (rw c.id.ensures (lx.cells c.loop-i.i 0 hx)) ∙ ap first_leaf c.id.ensures;
       y = c.first_of-in-loop-i.ensures (rw c.id-in-loop-i.ensures (ly.cells c.loop-i.j 0 hy))
@@ -50,8 +50,8 @@ loop-i-preserved-then-first_of g c = record {
 
 pub loop-i-preserved : goal.loop-i-preserved
 loop-i-preserved g c =
-    let xs = g.X.Cells.ids c.args.xs.now in
-    let ys = g.Y.Cells.ids c.args.ys.now in
+    let xs = g.X.Listed.ids c.args.xs.now in
+    let ys = g.Y.Listed.ids c.args.ys.now in
     record {
       in_x = c.loop-i.invariant.in_x;
       in_y = c.in_ok-by_y.ensures.within;
@@ -80,8 +80,8 @@ loop-i-2-preserved g c =
 
 pub loop-j-preserved : goal.loop-j-preserved
 loop-j-preserved g c =
-    let xs = g.X.Cells.ids c.args.xs.now in
-    let ys = g.Y.Cells.ids c.args.ys.now in
+    let xs = g.X.Listed.ids c.args.xs.now in
+    let ys = g.Y.Listed.ids c.args.ys.now in
     let done = c.loop-j.invariant.done in
     record {
       done = done;

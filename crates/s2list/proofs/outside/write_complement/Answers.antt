@@ -39,7 +39,7 @@ loop-i-init g c = record {
 
 pub loop-i-preserved : goal.loop-i-preserved
 loop-i-preserved g c =
-    let u = g.X.Cells.ids c.args.xs.now in
+    let u = g.X.Listed.ids c.args.xs.now in
     let i = c.loop-i.i in
     let done = c.loop-i.done in
     let v = c.loop-i.invariant in
@@ -93,7 +93,7 @@ loop-i-preserved g c =
 
 pub returns-clause-made : goal.returns-clause-made
 returns-clause-made g c l =
-    let u = g.X.Cells.ids c.args.xs.now in
+    let u = g.X.Listed.ids c.args.xs.now in
     let done = c.loop-i.done in
     let v = c.loop-i.invariant in
     let most = v.most l in

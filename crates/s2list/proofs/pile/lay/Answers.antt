@@ -6,7 +6,7 @@ use Rattle.s2list.proofs.pile.lay.Goals as goal
 
 pub returns-clause-end : goal.returns-clause-end
 returns-clause-end g c local =
-    let u = g.C.Cells.ids c.args.cells.now in
+    let u = g.C.Listed.ids c.args.cells.now in
     let k = c.args.stop - 1 in
     let own = local.cells k 0 (omega arith) in
     let within = (cell_leaves (get_or u k 0) own).within in

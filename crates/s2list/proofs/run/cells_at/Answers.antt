@@ -11,7 +11,7 @@ use Rattle.s2list.proofs.run.cells_at.Goals.{else-end-len-via-else-end-len}
 
 pub returns-clause-place : goal.returns-clause-place
 returns-clause-place g c local =
-    let p = packed_from_local (g.C.Cells.ids c.args.cells.now) local in
+    let p = packed_from_local (g.C.Listed.ids c.args.cells.now) local in
     let v = c.first_leaf.ensures.value in
     record {
       within = c.find-first.ensures.within;
@@ -21,7 +21,7 @@ returns-clause-place g c local =
 
 pub returns-clause-run : goal.returns-clause-run
 returns-clause-run g c local =
-    let u = g.C.Cells.ids c.args.cells.now in
+    let u = g.C.Listed.ids c.args.cells.now in
     let p = packed_from_local u local in
     let lo = first_leaf c.args.cell in
     let hi = first_leaf c.args.cell + size_of c.args.cell in

@@ -10,7 +10,7 @@ loop-i-init g c = record {
   in_y = omega arith;
   place = refl;
   rest = λ h. h;
-  so_far = λ lx ly. shared_none (g.X.Cells.ids c.args.xs.now) (g.Y.Cells.ids c.args.ys.now)
+  so_far = λ lx ly. shared_none (g.X.Listed.ids c.args.xs.now) (g.Y.Listed.ids c.args.ys.now)
       (λ list. g.W.Output.holds list c.args.out.now c.args.out.now 0) _ c.requires.empty c.requires.count;
   some = λ h. absurd (omega arith);
 }
@@ -19,8 +19,8 @@ pub loop-i-preserved-then-x_end-y_first : goal.loop-i-preserved-then-x_end-y_fir
 loop-i-preserved-then-x_end-y_first g c =
     let nx = c.len-x_len.ensures in
     let ny = c.len-y_len.ensures in
-    let h : c.loop-i.i < length (g.X.Cells.ids c.args.xs.now) = omega (arith, c.loop-i-test.true) in
-    let t : c.loop-i.j < length (g.Y.Cells.ids c.args.ys.now) = omega (arith, c.if-j-y_len.true) in
+    let h : c.loop-i.i < length (g.X.Listed.ids c.args.xs.now) = omega (arith, c.loop-i-test.true) in
+    let t : c.loop-i.j < length (g.Y.Listed.ids c.args.ys.now) = omega (arith, c.if-j-y_len.true) in
     let more_x = c.look-x.ensures.count in
     let more_y = c.look-y.ensures.count in
     let a = g.K.Count.looks c.look-x.new.count in
@@ -41,8 +41,8 @@ pub loop-i-preserved-then-y_end-x_first : goal.loop-i-preserved-then-y_end-x_fir
 loop-i-preserved-then-y_end-x_first g c =
     let nx = c.len-x_len.ensures in
     let ny = c.len-y_len.ensures in
-    let h : c.loop-i.i < length (g.X.Cells.ids c.args.xs.now) = omega (arith, c.loop-i-test.true) in
-    let t : c.loop-i.j < length (g.Y.Cells.ids c.args.ys.now) = omega (arith, c.if-j-y_len.true) in
+    let h : c.loop-i.i < length (g.X.Listed.ids c.args.xs.now) = omega (arith, c.loop-i-test.true) in
+    let t : c.loop-i.j < length (g.Y.Listed.ids c.args.ys.now) = omega (arith, c.if-j-y_len.true) in
     let more_x = c.look-x.ensures.count in
     let more_y = c.look-y.ensures.count in
     let a = g.K.Count.looks c.look-x.new.count in
@@ -63,8 +63,8 @@ pub loop-i-preserved-then-is_within : goal.loop-i-preserved-then-is_within
 loop-i-preserved-then-is_within g c =
     let nx = c.len-x_len.ensures in
     let ny = c.len-y_len.ensures in
-    let h : c.loop-i.i < length (g.X.Cells.ids c.args.xs.now) = omega (arith, c.loop-i-test.true) in
-    let t : c.loop-i.j < length (g.Y.Cells.ids c.args.ys.now) = omega (arith, c.if-j-y_len.true) in
+    let h : c.loop-i.i < length (g.X.Listed.ids c.args.xs.now) = omega (arith, c.loop-i-test.true) in
+    let t : c.loop-i.j < length (g.Y.Listed.ids c.args.ys.now) = omega (arith, c.if-j-y_len.true) in
     let more_x = c.look-x.ensures.count in
     let more_y = c.look-y.ensures.count in
     let a = g.K.Count.looks c.look-x.new.count in
@@ -89,8 +89,8 @@ pub loop-i-preserved : goal.loop-i-preserved
 loop-i-preserved g c =
     let nx = c.len-x_len.ensures in
     let ny = c.len-y_len.ensures in
-    let h : c.loop-i.i < length (g.X.Cells.ids c.args.xs.now) = omega (arith, c.loop-i-test.true) in
-    let t : c.loop-i.j < length (g.Y.Cells.ids c.args.ys.now) = omega (arith, c.if-j-y_len.true) in
+    let h : c.loop-i.i < length (g.X.Listed.ids c.args.xs.now) = omega (arith, c.loop-i-test.true) in
+    let t : c.loop-i.j < length (g.Y.Listed.ids c.args.ys.now) = omega (arith, c.if-j-y_len.true) in
     let more_x = c.look-x.ensures.count in
     let more_y = c.look-y.ensures.count in
     let a = g.K.Count.looks c.look-x.new.count in

@@ -17,5 +17,5 @@ pub returns-then-mark-eq-NEVER-clause-mark : goal.returns-then-mark-eq-NEVER-cla
 returns-then-mark-eq-NEVER-clause-mark g c local h =
     let last = c.len.result - 1 in
     let own = local.cells last 0 (omega arith) in
-    let within = (cell_leaves (get_or (g.C.Cells.ids c.args.cells.now) last 0) own).within in
+    let within = (cell_leaves (get_or (g.C.Listed.ids c.args.cells.now) last 0) own).within in
     omega (arith, c.if-mark-eq-NEVER.true)

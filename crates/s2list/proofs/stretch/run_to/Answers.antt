@@ -4,7 +4,7 @@ use Rattle.s2list.proofs.stretch.run_to.Goals as goal
 
 pub returns-clause-apart : goal.returns-clause-apart
 returns-clause-apart g c local h =
-    let u = g.C.Cells.ids c.args.cells.now in
+    let u = g.C.Listed.ids c.args.cells.now in
     let i = c.args.i in
     let own = local.cells i 0 (omega arith) in
     let e : c.first_of-2.result ≡ first_leaf (get_or u i 0) = c.first_of-2.ensures (rw c.id-2.ensures own)

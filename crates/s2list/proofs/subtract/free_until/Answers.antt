@@ -6,8 +6,8 @@ use Rattle.s2list.proofs.subtract.free_until.Goals as goal
 
 pub returns-then-j-len-clause-free : goal.returns-then-j-len-clause-free
 returns-then-j-len-clause-free g c lx h own free =
-    let xs = g.X.Cells.ids c.args.xs.now in
-    let ys = g.Y.Cells.ids c.args.ys.now in
+    let xs = g.X.Listed.ids c.args.xs.now in
+    let ys = g.Y.Listed.ids c.args.ys.now in
     let p = packed_from_local xs lx in
     let f : c.first_of.result ≡ first_leaf (get_or ys c.args.j 0) = c.first_of.ensures (rw c.id.ensures own)
     ∙ ap first_leaf c.id.ensures in

@@ -3,4 +3,4 @@ use Rattle.s2list.proofs.subtract.leap_if.Goals as goal
 
 pub returns-then-asked-clause-ended : goal.returns-then-asked-clause-ended
 returns-then-asked-clause-ended g c local b =
-    c.find_from.ensures.ended (packed_from_local (g.C.Cells.ids c.args.cells.now) local) b
+    c.find_from.ensures.ended (packed_from_local (g.C.Listed.ids c.args.cells.now) local) b

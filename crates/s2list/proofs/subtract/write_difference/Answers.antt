@@ -10,15 +10,15 @@ loop-i-init g c = record {
   in_y = omega arith;
   place = refl;
   rest = λ h. h;
-  so_far = λ lx ly. left_none (g.X.Cells.ids c.args.xs.now) (g.Y.Cells.ids c.args.ys.now)
+  so_far = λ lx ly. left_none (g.X.Listed.ids c.args.xs.now) (g.Y.Listed.ids c.args.ys.now)
       (λ list. g.W.Output.holds list c.args.out.now c.args.out.now 0) c.requires.empty;
 }
 
 pub loop-i-preserved-then-begins_at : goal.loop-i-preserved-then-begins_at
 loop-i-preserved-then-begins_at g c =
-    let ys = g.Y.Cells.ids c.args.ys.now in
+    let ys = g.Y.Listed.ids c.args.ys.now in
     let nx = c.len.ensures in
-    let h : c.loop-i.i < length (g.X.Cells.ids c.args.xs.now) = omega (arith, c.loop-i-test.true) in
+    let h : c.loop-i.i < length (g.X.Listed.ids c.args.xs.now) = omega (arith, c.loop-i-test.true) in
     let es : c.max-start.result ≡ max c.first_of-first.result c.loop-i.lo = omega arith in
     let there = c.begins_at.ensures.within c.if-begins_at.true in
     let ry = c.id-y.ensures in
@@ -47,7 +47,7 @@ loop-i-preserved-then-begins_at g c =
 
 pub loop-i-preserved-then-start-first : goal.loop-i-preserved-then-start-first
 loop-i-preserved-then-start-first g c =
-    let xs = g.X.Cells.ids c.args.xs.now in
+    let xs = g.X.Listed.ids c.args.xs.now in
     let nx = c.len.ensures in
     let h : c.loop-i.i < length xs = omega (arith, c.loop-i-test.true) in
     let es : c.max-start.result ≡ max c.first_of-first.result c.loop-i.lo = omega arith in
@@ -76,7 +76,7 @@ loop-i-preserved-then-start-first g c =
 pub loop-i-preserved : goal.loop-i-preserved
 loop-i-preserved g c =
     let nx = c.len.ensures in
-    let h : c.loop-i.i < length (g.X.Cells.ids c.args.xs.now) = omega (arith, c.loop-i-test.true) in
+    let h : c.loop-i.i < length (g.X.Listed.ids c.args.xs.now) = omega (arith, c.loop-i-test.true) in
     let es : c.max-start.result ≡ max c.first_of-first.result c.loop-i.lo = omega arith in
     let to = c.find_from-j.ensures in
     record {

@@ -10,8 +10,8 @@ use Rattle.s2list.proofs.walk.ends_later.Goals as goal
 -- the last leaf of `ys` comes after all of `xs`
 pub returns-clause-answer : goal.returns-clause-answer
 returns-clause-answer g c lx ly t within =
-    let xs = g.X.Cells.ids c.args.xs.now in
-    let ys = g.Y.Cells.ids c.args.ys.now in
+    let xs = g.X.Listed.ids c.args.xs.now in
+    let ys = g.Y.Listed.ids c.args.ys.now in
     let m = c.len-m.ensures in
     let n = c.len-n.ensures in
     let i = c.len-m.result - 1 in

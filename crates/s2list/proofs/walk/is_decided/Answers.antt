@@ -27,29 +27,29 @@ loop-j-init g c = record {
 }
 
 -- where the search in `xs` has ended
-found : (g : Over) (c : After-find_along-i g) → IsLocal (g.X.Cells.ids c.args.xs.now) →
-    IsLocal (g.Y.Cells.ids c.args.ys.now) → Placed (g.X.Cells.ids c.args.xs.now) (g.Y.Cells.ids c.args.ys.now)
+found : (g : Over) (c : After-find_along-i g) → IsLocal (g.X.Listed.ids c.args.xs.now) →
+    IsLocal (g.Y.Listed.ids c.args.ys.now) → Placed (g.X.Listed.ids c.args.xs.now) (g.Y.Listed.ids c.args.ys.now)
     c.find_along-i.result c.loop-j.j
 found g c lx ly =
     let n = c.len-n.ensures in
-    let hj : c.loop-j.j < length (g.Y.Cells.ids c.args.ys.now) = omega arith in
-    placed (g.X.Cells.ids c.args.xs.now) (g.Y.Cells.ids c.args.ys.now) c.loop-j.i c.find_along-i.result c.loop-j.j lx ly
-    hj c.look-y.ensures.id c.first_of.ensures c.find_along-i.ensures.ended c.find_along-i.ensures.next
+    let hj : c.loop-j.j < length (g.Y.Listed.ids c.args.ys.now) = omega arith in
+    placed (g.X.Listed.ids c.args.xs.now) (g.Y.Listed.ids c.args.ys.now) c.loop-j.i c.find_along-i.result c.loop-j.j lx
+    ly hj c.look-y.ensures.id c.first_of.ensures c.find_along-i.ensures.ended c.find_along-i.ensures.next
     (c.loop-j.invariant.ended lx ly hj)
 
 -- what a walk that ends here has looked at
-ended : (g : Over) (c : After-find_along-i g) (last more : ℕ) → IsLocal (g.X.Cells.ids c.args.xs.now) →
-    IsLocal (g.Y.Cells.ids c.args.ys.now) →
+ended : (g : Over) (c : After-find_along-i g) (last more : ℕ) → IsLocal (g.X.Listed.ids c.args.xs.now) →
+    IsLocal (g.Y.Listed.ids c.args.ys.now) →
     last ≤ g.K.Count.looks c.find_along-i.new.count - g.K.Count.looks c.args.count.now + 1 + more → more ≤ 2 →
-    more ≤ 2 * length (g.X.Cells.ids c.args.xs.now) →
-    FewLooks (λ k. Decides c.args.question (g.X.Cells.ids c.args.xs.now) (get_or (g.Y.Cells.ids c.args.ys.now) k 0))
-    (g.X.Cells.ids c.args.xs.now) (g.Y.Cells.ids c.args.ys.now) last
+    more ≤ 2 * length (g.X.Listed.ids c.args.xs.now) →
+    FewLooks (λ k. Decides c.args.question (g.X.Listed.ids c.args.xs.now) (get_or (g.Y.Listed.ids c.args.ys.now) k 0))
+    (g.X.Listed.ids c.args.xs.now) (g.Y.Listed.ids c.args.ys.now) last
 ended g c last more lx ly few two by_m =
     let n = c.len-n.ensures in
     let fi = c.find_along-i.ensures in
     let more_y = c.look-y.ensures.count in
     walked_to_end
-    {D = λ k. Decides c.args.question (g.X.Cells.ids c.args.xs.now) (get_or (g.Y.Cells.ids c.args.ys.now) k 0)}
+    {D = λ k. Decides c.args.question (g.X.Listed.ids c.args.xs.now) (get_or (g.Y.Listed.ids c.args.ys.now) k 0)}
     c.find_along-i.result last more (c.loop-j.invariant.walked lx ly) (omega arith)
     (sought_from (g.K.Count.looks c.args.count.now) (g.K.Count.looks c.look-y.new.count)
     (g.K.Count.looks c.find_along-i.new.count) _ _ _ _ fi.looks)
@@ -79,8 +79,8 @@ returns-then-i-m-clause-looks g c lx ly more two by_m by_n =
 
 pub returns-then-settles-clause-found : goal.returns-then-settles-clause-found
 returns-then-settles-clause-found g c lx ly e =
-    let xs = g.X.Cells.ids c.args.xs.now in
-    let ys = g.Y.Cells.ids c.args.ys.now in
+    let xs = g.X.Listed.ids c.args.xs.now in
+    let ys = g.Y.Listed.ids c.args.ys.now in
     let m = c.len-m.ensures in
     let n = c.len-n.ensures in
     let i = c.find_along-i.result in
@@ -102,17 +102,17 @@ returns-clause-looks g c lx ly more two by_m by_n =
     let in_y = v.in_y in
     let looks = g.K.Count.looks c.loop-j.count - g.K.Count.looks c.args.count.now in
     walked_to_end c.loop-j.i _ 0 (v.walked lx ly) (omega arith)
-    (sought_here (looks + 1) (length (g.X.Cells.ids c.args.xs.now)) c.loop-j.i c.loop-j.i)
+    (sought_here (looks + 1) (length (g.X.Listed.ids c.args.xs.now)) c.loop-j.i c.loop-j.i)
     (omega arith) (omega arith) (omega arith) (omega arith) (omega arith) (omega arith) (omega arith) (inr refl)
 
-turned : (g : Over) (c : After-find_along-j g) → IsLocal (g.X.Cells.ids c.args.xs.now) →
-    IsLocal (g.Y.Cells.ids c.args.ys.now) → Placed (g.X.Cells.ids c.args.xs.now) (g.Y.Cells.ids c.args.ys.now)
-    c.find_along-i.result c.loop-j.j → Turned c.args.question (g.X.Cells.ids c.args.xs.now)
-    (g.Y.Cells.ids c.args.ys.now) c.find_along-i.result c.loop-j.j c.find_along-j.result
+turned : (g : Over) (c : After-find_along-j g) → IsLocal (g.X.Listed.ids c.args.xs.now) →
+    IsLocal (g.Y.Listed.ids c.args.ys.now) → Placed (g.X.Listed.ids c.args.xs.now) (g.Y.Listed.ids c.args.ys.now)
+    c.find_along-i.result c.loop-j.j → Turned c.args.question (g.X.Listed.ids c.args.xs.now)
+    (g.Y.Listed.ids c.args.ys.now) c.find_along-i.result c.loop-j.j c.find_along-j.result
 turned g c lx ly p =
     let q = c.args.question in
-    let xs = g.X.Cells.ids c.args.xs.now in
-    let ys = g.Y.Cells.ids c.args.ys.now in
+    let xs = g.X.Listed.ids c.args.xs.now in
+    let ys = g.Y.Listed.ids c.args.ys.now in
     let m = c.len-m.ensures in
     let n = c.len-n.ensures in
     let i = c.find_along-i.result in
@@ -153,8 +153,8 @@ loop-j-preserved g c =
     let fi = c.find_along-i.ensures in
     let fj = c.find_along-j.ensures in
     let at = goal.at.loop-j-preserved g c in
-    let turn : IsLocal (g.X.Cells.ids c.args.xs.now) → IsLocal (g.Y.Cells.ids c.args.ys.now) →
-    Turned q (g.X.Cells.ids c.args.xs.now) (g.Y.Cells.ids c.args.ys.now) i j next =
+    let turn : IsLocal (g.X.Listed.ids c.args.xs.now) → IsLocal (g.Y.Listed.ids c.args.ys.now) →
+    Turned q (g.X.Listed.ids c.args.xs.now) (g.Y.Listed.ids c.args.ys.now) i j next =
     λ lx ly. turned g at.After-find_along-j lx ly (found g at.After-find_along-i lx ly) in
     let more_y = c.look-y.ensures.count in
     let more_x = c.look-x.ensures.count in

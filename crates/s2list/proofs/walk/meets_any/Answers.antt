@@ -5,7 +5,7 @@ use Rattle.s2list.proofs.walk.meets_any.Goals as goal
 
 pub returns-clause-answer : goal.returns-clause-answer
 returns-clause-answer g c lx ly =
-    one_shares (has_leaf (g.X.Cells.ids c.args.xs.now)) (g.Y.Cells.ids c.args.ys.now) c.is_decided.result
+    one_shares (has_leaf (g.X.Listed.ids c.args.xs.now)) (g.Y.Listed.ids c.args.ys.now) c.is_decided.result
     (c.is_decided.ensures.none lx ly) (c.is_decided.ensures.found lx ly)
 
 pub returns-clause-looks : goal.returns-clause-looks

@@ -7,7 +7,7 @@ use Rattle.s2list.proofs.whole.first_wrong.Goals as goal
 
 pub loop-k-preserved : goal.loop-k-preserved
 loop-k-preserved g c j h =
-    let u = g.C.Cells.ids c.args.cells.now in
+    let u = g.C.Listed.ids c.args.cells.now in
     ⊎_elim
     (λ (a : j < c.loop-k.k). c.loop-k.invariant j a)
     (λ (a : c.loop-k.k ≤ j).
@@ -19,4 +19,4 @@ loop-k-preserved g c j h =
 pub returns : goal.returns
 returns g c =
     let n = c.len-k-end.ensures in
-    cells_from_places (g.C.Cells.ids c.args.cells.now) (λ j h. c.loop-k.invariant j (omega arith))
+    cells_from_places (g.C.Listed.ids c.args.cells.now) (λ j h. c.loop-k.invariant j (omega arith))

@@ -4,4 +4,4 @@ use Rattle.s2cell.specs.Cell.{IsCell}
 use Rattle.s2list.proofs.whole.first_wrong.Given as goal
 
 abbrev pub invariant-loop-k : goal.invariant-loop-k
-invariant-loop-k g l = (j : ℕ) → j < l.k → IsCell (slice_index (g.C.Cells.ids l.cells) j)
+invariant-loop-k g l = (j : ℕ) → j < l.k → IsCell (slice_index (g.C.Listed.ids l.cells) j)

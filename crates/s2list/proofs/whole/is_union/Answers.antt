@@ -25,7 +25,7 @@ loop-k-init g c = record {
 
 pub loop-k-preserved : goal.loop-k-preserved
 loop-k-preserved g c =
-    let u = g.C.Cells.ids c.args.cells.now in
+    let u = g.C.Listed.ids c.args.cells.now in
     let k = c.loop-k.k in
     let n = c.len-k-end.ensures in
     let v = c.loop-k.invariant in
@@ -51,7 +51,7 @@ loop-k-preserved g c =
 
 pub returns-then-not-continues : goal.returns-then-not-continues
 returns-then-not-continues g c =
-    let u = g.C.Cells.ids c.args.cells.now in
+    let u = g.C.Listed.ids c.args.cells.now in
     let k = c.loop-k.k in
     let n = c.len-k-end.ensures in
     let v = c.loop-k.invariant in
@@ -75,7 +75,7 @@ returns-then-not-continues g c =
 
 pub returns : goal.returns
 returns g c =
-    let u = g.C.Cells.ids c.args.cells.now in
+    let u = g.C.Listed.ids c.args.cells.now in
     let n = c.len-k-end.ensures in
     let all : take c.loop-k.k u ≡ u = take_all c.loop-k.k u (omega arith) in
     (λ _. local_from_packed u (rw all at c.loop-k.invariant.packed), λ _. refl)

@@ -9,11 +9,11 @@ use Rattle.s2list.proofs.Counting.{count_more, count_none, count_most}
 use Rattle.s2list.proofs.whole.leaf_count.Goals as goal
 
 pub loop-k-init : goal.loop-k-init
-loop-k-init g c local = sym (count_none (λ x. has_leaf (take 0 (g.C.Cells.ids c.args.cells.now)) x) LEAVES (λ x. refl))
+loop-k-init g c local = sym (count_none (λ x. has_leaf (take 0 (g.C.Listed.ids c.args.cells.now)) x) LEAVES (λ x. refl))
 
 pub loop-k-preserved : goal.loop-k-preserved
 loop-k-preserved g c local =
-    let u = g.C.Cells.ids c.args.cells.now in
+    let u = g.C.Listed.ids c.args.cells.now in
     let i = c.loop-k.k in
     let n = c.len-k-end.ensures in
     let h : i < length u = omega (arith, c.loop-k-test.true) in
@@ -31,6 +31,6 @@ loop-k-preserved g c local =
 pub returns-clause-most : goal.returns-clause-most
 returns-clause-most g c local =
     let v = c.loop-k.invariant local in
-    let most : count_below (has_leaf (take c.loop-k.k (g.C.Cells.ids c.args.cells.now))) LEAVES ≤ LEAVES =
-    count_most (has_leaf (take c.loop-k.k (g.C.Cells.ids c.args.cells.now))) LEAVES in
+    let most : count_below (has_leaf (take c.loop-k.k (g.C.Listed.ids c.args.cells.now))) LEAVES ≤ LEAVES =
+    count_most (has_leaf (take c.loop-k.k (g.C.Listed.ids c.args.cells.now))) LEAVES in
     omega arith

@@ -7,7 +7,7 @@ use Rattle.s2room.proofs.cut.next_kept.Goals as goal
 
 pub loop-i-preserved : goal.loop-i-preserved
 loop-i-preserved g c =
-    let u = g.C.Cells.ids c.args.cells.now in
+    let u = g.C.Listed.ids c.args.cells.now in
     let k = c.args.level in
     let i = c.loop-i.i in
     let n = c.len.ensures in

@@ -7,7 +7,7 @@ use Rattle.s2room.proofs.cut.put_kept.Goals as goal
 
 pub loop-n-preserved : goal.loop-n-preserved
 loop-n-preserved g c =
-    let u = g.C.Cells.ids c.args.cells.now in
+    let u = g.C.Listed.ids c.args.cells.now in
     let k = c.args.level in
     let at = c.next_kept-at.result in
     let n = c.len-len.ensures in
@@ -29,7 +29,7 @@ loop-n-preserved g c =
 
 pub returns-then-at-len-clause-made : goal.returns-then-at-len-clause-made
 returns-then-at-len-clause-made g c local =
-    let u = g.C.Cells.ids c.args.cells.now in
+    let u = g.C.Listed.ids c.args.cells.now in
     let k = c.args.level in
     let n = c.len-len.ensures in
     let fits = c.len-len.type_inv in
@@ -42,5 +42,6 @@ pub returns-clause-made : goal.returns-clause-made
 returns-clause-made g c local =
     let n = c.len-len.ensures in
     let fits = c.len-len.type_inv in
-    kept_put c.args.level c.args.most (g.C.Cells.ids c.args.cells.now) c.args.out.now c.loop-n.out c.loop-n.n c.loop-n.i
-    (c.loop-n.invariant.so_far local) (omega arith) c.ranges.most.fits (inr (omega (arith, c.loop-n-test.false)))
+    kept_put c.args.level c.args.most (g.C.Listed.ids c.args.cells.now) c.args.out.now c.loop-n.out c.loop-n.n
+    c.loop-n.i (c.loop-n.invariant.so_far local) (omega arith) c.ranges.most.fits
+    (inr (omega (arith, c.loop-n-test.false)))

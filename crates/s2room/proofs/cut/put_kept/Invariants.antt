@@ -6,12 +6,12 @@ use Rattle.s2room.proofs.cut.put_kept.Given as goal
 
 abbrev pub invariant-loop-n : goal.invariant-loop-n
 invariant-loop-n g l = record {
-  within : l.i ≤ length (g.C.Cells.ids l.cells);
+  within : l.i ≤ length (g.C.Listed.ids l.cells);
   len : length l.out ≡ length l.fn.out;
   rest : drop l.n l.out ≡ drop l.n l.fn.out;
-  so_far : IsLocal (g.C.Cells.ids l.cells) →
-      IsPut (cells_kept l.level (take l.i (g.C.Cells.ids l.cells))) l.fn.out l.out l.n;
+  so_far : IsLocal (g.C.Listed.ids l.cells) →
+      IsPut (cells_kept l.level (take l.i (g.C.Listed.ids l.cells))) l.fn.out l.out l.n;
 }
 
 abbrev pub decreases-loop-n : goal.decreases-loop-n
-decreases-loop-n g l = length (g.C.Cells.ids l.cells) - l.i
+decreases-loop-n g l = length (g.C.Listed.ids l.cells) - l.i

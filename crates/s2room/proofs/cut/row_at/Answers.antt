@@ -10,7 +10,7 @@ use Rattle.s2room.proofs.cut.row_at.Goals as goal
 
 pub loop-next-init : goal.loop-next-init
 loop-next-init g c =
-    let u = g.C.Cells.ids c.args.cells.now in
+    let u = g.C.Listed.ids c.args.cells.now in
     let k = c.args.level in
     let i = c.args.i in
     let v = cells_cut k u in
@@ -39,7 +39,7 @@ loop-next-init g c =
 
 pub loop-next-preserved : goal.loop-next-preserved
 loop-next-preserved g c =
-    let u = g.C.Cells.ids c.args.cells.now in
+    let u = g.C.Listed.ids c.args.cells.now in
     let k = c.args.level in
     let i = c.args.i in
     let m = c.loop-next.next in
@@ -76,7 +76,7 @@ loop-next-preserved g c =
 
 pub returns-then-hi-first_of-clause-apart : goal.returns-then-hi-first_of-clause-apart
 returns-then-hi-first_of-clause-apart g c local h =
-    let u = g.C.Cells.ids c.args.cells.now in
+    let u = g.C.Listed.ids c.args.cells.now in
     let k = c.args.level in
     let m = c.loop-next.next in
     let p = packed_from_local u local in
@@ -89,5 +89,5 @@ returns-then-hi-first_of-clause-apart g c local h =
 
 pub returns-then-hi-first_of-clause-after : goal.returns-then-hi-first_of-clause-after
 returns-then-hi-first_of-clause-after g c local h =
-    let own : IsCell (get_or (g.C.Cells.ids c.args.cells.now) c.loop-next.next 0) = local.cells c.loop-next.next 0 h in
+    let own : IsCell (get_or (g.C.Listed.ids c.args.cells.now) c.loop-next.next 0) = local.cells c.loop-next.next 0 h in
     c.cut-id.ensures (rw c.id.ensures own) ∙ ap (cut_at c.args.level) c.id.ensures

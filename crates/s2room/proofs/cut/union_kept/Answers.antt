@@ -8,7 +8,7 @@ use Rattle.s2room.proofs.cut.union_kept.Goals as goal
 
 pub from_normalized-requires : goal.from_normalized-requires
 from_normalized-requires g c =
-    let u = g.C.Cells.ids c.args.cells.now in
+    let u = g.C.Listed.ids c.args.cells.now in
     let k = c.args.level in
     let n = c.len-in-loop-at.ensures in
     let all : take c.next_kept-at.result u ≡ u = take_all c.next_kept-at.result u (omega (arith, c.if-at-len.true)) in
@@ -24,7 +24,7 @@ cell_of-requires g c =
 
 pub returns-clause-many : goal.returns-clause-many
 returns-clause-many g c =
-    let front = kept_front c.args.level c.loop-at.i (g.C.Cells.ids c.args.cells.now) in
+    let front = kept_front c.args.level c.loop-at.i (g.C.Listed.ids c.args.cells.now) in
     let e = ap length c.loop-at.invariant.so_far in
     let same : vec_len c.loop-at.list ≡ length c.loop-at.list.items = search rules in
     let n = c.len.ensures in

@@ -4,9 +4,9 @@ use Rattle.s2room.proofs.cut.union_kept.Given as goal
 
 abbrev pub invariant-loop-at : goal.invariant-loop-at
 invariant-loop-at g l = record {
-  within : l.i ≤ length (g.C.Cells.ids l.cells);
-  so_far : l.list.items ≡ cells_kept l.level (take l.i (g.C.Cells.ids l.cells));
+  within : l.i ≤ length (g.C.Listed.ids l.cells);
+  so_far : l.list.items ≡ cells_kept l.level (take l.i (g.C.Listed.ids l.cells));
 }
 
 abbrev pub decreases-loop-at : goal.decreases-loop-at
-decreases-loop-at g l = length (g.C.Cells.ids l.cells) - l.i
+decreases-loop-at g l = length (g.C.Listed.ids l.cells) - l.i

@@ -18,7 +18,7 @@ loop-i-init g c = record {
 
 pub loop-i-preserved : goal.loop-i-preserved
 loop-i-preserved g c =
-    let u = g.C.Cells.ids c.args.cells.now in
+    let u = g.C.Listed.ids c.args.cells.now in
     let k = c.args.level in
     let len = length-map u (cut_at k) in
     let r = c.row_at-row.ensures in
@@ -37,14 +37,14 @@ loop-i-preserved g c =
 
 pub returns-else-n-most-clause-made : goal.returns-else-n-most-clause-made
 returns-else-n-most-clause-made g c local =
-    let u = g.C.Cells.ids c.args.cells.now in
+    let u = g.C.Listed.ids c.args.cells.now in
     rows_done c.loop-i.n c.args.most (begins_cut c.args.level u (packed_from_local u local))
     (λ list. g.met.W.Output.counts list c.args.out.now c.loop-i.out c.loop-i.n) (c.loop-i.invariant.so_far local)
     (inr (omega (arith, c.if-n-most.false)))
 
 pub returns-after-loop-i-clause-made : goal.returns-after-loop-i-clause-made
 returns-after-loop-i-clause-made g c local =
-    let u = g.C.Cells.ids c.args.cells.now in
+    let u = g.C.Listed.ids c.args.cells.now in
     let len = length-map u (cut_at c.args.level) in
     let n = c.len.ensures in
     rows_done c.loop-i.n c.args.most (begins_cut c.args.level u (packed_from_local u local))

@@ -6,14 +6,14 @@ use Rattle.s2room.proofs.cut.write_cut.Given as goal
 
 abbrev pub invariant-loop-i : goal.invariant-loop-i
 invariant-loop-i g l = record {
-  within : l.i ≤ length (g.C.Cells.ids l.cells);
+  within : l.i ≤ length (g.C.Listed.ids l.cells);
   place : g.W.Output.place l.out ≡ g.W.Output.place l.fn.out;
   rest : g.W.Output.rest l.fn.out l.fn.out 0 → g.W.Output.rest l.fn.out l.out l.n;
-  so_far : IsLocal (g.C.Cells.ids l.cells) →
-      Rows (cells_cut l.level (g.C.Cells.ids l.cells)) (λ list. g.W.Output.holds list l.fn.out l.out l.n) l.i;
-  first : IsLocal (g.C.Cells.ids l.cells) → l.i < length (g.C.Cells.ids l.cells) →
-      l.first ≡ cut_at l.level (get_or (g.C.Cells.ids l.cells) l.i 0);
+  so_far : IsLocal (g.C.Listed.ids l.cells) →
+      Rows (cells_cut l.level (g.C.Listed.ids l.cells)) (λ list. g.W.Output.holds list l.fn.out l.out l.n) l.i;
+  first : IsLocal (g.C.Listed.ids l.cells) → l.i < length (g.C.Listed.ids l.cells) →
+      l.first ≡ cut_at l.level (get_or (g.C.Listed.ids l.cells) l.i 0);
 }
 
 abbrev pub decreases-loop-i : goal.decreases-loop-i
-decreases-loop-i g l = length (g.C.Cells.ids l.cells) - l.i
+decreases-loop-i g l = length (g.C.Listed.ids l.cells) - l.i

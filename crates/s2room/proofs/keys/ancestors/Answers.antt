@@ -11,12 +11,12 @@ loop-k-init g c =
     record {
       len = refl;
       rest = refl;
-      put = λ local. ([], reached_start (g.C.Cells.ids c.args.cells.now), put_none c.args.out.now);
+      put = λ local. ([], reached_start (g.C.Listed.ids c.args.cells.now), put_none c.args.out.now);
     }
 
 pub loop-k-preserved : goal.loop-k-preserved
 loop-k-preserved g c =
-    let u = g.C.Cells.ids c.args.cells.now in
+    let u = g.C.Listed.ids c.args.cells.now in
     let k = c.loop-k.k in
     let v = c.loop-k.invariant in
     let n = c.len-k-end.ensures in
@@ -45,7 +45,7 @@ loop-k-preserved g c =
 
 pub returns-clause-put : goal.returns-clause-put
 returns-clause-put g c local =
-    let u = g.C.Cells.ids c.args.cells.now in
+    let u = g.C.Listed.ids c.args.cells.now in
     let n = c.len-k-end.ensures in
     let most = c.loop-k.auto.k-end in
     let all : c.loop-k.k ≡ length u = omega (arith, c.loop-k-test.false) in

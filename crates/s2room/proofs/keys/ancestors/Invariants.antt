@@ -8,6 +8,6 @@ abbrev pub invariant-loop-k : goal.invariant-loop-k
 invariant-loop-k g l = record {
   len : length l.out ≡ length l.fn.out;
   rest : drop l.n l.out ≡ drop l.n l.fn.out;
-  put : IsLocal (g.C.Cells.ids l.cells)
-      → (list : List ℕ) × Reached (g.C.Cells.ids l.cells) l.k l.from list × IsPut list l.fn.out l.out l.n;
+  put : IsLocal (g.C.Listed.ids l.cells)
+      → (list : List ℕ) × Reached (g.C.Listed.ids l.cells) l.k l.from list × IsPut list l.fn.out l.out l.n;
 }

@@ -4,5 +4,5 @@ use Rattle.s2room.proofs.room.put_run.Given as goal
 abbrev pub invariant-loop-k : goal.invariant-loop-k
 invariant-loop-k g l = record {
   len : length l.out ≡ length l.fn.out;
-  run : l.out ≡ (take l.n l.fn.out ++ take l.k (drop l.from (g.C.Cells.ids l.cells))) ++ drop (l.n + l.k) l.fn.out;
+  run : l.out ≡ (take l.n l.fn.out ++ take l.k (drop l.from (g.C.Listed.ids l.cells))) ++ drop (l.n + l.k) l.fn.out;
 }

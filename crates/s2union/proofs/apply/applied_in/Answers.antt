@@ -13,11 +13,11 @@ use Rattle.s2union.proofs.apply.applied_in.Goals as goal
 use Rattle.s2union.proofs.apply.applied_in.Goals.{After-turn, In-Misfit}
 
 pub new-merge-requires-clause-cells_packed : goal.new-merge-requires-clause-cells_packed
-new-merge-requires-clause-cells_packed g c = packed_from_local c.args.cells.now c.requires.local
+new-merge-requires-clause-cells_packed g c = packed_from_local (g.C.Listed.ids c.args.cells) c.requires.local
 
 -- the looks of a run, of its copy, and of the turn after it
 turned : (g : Over) (c : After-turn g) → TurnedCopying (g.K.Count.looks c.loop-cell.count)
-    (g.K.Count.looks c.turn.new.count) (length c.run-run.result.now)
+    (g.K.Count.looks c.turn.new.count) (length (g.C.Listed.ids c.run-run.result))
 turned g c k h =
     let r = c.run-run.ensures.looks k h in
     let w = c.with_cells-list.ensures.looks in
@@ -71,8 +71,8 @@ loop-cell-preserved g c =
 
 -- the change fits, so the walk is at its end, and no cell of the list is left
 all : (g : Over) (c : In-Misfit g) → CopiedAll
-    (record { out = c.args.out.now; put = c.args.put.now; cells = c.args.cells.now }) (g.K.Count.looks c.turn.new.count)
-    g.K.Count.most
+    (record { out = c.args.out.now; put = c.args.put.now; cells = g.C.Listed.ids c.args.cells })
+    (g.K.Count.looks c.turn.new.count) g.K.Count.most
 all g c =
     let v = c.loop-cell.invariant in
     let r = c.run-run.ensures in

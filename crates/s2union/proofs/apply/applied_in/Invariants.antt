@@ -8,11 +8,11 @@ use Rattle.s2union.proofs.apply.applied_in.Given as goal
 -- what is written, and what is left to write, are the whole list
 abbrev pub invariant-loop-cell : goal.invariant-loop-cell
 invariant-loop-cell g l = record {
-  whole : l.list.items ++ made_list l.merge ≡ applied l.out l.put l.cells;
+  whole : l.list.items ++ made_list l.merge ≡ applied l.out l.put (g.C.Listed.ids l.fn.cells);
   left : CanApply l.merge;
   room : vec_capacity l.list ≡ vec_capacity l.initial.list;
-  copied : Copied (record { out = l.out; put = l.put; cells = l.cells }) l.merge (g.K.Count.looks l.count)
-      g.K.Count.most;
+  copied : Copied (record { out = l.out; put = l.put; cells = g.C.Listed.ids l.fn.cells }) l.merge
+      (g.K.Count.looks l.count) g.K.Count.most;
 }
 
 abbrev pub decreases-loop-cell : goal.decreases-loop-cell

@@ -11,18 +11,18 @@ use Rattle.s2union.proofs.apply.fits_cells.Goals as goal
 use Rattle.s2union.proofs.apply.fits_cells.Goals.{After-turn}
 
 pub new-merge-requires-clause-cells_packed : goal.new-merge-requires-clause-cells_packed
-new-merge-requires-clause-cells_packed g c = packed_from_local c.args.cells.now c.requires.local
+new-merge-requires-clause-cells_packed g c = packed_from_local (g.C.Listed.ids c.args.cells) c.requires.local
 
 -- the looks of a run, of judging it, and of the turn after it
 turned : (g : Over) (c : After-turn g) → Turned (g.K.Count.looks c.loop-merge.count)
-    (g.K.Count.looks c.turn.new.count) (length c.run-run.result.now)
+    (g.K.Count.looks c.turn.new.count) (length (g.C.Listed.ids c.run-run.result))
 turned g c k h =
     let r = c.run-run.ensures.looks k h in
     let p = c.pass.ensures.looks in
     let t = c.turn.ensures.looks in
     omega arith
 
-looks_on : (g : Over) (c : After-turn g) → LooksOn (length c.run-run.result.now)
+looks_on : (g : Over) (c : After-turn g) → LooksOn (length (g.C.Listed.ids c.run-run.result))
     (length c.run-run.new.self.cells) (g.K.Count.looks c.loop-merge.count) (g.K.Count.looks c.turn.new.count)
     g.K.Count.most
 looks_on g c =
@@ -35,16 +35,16 @@ looks_on g c =
       at_next = λ h. let s = c.turn.ensures.some h in omega arith;
     }
 
-few : (g : Over) (c : After-turn g) → FewForChange (length c.args.cells.now)
+few : (g : Over) (c : After-turn g) → FewForChange (length (g.C.Listed.ids c.args.cells))
     (length c.args.out.now + length c.args.put.now) (g.K.Count.looks c.turn.new.count)
 few g c = gone_few _ c.loop-merge.invariant.gone c.run-run.ensures.uses (turned g c)
 
-some : (g : Over) (c : After-turn g) → 0 < length c.args.cells.now →
+some : (g : Over) (c : After-turn g) → 0 < length (g.C.Listed.ids c.args.cells) →
     min 1 g.K.Count.most ≤ g.K.Count.looks c.turn.new.count
 some g c = looked_some c.loop-merge.invariant.looked c.run-run.ensures.uses (looks_on g c)
 
 seen : (g : Over) (c : After-turn g) →
-    Seen (record { out = c.args.out.now; put = c.args.put.now; cells = c.args.cells.now }) c.run-run.new.self
+    Seen (record { out = c.args.out.now; put = c.args.put.now; cells = g.C.Listed.ids c.args.cells }) c.run-run.new.self
     c.pass.new.self
 seen g c = seen_run _ c.loop-merge.invariant.seen c.run-run.ensures.keeps c.pass.ensures.passes c.if-not-pass.false
 
@@ -134,8 +134,9 @@ returns-in-Misfit-clause-some g c = some g (goal.at.returns-in-Misfit-clause-som
 
 pub returns-in-End-clause-answer : goal.returns-in-End-clause-answer
 returns-in-End-clause-answer g c = (
-  λ _. fits_all c.args.out.now c.args.put.now c.args.cells.now c.requires.out_ascends c.requires.put_ascends
-      (seen g (goal.at.returns-in-End-clause-answer g c).After-turn) c.in-End.ensures.turn.0 c.in-End.ensures.turn.1,
+  λ _. fits_all c.args.out.now c.args.put.now (g.C.Listed.ids c.args.cells) c.requires.out_ascends
+      c.requires.put_ascends (seen g (goal.at.returns-in-End-clause-answer g c).After-turn)
+      c.in-End.ensures.turn.0 c.in-End.ensures.turn.1,
   λ _. refl,
 )
 

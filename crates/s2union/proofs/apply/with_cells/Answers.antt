@@ -6,16 +6,16 @@ pub loop-k-preserved : goal.loop-k-preserved
 loop-k-preserved g c =
     let v = c.loop-k.invariant in
     let k = c.loop-k.k in
-    let u = c.args.cells.now in
+    let u = g.C.Listed.ids c.args.cells in
     let old = c.args.list.items in
-    let x = c.look.result in
-    let e : get_or u k 0 ≡ x = sym c.look.ensures.cell in
+    let x = c.look_at.result in
+    let e : get_or u k 0 ≡ x = sym c.look_at.ensures.cell in
     let p = c.push_reserved.ensures in
     let len = p.len in
     let before = v.len in
     let looks = v.looks in
     let least = v.least in
-    let more = c.look.ensures.count in
+    let more = c.look_at.ensures.count in
     record {
       within = omega arith;
       len = omega arith;
@@ -28,4 +28,4 @@ loop-k-preserved g c =
 
 pub returns-clause-items : goal.returns-clause-items
 returns-clause-items g c = c.loop-k.invariant.items
-    ∙ ap (λ l. c.args.list.items ++ l) (take_all c.loop-k.k c.args.cells.now (omega arith))
+    ∙ ap (λ l. c.args.list.items ++ l) (take_all c.loop-k.k (g.C.Listed.ids c.args.cells) (omega arith))

@@ -5,7 +5,7 @@ use Rattle.s2union.proofs.AskingFew.{few_looks, more_places}
 use Rattle.s2union.proofs.few.is_decided.Goals as goal
 
 pub pass_next-requires-clause-few_packed : goal.pass_next-requires-clause-few_packed
-pass_next-requires-clause-few_packed g c = packed_from_local c.args.ys.now c.requires.y_local
+pass_next-requires-clause-few_packed g c = packed_from_local (g.C.Listed.ids c.args.ys.now) c.requires.y_local
 
 pub returns-in-None-clause-looks : goal.returns-in-None-clause-looks
 returns-in-None-clause-looks g c =
@@ -18,10 +18,12 @@ loop-j-preserved g c =
     let few = c.loop-j.invariant.few in
     let within = c.in-Some.ensures.within in
     let looks = c.in-Some.ensures.looks in
+    let xs = g.C.Listed.ids c.args.xs.now in
+    let ys = g.C.Listed.ids c.args.ys.now in
     record {
       in_y = within.1;
-      left_open = more_places (λ k. LeavesOpen c.args.question c.args.xs.now (get_or c.args.ys.now k 0)) 0 c.loop-j.j
-          c.in-Some.next c.loop-j.invariant.left_open c.in-Some.ensures.answer;
+      left_open = more_places (λ k. LeavesOpen c.args.question xs (get_or ys k 0)) 0 c.loop-j.j c.in-Some.next
+          c.loop-j.invariant.left_open c.in-Some.ensures.answer;
       few = omega arith;
       some = λ _.
           let least = c.in-Some.ensures.least (let short = c.requires.few in omega arith) in

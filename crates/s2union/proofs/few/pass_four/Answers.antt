@@ -7,8 +7,10 @@ use Rattle.s2union.proofs.few.pass_four.Goals.{After-decides_at-fourth}
 
 -- what is known of the four
 four : (g : Over) (c : After-decides_at-fourth g) →
-    FourJudged (λ k. Decides c.args.question c.args.cells.now (get_or c.args.few.now k 0))
-    (λ k. LeavesOpen c.args.question c.args.cells.now (get_or c.args.few.now k 0)) c.args.at
+    FourJudged
+    (λ k. Decides c.args.question (g.C.Listed.ids c.args.cells.now) (get_or (g.C.Listed.ids c.args.few.now) k 0))
+    (λ k. LeavesOpen c.args.question (g.C.Listed.ids c.args.cells.now) (get_or (g.C.Listed.ids c.args.few.now) k 0))
+    c.args.at
     (((c.decides_at-first.result || c.decides_at-second.result) || c.decides_at-third.result)
     || c.decides_at-fourth.result)
 four g c =
@@ -19,16 +21,18 @@ four g c =
     let d = c.decides_at-third.ensures in
     let e = c.decides_at-fourth.ensures in
     four_judged c.decides_at-first.result c.decides_at-second.result c.decides_at-third.result
-    c.decides_at-fourth.result (λ k. Decides c.args.question c.args.cells.now (get_or c.args.few.now k 0))
-    (λ k. LeavesOpen c.args.question c.args.cells.now (get_or c.args.few.now k 0)) c.args.at
-    (rw c.look-a.ensures.cell at (a.decided local (places.first local)))
-    (rw c.look-a.ensures.cell at (a.left_open local (places.first local)))
-    (rw c.look-b.ensures.cell at (b.decided local (places.second local)))
-    (rw c.look-b.ensures.cell at (b.left_open local (places.second local)))
-    (rw c.look-c.ensures.cell at (d.decided local (places.third local)))
-    (rw c.look-c.ensures.cell at (d.left_open local (places.third local)))
-    (rw c.look-d.ensures.cell at (e.decided local (places.fourth local)))
-    (rw c.look-d.ensures.cell at (e.left_open local (places.fourth local)))
+    c.decides_at-fourth.result
+    (λ k. Decides c.args.question (g.C.Listed.ids c.args.cells.now) (get_or (g.C.Listed.ids c.args.few.now) k 0))
+    (λ k. LeavesOpen c.args.question (g.C.Listed.ids c.args.cells.now) (get_or (g.C.Listed.ids c.args.few.now) k 0))
+    c.args.at
+    (rw c.look_at-a.ensures.cell at (a.decided local (places.first local)))
+    (rw c.look_at-a.ensures.cell at (a.left_open local (places.first local)))
+    (rw c.look_at-b.ensures.cell at (b.decided local (places.second local)))
+    (rw c.look_at-b.ensures.cell at (b.left_open local (places.second local)))
+    (rw c.look_at-c.ensures.cell at (d.decided local (places.third local)))
+    (rw c.look_at-c.ensures.cell at (d.left_open local (places.third local)))
+    (rw c.look_at-d.ensures.cell at (e.decided local (places.fourth local)))
+    (rw c.look_at-d.ensures.cell at (e.left_open local (places.fourth local)))
 
 pub returns-then-first-second-clause-answer : goal.returns-then-first-second-clause-answer
 returns-then-first-second-clause-answer g c =
@@ -39,11 +43,12 @@ returns-then-first-second-clause-answer g c =
 pub returns-else-first-second-clause-answer : goal.returns-else-first-second-clause-answer
 returns-else-first-second-clause-answer g c =
     let places = c.places_of_four_counted-places.ensures in
-    more_places (λ k. LeavesOpen c.args.question c.args.cells.now (get_or c.args.few.now k 0)) c.args.at
-    (c.args.at + 4) c.pass_open.result
+    more_places
+    (λ k. LeavesOpen c.args.question (g.C.Listed.ids c.args.cells.now) (get_or (g.C.Listed.ids c.args.few.now) k 0))
+    c.args.at (c.args.at + 4) c.pass_open.result
     ((four g (goal.at.returns-else-first-second-clause-answer g c).After-decides_at-fourth).1 c.if-first-second.false)
     (c.pass_open.ensures.left_open (c.args.at + 3) (omega arith)
-    (rw (← c.look-d.ensures.cell) (places.fourth c.requires.local)))
+    (rw (← c.look_at-d.ensures.cell) (places.fourth c.requires.local)))
 
 pub returns-then-first-second-clause-most : goal.returns-then-first-second-clause-most
 returns-then-first-second-clause-most g c =

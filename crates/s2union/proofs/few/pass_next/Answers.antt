@@ -9,9 +9,9 @@ use Rattle.s2union.proofs.few.pass_next.Goals as goal
 use Rattle.s2union.proofs.few.pass_next.Goals.{After-find_counted-place}
 
 place : (g : Over) (c : After-find_counted-place g) →
-    IsPlace c.args.cells.now (first_leaf c.look-cell.result) c.find_counted-place.result
+    IsPlace (g.C.Listed.ids c.args.cells.now) (first_leaf c.look_at-cell.result) c.find_counted-place.result
 place g c =
-    let p = packed_from_local c.args.cells.now c.requires.local in
+    let p = packed_from_local (g.C.Listed.ids c.args.cells.now) c.requires.local in
     let v = c.first_leaf.ensures.value in
     let f = c.find_counted-place.ensures in
     record { within = f.within; ended = rw v at (f.ended p); next = rw v at (f.next p) }
@@ -20,7 +20,7 @@ pub returns-then-decides_at-clause-answer : goal.returns-then-decides_at-clause-
 returns-then-decides_at-clause-answer g c = (
   c.args.at,
   c.requires.there,
-  rw (← c.look-cell.ensures.cell) (c.decides_at.ensures.decided c.requires.local
+  rw (← c.look_at-cell.ensures.cell) (c.decides_at.ensures.decided c.requires.local
       (place g (goal.at.returns-then-decides_at-clause-answer g c).After-find_counted-place) c.if-decides_at.true),
 )
 
@@ -36,12 +36,13 @@ returns-then-decides_at-clause-least g c h =
 
 pub returns-else-decides_at-clause-answer : goal.returns-else-decides_at-clause-answer
 returns-else-decides_at-clause-answer g c =
-    let P : ℕ → Type 0 = λ k. LeavesOpen c.args.question c.args.cells.now (get_or c.args.few.now k 0) in
+    let cells = g.C.Listed.ids c.args.cells.now in
+    let P : ℕ → Type 0 = λ k. LeavesOpen c.args.question cells (get_or (g.C.Listed.ids c.args.few.now) k 0) in
     let there = place g (goal.at.returns-else-decides_at-clause-answer g c).After-find_counted-place in
     more_places P c.args.at (c.args.at + 1) c.pass_open.result
-    (one_place P c.args.at (rw (← c.look-cell.ensures.cell)
+    (one_place P c.args.at (rw (← c.look_at-cell.ensures.cell)
     (c.decides_at.ensures.left_open c.requires.local there c.if-decides_at.false)))
-    (c.pass_open.ensures.left_open c.args.at refl (rw (← c.look-cell.ensures.cell) there))
+    (c.pass_open.ensures.left_open c.args.at refl (rw (← c.look_at-cell.ensures.cell) there))
 
 pub returns-else-decides_at-clause-most : goal.returns-else-decides_at-clause-most
 returns-else-decides_at-clause-most g c =

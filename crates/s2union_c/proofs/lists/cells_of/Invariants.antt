@@ -4,6 +4,6 @@ use Rattle.s2union_c.proofs.lists.cells_of.Given as goal
 
 abbrev pub invariant-loop-k : goal.invariant-loop-k
 invariant-loop-k g l = record {
-  cells : l.cells.items ≡ take l.k (g.C.Cells.ids l.numbers);
+  cells : l.cells.items ≡ take l.k (g.C.Listed.ids l.numbers);
   room : l.len ≤ vec_capacity l.cells;
 }
