@@ -7,7 +7,7 @@ use Rattle.std.proofs.lemmas.Grind.{common_steps}
 use Rattle.std.proofs.lemmas.List.Elements.{All-contains}
 use Rattle.std.proofs.lemmas.List.Folds.{list_any-append}
 use Rattle.std.specs.List.{AllByRecursion}
-use Rattle.s2cell.specs.Cell.{IsCell, IsCellAt, level_of, place_of, first_leaf, size_of, covers, child_of, parent_of}
+use Rattle.s2cell.specs.Cell.{IsCell, level_of, first_leaf, size_of, covers, child_of, parent_of}
 use Rattle.s2cell.proofs.CellLemmas.{cell_leaves}
 use Rattle.s2cell.proofs.Calls.{IsCell-parent_of, child_leaves, shallow}
 use Rattle.s2cell.proofs.Family.{same_ends, size_le, deeper_inside, child_within, parent_level, parent_around}
@@ -65,16 +65,12 @@ found_place u c from at {lo} l e before within ended next =
       next = next (packed_from_local u l) first;
     })
 
--- the parent of a cell is one
-pub parent_cell : {c p : ℕ} → IsCellAt (level_of c) (place_of c) c → p ≡ parent_of c (level_of c - 1) → IsCell p
-parent_cell {c} {p} g e = IsCell-parent_of c (level_of c - 1) p (level_of c, place_of c, g) (omega arith) e
-
 -- what ends by the first leaf of a cell ends by that of its first child
-pub first_ended : (u : List ℕ) (at p : ℕ) {lo : ℕ} → IsCell p → level_of p < 30 → lo ≡ first_leaf p →
-    FirstEndBy u at lo → FirstEndBy u at (first_leaf (child_of p 0))
-first_ended u at p g d e ended j h =
+pub first_ended : (u : List ℕ) (at p : ℕ) → IsCell p → level_of p < 30 → FirstEndBy u at (first_leaf p) →
+    FirstEndBy u at (first_leaf (child_of p 0))
+first_ended u at p g d ended j h =
     let first = (child_leaves p 0 g d (omega arith)).first in
-    omega (arith, ended j h, e, first)
+    omega (arith, ended j h, first)
 
 -- what ends by the first leaf of a child ends by that of the next child
 pub next_ended : (u : List ℕ) (at p k : ℕ) → IsCell p → level_of p < 30 → k + 1 < 4 →
@@ -122,22 +118,25 @@ in_holder d w g k v =
     inl (same_ends w d k g (omega (arith, s, v.low, v.high)) (omega (arith, s, v.low, v.high))))
     (cases_lt (level_of w) (level_of d))
 
--- what is said of a cell holds of the cells in it
-watched_in : {T : ℕ → Bool} {u : List ℕ} (d w : ℕ) → IsCell d → Within d w → IsWatched T u w → IsWatched T u d
-watched_in {T} {u} d w g v a =
+-- a cell is watched if all of its parent is
+pub watched_around : {T : ℕ → Bool} {u : List ℕ} (d : ℕ) → IsCell d → LiesIn T (around d) → IsWatched T u d
+watched_around d g inside =
     let up : level_of d - 1 ≤ level_of d = omega arith in
     let p : IsCell (around d) = IsCell-parent_of d (level_of d - 1) (around d) g up refl in
     let level = parent_level d (level_of d - 1) g up in
     let most = shallow d g in
-    ⊎_elim
-    (λ (e : w ≡ d). subst (IsWatched T u) e a)
-    (λ (b : Within (around d) w). record {
+    record {
       cell = g;
-      own = λ x h. a.own x (inside_from_within d w v x h);
-      siblings = λ i l h x c. a.own x (inside_from_within (around d) w b x
-          (inside_from_within (child_of (around d) i) (around d)
-          (child_within (around d) i p (omega (arith, level, most)) l) x c));
-    })
+      own = λ x v. inside x (inside_from_within d (around d) (parent_around d (level_of d - 1) g up) x v);
+      siblings = λ i l h x v. inside x (inside_from_within (child_of (around d) i) (around d)
+          (child_within (around d) i p (omega (arith, level, most)) l) x v);
+    }
+
+-- what is said of a cell holds of the cells in it
+watched_in : {T : ℕ → Bool} {u : List ℕ} (d w : ℕ) → IsCell d → Within d w → IsWatched T u w → IsWatched T u d
+watched_in {T} {u} d w g v a = ⊎_elim
+    (λ (e : w ≡ d). subst (IsWatched T u) e a)
+    (λ (b : Within (around d) w). watched_around d g (λ x h. a.own x (inside_from_within (around d) w b x h)))
     (in_holder d w g a.cell v)
 
 -- if the cells of a union are watched, so are those that lie in its leaves

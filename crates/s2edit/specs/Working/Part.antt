@@ -16,15 +16,15 @@ pub record HoldsNamed (S : ℕ → Bool) (d : Diff) : Type 0 where
   pub out : (c : ℕ) → has d.out c ≡ true → IsCell c × LiesIn S c
   pub put : (c : ℕ) → has d.put c ≡ true → IsCell c × LiesIn S c
 
--- the set has all leaves of each sibling of the cell `c` that is in the list
-abbrev pub HasSiblings : (ℕ → Bool) → List ℕ → ℕ → Type 0
-HasSiblings S u c = (i : ℕ) → i < 4 → has u (child_of (around c) i) ≡ true → LiesIn S (child_of (around c) i)
+-- the set has all leaves of each child of the cell `p` that is in the list
+abbrev pub HasChildren : (ℕ → Bool) → List ℕ → ℕ → Type 0
+HasChildren S u p = (i : ℕ) → i < 4 → has u (child_of p i) ≡ true → LiesIn S (child_of p i)
 
 -- the set has all leaves of the cell, and of its siblings in the list
 pub record IsWatched (S : ℕ → Bool) (u : List ℕ) (c : ℕ) : Type 0 where
   pub cell : IsCell c
   pub own : LiesIn S c
-  pub siblings : HasSiblings S u c
+  pub siblings : HasChildren S u (around c)
 
 -- the same for each cell that a change names
 pub record IsDiffWatched (S : ℕ → Bool) (u : List ℕ) (d : Diff) : Type 0 where

@@ -1,13 +1,13 @@
 //! The part of a register's list that changes can concern.
 ghost use Rattle.std.specs.Prelude.{◌≡◌, ◌≤◌, ◌<◌, ℕ, true, length, map, IfOk, OnOk};
 ghost use Rattle.std.specs.List.{AllByRecursion};
-ghost use Rattle.s2cell.specs.Cell.{IsCell, level_of, first_leaf};
+ghost use Rattle.s2cell.specs.Cell.{level_of, first_leaf};
 ghost use Rattle.s2list.specs.Union.{has_leaf, IsLocal, IsWithin, LiesIn};
 ghost use Rattle.s2list.specs.Packed.{FirstEndBy};
 ghost use Rattle.s2union.specs.Apply.{has};
 ghost use Rattle.s2file.specs.Session.{diff_of, IsMove};
 ghost use Rattle.s2edit.specs.Working.InTurn.{of_register};
-ghost use Rattle.s2edit.specs.Working.Part.{around, IsPartFor, IsWatched, HoldsNamed, HasSiblings};
+ghost use Rattle.s2edit.specs.Working.Part.{around, IsPartFor, IsWatched, HoldsNamed, HasChildren};
 
 use s2cell::CellId;
 use s2file::Move;
@@ -15,8 +15,12 @@ use s2list::{CellList, find_from, first_place};
 use s2union::{CellUnion, normalise};
 use std::alloc::{AllocError, Global};
 
+/// If the list has up to this number of cells in the parent of a named cell, the parent is watched, and no sibling is
+/// looked for.
+const FEW_BESIDE: usize = 4;
+
 /// The cells of a union on which it depends whether changes of the register can be made: those that share a leaf with
-/// the cells that the changes name, and the siblings of these.
+/// the cells that the changes name, and the siblings of these; maybe with a few others in the parents of these.
 ///
 /// That no cell of the union is cut is tested and not proved. If one ever were, the part would be the whole union.
 pub(crate) fn part_of(
@@ -77,28 +81,58 @@ fn watch(watched: &mut Vec<CellId>, union: &CellUnion, cells: &[CellId]) -> Resu
 {
     let mut at = 0;
     for cell in cells {
-        watched.push(*cell)?;
-        at = watch_siblings(watched, union.cells(), at, *cell)?;
+        at = watch_beside(watched, union.cells(), at, *cell)?;
     }
     Ok(())
 }
 
-/// Appends the siblings of a cell that a list has, or the larger cell of the list in which they lie. The search begins
-/// at the index `near` if the cells before it lie before the siblings. Answers where it ended.
-fn watch_siblings(
+/// Appends a cell and its siblings that a list has, or the parent if the list has few cells in it. The search begins at
+/// the index `near` if the cells before it lie before the parent. Answers where it ended.
+fn watch_beside(
     watched: &mut Vec<CellId>,
     list: &[CellId],
     near: usize,
     cell: CellId,
 ) -> Result<usize, AllocError>
     requires { IsLocal list.now }
-    ensures cell { IsCell cell }
     ensures kept { OnOk result (IsWithin (has_leaf watched.old.items) (has_leaf watched.new.items)) }
-    ensures siblings { OnOk result (HasSiblings (has_leaf watched.new.items) list.now cell) }
+    ensures watched { OnOk result (IsWatched (has_leaf watched.new.items) list.now cell) }
 {
     let _ = cell.id();
     let parent = around(cell);
-    let mut at = first_place(&CellList { cells: list }, near, parent.first_leaf());
+    let from = first_place(&CellList { cells: list }, near, parent.first_leaf());
+    let at = watch_holder(watched, list, from, parent)?;
+    if has_few(list, at, parent) {
+        watched.push(parent)?;
+        return Ok(at);
+    }
+    watched.push(cell)?;
+    let end = watch_children(watched, list, at, parent)?;
+    Ok(end)
+}
+
+/// Whether a list has few cells in a parent. If it has any, the first is at the index `at`.
+fn has_few(list: &[CellId], at: usize, parent: CellId) -> bool {
+    list.len().saturating_sub(at) <= FEW_BESIDE || !parent.contains(list[at + FEW_BESIDE])
+}
+
+/// Appends the children of a cell that a list has, or the larger cell of the list in which they lie. The search begins
+/// at an index, and the answer is where it ended.
+fn watch_children(
+    watched: &mut Vec<CellId>,
+    list: &[CellId],
+    from: usize,
+    parent: CellId,
+) -> Result<usize, AllocError>
+    requires local { IsLocal list.now }
+    requires level { level_of parent < 30 }
+    requires within { from ≤ length list.now }
+    requires ended { FirstEndBy list.now from (first_leaf parent) }
+    ensures kept { OnOk result (IsWithin (has_leaf watched.old.items) (has_leaf watched.new.items)) }
+    ensures children { OnOk result (HasChildren (has_leaf watched.new.items) list.now parent) }
+{
+    let _ = parent.id();
+    let mut at = from;
     for k in 0..4 {
         at = watch_holder(watched, list, at, parent.child(k))?;
     }
