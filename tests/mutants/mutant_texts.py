@@ -100,10 +100,11 @@ def name_at(path, block, name):
 
 def owner(block):
     """What a check prints of an impl or a trait, in one word: the type, then the trait of an impl, and then what the
-    trait is given, unless that is a parameter of the impl."""
+    trait is given, unless that is a parameter of the impl; for a type that is one it prints 'Any'."""
     parameters, trait, argument, kind = block.groups()
+    of_impl = re.findall(r"\w+", parameters or "")
     given = re.match(r"\w*", argument or "")[0]
-    return kind + (trait or "") + ("" if given in re.findall(r"\w+", parameters or "") else given)
+    return ("Any" if kind in of_impl else kind) + (trait or "") + ("" if given in of_impl else given)
 
 
 def places_of_lines(text):
