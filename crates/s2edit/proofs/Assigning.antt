@@ -86,9 +86,6 @@ module _ (limit depth : ℕ) (us us' : List Union) (past past' future' : List Di
     (a : AllWithin limit (lists_of us)) (f : FitAlong limit (lists_of us) (map inverse past))
     (l : r < length (lists_of us)) (w : IsLocalWithin limit v) (n : v ≢ list_at (lists_of us) r)
     (m : Changes depth us us' past past' future' r v) where
-  change_is : Diff
-  change_is = change_between r (list_at (lists_of us) r) v
-
   turned : map inverse past' ≡ take depth (inverse (change_between r (list_at (lists_of us) r) v) ∷ map inverse past)
   turned = ap (map inverse) m.onto ∙ sym (take-map inverse depth (change_between r (list_at (lists_of us) r) v ∷ past))
 

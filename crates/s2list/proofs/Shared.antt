@@ -190,23 +190,6 @@ sharing_done S xs ys list i j s h = walk_done s.walk h (λ x n. s.same x ∙ ap 
 
 -- ---- the steps of the loop, with what was read
 
--- the same of a cell that was read
-pub ended_up_to : (u : List ℕ) (i x lo : ℕ) →
-    IsLocal u → i < length u → x ≡ get_or u i x → first_leaf x + size_of x ≤ lo → FirstEndBy u (i + 1) lo
-ended_up_to u i x lo local h rx le =
-    let ex : get_or u i 0 ≡ x = read_at u i i x h refl rx in
-    let f = ap first_leaf ex in
-    let s = ap size_of ex in
-    ended_to u i lo (packed_from_local u local) h (omega arith)
-
--- and of one that lies in a cell
-pub ended_in : (ys : List ℕ) (j x y : ℕ) → IsLocal ys → j < length ys → y ≡ get_or ys j y → IsInside y x
-    → FirstEndBy ys (j + 1) (first_leaf x + size_of x)
-ended_in ys j x y ly g ry inside =
-    let ey : get_or ys j 0 ≡ y = read_at ys j j y g refl ry in
-    ended_up_to ys j y (first_leaf x + size_of x) ly g ry
-    (within_from_inside y x (rw ey at (ly.cells j 0 g)) inside).high
-
 -- a cell that held a run holds no more: the cell of ys that stands after the run begins after it
 pub run_over : {xs ys : List ℕ} (i j next x y : ℕ) → IsLocal xs → IsLocal ys → i < length xs → j < next → x ≡ get_or
     xs i x → y ≡ get_or ys j y → IsInside y x → (next < length ys → first_leaf x + size_of x < first_leaf (get_or ys

@@ -184,13 +184,6 @@ cells_in_is {c} t cc own deep =
 abbrev pub raised : ℕ → ℕ → ℕ → ℕ
 raised level least modulus = least + (level - least + (modulus - 1)) / modulus * modulus
 
-raised_none : (least modulus : ℕ) → 0 < modulus → modulus ≤ 3 → least ≡ raised 0 least modulus
-raised_none least zero some fits = absurd (omega arith)
-raised_none least (suc zero) some fits = omega arith
-raised_none least (suc (suc zero)) some fits = omega arith
-raised_none least (suc (suc (suc zero))) some fits = omega arith
-raised_none least (suc (suc (suc (suc m)))) some fits = absurd (omega arith)
-
 -- from one level to the next it stays, or is raised by the modulus
 raised_more : (level least modulus cut later : ℕ) → 0 < modulus → modulus ≤ 3 → cut ≡ raised (level - 1) least modulus →
     (cut < level → later ≡ cut + modulus) → (level ≤ cut → later ≡ cut) → later ≡ raised level least modulus
@@ -208,11 +201,6 @@ pub record CutBelow (level least modulus cut : ℕ) (levels : List ℕ) : Type 0
   pub size : length levels ≡ 31
   pub last : cut ≡ raised (level - 1) least modulus
   pub each : (k : ℕ) → k < level → get_or levels k 0 ≡ cut_level k least modulus
-
-pub cut_below_none : (least modulus : ℕ) (levels : List ℕ) → 0 < modulus → modulus ≤ 3 → length levels ≡ 31 →
-    CutBelow 0 least modulus least levels
-cut_below_none least modulus levels some fits size =
-    record { size = size; last = raised_none least modulus some fits; each = λ k h. absurd (omega arith) }
 
 pub cut_below_more : {level least modulus cut : ℕ} {levels : List ℕ} (later entry : ℕ) → level < 31 → 0 < modulus →
     modulus ≤ 3 → CutBelow level least modulus cut levels → (cut < level → later ≡ cut + modulus) →
