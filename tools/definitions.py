@@ -446,9 +446,10 @@ class House:
         """What an impl shows: the public methods of an exported type, and all of a trait that both sides know."""
         head = re.sub(r"^(?:unsafe )?impl\s*(<(?:[^<>]|<[^<>]*>)*>)?\s*", "", piece.head)
         trait, _, subject = head.rpartition(" for ")
-        name = re.search(r"(?:\w+::)*([A-Z]\w*)", subject)[1]
-        is_parameter = name not in source.types and name not in source.rust
-        if not is_parameter and not self.is_exported(source.crate, name, self.module_of(source.crate, name) or module):
+        named = re.search(r"(?:\w+::)*([A-Z]\w*)", subject)
+        name = named and named[1]
+        is_ours = name in source.types or name in source.rust
+        if is_ours and not self.is_exported(source.crate, name, self.module_of(source.crate, name) or module):
             return []
         if not trait:
             return [use for inner in piece.inner if inner.kind == "fn" and inner.public

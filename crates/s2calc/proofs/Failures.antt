@@ -110,11 +110,12 @@ count_no_state name a c refusal x (inl (inr (inl l))) e =
     rises a c x (ap is_failure e ∙ ap is_of_shelf l.0) (get_fails_for_device a.files c.files name l.1).1
 count_no_state name a c refusal x (inl (inr (inr l))) e =
     stays a c x (ap is_failure e ∙ ap is_of_shelf l.0) (get_fails_for_memory a.files c.files name l.1).1
-count_no_state name a c refusal x (inr (bytes, fetched, l)) e =
-    stays a c x (ap is_failure e ∙ ap is_of_shelf l.1 ∙ not_of_shelf l.0) fetched.asks.same.1
+count_no_state name a c refusal x (inr (bytes, found, refuses)) e =
+    let l = refuses bytes found.allows in
+    stays a c x (ap is_failure e ∙ ap is_of_shelf l.1 ∙ not_of_shelf l.0) found.asks.same.1
 
 count_restore : (name : List ℕ) (a c : World) (x : Reply) → Restores name a x c → IsCounted a c x
-count_restore name a c x (inl l) = stays a c x (ap is_failure l.3) l.1.asks.same.1
+count_restore name a c x (inl l) = stays a c x (ap is_failure l.3) l.1.same.1
 count_restore name a c x (inr l) = count_no_state name a c l.0 x l.1 l.2
 
 count_act : (command : Command) (a c : World) (x : Reply) → Acts command a x c → IsCounted a c x

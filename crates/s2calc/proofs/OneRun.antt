@@ -247,11 +247,11 @@ one_dump name a b c d x y s t l m p q =
 one_restored : (name : List ℕ) (a b c d : World) (x y : Reply) → SameWorld a b → TellSame a.files b.files →
     Restores name a x c → Restores name b y d → IsPlain x → IsPlain y → (x ≡ y) × SameWorld c d
 one_restored name a b c d x y s t (inl l) (inl m) p q =
-    let bytes : m.0 ≡ l.0 = sym (same_bytes a.files b.files c.files d.files name l.0 m.0 t l.1.asks m.1.asks) in
+    let bytes : m.0 ≡ l.0 = sym (same_bytes a.files b.files c.files d.files name l.0 m.0 t l.1 m.1) in
     let other : Restored (Stored l.0) a.state d.state = subst (λ (st : History (List ℕ)). Restored (Stored l.0) st
     d.state) (sym s.state) (subst (λ (xs : List ℕ). Restored (Stored xs) b.state d.state) bytes m.2) in
     let state = one_taken l.0 a.state c.state d.state l.2 other in
-    (l.3 ∙ sym m.3, files_kept a b c d s t.one state l.1.asks.same m.1.asks.same)
+    (l.3 ∙ sym m.3, files_kept a b c d s t.one state l.1.same m.1.same)
 one_restored name a b c d x y s t (inl l) (inr m) p q =
     let fails : FetchesNoState name b.files a.state m.0 d.files =
     subst (λ (st : History (List ℕ)). FetchesNoState name b.files st m.0 d.files) (sym s.state) m.1 in
@@ -333,7 +333,7 @@ still_writes P name a c x (inr (inl l)) = l.2.tells
 still_writes P name a c x (inr (inr l)) = l.2.0.0.tells
 
 still_restores : (name : List ℕ) (a c : World) (x : Reply) → Restores name a x c → c.files.tells ≡ a.files.tells
-still_restores name a c x (inl l) = l.1.asks.same.0.tells
+still_restores name a c x (inl l) = l.1.same.0.tells
 still_restores name a c x (inr l) = failure_tells a.files c.files name a.state l.0 l.1
 
 still_acts : (command : Command) (a c : World) (x : Reply) → Acts command a x c → c.files.tells ≡ a.files.tells
@@ -383,7 +383,7 @@ is_restored : (name bytes : List ℕ) (c d : World) (state : History (List ℕ))
     c.files.at name ≡ Some bytes → Restored (Stored bytes) c.state state
     → Restores name c y d → IsPlain y → (y ≡ Says done_line) × (d.state ≡ state)
 is_restored name bytes c d state y t there f (inl l) p =
-    let same : l.0 ≡ bytes = same_Some l.0 bytes (l.1.asks.holds t ∙ there) in (
+    let same : l.0 ≡ bytes = same_Some l.0 bytes (l.1.holds t ∙ there) in (
       l.3,
       one_taken bytes c.state d.state state (subst (λ (xs : List ℕ). Restored (Stored xs) c.state d.state) same l.2) f,
     )
@@ -396,7 +396,7 @@ is_restored name bytes c d state y t there f (inr (refusal, inl (inr (inr l)), t
 is_restored name bytes c d state y t there f (inr (refusal, inr l, told, kept)) p =
     let same : l.0 ≡ bytes = same_Some l.0 bytes (l.1.asks.holds t ∙ there) in
     absurd (taken_or_refused bytes c.state state refusal f
-    (subst (λ (xs : List ℕ). RefusesBytes xs c.state refusal) same l.2) (settled refusal y told p))
+    (subst (λ (xs : List ℕ). RefusesBytes xs c.state refusal) same (l.2 l.0 l.1.allows)) (settled refusal y told p))
 
 pub gives_back : (a b c d : World) (line other name : List ℕ) (x y : Reply) → line_of line ≡ Does (Dump name) →
     line_of other ≡ Does (Restore name) → IsKept a.state

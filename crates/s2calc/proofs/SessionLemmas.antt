@@ -1,65 +1,29 @@
 -- The bytes of a state, and what comes of them.
-use Rattle.std.proofs.Common.{◌≡◌, ◌≢◌, ℕ, inl, inr, List, [], Option, None, Some, refl}
-use Rattle.std.proofs.Common.{Result, Ok, Err, sym, ap, ◌∙◌, subst, arith}
-use Rattle.std.specs.Prelude.{IfOk, IfSome, MatchResult}
+use Rattle.std.proofs.Common.{◌≡◌, ◌≢◌, ℕ, inl, inr, true, List, Option, Some, refl}
+use Rattle.std.proofs.Common.{Result, Ok, Err, sym, ap, ◌∙◌, subst}
+use Rattle.std.proofs.lemmas.Option.{same_Some}
+use Rattle.std.specs.Prelude.{IfOk, OnOk, MatchResult}
 use Rattle.s2file.specs.declared.session.Session.{Session as FileSession}
 use Rattle.s2file.specs.declared.session.ReadFault.{ReadFault}
 use Rattle.s2file.specs.declared.session.ReadFault.TheVariants.{Form, Device as NotRead, Memory as NotHeld}
 use Rattle.s2file.specs.Reading.{RefusesToRead}
-use Rattle.s2file.specs.Session.{Content, IsContent, Spells, session_text, content_of}
+use Rattle.s2file.specs.Session.{IsContent, Spells, content_of}
 use Rattle.s2edit.specs.History.{History}
 use Rattle.s2edit.specs.Session.{Stored, Restored}
-use Rattle.s2edit.specs.declared.session.RestoreFault.TheVariants.{Fit}
+use Rattle.s2edit.specs.declared.session.RestoreFault.TheVariants.{Fit, Memory as NoRoom}
 use Rattle.s2edit.proofs.Spelling.{one_history, fits_editor, one_fault}
-use Rattle.s2shelf.specs.Shelf.{Files, SameFiles, SameShelf, MayFind, Opens, Fails}
-use Rattle.s2shelf.specs.declared.shelf.ShelfFault.TheVariants.{Device, Memory as NoRoom}
-use Rattle.s2shelf.proofs.Opened.{opened_fails, opened_closes, get_fails_for_device, get_fails_for_memory}
+use Rattle.s2shelf.specs.OpenedFile.{given, has_ended}
+use Rattle.s2shelf.specs.Shelf.{Files, SameFiles, Holding, Finds, Opens, Closes, Fails}
+use Rattle.s2shelf.specs.declared.opened_file.OpenedFile.{OpenedFile}
+use Rattle.s2shelf.specs.declared.shelf.ShelfFault.TheVariants.{Device, Memory as NotEnough}
+use Rattle.s2shelf.proofs.Opened.{ReadsOf, found_whole, found_some, get_fails_for_device, get_fails_for_memory}
 use Rattle.s2calc.specs.declared.refusal.Refusal.{Refusal}
 use Rattle.s2calc.specs.declared.refusal.Refusal.TheVariants.{File as NoFile, Memory, Session}
 use Rattle.s2calc.specs.Working.Sessions.{ReadAs}
 use Rattle.s2calc.specs.Sessions.{refusal_of, RefusesBytes, FetchesNoState}
 use Rattle.s2calc.proofs.FetchLemmas.{TellSame, IsSettled, turned, same_bytes, bytes_or_none, same_fetch_refusal}
 
--- ---- a session that is read from an opened file, of which reads will give the bytes `ahead`, if these are known, and
--- which is closed afterwards
-
--- no bytes spell no session
-nothing_spelled : (s : Content) → Spells [] s → ⊥
-nothing_spelled s (inl f) = let text = f.text in cc
-nothing_spelled s (inr f) = absurd (omega (arith, f.file.is.version))
-
--- a session that was read is that of a file that was found
-pub session_found : (old opened new : Files) (name : List ℕ) (ahead : Option (List ℕ)) (s : Content) →
-    Opens old name (Some ahead) opened → SameShelf opened new → IsContent s → IfSome ahead (λ bytes. Spells bytes s)
-    → (bytes : List ℕ) × MayFind old name (Some bytes) new × Spells bytes s
-session_found old opened new name None s opens same is spells = (
-  session_text s,
-  opened_closes old opened new name None (session_text s) opens tt same,
-  inl (record { content = is; text = refl }),
-)
-session_found old opened new name (Some bytes) s opens same is spells =
-    (bytes, opened_closes old opened new name (Some bytes) bytes opens refl same, spells)
-
--- no session was read, since the bytes spell none
-pub none_found : (old opened new : Files) (name : List ℕ) (ahead : Option (List ℕ)) (state : History (List ℕ)) →
-    Opens old name (Some ahead) opened → SameShelf opened new
-    → IfSome ahead (λ bytes. (s : Content) → Spells bytes s → ⊥) → FetchesNoState name old state Session new
-none_found old opened new name None state opens same none = inr (
-  [],
-  opened_closes old opened new name None [] opens tt same,
-  (Fit, refl, λ h stored. nothing_spelled stored.content stored.spells),
-)
-none_found old opened new name (Some bytes) state opens same none = inr (
-  bytes,
-  opened_closes old opened new name (Some bytes) bytes opens refl same,
-  (Fit, refl, λ h stored. none stored.content stored.spells),
-)
-
--- no session was read, since there was no memory
-pub none_for_memory : (old opened new : Files) (name : List ℕ) (ahead : Option (List ℕ)) (state : History (List ℕ)) →
-    Opens old name (Some ahead) opened → SameShelf opened new → FetchesNoState name old state Memory new
-none_for_memory old opened new name ahead state opens same =
-    inl (inr (inr (refl, opened_fails old opened new name ahead NoRoom opens same)))
+-- ---- a session that is read from an opened file, which is closed afterwards
 
 -- the session that was read is one that a file may hold
 pub kept_content : (read : Result FileSession ReadFault) (result : Result FileSession Refusal) → ReadAs read result →
@@ -76,39 +40,66 @@ kept_content (Err NotHeld) result is content =
 -- what was read of a file that was opened and closed
 abbrev HasRead : Files → Files → List ℕ → Result FileSession Refusal → Type 0
 HasRead old new name result = MatchResult result
-    (λ session. (bytes : List ℕ) × MayFind old name (Some bytes) new × Spells bytes (content_of session))
+    (λ session. (bytes : List ℕ) × Finds old name (Some bytes) new × Spells bytes (content_of session))
     (λ refusal. (state : History (List ℕ)) → FetchesNoState name old state refusal new)
 
-pub read_and_closed : (read : Result FileSession ReadFault) (result : Result FileSession Refusal)
-    (old opened new : Files) (name : List ℕ) (ahead : Option (List ℕ)) → ReadAs read result →
-    Opens old name (Some ahead) opened → SameShelf opened new → IfOk read (λ session. IsContent (content_of session))
-    → MatchResult read (λ session. IfSome ahead (λ bytes. Spells bytes (content_of session)))
-    (λ fault. RefusesToRead fault ahead)
-    → HasRead old new name result
-read_and_closed (Ok session) result old opened new name ahead is opens same content spells =
-    subst (HasRead old new name) (sym is)
-    (session_found old opened new name ahead (content_of session) opens same content spells)
-read_and_closed (Err Form) result old opened new name ahead is opens same content none =
-    subst (HasRead old new name) (sym is) (λ state. none_found old opened new name ahead state opens same none)
-read_and_closed (Err NotRead) result old opened new name ahead is opens same content none =
-    subst (HasRead old new name) (sym is) (λ state. none_for_memory old opened new name ahead state opens same)
-read_and_closed (Err NotHeld) result old opened new name ahead is opens same content none =
-    subst (HasRead old new name) (sym is) (λ state. none_for_memory old opened new name ahead state opens same)
+module _ {F : Type 0} (remaining : F → Option (List ℕ)) (old opened new : Files) (name : List ℕ)
+    (start end : OpenedFile F) (opens : Opens remaining old name (Some start) opened) (closes : Closes opened end new)
+  where
+    -- no state is taken over, since whatever bytes the file has are refused
+    refused : (P : List ℕ → Type 0) (state : History (List ℕ)) (refusal : Refusal) →
+        ReadsOf remaining old opened new name start end opens closes P
+        → ((bytes : List ℕ) → P bytes → RefusesBytes bytes state refusal) → FetchesNoState name old state refusal new
+    refused P state refusal reads refuses =
+        let (bytes, found, all) = found_some remaining old opened new name start end opens closes P reads in
+        inr (bytes, found, λ b allows. refuses b (all b allows))
 
--- no session was read, since the device failed
-pub none_for_device : (old opened new : Files) (name : List ℕ) (ahead : Option (List ℕ)) (state : History (List ℕ)) →
-    Opens old name (Some ahead) opened → Fails opened new Device → FetchesNoState name old state NoFile new
-none_for_device old opened new name ahead state opens fails =
-    inl (inr (inl (refl, opened_fails old opened new name ahead Device opens fails)))
+    pub read_and_closed : (read : Result FileSession ReadFault) (result : Result FileSession Refusal) →
+        ReadAs read result → OnOk read (has_ended end ≡ true)
+        → ReadsOf remaining old opened new name start end opens closes
+        (λ bytes. MatchResult read (λ session. Spells bytes (content_of session)) (λ fault. RefusesToRead fault bytes))
+        → HasRead old new name result
+    read_and_closed (Ok session) result is ended reads =
+        let (found, spells) = found_whole remaining old opened new name start end opens closes
+        (λ bytes. Spells bytes (content_of session)) ended reads in
+        subst (HasRead old new name) (sym is) (given end, found, spells)
+    read_and_closed (Err Form) result is ended reads =
+        subst (HasRead old new name) (sym is) (λ state. refused (λ bytes. RefusesToRead Form bytes) state Session reads
+        (λ bytes none. (Fit, refl, λ h stored. none stored.content stored.spells)))
+    read_and_closed (Err NotRead) result is ended reads =
+        subst (HasRead old new name) (sym is)
+        (λ state. refused (λ bytes. Unit {0}) state Memory reads (λ bytes _. (NoRoom, refl, tt)))
+    read_and_closed (Err NotHeld) result is ended reads =
+        subst (HasRead old new name) (sym is)
+        (λ state. refused (λ bytes. Unit {0}) state Memory reads (λ bytes _. (NoRoom, refl, tt)))
+
+-- no session was read, since the file could not be closed
+pub none_closed : (old new : Files) (name : List ℕ) (state : History (List ℕ)) → Fails old new Device →
+    FetchesNoState name old state NoFile new
+none_closed old new name state fails = inl (inr (inl (refl, inl fails)))
+
+pub none_closed_for_memory : (old new : Files) (name : List ℕ) (state : History (List ℕ)) →
+    Fails old new NotEnough → FetchesNoState name old state Memory new
+none_closed_for_memory old new name state fails = inl (inr (inr (refl, inl fails)))
+
+-- bytes that were found are refused
+found_no_state : (a c : Files) (name bytes : List ℕ) (old : History (List ℕ)) (refusal : Refusal) →
+    Finds a name (Some bytes) c → RefusesBytes bytes old refusal → FetchesNoState name a old refusal c
+found_no_state a c name bytes old refusal finds refuses = inr (
+  bytes,
+  record { finding = Holding bytes; allows = refl; asks = finds },
+  λ all allows. subst (λ b. RefusesBytes b old refusal) (sym (same_Some all bytes allows)) refuses,
+)
 
 -- the session of bytes that were found is taken over, or the bytes are refused
 pub found_and_taken : {T : Type 0} (r : Result T Refusal) (a c : Files) (name bytes : List ℕ)
-    (old new : History (List ℕ)) → MayFind a name (Some bytes) c
+    (old new : History (List ℕ)) → Finds a name (Some bytes) c
     → MatchResult r (λ _. Restored (Stored bytes) old new) (λ refusal. RefusesBytes bytes old refusal)
-    → MatchResult r (λ _. (xs : List ℕ) × MayFind a name (Some xs) c × Restored (Stored xs) old new)
+    → MatchResult r (λ _. (xs : List ℕ) × Finds a name (Some xs) c × Restored (Stored xs) old new)
     (λ refusal. FetchesNoState name a old refusal c)
-found_and_taken (Ok done) a c name bytes old new fetched taken = (bytes, fetched, taken)
-found_and_taken (Err refusal) a c name bytes old new fetched refuses = inr (bytes, fetched, refuses)
+found_and_taken (Ok done) a c name bytes old new found taken = (bytes, found, taken)
+found_and_taken (Err refusal) a c name bytes old new found refuses =
+    found_no_state a c name bytes old refusal found refuses
 
 -- ---- bytes stand for one history
 
@@ -132,12 +123,12 @@ one_refusal bytes old x y (a, is, f) (b, are, g) p q =
 
 -- a file that one shelf has, and whose bytes are taken over, is so over the other
 pub fetched_or_not : (a b c d : Files) (name bytes : List ℕ) (old new : History (List ℕ)) (y : Refusal) →
-    TellSame a b → MayFind a name (Some bytes) c → Restored (Stored bytes) old new
+    TellSame a b → Finds a name (Some bytes) c → Restored (Stored bytes) old new
     → FetchesNoState name b old y d → IsSettled y → ⊥
-fetched_or_not a b c d name bytes old new y s f t (inl g) q = bytes_or_none a b c d name bytes y s f.asks g q
+fetched_or_not a b c d name bytes old new y s f t (inl g) q = bytes_or_none a b c d name bytes y s f g q
 fetched_or_not a b c d name bytes old new y s f t (inr g) q =
     taken_or_refused bytes old new y t (subst (λ (xs : List ℕ). RefusesBytes xs old y)
-    (sym (same_bytes a b c d name bytes g.0 s f.asks g.1.asks)) g.2) q
+    (sym (same_bytes a b c d name bytes g.0 s f g.1.asks)) (g.2 g.0 g.1.allows)) q
 
 pub one_failure : (a b c d : Files) (name : List ℕ) (old : History (List ℕ)) (x y : Refusal) → TellSame a b →
     FetchesNoState name a old x c → FetchesNoState name b old y d
@@ -147,8 +138,8 @@ one_failure a b c d name old x y s (inl f) (inr g) p q =
     absurd (bytes_or_none b a d c name g.0 x (turned a b s) g.1.asks f p)
 one_failure a b c d name old x y s (inr f) (inl g) p q = absurd (bytes_or_none a b c d name f.0 y s f.1.asks g q)
 one_failure a b c d name old x y s (inr f) (inr g) p q =
-    one_refusal f.0 old x y f.2 (subst (λ (xs : List ℕ). RefusesBytes xs old y)
-    (sym (same_bytes a b c d name f.0 g.0 s f.1.asks g.1.asks)) g.2) p q
+    one_refusal f.0 old x y (f.2 f.0 f.1.allows) (subst (λ (xs : List ℕ). RefusesBytes xs old y)
+    (sym (same_bytes a b c d name f.0 g.0 s f.1.asks g.1.asks)) (g.2 g.0 g.1.allows)) p q
 
 -- the files stay, unless the shelf failed
 pub failure_keeps : (a c : Files) (name : List ℕ) (old : History (List ℕ)) (x : Refusal) →

@@ -5,7 +5,7 @@ use Rattle.s2edit.specs.Leads.{table_at}
 use Rattle.s2edit.specs.Session.{IsKept}
 use Rattle.s2file.specs.File.{Bytes, File, HasFault}
 use Rattle.s2file.specs.declared.fault.FileFault.{FileFault}
-use Rattle.s2shelf.specs.Shelf.{Finding, NoFile, Holding, Opened, Found}
+use Rattle.s2shelf.specs.Shelf.{Finding, NoFile, Holding, Beginning, Written, Found}
 use Rattle.s2script.specs.Line.{line_of}
 use Rattle.s2script.specs.declared.command.Command.{Command}
 use Rattle.s2script.specs.declared.command.Command.TheVariants.{Edit, Load, Save, Dump, Restore, Undo, Redo, Ask}
@@ -72,7 +72,8 @@ abbrev pub LoadsFinding : Finding → ℕ → World → Reply → World → Type
 LoadsFinding NoFile r old reply new = (reply ≡ Refuses Missing) × (new.state ≡ old.state)
 LoadsFinding (Holding bytes) r old reply new = ((S : ℕ → Bool) × File bytes S × Gets S r old.state reply new.state)
     ⊎ ((fault : FileFault) × HasFault bytes fault × (reply ≡ Refuses Format) × (new.state ≡ old.state))
-LoadsFinding Opened r old reply new = ⊥
+LoadsFinding (Beginning bytes) r old reply new = ⊥
+LoadsFinding (Written bytes) r old reply new = ⊥
 
 -- A line that loads a file, over a shelf that lists what was found, finds one thing more, under the name that the line
 -- says, and does what it does by that alone, unless it is answered `error memory` or `error file`.

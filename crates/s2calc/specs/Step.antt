@@ -1,6 +1,6 @@
 -- What a line may do.
 use Rattle.std.specs.Prelude.{◌≡◌, ℕ, ◌⊎◌, Bool, true, false, List, Some, Ok, Err}
-use Rattle.s2shelf.specs.Shelf.{SameShelf, MayFind, PutsFile, LosesFile}
+use Rattle.s2shelf.specs.Shelf.{SameShelf, Finds, PutsFile, LosesFile}
 use Rattle.s2file.specs.File.{Bytes}
 use Rattle.s2script.specs.declared.command.Command.{Command}
 use Rattle.s2script.specs.declared.command.Command.TheVariants.{Edit, Load, Save, Dump, Restore, Undo, Redo, Ask}
@@ -43,11 +43,10 @@ Saves r name old reply new = WritesFile (Bytes (leaves_of old.state.now r)) name
 abbrev pub Dumps : List ℕ → World → Reply → World → Type 0
 Dumps name old reply new = WritesFile (Text old.state) name old reply new
 
--- the file may hold bytes whose history becomes the state; or no history could be taken over, and the state stays as it
--- was
+-- the history of the file's bytes becomes the state; or no history could be taken over, and the state stays as it was
 abbrev pub Restores : List ℕ → World → Reply → World → Type 0
 Restores name old reply new =
-    ((bytes : List ℕ) × MayFind old.files name (Some bytes) new.files
+    ((bytes : List ℕ) × Finds old.files name (Some bytes) new.files
     × Restored (Stored bytes) old.state new.state × (reply ≡ Says done_line))
     ⊎ ((refusal : Refusal) × FetchesNoState name old.files old.state refusal new.files × (reply ≡ Refuses refusal)
     × (new.state ≡ old.state))

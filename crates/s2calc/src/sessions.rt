@@ -2,7 +2,7 @@
 ghost use Rattle.std.specs.Prelude.{◌≡◌, List, ℕ, Some, Err, IfOk, OnErr, MatchResult};
 ghost use Rattle.s2file.specs.Session.{content_of, IsContent, Spells};
 ghost use Rattle.s2edit.specs.History.{History};
-ghost use Rattle.s2shelf.specs.Shelf.{MayFind, Opens};
+ghost use Rattle.s2shelf.specs.Shelf.{Finds, Opens};
 ghost use Rattle.s2calc.specs.Working.Answer.{reply_of};
 ghost use Rattle.s2calc.specs.Working.Sessions.{ReadAs};
 ghost use Rattle.s2calc.specs.Fetch.{Fetches};
@@ -16,7 +16,7 @@ use crate::refusal::Refusal;
 use s2edit::{Editor, RestoreFault};
 use s2file::{ReadFault, Session, read_session};
 use s2script::Name;
-use s2shelf::{Shelf, ShelfFault};
+use s2shelf::{OpenedFile, Shelf, ShelfFault};
 use std::alloc::Global;
 
 /// Writes the registers and both sides of their history to a file.
@@ -63,7 +63,7 @@ fn take_over_file<S: Shelf>(
     shelf: &mut S,
 ) -> Result<(), Refusal>
     ensures answer { MatchResult result
-        (λ _. (bytes : List ℕ) × MayFind (S.files shelf.old) name.now (Some bytes) (S.files shelf.new)
+        (λ _. (bytes : List ℕ) × Finds (S.files shelf.old) name.now (Some bytes) (S.files shelf.new)
         × Restored (Stored bytes) editor.old editor.new)
         (λ refusal. FetchesNoState name.now (S.files shelf.old) editor.old refusal (S.files shelf.new)) }
     ensures err { OnErr result (editor.new ≡ editor.old) }
@@ -77,7 +77,7 @@ fn take_over_file<S: Shelf>(
 fn fetch_session<S: Shelf>(alloc: Global, shelf: &mut S, name: &str) -> Result<Session, Refusal>
     ensures content { IfOk result (λ session. IsContent (content_of session)) }
     ensures answer { MatchResult result
-        (λ session. (bytes : List ℕ) × MayFind (S.files shelf.old) name.now (Some bytes) (S.files shelf.new)
+        (λ session. (bytes : List ℕ) × Finds (S.files shelf.old) name.now (Some bytes) (S.files shelf.new)
         × Spells bytes (content_of session))
         (λ refusal. (state : History (List ℕ)) →
         FetchesNoState name.now (S.files shelf.old) state refusal (S.files shelf.new)) }
@@ -105,9 +105,9 @@ fn session_of(read: Result<Session, ReadFault>) -> Result<Session, Refusal>
 }
 
 /// The file under a name, opened for reading, or why there is none. Asks the shelf once.
-fn open_file<S: Shelf>(shelf: &mut S, name: &str) -> Result<S::Opened, Refusal>
+fn open_file<S: Shelf>(shelf: &mut S, name: &str) -> Result<OpenedFile<S::File>, Refusal>
     ensures { MatchResult result
-        (λ file. Opens (S.files shelf.old) name.now (Some (S.Opened.remaining file)) (S.files shelf.new))
+        (λ file. Opens S.File.remaining (S.files shelf.old) name.now (Some file) (S.files shelf.new))
         (λ refusal. Fetches name.now (S.files shelf.old) (Err refusal) (S.files shelf.new)) }
 {
     match shelf.open(name) {

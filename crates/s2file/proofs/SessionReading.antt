@@ -84,16 +84,16 @@ pub record SpellsSome (numbers cells rest : List ℕ) : Type 0 where
   pub is : numbers ≡ flat_map number_text cells ++ rest
   pub valid : All IsCell cells
 
+pub flat_map_end : {A : Type 0} (text : A → List ℕ) (xs : List A) (x : A) →
+    flat_map text xs ++ text x ≡ flat_map text (xs ++ x ∷ [])
+flat_map_end text xs x =
+    ap (λ (l : List ℕ). flat_map text xs ++ l) (sym (append-nil (text x))) ∙ sym (flat_map-append text xs (x ∷ []))
+
 pub row_more : {A : Type 0} (text : A → List ℕ) (xs : List A) (x : A) (bytes mid rest : List ℕ) →
     bytes ≡ flat_map text xs ++ mid → mid ≡ text x ++ rest → bytes ≡ flat_map text (xs ++ x ∷ []) ++ rest
 row_more text xs x bytes mid rest e f =
     e ∙ ap (λ (l : List ℕ). flat_map text xs ++ l) f ∙ sym (append_assoc (flat_map text xs) (text x) rest)
     ∙ ap (λ (l : List ℕ). l ++ rest) (flat_map_end text xs x)
-  where
-    flat_map_end : {A : Type 0} (text : A → List ℕ) (xs : List A) (x : A) →
-        flat_map text xs ++ text x ≡ flat_map text (xs ++ x ∷ [])
-    flat_map_end text xs x =
-        ap (λ (l : List ℕ). flat_map text xs ++ l) (sym (append-nil (text x))) ∙ sym (flat_map-append text xs (x ∷ []))
 
 pub spells_more : {numbers cells rest : List ℕ} (chunk more : List ℕ) {n : ℕ} →
     SpellsSome numbers cells rest → rest ≡ chunk ++ more → length chunk ≡ 8 →

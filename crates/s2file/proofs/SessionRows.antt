@@ -18,6 +18,10 @@ module _ (bytes lists : List ℕ) (r : ℕ) (e : bytes ≡ r ∷ lists) where
       × (lists ≡ list_text m.out ++ (list_text m.put ++ rest))
   parts_after m rest g = after_byte _ _ _ _ (sym e ∙ move_front bytes m rest g.is)
 
+  pub move_without_out : BeginsNone list_text AreCells lists → BeginsNone move_text IsMove bytes
+  move_without_out none m rest g =
+      none m.out (list_text m.put ++ rest) (record { is = (parts_after m rest g).1; ok = g.ok.out })
+
   module _ (out after : List ℕ) (o : Begins list_text AreCells lists out after) where
     pub move_without_put : BeginsNone list_text AreCells after → BeginsNone move_text IsMove bytes
     move_without_put none m rest g =
@@ -79,6 +83,9 @@ module _ (bytes parts : List ℕ) (e : bytes ≡ 0x73 ∷ 1 ∷ parts) where
   whole : (s : Content) → IsSessionFile bytes s →
       Parts parts s (moves_text s.past ++ moves_text s.future) (moves_text s.future) []
   whole s f = parts_of parts f.content (after_two 0x73 1 0x73 1 parts (parts_text s) (sym e ∙ f.text))
+
+  pub file_without_registers : BeginsNone registers_text AreRegisters parts → (s : Content) → IsSessionFile bytes s → ⊥
+  file_without_registers none s f = none s.registers (moves_text s.past ++ moves_text s.future) (whole s f).registers
 
   module _ (registers : List (List ℕ)) (after : List ℕ)
       (r : Begins registers_text AreRegisters parts registers after) where

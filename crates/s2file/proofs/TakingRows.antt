@@ -1,91 +1,111 @@
 -- Registers and changes while they are taken.
-use Rattle.std.proofs.Common.{ℕ, ◌<◌, ◌≤◌, List, [], ◌∷◌, ◌++◌, length, Option, flat_map, refl, sym}
+use Rattle.std.proofs.Common.{ℕ, ◌<◌, ◌≤◌, List, [], ◌∷◌, ◌++◌, length, flat_map, refl, sym}
 use Rattle.std.proofs.Common.{subst, arith, append_assoc}
-use Rattle.std.proofs.KnownBytes.{Consumes-trans}
-use Rattle.std.specs.Io.KnownBytes.{Consumes}
+use Rattle.std.proofs.lemmas.List.Elements.{All-from_recursion, All-push, recursion_from_All}
 use Rattle.std.specs.List.{AllByRecursion}
 use Rattle.s2list.specs.Union.{IsLocal}
+use Rattle.s2shelf.specs.OpenedFile.{Claim}
 use Rattle.s2file.specs.File.{number_text}
 use Rattle.s2file.specs.Session.{Diff, list_text, move_text, moves_text, AreCells, IsRegisterList, IsMove}
-use Rattle.s2file.specs.Working.SessionParts.{BeginsNone, Refuses, Takes, Lacks, IsByte, IsNumber, AreMoves}
+use Rattle.s2file.specs.Working.Source.{Passes}
+use Rattle.s2file.specs.Working.SessionParts.{Takes, Lacks, IsByte, IsNumber, AreMoves}
 use Rattle.s2file.specs.Working.SessionParts.{AreRegisters, IsRow, byte_text, registers_text, row_text}
 use Rattle.s2file.specs.declared.TheConstants.{SESSION_REGISTERS, SESSION_CHANGES}
 use Rattle.s2file.specs.declared.session.ReadFault.{ReadFault}
-use Rattle.s2file.proofs.SessionReading.{register_unmerged}
-use Rattle.s2file.proofs.SessionRows.{move_without_put, move_wrong, registers_none, row_none}
+use Rattle.s2file.specs.declared.session.ReadFault.TheVariants.{Form}
+use Rattle.s2file.proofs.Fronts.{register_cells, move_front, moves_count}
+use Rattle.s2file.proofs.SessionReading.{register_unmerged, flat_map_end}
+use Rattle.s2file.proofs.SessionRows.{move_without_out, move_without_put, move_wrong, registers_none, row_none}
 use Rattle.s2file.proofs.SessionRows.{moves_count_many, moves_none}
-use Rattle.s2file.proofs.Taking.{known_front, refuses_later}
+use Rattle.s2file.proofs.Taking.{joined, of_front, refuses_later, refuses_weaker}
 
 -- ---- the list of a register
 
-pub register_wrong : {old new : Option (List ℕ)} {cells : List ℕ} →
-    Takes list_text AreCells old cells new → (IsLocal cells → ⊥) → Lacks list_text IsRegisterList old
-register_wrong {old} {new} {cells} t wrong =
-    known_front old new (list_text cells) (λ bytes. BeginsNone list_text IsRegisterList bytes) t.is
-    (λ rest. register_unmerged (record { is = refl; ok = t.ok }) wrong)
+pub register_wrong : {old new : Claim → List ℕ → Type 0} {cells : List ℕ} →
+    Takes list_text AreCells old cells new → (IsLocal cells → ⊥) → Lacks list_text IsRegisterList Form old new
+register_wrong t wrong = of_front t.is (λ rest. register_unmerged (record { is = refl; ok = t.ok }) wrong)
+
+pub register_refused : (fault : ReadFault) {old new : Claim → List ℕ → Type 0} →
+    Lacks list_text AreCells fault old new →
+    Lacks list_text IsRegisterList fault old new
+register_refused fault = refuses_weaker fault _ _ (λ bytes none cells rest f.
+    none cells rest (record { is = f.is; ok = register_cells cells f.ok }))
 
 -- ---- rows
 
-pub registers_refused : (fault : ReadFault) {old mid : Option (List ℕ)} {xs : List (List ℕ)} →
-    Takes registers_text (AllByRecursion IsRegisterList) old xs mid → length xs < SESSION_REGISTERS →
-    Refuses fault (Lacks list_text IsRegisterList mid) → Refuses fault (Lacks registers_text AreRegisters old)
-registers_refused fault {old} {mid} {xs} t few h =
-    refuses_later fault old mid (registers_text xs) (λ rest. BeginsNone list_text IsRegisterList rest)
-    (λ bytes. BeginsNone registers_text AreRegisters bytes) t.is
-    (λ rest none. registers_none (record { is = refl; each = t.ok }) few none) h
+-- one more was taken
+pub one_more : {A : Type 0} {text : A → List ℕ} {IsOne : A → Type 0} {old mid new : Claim → List ℕ → Type 0}
+    {xs : List A} {x : A} → Takes (flat_map text) (AllByRecursion IsOne) old xs mid → Takes text IsOne mid x new →
+    Takes (flat_map text) (AllByRecursion IsOne) old (xs ++ x ∷ []) new
+one_more {A} {text} {IsOne} {old} {mid} {new} {xs} {x} t u = record {
+  is = subst (λ (bytes : List ℕ). Passes old new bytes) (flat_map_end text xs x) (joined t.is u.is);
+  ok = recursion_from_All IsOne (xs ++ x ∷ []) (All-push IsOne xs x (All-from_recursion IsOne xs t.ok) u.ok);
+}
 
-pub row_refused : (fault : ReadFault) {old mid : Option (List ℕ)} {xs : List Diff} (count : ℕ) →
-    Takes row_text (AllByRecursion IsMove) old xs mid →
-    length xs < count → Refuses fault (Lacks move_text IsMove mid) → Refuses fault (Lacks row_text (IsRow count) old)
-row_refused fault {old} {mid} {xs} count t few h =
-    refuses_later fault old mid (row_text xs) (λ rest. BeginsNone move_text IsMove rest)
-    (λ bytes. BeginsNone row_text (IsRow count) bytes) t.is
-    (λ rest none. row_none count (record { is = refl; each = t.ok }) few none) h
+module _ (fault : ReadFault) {old mid new : Claim → List ℕ → Type 0} where
+  pub registers_refused : {xs : List (List ℕ)} → Takes registers_text (AllByRecursion IsRegisterList) old xs mid →
+      length xs < SESSION_REGISTERS → Lacks list_text IsRegisterList fault mid new →
+      Lacks registers_text AreRegisters fault old new
+  registers_refused t few h =
+      refuses_later fault _ _ t.is (λ rest none. registers_none (record { is = refl; each = t.ok }) few none) h
+
+  pub row_refused : {xs : List Diff} (count : ℕ) → Takes row_text (AllByRecursion IsMove) old xs mid →
+      length xs < count → Lacks move_text IsMove fault mid new → Lacks row_text (IsRow count) fault old new
+  row_refused count t few h =
+      refuses_later fault _ _ t.is (λ rest none. row_none count (record { is = refl; each = t.ok }) few none) h
 
 -- ---- a change
 
-module _ (old mid : Option (List ℕ)) (r : ℕ) (b : Takes byte_text IsByte old r mid) where
-  module _ (more : Option (List ℕ)) (out : List ℕ) (o : Takes list_text AreCells mid out more) where
-    pub put_refused : (fault : ReadFault) → Refuses fault (Lacks list_text AreCells more) →
-        Refuses fault (Lacks move_text IsMove old)
+-- without a byte there is no change
+pub byte_refused : (fault : ReadFault) {old new : Claim → List ℕ → Type 0} → Lacks byte_text IsByte fault old new →
+    Lacks move_text IsMove fault old new
+byte_refused fault = refuses_weaker fault _ _ (λ bytes none m rest f.
+    none m.register (list_text m.out ++ (list_text m.put ++ rest))
+    (record { is = move_front bytes m rest f.is; ok = omega (arith, f.ok.register) }))
+
+module _ {old mid : Claim → List ℕ → Type 0} {r : ℕ} (b : Takes byte_text IsByte old r mid) where
+  pub out_refused : (fault : ReadFault) {new : Claim → List ℕ → Type 0} → Lacks list_text AreCells fault mid new →
+      Lacks move_text IsMove fault old new
+  out_refused fault = refuses_later fault _ _ b.is (λ rest. move_without_out (r ∷ rest) rest r refl)
+
+  module _ {more : Claim → List ℕ → Type 0} {out : List ℕ} (o : Takes list_text AreCells mid out more) where
+    pub put_refused : (fault : ReadFault) {new : Claim → List ℕ → Type 0} → Lacks list_text AreCells fault more new →
+        Lacks move_text IsMove fault old new
     put_refused fault h =
-        refuses_later fault old more (r ∷ list_text out) (λ rest. BeginsNone list_text AreCells rest)
-        (λ bytes. BeginsNone move_text IsMove bytes) (Consumes-trans old mid more (r ∷ []) (list_text out) b.is o.is)
+        refuses_later fault _ _ (joined b.is o.is)
         (λ rest none. move_without_put (r ∷ (list_text out ++ rest)) (list_text out ++ rest) r refl out rest
         (record { is = refl; ok = o.ok }) none) h
 
-    module _ (new : Option (List ℕ)) (put : List ℕ) (p : Takes list_text AreCells more put new) where
-      whole : Consumes old new (r ∷ (list_text out ++ list_text put))
-      whole = Consumes-trans old mid new (r ∷ []) (list_text out ++ list_text put) b.is
-          (Consumes-trans mid more new (list_text out) (list_text put) o.is p.is)
-
-      pub change_wrong : (IsMove (record { register = r; out = out; put = put }) → ⊥) → Lacks move_text IsMove old
-      change_wrong wrong =
-          known_front old new (r ∷ (list_text out ++ list_text put)) (λ bytes. BeginsNone move_text IsMove bytes)
-          whole
-          (λ rest. move_wrong _ ((list_text out ++ list_text put) ++ rest) r refl out (list_text put ++ rest)
-          (record { is = append_assoc (list_text out) (list_text put) rest; ok = o.ok }) put rest
-          (record { is = refl; ok = p.ok }) wrong)
+    pub change_wrong : {new : Claim → List ℕ → Type 0} {put : List ℕ} → Takes list_text AreCells more put new →
+        (IsMove (record { register = r; out = out; put = put }) → ⊥) → Lacks move_text IsMove Form old new
+    change_wrong {new} {put} p wrong =
+        of_front (joined b.is (joined o.is p.is))
+        (λ rest. move_wrong _ ((list_text out ++ list_text put) ++ rest) r refl out (list_text put ++ rest)
+        (record { is = append_assoc (list_text out) (list_text put) rest; ok = o.ok }) put rest
+        (record { is = refl; ok = p.ok }) wrong)
 
 -- ---- changes after their count
 
-module _ (old mid : Option (List ℕ)) (count : ℕ) (n : Takes number_text IsNumber old count mid) where
-  pub moves_of_many : SESSION_CHANGES < count → Lacks moves_text AreMoves old
-  moves_of_many many =
-      known_front old mid (number_text count) (λ bytes. BeginsNone moves_text AreMoves bytes) n.is
-      (λ after. moves_count_many _ after count (record { is = refl; ok = n.ok }) many)
+-- without a count there are none
+pub counts_refused : (fault : ReadFault) {old new : Claim → List ℕ → Type 0} →
+    Lacks number_text IsNumber fault old new →
+    Lacks moves_text AreMoves fault old new
+counts_refused fault = refuses_weaker fault _ _ (λ bytes none ms rest f. none _ _ (moves_count f))
 
-  pub moves_refused : (fault : ReadFault) → Refuses fault (Lacks row_text (IsRow count) mid) →
-      Refuses fault (Lacks moves_text AreMoves old)
-  moves_refused fault h =
-      refuses_later fault old mid (number_text count) (λ rest. BeginsNone row_text (IsRow count) rest)
-      (λ bytes. BeginsNone moves_text AreMoves bytes) n.is
-      (λ after none. moves_none _ after count (record { is = refl; ok = n.ok }) none) h
+module _ {old mid : Claim → List ℕ → Type 0} {count : ℕ} (n : Takes number_text IsNumber old count mid) where
+  pub moves_of_many : SESSION_CHANGES < count → Lacks moves_text AreMoves Form old mid
+  moves_of_many many = of_front n.is (λ after. moves_count_many _ after count (record { is = refl; ok = n.ok }) many)
 
-  pub moves_taken : (new : Option (List ℕ)) (ms : List Diff) → Takes row_text (IsRow count) mid ms new →
-      count ≤ SESSION_CHANGES → Takes moves_text AreMoves old ms new
-  moves_taken new ms t few = record {
-    is = subst (λ (k : ℕ). Consumes old new (number_text k ++ flat_map move_text ms)) (sym t.ok.len)
-        (Consumes-trans old mid new (number_text count) (flat_map move_text ms) n.is t.is);
-    ok = record { few = omega (arith, t.ok.len, few); each = t.ok.each };
-  }
+  module _ {new : Claim → List ℕ → Type 0} where
+    pub moves_refused : (fault : ReadFault) → Lacks row_text (IsRow count) fault mid new →
+        Lacks moves_text AreMoves fault old new
+    moves_refused fault h =
+        refuses_later fault _ _ n.is (λ after none. moves_none _ after count (record { is = refl; ok = n.ok }) none) h
+
+    pub moves_taken : {ms : List Diff} → Takes row_text (IsRow count) mid ms new → count ≤ SESSION_CHANGES →
+        Takes moves_text AreMoves old ms new
+    moves_taken {ms} t few = record {
+      is = subst (λ (k : ℕ). Passes old new (number_text k ++ flat_map move_text ms)) (sym t.ok.len)
+          (joined n.is t.is);
+      ok = record { few = omega (arith, t.ok.len, few); each = t.ok.each };
+    }

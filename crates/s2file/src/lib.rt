@@ -6,8 +6,8 @@
 //! first.
 //!
 //! A session file holds the lists of 26 registers and both sides of their history as changes. Bytes spell at most one
-//! session. `encode_session` writes a session file; `read_session` reads one from any reader, a piece at a time, and
-//! reads a union file as a session with one register. `decode_session` does the same with bytes in memory.
+//! session. `encode_session` writes a session file; `read_session` reads one from a file that was opened, a piece at a
+//! time, and reads a union file as a session with one register. `decode_session` does the same with bytes in memory.
 #![tactic(auto)]
 
 mod changes;

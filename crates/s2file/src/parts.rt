@@ -4,6 +4,7 @@ ghost use Rattle.std.specs.Prelude.{MatchResult, MatchBool, OnOk, vec_len};
 ghost use Rattle.std.specs.Vec.{vec_capacity};
 ghost use Rattle.std.specs.List.Sorted.{IsStrictlyIncreasing};
 ghost use Rattle.s2list.specs.Union.{Union};
+ghost use Rattle.s2shelf.specs.OpenedFile.{Left};
 ghost use Rattle.s2file.specs.File.{number_text};
 ghost use Rattle.s2file.specs.Session.{list_text, move_text, moves_text, diff_of, AreApart, AreCells, IsMove};
 ghost use Rattle.s2file.specs.Session.{IsRegisterList};
@@ -13,24 +14,28 @@ ghost use Rattle.s2file.specs.Working.SessionParts.{IsRow};
 ghost use Rattle.s2file.specs.Working.SessionParts.{registers_text, row_text, byte_text, identifiers_text, IsByte};
 ghost use Rattle.s2file.specs.Working.SessionParts.{IsNumber};
 ghost use Rattle.s2file.specs.Working.SessionParts.{SpellsMore, SpellsWrong};
-ghost use Rattle.s2file.specs.Working.Source.{ahead};
+ghost use Rattle.s2file.specs.Working.Source.{Ahead};
 
 use crate::session::{Move, ReadFault};
 use crate::source::Buffer;
 use crate::union_file::{NUMBER_SIZE, number};
 use crate::{SESSION_CELLS, SESSION_CHANGES, SESSION_REGISTERS};
 use s2cell::CellId;
+use s2shelf::OpenedFile;
 use s2union::{CellUnion, is_normalized};
 use std::alloc::{AllocError, Global};
 use std::cmp::Ordering;
 use std::io::Read;
 
 /// The next byte.
-pub(crate) fn byte_at<R: Read>(buffer: &mut Buffer, reader: &mut R) -> Result<u8, ReadFault>
-    ensures { Reads byte_text IsByte (λ byte. byte) (ahead buffer.old (R.remaining reader.old))
-        (ahead buffer.new (R.remaining reader.new)) result }
+pub(crate) fn byte_at<F: Read>(
+    buffer: &mut Buffer,
+    file: &mut OpenedFile<F>,
+) -> Result<u8, ReadFault>
+    ensures { Reads byte_text IsByte (λ byte. byte) (Ahead buffer.old (Left F.remaining file.old))
+        (Ahead buffer.new (Left F.remaining file.new)) result }
 {
-    if !buffer.has(reader, 1)? {
+    if !buffer.has(file, 1)? {
         return Err(ReadFault::Form);
     }
     let byte = buffer.as_slice()[0];
@@ -39,11 +44,11 @@ pub(crate) fn byte_at<R: Read>(buffer: &mut Buffer, reader: &mut R) -> Result<u8
 }
 
 /// The next number.
-fn number_at<R: Read>(buffer: &mut Buffer, reader: &mut R) -> Result<u64, ReadFault>
-    ensures { Reads number_text IsNumber (λ number. number) (ahead buffer.old (R.remaining reader.old))
-        (ahead buffer.new (R.remaining reader.new)) result }
+fn number_at<F: Read>(buffer: &mut Buffer, file: &mut OpenedFile<F>) -> Result<u64, ReadFault>
+    ensures { Reads number_text IsNumber (λ number. number) (Ahead buffer.old (Left F.remaining file.old))
+        (Ahead buffer.new (Left F.remaining file.new)) result }
 {
-    if !buffer.has(reader, NUMBER_SIZE)? {
+    if !buffer.has(file, NUMBER_SIZE)? {
         return Err(ReadFault::Form);
     }
     let value = number_spelled(buffer.as_slice());
@@ -60,35 +65,35 @@ fn number_spelled(bytes: &[u8]) -> u64
 }
 
 /// The cells of the next list, in any order.
-fn cells_at<R: Read>(
+fn cells_at<F: Read>(
     alloc: Global,
     buffer: &mut Buffer,
-    reader: &mut R,
+    file: &mut OpenedFile<F>,
 ) -> Result<Vec<CellId>, ReadFault>
     ensures { Reads list_text AreCells (λ cells. cells.items)
-        (ahead buffer.old (R.remaining reader.old)) (ahead buffer.new (R.remaining reader.new)) result }
+        (Ahead buffer.old (Left F.remaining file.old)) (Ahead buffer.new (Left F.remaining file.new)) result }
 {
-    let count = number_at(buffer, reader)?;
+    let count = number_at(buffer, file)?;
     if count > SESSION_CELLS as u64 {
         return Err(ReadFault::Form);
     }
-    let cells = cells_counted(alloc, count as usize, buffer, reader)?;
+    let cells = cells_counted(alloc, count as usize, buffer, file)?;
     Ok(cells)
 }
 
 /// The next cells, as many as were counted. Asks for memory only for identifiers that were read.
-fn cells_counted<R: Read>(
+fn cells_counted<F: Read>(
     alloc: Global,
     count: usize,
     buffer: &mut Buffer,
-    reader: &mut R,
+    file: &mut OpenedFile<F>,
 ) -> Result<Vec<CellId>, ReadFault>
     ensures { Reads identifiers_text (AreCounted count) (λ cells. cells.items)
-        (ahead buffer.old (R.remaining reader.old)) (ahead buffer.new (R.remaining reader.new)) result }
+        (Ahead buffer.old (Left F.remaining file.old)) (Ahead buffer.new (Left F.remaining file.new)) result }
 {
     let mut cells = Vec::new(alloc);
     'pieces: while cells.len() < count {
-        if !buffer.has(reader, NUMBER_SIZE)? {
+        if !buffer.has(file, NUMBER_SIZE)? {
             return Err(ReadFault::Form);
         }
         let bytes = buffer.as_slice();
@@ -139,15 +144,15 @@ fn make_room(cells: &mut Vec<CellId>, count: usize, left: usize) -> Result<(), A
 }
 
 /// The union of the next register.
-fn register_at<R: Read>(
+fn register_at<F: Read>(
     alloc: Global,
     buffer: &mut Buffer,
-    reader: &mut R,
+    file: &mut OpenedFile<F>,
 ) -> Result<CellUnion, ReadFault>
-    ensures { Reads list_text IsRegisterList (λ union. union.cells) (ahead buffer.old (R.remaining reader.old))
-        (ahead buffer.new (R.remaining reader.new)) result }
+    ensures { Reads list_text IsRegisterList (λ union. union.cells) (Ahead buffer.old (Left F.remaining file.old))
+        (Ahead buffer.new (Left F.remaining file.new)) result }
 {
-    let cells = cells_at(alloc, buffer, reader)?;
+    let cells = cells_at(alloc, buffer, file)?;
     if !is_normalized(&cells) {
         return Err(ReadFault::Form);
     }
@@ -155,29 +160,33 @@ fn register_at<R: Read>(
 }
 
 /// The unions of all registers.
-pub(crate) fn registers_at<R: Read>(
+pub(crate) fn registers_at<F: Read>(
     alloc: Global,
     buffer: &mut Buffer,
-    reader: &mut R,
+    file: &mut OpenedFile<F>,
 ) -> Result<Vec<CellUnion>, ReadFault>
     ensures { Reads registers_text AreRegisters (λ unions. map (λ (u : Union). u.cells) unions.items)
-        (ahead buffer.old (R.remaining reader.old)) (ahead buffer.new (R.remaining reader.new)) result }
+        (Ahead buffer.old (Left F.remaining file.old)) (Ahead buffer.new (Left F.remaining file.new)) result }
 {
     let mut registers = Vec::new(alloc);
     for _i in 0..SESSION_REGISTERS {
-        registers.push(register_at(alloc, buffer, reader)?)?;
+        registers.push(register_at(alloc, buffer, file)?)?;
     }
     Ok(registers)
 }
 
 /// The next change.
-fn move_at<R: Read>(alloc: Global, buffer: &mut Buffer, reader: &mut R) -> Result<Move, ReadFault>
-    ensures { Reads move_text IsMove diff_of (ahead buffer.old (R.remaining reader.old))
-        (ahead buffer.new (R.remaining reader.new)) result }
+fn move_at<F: Read>(
+    alloc: Global,
+    buffer: &mut Buffer,
+    file: &mut OpenedFile<F>,
+) -> Result<Move, ReadFault>
+    ensures { Reads move_text IsMove diff_of (Ahead buffer.old (Left F.remaining file.old))
+        (Ahead buffer.new (Left F.remaining file.new)) result }
 {
-    let register = byte_at(buffer, reader)?;
-    let out = cells_at(alloc, buffer, reader)?;
-    let put = cells_at(alloc, buffer, reader)?;
+    let register = byte_at(buffer, file)?;
+    let out = cells_at(alloc, buffer, file)?;
+    let put = cells_at(alloc, buffer, file)?;
     if !is_change(register, &out, &put) {
         return Err(ReadFault::Form);
     }
@@ -208,35 +217,35 @@ fn is_change(register: u8, out: &[CellId], put: &[CellId]) -> bool
 }
 
 /// The next changes, after their count.
-pub(crate) fn moves_at<R: Read>(
+pub(crate) fn moves_at<F: Read>(
     alloc: Global,
     buffer: &mut Buffer,
-    reader: &mut R,
+    file: &mut OpenedFile<F>,
 ) -> Result<Vec<Move>, ReadFault>
     ensures { Reads moves_text AreMoves (λ moves. map diff_of moves.items)
-        (ahead buffer.old (R.remaining reader.old)) (ahead buffer.new (R.remaining reader.new)) result }
+        (Ahead buffer.old (Left F.remaining file.old)) (Ahead buffer.new (Left F.remaining file.new)) result }
 {
-    let count = number_at(buffer, reader)?;
+    let count = number_at(buffer, file)?;
     if count > SESSION_CHANGES as u64 {
         return Err(ReadFault::Form);
     }
-    let moves = row_at(alloc, count as usize, buffer, reader)?;
+    let moves = row_at(alloc, count as usize, buffer, file)?;
     Ok(moves)
 }
 
 /// The next changes, as many as were counted.
-fn row_at<R: Read>(
+fn row_at<F: Read>(
     alloc: Global,
     count: usize,
     buffer: &mut Buffer,
-    reader: &mut R,
+    file: &mut OpenedFile<F>,
 ) -> Result<Vec<Move>, ReadFault>
     ensures { Reads row_text (IsRow count) (λ moves. map diff_of moves.items)
-        (ahead buffer.old (R.remaining reader.old)) (ahead buffer.new (R.remaining reader.new)) result }
+        (Ahead buffer.old (Left F.remaining file.old)) (Ahead buffer.new (Left F.remaining file.new)) result }
 {
     let mut moves = Vec::new(alloc);
     for _i in 0..count {
-        moves.push(move_at(alloc, buffer, reader)?)?;
+        moves.push(move_at(alloc, buffer, file)?)?;
     }
     Ok(moves)
 }

@@ -1,24 +1,25 @@
 //! The session file: registers and both sides of their history as bytes.
 ghost use Rattle.std.specs.Prelude.{◌≡◌, ◌≢◌, ℕ, List, [], ◌∷◌, ◌++◌, map, replicate};
-ghost use Rattle.std.specs.Prelude.{MatchResult, IfOk, IfSome, OnOk};
-ghost use Rattle.std.specs.Io.KnownBytes.{Consumes};
+ghost use Rattle.std.specs.Prelude.{true, MatchResult, IfOk, OnOk};
 ghost use Rattle.s2list.specs.Union.{Union};
 ghost use Rattle.s2file.specs.Session.{Content, content_of, content_of_parts, content_of_list, list_text, move_text};
 ghost use Rattle.s2file.specs.Session.{moves_text, session_text, IsContent, IsSessionFile, IsUnionFile};
 ghost use Rattle.s2file.specs.Session.{Spells};
 ghost use Rattle.s2file.specs.Working.SessionParts.{Refuses, registers_text};
-ghost use Rattle.s2file.specs.Working.Source.{ahead};
+ghost use Rattle.s2file.specs.Working.Source.{Ahead, Passes};
 ghost use Rattle.s2file.specs.Working.Reading.{Finds};
-ghost use Rattle.s2file.specs.Reading.{RefusesToRead};
+ghost use Rattle.s2file.specs.Reading.{RefusesToRead, WasLeft};
+ghost use Rattle.s2shelf.specs.OpenedFile.{Left, has_ended};
 
 use crate::changes::{BorrowedMove, Changes};
 use crate::fault::FileFault;
 use crate::parts::{byte_at, moves_at, registers_at};
 use crate::session::{ReadFault, Session, SessionFault};
-use crate::source::{Buffer, fault_of_read};
+use crate::source::Buffer;
 use crate::union_file::{MOST_SIZE, NUMBER_SIZE, VERSION, decode, put_number};
 use crate::{SESSION_CHANGES, SESSION_REGISTERS};
 use s2cell::CellId;
+use s2shelf::OpenedFile;
 use s2union::CellUnion;
 use std::alloc::{AllocError, Global};
 use std::io::Read;
@@ -45,8 +46,8 @@ pub fn decode_session(alloc: Global, bytes: &[u8]) -> Result<Session, SessionFau
     ensures only { (s : Content) → Spells bytes.now s →
         MatchResult result (λ session. content_of session ≡ s) (λ fault. fault ≡ SessionFault.Memory) }
 {
-    let mut rest = bytes;
-    match read_session(alloc, &mut rest) {
+    let mut file = OpenedFile::of("", bytes);
+    match read_session(alloc, &mut file) {
         Ok(session) => Ok(session),
         Err(ReadFault::Form) => Err(SessionFault::Form),
         // To read bytes in memory never fails.
@@ -58,41 +59,45 @@ pub fn decode_session(alloc: Global, bytes: &[u8]) -> Result<Session, SessionFau
 ///
 /// Answers `Form` if what was read is neither, `Memory` if an allocation failed or a read found no memory, and `Device`
 /// if a read failed otherwise. After a fault some bytes have been read. A read that was interrupted is tried again.
-/// Reads pieces of 64 KiB: a session file to its end and one piece more at most, and of a union file at most one byte
+/// Reads pieces of 64 KiB: a session file to its end and one piece more at most, and of a union file at most one piece
 /// more than the longest has (`MOST_SIZE`). Never asks for more memory than a piece and about twice what the bytes that
 /// were read can fill.
-pub fn read_session<R: Read>(alloc: Global, reader: &mut R) -> Result<Session, ReadFault>
+pub fn read_session<F: Read>(alloc: Global, file: &mut OpenedFile<F>) -> Result<Session, ReadFault>
     ensures content { IfOk result (λ session. IsContent (content_of session)) }
-    ensures answer { MatchResult result
-        (λ session. IfSome (R.remaining reader.old) (λ bytes. Spells bytes (content_of session)))
-        (λ fault. RefusesToRead fault (R.remaining reader.old)) }
+    ensures ended { OnOk result (has_ended file.new ≡ true) }
+    ensures answer { WasLeft (Left F.remaining file.old) (Left F.remaining file.new) (λ bytes. MatchResult result
+        (λ session. Spells bytes (content_of session)) (λ fault. RefusesToRead fault bytes)) }
 {
     let mut buffer = Buffer::new(alloc)?;
-    if !buffer.has(reader, 1)? {
+    if !buffer.has(file, 1)? {
         return Err(ReadFault::Form);
     }
     if buffer.as_slice()[0] == VERSION {
-        session_of_union(alloc, &buffer, reader)
+        session_of_union(alloc, &mut buffer, file)
     } else {
-        session_of_parts(alloc, &mut buffer, reader)
+        session_of_parts(alloc, &mut buffer, file)
     }
 }
 
-/// The session of a union file. One byte more than the longest file has tells that the bytes are none.
-fn session_of_union<R: Read>(
+/// The session of a union file. More bytes than the longest file has are none.
+fn session_of_union<F: Read>(
     alloc: Global,
-    buffer: &Buffer,
-    reader: &mut R,
+    buffer: &mut Buffer,
+    file: &mut OpenedFile<F>,
 ) -> Result<Session, ReadFault>
-    ensures { Finds IsUnionFile (ahead buffer.now (R.remaining reader.old)) result }
+    ensures finds { Finds IsUnionFile (Ahead buffer.old (Left F.remaining file.old))
+        (Ahead buffer.new (Left F.remaining file.new)) result }
+    ensures ended { OnOk result (has_ended file.new ≡ true) }
 {
     let mut bytes = Vec::new(alloc);
-    bytes.extend_from_slice(buffer.as_slice())?;
-    let most = MOST_SIZE + 1 - bytes.len();
-    match Read::take(&mut *reader, most as u64).read_to_end(&mut bytes) {
-        Ok(_) => session_of_bytes(alloc, &bytes),
-        Err(error) => Err(fault_of_read(&error)),
+    'pieces: while bytes.len() <= MOST_SIZE {
+        if !buffer.has(file, 1)? {
+            return session_of_bytes(alloc, &bytes);
+        }
+        bytes.extend_from_slice(buffer.as_slice())?;
+        buffer.consume_all();
     }
+    Err(ReadFault::Form)
 }
 
 /// The session of a union file that is wholly in memory.
@@ -144,18 +149,20 @@ fn add_empty(alloc: Global, registers: &mut Vec<CellUnion>, count: usize) -> Res
 }
 
 /// The session of a session file.
-fn session_of_parts<R: Read>(
+fn session_of_parts<F: Read>(
     alloc: Global,
     buffer: &mut Buffer,
-    reader: &mut R,
+    file: &mut OpenedFile<F>,
 ) -> Result<Session, ReadFault>
-    ensures { Finds IsSessionFile (ahead buffer.old (R.remaining reader.old)) result }
+    ensures finds { Finds IsSessionFile (Ahead buffer.old (Left F.remaining file.old))
+        (Ahead buffer.new (Left F.remaining file.new)) result }
+    ensures ended { OnOk result (has_ended file.new ≡ true) }
 {
-    take_head(buffer, reader)?;
-    let registers = registers_at(alloc, buffer, reader)?;
-    let past = moves_at(alloc, buffer, reader)?;
-    let future = moves_at(alloc, buffer, reader)?;
-    if buffer.has(reader, 1)? {
+    take_head(buffer, file)?;
+    let registers = registers_at(alloc, buffer, file)?;
+    let past = moves_at(alloc, buffer, file)?;
+    let future = moves_at(alloc, buffer, file)?;
+    if buffer.has(file, 1)? {
         return Err(ReadFault::Form);
     }
     if past.len() + future.len() > SESSION_CHANGES {
@@ -169,16 +176,16 @@ fn session_of_parts<R: Read>(
 }
 
 /// Takes the two bytes that a session file begins with.
-fn take_head<R: Read>(buffer: &mut Buffer, reader: &mut R) -> Result<(), ReadFault>
-    ensures { MatchResult result (λ _. Consumes (ahead buffer.old (R.remaining reader.old))
-        (ahead buffer.new (R.remaining reader.new)) (0x73 ∷ 1 ∷ []))
-        (λ fault. Refuses fault (IfSome (ahead buffer.old (R.remaining reader.old))
-        (λ bytes. (rest : List ℕ) → bytes ≡ 0x73 ∷ 1 ∷ rest → ⊥))) }
+fn take_head<F: Read>(buffer: &mut Buffer, file: &mut OpenedFile<F>) -> Result<(), ReadFault>
+    ensures { MatchResult result (λ _. Passes (Ahead buffer.old (Left F.remaining file.old))
+        (Ahead buffer.new (Left F.remaining file.new)) (0x73 ∷ 1 ∷ []))
+        (λ fault. WasLeft (Ahead buffer.old (Left F.remaining file.old)) (Ahead buffer.new (Left F.remaining file.new))
+        (λ bytes. Refuses fault ((rest : List ℕ) → bytes ≡ 0x73 ∷ 1 ∷ rest → ⊥))) }
 {
-    if byte_at(buffer, reader)? != FIRST {
+    if byte_at(buffer, file)? != FIRST {
         return Err(ReadFault::Form);
     }
-    if byte_at(buffer, reader)? != SECOND {
+    if byte_at(buffer, file)? != SECOND {
         return Err(ReadFault::Form);
     }
     Ok(())

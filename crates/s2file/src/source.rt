@@ -1,11 +1,12 @@
-//! The bytes of a reader, a piece at a time.
+//! The bytes of a file, a piece at a time.
 ghost use Rattle.std.specs.Prelude.{◌≡◌, ◌≢◌, ℕ, ◌+◌, ◌<◌, ◌≤◌, List, [], ◌++◌, length, drop, vec_len};
-ghost use Rattle.std.specs.Prelude.{◌↔◌, MatchBool, MatchResult, IfOk, OnErr, OnOk};
+ghost use Rattle.std.specs.Prelude.{◌↔◌, true, MatchBool, MatchResult, IfOk, OnErr, OnOk};
 ghost use Rattle.std.specs.IoError.{error_kind};
-ghost use Rattle.std.specs.Io.KnownBytes.{Consumes, IsAtEnd, Keeps};
+ghost use Rattle.s2shelf.specs.OpenedFile.{Left, has_ended};
 ghost use Rattle.s2file.specs.declared.session.ReadFault.{ReadFault};
 
 use crate::session::ReadFault;
+use s2shelf::OpenedFile;
 use std::alloc::Global;
 use std::io;
 use std::io::{ErrorKind, Read};
@@ -13,7 +14,7 @@ use std::io::{ErrorKind, Read};
 /// How many bytes a read asks for at most.
 const PIECE: usize = 64 * 1024;
 
-/// Bytes that a reader gave and that are still to be taken: those of `bytes` from `start` to `end`.
+/// Bytes that reads of a file gave and that are still to be taken: those of `bytes` from `start` to `end`.
 #[derive(Drop)]
 pub(crate) struct Buffer {
     bytes: Vec<u8>,
@@ -25,7 +26,7 @@ pub(crate) struct Buffer {
 }
 
 impl Buffer {
-    ghost use Rattle.s2file.specs.Working.Source.{ahead, held, room};
+    ghost use Rattle.s2file.specs.Working.Source.{Ahead, Passes, held, room};
 
     /// An empty buffer for one piece.
     pub(crate) fn new(alloc: Global) -> Result<Buffer, ReadFault>
@@ -55,6 +56,13 @@ impl Buffer {
         self.start += count;
     }
 
+    /// Takes all bytes that are held.
+    pub(crate) fn consume_all(&mut self)
+        ensures { held self.new ≡ [] }
+    {
+        self.start = self.end;
+    }
+
     /// Moves the bytes that are held to the front of the buffer.
     fn move_to_front(&mut self)
         ensures held { held self.new ≡ held self.old }
@@ -67,48 +75,52 @@ impl Buffer {
     }
 
     /// One read, into the room after the bytes that are held.
-    fn read_from<R: Read>(&mut self, reader: &mut R) -> io::Result<usize>
+    fn read_from<F: Read>(&mut self, file: &mut OpenedFile<F>) -> io::Result<usize>
         ensures ok { IfOk result (λ n. (more : List ℕ) × (length more ≡ n) × (held self.new ≡ held self.old ++ more)
-            × Consumes (R.remaining reader.old) (R.remaining reader.new) more) }
+            × Passes (Left F.remaining file.old) (Left F.remaining file.new) more) }
         ensures room { IfOk result (λ n. room self.new + n ≡ room self.old) }
-        ensures end { IfOk result (λ n. n ≡ 0 → 0 < room self.old → IsAtEnd (R.remaining reader.new)) }
+        ensures end { IfOk result (λ n. n ≡ 0 → 0 < room self.old → has_ended file.new ≡ true) }
         ensures err { OnErr result ((held self.new ≡ held self.old) × (room self.new ≡ room self.old)
-            × Keeps (R.remaining reader.old) (R.remaining reader.new)) }
+            × Passes (Left F.remaining file.old) (Left F.remaining file.new) []) }
     {
         let end = self.end;
-        let count = reader.read(&mut self.bytes.as_mut_slice()[end..])?;
+        let count = file.read(&mut self.bytes.as_mut_slice()[end..])?;
         self.end = end + count;
         Ok(count)
     }
 
     /// Whether at least `count` bytes are left. If so, that many are held afterwards; if not, all that are left are.
-    pub(crate) fn has<R: Read>(&mut self, reader: &mut R, count: usize) -> Result<bool, ReadFault>
+    pub(crate) fn has<F: Read>(
+        &mut self,
+        file: &mut OpenedFile<F>,
+        count: usize,
+    ) -> Result<bool, ReadFault>
         requires { count ≤ 8 }
-        ensures kept { OnOk result (Keeps (ahead self.old (R.remaining reader.old))
-            (ahead self.new (R.remaining reader.new))) }
+        ensures kept { Passes (Ahead self.old (Left F.remaining file.old)) (Ahead self.new (Left F.remaining file.new))
+            [] }
         ensures has { MatchResult result (λ has. MatchBool has (count ≤ length (held self.new))
-            ((length (held self.new) < count) × IsAtEnd (R.remaining reader.new)))
+            ((length (held self.new) < count) × (has_ended file.new ≡ true)))
             (λ fault. fault ≢ ReadFault.Form) }
     {
         if self.end - self.start >= count {
             return Ok(true);
         }
-        self.fill(reader, count)
+        self.fill(file, count)
     }
 
     /// Reads until `count` bytes are held, or to the end.
-    fn fill<R: Read>(&mut self, reader: &mut R, count: usize) -> Result<bool, ReadFault>
+    fn fill<F: Read>(&mut self, file: &mut OpenedFile<F>, count: usize) -> Result<bool, ReadFault>
         requires most { count ≤ 8 }
         requires few { length (held self.old) < count }
-        ensures kept { OnOk result (Keeps (ahead self.old (R.remaining reader.old))
-            (ahead self.new (R.remaining reader.new))) }
+        ensures kept { Passes (Ahead self.old (Left F.remaining file.old)) (Ahead self.new (Left F.remaining file.new))
+            [] }
         ensures has { MatchResult result (λ has. MatchBool has (count ≤ length (held self.new))
-            ((length (held self.new) < count) × IsAtEnd (R.remaining reader.new)))
+            ((length (held self.new) < count) × (has_ended file.new ≡ true)))
             (λ fault. fault ≢ ReadFault.Form) }
     {
         self.move_to_front();
         'reads: for _ in 0..u64::MAX {
-            match self.read_from(reader) {
+            match self.read_from(file) {
                 Ok(0) => return Ok(false),
                 Ok(_) => {
                     if self.end - self.start >= count {
@@ -125,7 +137,7 @@ impl Buffer {
 }
 
 /// The fault of a session when a read of it fails.
-pub(crate) fn fault_of_read(error: &io::Error) -> ReadFault
+fn fault_of_read(error: &io::Error) -> ReadFault
     ensures form { result ≢ ReadFault.Form }
     ensures memory { (result ≡ ReadFault.Memory) ↔ (error_kind error.now ≡ ErrorKind.OutOfMemory) }
 {

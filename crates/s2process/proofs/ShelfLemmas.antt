@@ -2,9 +2,9 @@
 use Rattle.std.proofs.Common.{◌≡◌, ℕ, List, [], ◌∷◌, ◌++◌, length, min, take, reverse, flat_map, Option, Some, refl}
 use Rattle.std.proofs.Common.{sym, ap, ◌∙◌, subst, arith, length-take}
 use Rattle.std.proofs.lemmas.List.{take_all, reverse-append}
-use Rattle.s2shelf.specs.Shelf.{Files, Found, Finding, Holding, Opened, Asks, FindsBeginning, Opens}
+use Rattle.s2shelf.specs.Shelf.{Files, Found, Finding, Holding, Asks, FindsBeginning, Opens}
+use Rattle.s2shelf.specs.declared.opened_file.OpenedFile.{OpenedFile as File}
 use Rattle.s2shelf.proofs.Begun.{some_begun}
-use Rattle.s2shelf.proofs.Opened.{some_content}
 use Rattle.s2process.specs.declared.shelf.ListedShelf.{ListedShelf}
 use Rattle.s2process.specs.ShelfCalls.{HandedOver, OpenedFile}
 use Rattle.s2process.specs.StreamCalls.{StreamCall, OfShelf, found_by, found_in}
@@ -32,13 +32,19 @@ module _ {S : Type 0} (files : S → Files) (old new : ListedShelf S) where
   }
 
   -- it opened a file
-  pub opens : (name : List ℕ) (ahead : Option (List ℕ)) →
+  pub opens : {F : Type 0} (remaining : F → Option (List ℕ)) (name : List ℕ) (file : File F) →
       calls_of_shelf new ≡ calls_of_shelf old ++ OfShelf (OpenedFile name) ∷ []
-      → Opens (files old.shelf) name (Some ahead) (files new.shelf)
-      → (content : List ℕ) → Asks (listed_files files old) name (Some content) Opened (listed_files files new)
-  opens name ahead listed below content =
-      let some = some_content ahead in
-      asks (OfShelf (OpenedFile name)) name (Some content) Opened listed refl (below some.0 some.1).same.1
+      → Opens remaining (files old.shelf) name (Some file) (files new.shelf)
+      → Opens remaining (listed_files files old) name (Some file) (listed_files files new)
+  opens remaining name file listed below =
+      let found = ap found_in listed ∙ found_more (calls_of_shelf old) (OfShelf (OpenedFile name)) in
+      record {
+        same = ((record { tells = refl; at = λ t other. refl }, below.same.0.1), ap Some found);
+        named = below.named;
+        unread = below.unread;
+        begins = below.begins;
+        holds = λ content may t. absurd cc;
+      }
 
   -- it handed over the first bytes of a file
   pub hands_over : (name : List ℕ) (most : ℕ) (shown bytes : List ℕ) → shown ≡ bytes

@@ -6,13 +6,12 @@ use Rattle.s2calc.specs.Moments.{Moment}
 use Rattle.s2process.specs.declared.reader.ListedReader.{ListedReader}
 use Rattle.s2process.specs.declared.writer.ListedWriter.{ListedWriter}
 use Rattle.s2process.specs.declared.shelf.ListedShelf.{ListedShelf}
-use Rattle.s2process.specs.declared.shelf.ListedFile.{ListedFile}
 use Rattle.s2process.specs.declared.witness.Witness.{Witness}
 use Rattle.s2process.specs.StreamCalls.{StreamCall, given_in, taken_in, ended_in, reads_in, found_in}
 
 -- the calls of a reader, in order
 abbrev pub calls_of_reader : {R : Type 0} → ListedReader R → List StreamCall
-calls_of_reader r = r.calls.calls
+calls_of_reader r = r.calls.entries
 
 -- all bytes that the reads gave
 abbrev pub given : {R : Type 0} → ListedReader R → List ℕ
@@ -24,7 +23,7 @@ reads r = reads_in (calls_of_reader r)
 
 -- the calls of a writer, in order
 abbrev pub calls_of : {W : Type 0} → ListedWriter W → List StreamCall
-calls_of w = w.calls.calls
+calls_of w = w.calls.entries
 
 -- the bytes that the writes took
 abbrev pub taken : {W : Type 0} → ListedWriter W → List ℕ
@@ -36,7 +35,7 @@ called w = ended_in (calls_of w)
 
 -- the calls of a shelf, in order
 abbrev pub calls_of_shelf : {S : Type 0} → ListedShelf S → List StreamCall
-calls_of_shelf s = s.calls.calls
+calls_of_shelf s = s.calls.entries
 
 -- the shelf that was called
 abbrev pub shelf_below : {S : Type 0} → ListedShelf S → S
@@ -52,10 +51,6 @@ listed_files files s = record {
   failures = (files (shelf_below s)).failures;
 }
 
--- the reads of an opened file, in order
-abbrev pub calls_of_file : {F : Type 0} → ListedFile F → List StreamCall
-calls_of_file f = f.calls.calls
-
 -- the moments that a witness has seen, in order
 abbrev pub moments_of : {W S : Type 0} → Witness W S → List (Moment W S)
-moments_of w = w.list.moments
+moments_of w = w.list.entries

@@ -1,21 +1,23 @@
-//! A list of calls that only clauses read. It takes no memory, and its methods do nothing at run time.
-ghost use Rattle.std.specs.Prelude.{◌≡◌, List, [], ◌∷◌, ◌++◌};
-ghost use Rattle.std.specs.Coded.{coded_list};
-ghost use base.Fml.{ftrue};
-ghost use Rattle.s2process.specs.StreamCalls.{StreamCall};
-ghost use Rattle.s2process.specs.Working.Coded.{stream_call_coded};
-
-use s2shelf::ShelfFault;
+//! Calls, as a list that only clauses read has them.
+use s2shelf::opened_file::Piece;
+use s2shelf::{GhostList, ShelfFault, Shows};
 use std::marker::Model;
 
 /// The calls of a stream or a shelf so far.
-#[derive(Drop)]
-pub(crate) struct CallList {
-    ghost calls: { List StreamCall } by { coded_list stream_call_coded },
-}
+pub(crate) type CallList = GhostList<Call>;
 
-impl Model for CallList {
-    ghost also_owns = { λ _. ftrue };
+/// The type of an entry, a `StreamCall`. It has no other use.
+pub(crate) struct Call;
+
+impl Model for Call {
+    ghost use Rattle.s2process.specs.StreamCalls.{StreamCall, GaveNot};
+    ghost use Rattle.s2process.specs.Working.Coded.{stream_call_coded};
+
+    ghost Value = { StreamCall };
+
+    ghost coded = { stream_call_coded };
+
+    ghost view = { λ _. GaveNot };
 }
 
 /// One call, as it is given to the list.
@@ -50,27 +52,15 @@ pub(crate) enum OneShelfCall<'a> {
     Stored(&'a str, &'a [u8]),
     /// A call on the file of this name failed.
     Failed(&'a str, ShelfFault),
-    /// An opened file was closed, after these reads.
-    ClosedFile(&'a CallList),
-    /// The closing of an opened file failed, after these reads.
-    ClosedNot(&'a CallList, ShelfFault),
+    /// A file that was opened under this name was closed, after reads that gave these bytes, and whether the last of
+    /// them gave none.
+    ClosedFile(&'a GhostList<Piece>, &'a GhostList<Piece>, bool),
+    /// The closing of a file that was opened under this name failed, after reads that gave these bytes.
+    ClosedNot(&'a GhostList<Piece>, &'a GhostList<Piece>, ShelfFault),
 }
 
-impl CallList {
-    ghost use Rattle.s2process.specs.Working.Shown.{shown};
+impl<'a> Shows<Call> for OneCall<'a> {
+    ghost use Rattle.s2process.specs.Working.Shown.{shown as call_shown};
 
-    /// No call.
-    pub(crate) fn new() -> CallList
-        ensures { result.calls ≡ [] }
-    {
-        CallList {}
-    }
-
-    /// The list with one more call at its end.
-    #[inline(always)]
-    pub(crate) fn and(&self, _call: &OneCall<'_>) -> CallList
-        ensures { result.calls ≡ self.now.calls ++ shown _call.now ∷ [] }
-    {
-        CallList {}
-    }
+    ghost shown = { call_shown };
 }

@@ -1,10 +1,10 @@
 //! The program, as a call whose contract speaks of any streams and any folders: what they do stands in lists that only
 //! proofs read.
 //!
-//! `calls` and `moments` are such lists, which `reader`, `writer` and `witness` keep; `run` is a run over these. What
-//! the words of the command line ask for is done by `process`: a run of a script (`scripts`), or another answer
-//! (`answers`), over the `streams` of a process and one of its `folders`. `errors` is what standard error gets, and
-//! `ended` how the program ends.
+//! `reader`, `writer` and `shelf` keep a `GhostList` of `calls`, and `witness` one of `moments`; `run` is a run over
+//! these. What the words of the command line ask for is done by `process`: a run of a script (`scripts`),
+//! or another answer (`answers`), over the `streams` of a process and one of its `folders`. `errors` is what standard
+//! error gets, and `ended` how the program ends.
 #![tactic(auto)]
 
 mod answers;
@@ -28,7 +28,7 @@ pub use crate::folders::Folders;
 pub use crate::process::program;
 pub use crate::reader::ListedReader;
 pub use crate::run::{run_explained_listed, run_listed};
-pub use crate::shelf::{ListedFile, ListedShelf};
+pub use crate::shelf::ListedShelf;
 pub use crate::streams::Streams;
 pub use crate::witness::Witness;
 pub use crate::writer::ListedWriter;

@@ -1,21 +1,25 @@
-//! A list of moments that only clauses read. It takes no memory, and its methods do nothing at run time.
-ghost use Rattle.std.specs.Prelude.{◌≡◌, List, [], ◌∷◌, ◌++◌};
-ghost use Rattle.std.specs.Coded.{coded_list};
-ghost use base.Fml.{ftrue};
-ghost use Rattle.s2calc.specs.Moments.{Moment};
-ghost use Rattle.s2process.specs.Working.Coded.{moment_coded};
-
-use std::marker::{Model, PhantomData};
+//! Moments, as a list that only clauses read has them.
+use s2shelf::{GhostList, Shows};
+use std::marker::Model;
 
 /// The moments so far.
-#[derive(Drop)]
-pub(crate) struct MomentList<W, S> {
-    of: PhantomData<(W, S)>,
-    ghost moments: { List (Moment W S) } by { coded_list (moment_coded W.code S.code) },
+pub(crate) type MomentList<W, S> = GhostList<OneMoment<W, S>>;
+
+/// The type of an entry, a `Moment`. It has no other use.
+pub(crate) struct OneMoment<W, S> {
+    writer: W,
+    shelf: S,
 }
 
-impl<W, S> Model for MomentList<W, S> {
-    ghost also_owns = { λ _. ftrue };
+impl<W, S> Model for OneMoment<W, S> {
+    ghost use Rattle.s2calc.specs.Moments.{Moment, moment, NotCame};
+    ghost use Rattle.s2process.specs.Working.Coded.{moment_coded};
+
+    ghost Value = { Moment W S };
+
+    ghost coded = { moment_coded W.code S.code };
+
+    ghost view = { λ m. moment NotCame m.writer m.shelf };
 }
 
 /// What is seen at a moment, as it is given to the list.
@@ -31,22 +35,9 @@ pub(crate) enum Sight<'a> {
     LineEnds,
 }
 
-impl<W, S> MomentList<W, S> {
+impl<'a, W, S> Shows<OneMoment<W, S>> for (Sight<'a>, &'a W, &'a S) {
     ghost use Rattle.s2calc.specs.Moments.{moment};
     ghost use Rattle.s2process.specs.Working.Shown.{seen};
 
-    /// No moment.
-    pub(crate) fn new() -> MomentList<W, S>
-        ensures { result.moments ≡ [] }
-    {
-        MomentList { of: PhantomData }
-    }
-
-    /// The list with one more moment at its end.
-    #[inline(always)]
-    pub(crate) fn and(&self, _sight: &Sight<'_>, _writer: &W, _shelf: &S) -> MomentList<W, S>
-        ensures { result.moments ≡ self.now.moments ++ moment (seen _sight.now) _writer.now _shelf.now ∷ [] }
-    {
-        MomentList { of: PhantomData }
-    }
+    ghost shown = { λ s. moment (seen s.0) s.1.now s.2.now };
 }

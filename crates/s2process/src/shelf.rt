@@ -1,58 +1,13 @@
 //! A shelf whose calls stand in a list.
-ghost use Rattle.std.specs.Prelude.{◌≡◌, ◌<◌, [], ◌∷◌, ◌++◌, None, option_map, MatchResult, length};
-ghost use Rattle.std.specs.Io.{ReadsAtMost};
-ghost use Rattle.std.specs.Io.KnownBytes.{ReadConsumes};
-ghost use Rattle.s2shelf.specs.Shelf.{SameShelf, FindsBeginning, Opens, PutsFile, Fails, FailsToGet, FailsToPut};
+ghost use Rattle.std.specs.Prelude.{◌≡◌, [], ◌∷◌, ◌++◌, option_map, MatchResult};
+ghost use Rattle.s2shelf.specs.Shelf.{FindsBeginning, Opens, Closes, PutsFile, Fails, FailsToGet, FailsToPut};
 ghost use Rattle.s2process.specs.ShelfCalls.{get_call, open_call, close_call, put_call};
-ghost use Rattle.s2process.specs.StreamCalls.{OfShelf, read_call, given_in};
-ghost use Rattle.s2process.specs.Listed.{calls_of_shelf, calls_of_file, listed_files, shelf_below};
+ghost use Rattle.s2process.specs.StreamCalls.{OfShelf};
+ghost use Rattle.s2process.specs.Listed.{calls_of_shelf, listed_files, shelf_below};
 ghost use Rattle.s2process.specs.Working.Shown.{shown_by_shelf};
 
 use crate::calls::{CallList, OneCall, OneShelfCall};
-use s2shelf::{Shelf, ShelfFault};
-use std::io;
-use std::io::Read;
-
-/// A file that was opened. Each read of it that has room for some bytes stands in a list that only proofs read.
-#[derive(Drop)]
-pub struct ListedFile<F> {
-    file: F,
-    calls: CallList,
-}
-
-impl<F: Drop> ListedFile<F> {
-    /// Nothing was read yet.
-    fn of(file: F) -> ListedFile<F>
-        ensures file { result.file ≡ file }
-        ensures calls { calls_of_file result ≡ [] }
-    {
-        ListedFile {
-            file,
-            calls: CallList::new(),
-        }
-    }
-}
-
-impl<F: Read> Read for ListedFile<F> {
-    fn read(&mut self, buf: &mut [u8]) -> io::Result<usize>
-        ensures bound { ReadsAtMost result buf.new }
-        ensures bytes { ReadConsumes None None result buf.new }
-        ensures below { ReadConsumes (F.remaining self.old.file) (F.remaining self.new.file) result buf.new }
-        ensures listed { 0 < length buf.old → calls_of_file self.new
-            ≡ calls_of_file self.old ++ read_call result (length buf.old) buf.new ∷ [] }
-        ensures unlisted { length buf.old ≡ 0 → calls_of_file self.new ≡ calls_of_file self.old }
-    {
-        let room = buf.len();
-        let result = self.file.read(buf);
-        if room > 0 {
-            match &result {
-                Ok(count) => self.calls = self.calls.and(&OneCall::Gave(&buf[..*count], room)),
-                Err(_) => self.calls = self.calls.and(&OneCall::GaveNot),
-            }
-        }
-        result
-    }
-}
+use s2shelf::{OpenedFile, Shelf, ShelfFault};
 
 /// A shelf. Each call of it stands in a list that only proofs read, in order: the name of the file, what was answered,
 /// and the bytes that were handed over or stored. A contract sees what was found by these calls.
@@ -89,23 +44,22 @@ impl<S> ListedShelf<S> {
 impl<S: Shelf> Shelf for ListedShelf<S> {
     ghost files = { listed_files S.files };
 
-    type Opened = ListedFile<S::Opened>;
+    type File = S::File;
 
-    fn open(&mut self, name: &str) -> Result<Option<ListedFile<S::Opened>>, ShelfFault>
+    fn open(&mut self, name: &str) -> Result<Option<OpenedFile<S::File>>, ShelfFault>
         ensures below { MatchResult result
-            (λ opened. Opens (S.files self.old.shelf) name.now (option_map (λ f. S.Opened.remaining f.file) opened)
-            (S.files self.new.shelf))
+            (λ opened. Opens S.File.remaining (S.files self.old.shelf) name.now opened (S.files self.new.shelf))
             (λ fault. Fails (S.files self.old.shelf) (S.files self.new.shelf) fault) }
         ensures listed { calls_of_shelf self.new ≡ calls_of_shelf self.old ++ OfShelf (open_call name.now result) ∷ [] }
         ensures answer { MatchResult result
-            (λ opened. Opens (listed_files S.files self.old) name.now (option_map (λ _. None) opened)
+            (λ opened. Opens S.File.remaining (listed_files S.files self.old) name.now opened
             (listed_files S.files self.new))
             (λ fault. Fails (listed_files S.files self.old) (listed_files S.files self.new) fault) }
     {
         match self.shelf.open(name) {
             Ok(Some(file)) => {
                 self.list(OneShelfCall::OpenedFile(name));
-                Ok(Some(ListedFile::of(file)))
+                Ok(Some(file))
             }
             Ok(None) => {
                 self.list(OneShelfCall::HadNone(name));
@@ -118,23 +72,24 @@ impl<S: Shelf> Shelf for ListedShelf<S> {
         }
     }
 
-    fn close(&mut self, file: ListedFile<S::Opened>) -> Result<(), ShelfFault>
-        ensures below { MatchResult result (λ _. SameShelf (S.files self.old.shelf) (S.files self.new.shelf))
+    fn close(&mut self, file: OpenedFile<S::File>) -> Result<(), ShelfFault>
+        ensures below { MatchResult result (λ _. Closes (S.files self.old.shelf) file (S.files self.new.shelf))
             (λ fault. Fails (S.files self.old.shelf) (S.files self.new.shelf) fault) }
-        ensures listed { calls_of_shelf self.new
-            ≡ calls_of_shelf self.old ++ OfShelf (close_call (given_in (calls_of_file file)) result) ∷ [] }
+        ensures listed { calls_of_shelf self.new ≡ calls_of_shelf self.old ++ OfShelf (close_call file result) ∷ [] }
         ensures answer { MatchResult result
-            (λ _. SameShelf (listed_files S.files self.old) (listed_files S.files self.new))
+            (λ _. Closes (listed_files S.files self.old) file (listed_files S.files self.new))
             (λ fault. Fails (listed_files S.files self.old) (listed_files S.files self.new) fault) }
     {
-        let ListedFile { file, calls } = file;
+        let name = file.name();
+        let given = file.given();
+        let ended = file.has_ended();
         match self.shelf.close(file) {
             Ok(()) => {
-                self.list(OneShelfCall::ClosedFile(&calls));
+                self.list(OneShelfCall::ClosedFile(&name, &given, ended));
                 Ok(())
             }
             Err(fault) => {
-                self.list(OneShelfCall::ClosedNot(&calls, fault));
+                self.list(OneShelfCall::ClosedNot(&name, &given, fault));
                 Err(fault)
             }
         }

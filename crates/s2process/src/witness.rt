@@ -37,17 +37,17 @@ impl<W: Sink, S: Shelf> Observer<W, S> for Witness<W, S> {
     ) -> io::Result<usize> {
         let result = reader.read(buf);
         match &result {
-            Ok(count) => self.list = self.list.and(&Sight::Came(&buf[..*count]), writer, shelf),
-            Err(_) => self.list = self.list.and(&Sight::NotCame, writer, shelf),
+            Ok(count) => self.list = self.list.and(&(Sight::Came(&buf[..*count]), writer, shelf)),
+            Err(_) => self.list = self.list.and(&(Sight::NotCame, writer, shelf)),
         }
         result
     }
 
     fn line_begins(&mut self, writer: &W, shelf: &S) {
-        self.list = self.list.and(&Sight::LineBegins, writer, shelf);
+        self.list = self.list.and(&(Sight::LineBegins, writer, shelf));
     }
 
     fn line_ends(&mut self, writer: &W, shelf: &S) {
-        self.list = self.list.and(&Sight::LineEnds, writer, shelf);
+        self.list = self.list.and(&(Sight::LineEnds, writer, shelf));
     }
 }

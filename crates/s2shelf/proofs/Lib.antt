@@ -1,3 +1,4 @@
 pub mod Begun
+pub mod Given
 pub mod Named
 pub mod Opened

@@ -1,54 +1,169 @@
--- What a file that was opened leaves on its shelf.
-use Rattle.std.proofs.Common.{◌≡◌, ℕ, List, [], Option, None, Some, inl, inr, refl, ap, ◌∙◌}
-use Rattle.s2shelf.specs.Shelf.{Files, one_more, KeepsFiles, SameFiles, SameShelf, MayHold, Allows}
-use Rattle.s2shelf.specs.Shelf.{MayFind, finding_ahead, Opens, Fails, FailsToGet}
+-- What a file that was opened, read and closed leaves on its shelf.
+use Rattle.std.proofs.Common.{◌≡◌, ℕ, Bool, true, false, List, [], ◌∷◌, ◌++◌, Option, None, Some, inl, inr, refl, sym}
+use Rattle.std.proofs.Common.{ap, ◌∙◌, subst}
+use Rattle.std.proofs.lemmas.List.{append-nil}
+use Rattle.std.proofs.lemmas.Option.{same_Some}
+use Rattle.std.specs.Prelude.{option_map}
+use Rattle.s2shelf.specs.OpenedFile.{name_of, given, has_ended, below, Claim, coming, MayCome, Left, MayBe}
+use Rattle.s2shelf.specs.Shelf.{Files, one_more, KeepsFiles, SameFiles, Allows, finding_read, finding_of_file}
+use Rattle.s2shelf.specs.Shelf.{Holding, Finds, MayFind, Asks, Opens, Closes, Fails, FailsToGet}
+use Rattle.s2shelf.specs.declared.opened_file.OpenedFile.{OpenedFile}
 use Rattle.s2shelf.specs.declared.shelf.ShelfFault.{ShelfFault}
 use Rattle.s2shelf.specs.declared.shelf.ShelfFault.TheVariants.{Device, Memory}
 
--- what reads of an opened file give may have been found
-allowed : (ahead : Option (List ℕ)) (content : List ℕ) → MayHold ahead content →
-    Allows (finding_ahead ahead) (Some content)
-allowed None content is = refl
-allowed (Some bytes) content is = ap Some is
+-- ---- what an opened file may hold
 
--- a file was opened and closed, and may have held this content
-pub opened_closes : (old opened new : Files) (name : List ℕ) (ahead : Option (List ℕ)) (content : List ℕ) →
-    Opens old name (Some ahead) opened → MayHold ahead content → SameShelf opened new
-    → MayFind old name (Some content) new
-opened_closes old opened new name ahead content opens is same =
-    let asks = opens content is in
+-- something may still come of any file
+comes : (ended : Bool) (ahead : Option (List ℕ)) → (rest : List ℕ) × MayCome ended ahead rest
+comes true ahead = ([], refl)
+comes false None = ([], tt)
+comes false (Some bytes) = (bytes, refl)
+
+-- nothing more has to come once the end was reached
+ends : (ended : Bool) (ahead : Option (List ℕ)) → ended ≡ true → MayCome ended ahead []
+ends true ahead e = refl
+ends false ahead e = absurd cc
+
+-- anything may follow what a finding has read, if what is known of the reader doesn't have to agree
+follows : (ended : Bool) (ahead : Option (List ℕ)) (bytes all : List ℕ) →
+    Allows (finding_read ended bytes) (Some all)
+    → (rest : List ℕ) × (all ≡ bytes ++ rest) × MayCome ended (coming false ahead) rest
+follows true ahead bytes all is = ([], same_Some all bytes is ∙ sym (append-nil bytes), refl)
+follows false ahead bytes all (rest, is) = (rest, same_Some all (bytes ++ rest) is, tt)
+
+-- what may be there is allowed by what was found
+agrees : (ended : Bool) (ahead : Option (List ℕ)) (bytes rest : List ℕ) → MayCome ended ahead rest →
+    Allows (finding_read ended bytes) (Some (bytes ++ rest))
+agrees true ahead bytes rest none = ap (λ (r : List ℕ). Some (bytes ++ r)) none ∙ ap Some (append-nil bytes)
+agrees false ahead bytes rest may = (rest, refl)
+
+-- the finding of a file whose end was reached is its content
+holding : (ended : Bool) (bytes : List ℕ) → ended ≡ true → finding_read ended bytes ≡ Holding bytes
+holding true bytes e = refl
+holding false bytes e = absurd cc
+
+module _ {F : Type 0} (remaining : F → Option (List ℕ)) (file : OpenedFile F) where
+  -- some content may be there, whatever was read
+  pub some_content : (content : List ℕ) × MayBe remaining file content
+  some_content =
+      let (rest, may) = comes (has_ended file) (remaining (below file)) in
+      (given file ++ rest, (rest, record { named = refl; whole = refl; comes = may }))
+
+  -- what was read may be the content, if the end was reached
+  whole_content : has_ended file ≡ true → MayBe remaining file (given file)
+  whole_content ended = (
+    [],
     record {
-      finding = finding_ahead ahead;
-      allows = allowed ahead content is;
-      asks = record {
-        same = (
+      named = refl;
+      whole = sym (append-nil (given file));
+      comes = ends (has_ended file) (remaining (below file)) ended;
+    },
+  )
+
+  -- each content that the finding allows may be claimed, if what is known of the reader doesn't have to agree
+  any_content : (all : List ℕ) → Allows (finding_of_file file) (Some all) → (rest : List ℕ)
+      × Left remaining file (record { name = name_of file; content = all; knows = false }) rest
+  any_content all allows =
+      let (rest, is, may) = follows (has_ended file) (remaining (below file)) (given file) all allows in
+      (rest, record { named = refl; whole = is; comes = may })
+
+  -- the finding allows what may be claimed
+  allowed : (claim : Claim) (rest : List ℕ) → Left remaining file claim rest →
+      Allows (finding_of_file file) (Some claim.content)
+  allowed claim rest left = subst (λ (c : List ℕ). Allows (finding_of_file file) (Some c)) (sym left.whole)
+      (agrees (has_ended file) (coming claim.knows (remaining (below file))) (given file) rest left.comes)
+
+-- ---- a file that was opened, as `start`, and closed, as `end`
+
+module _ {F : Type 0} (remaining : F → Option (List ℕ)) (old opened new : Files) (name : List ℕ)
+    (start end : OpenedFile F) (opens : Opens remaining old name (Some start) opened) (closes : Closes opened end new)
+  where
+    -- whatever may be left at the end, is the end of what was left at the start, of which this holds
+    abbrev pub ReadsOf : (List ℕ → Type 0) → Type 0
+    ReadsOf P = (claim : Claim) (rest : List ℕ) → Left remaining end claim rest
+        → (bytes : List ℕ) × Left remaining start claim bytes × P bytes
+
+    -- at the start all of the content is left
+    all_left : (claim : Claim) (bytes : List ℕ) → Left remaining start claim bytes → bytes ≡ claim.content
+    all_left claim bytes left = sym (left.whole ∙ ap (λ (b : List ℕ). b ++ bytes) opens.unread)
+
+    asks : (content bytes : List ℕ) →
+        Left remaining start (record { name = name_of end; content = content; knows = true }) bytes
+        → Asks old name (Some content) (finding_of_file end) new
+    asks content bytes left =
+        let is : name_of end ≡ name = sym left.named ∙ opens.named in
+        let may : MayBe remaining start content = (
+          bytes,
+          record { named = refl; whole = left.whole; comes = left.comes },
+        ) in
+        record {
+          same = (
+            record {
+              tells = closes.same.0.tells ∙ opens.same.0.0.tells;
+              at = λ t other. closes.same.0.at (opens.same.0.0.tells ∙ t) other ∙ opens.same.0.0.at t other;
+            },
+            closes.same.1 ∙ opens.same.0.1,
+          );
+          holds = opens.holds content may;
+          asked = closes.asked ∙ ap (option_map (λ before. record {
+            name = name_of end;
+            finding = finding_of_file end;
+          } ∷ before)) opens.same.1
+              ∙ ap (λ (n : List ℕ). option_map (λ before. record { name = n; finding = finding_of_file end } ∷ before)
+              old.found) is;
+        }
+
+    -- a file that was read to its end was found
+    pub found_whole : (P : List ℕ → Type 0) → has_ended end ≡ true → ReadsOf P →
+        Finds old name (Some (given end)) new × P (given end)
+    found_whole P ended reads =
+        let (rest, whole) = whole_content remaining end ended in
+        let (bytes, left, holds) = reads _ rest whole in (
+          subst (λ f. Asks old name (Some (given end)) f new) (holding (has_ended end) (given end) ended)
+              (asks (given end) bytes left),
+          subst P (all_left _ bytes left) holds,
+        )
+
+    -- some content may have been found, and this holds of each that may
+    pub found_some : (P : List ℕ → Type 0) → ReadsOf P → (bytes : List ℕ) × (found : MayFind old name (Some bytes) new)
+        × ((all : List ℕ) → Allows found.finding (Some all) → P all)
+    found_some P reads =
+        let (content, (rest, may)) = some_content remaining end in
+        let (bytes, left, _) = reads _ rest may in (
+          content,
           record {
-            tells = same.0.0.tells ∙ asks.same.0.tells;
-            at = λ t other. same.0.0.at (asks.same.0.tells ∙ t) other ∙ asks.same.0.at t other;
+            finding = finding_of_file end;
+            allows = allowed remaining end _ rest may;
+            asks = asks content bytes left;
           },
-          same.0.1 ∙ asks.same.1,
-        );
-        holds = asks.holds;
-        asked = same.1 ∙ asks.asked;
-      };
-    }
+          λ all allows.
+              let (more, might) = any_content remaining end all allows in
+              let (b, first, holds) = reads _ more might in
+              subst P (all_left _ b first) holds,
+        )
 
--- an opened file holds some content, whatever is known of it
-pub some_content : (ahead : Option (List ℕ)) → (content : List ℕ) × MayHold ahead content
-some_content None = ([], tt)
-some_content (Some bytes) = (bytes, refl)
-
--- a file was opened, and a read of it or its closing failed
-pub opened_fails : (old opened new : Files) (name : List ℕ) (ahead : Option (List ℕ)) (fault : ShelfFault) →
-    Opens old name (Some ahead) opened → Fails opened new fault → FailsToGet old name new fault
-opened_fails old opened new name ahead fault opens fails =
-    let some = some_content ahead in
-    let found : MayFind old name (Some some.0) opened = record {
-      finding = finding_ahead ahead;
-      allows = allowed ahead some.0 some.1;
-      asks = opens some.0 some.1;
-    } in
-    inr (Some some.0, opened, found, fails)
+-- a file was opened, and its closing failed
+pub opened_fails : {F : Type 0} (remaining : F → Option (List ℕ)) (old opened new : Files) (name : List ℕ)
+    (file : OpenedFile F) (fault : ShelfFault) → Opens remaining old name (Some file) opened → Fails opened new fault
+    → Fails old new fault
+opened_fails remaining old opened new name file Device opens fails = (
+  record {
+    tells = fails.0.tells ∙ opens.same.0.0.tells;
+    at = λ t other. fails.0.at (opens.same.0.0.tells ∙ t) other ∙ opens.same.0.0.at t other;
+  },
+  fails.1 ∙ ap one_more opens.same.0.1,
+  fails.2 ∙ opens.same.1,
+)
+opened_fails remaining old opened new name file Memory opens same = (
+  (
+    record {
+      tells = same.0.0.tells ∙ opens.same.0.0.tells;
+      at = λ t other. same.0.0.at (opens.same.0.0.tells ∙ t) other ∙ opens.same.0.0.at t other;
+    },
+    same.0.1 ∙ opens.same.0.1,
+  ),
+  same.1 ∙ opens.same.1,
+)
 
 -- each file stays after a failed read, and the count rises if the device failed
 pub get_fails_for_device : (old new : Files) (name : List ℕ) → FailsToGet old name new Device →

@@ -1,8 +1,7 @@
 -- What is seen of a folder.
-use Rattle.std.specs.Prelude.{ℕ, Bool, false, List, None}
+use Rattle.std.specs.Prelude.{ℕ, false, List, None}
 use Rattle.std.specs.String.{string_bytes}
 use Rattle.s2shelf.specs.declared.dir_shelf.DirShelf.{DirShelf}
-use Rattle.s2shelf.specs.declared.dir_shelf.OpenedFile.{OpenedFile}
 use Rattle.s2shelf.specs.Shelf.{Files}
 
 -- what is known of a folder: it doesn't expose its files, which are what the system gives
@@ -12,7 +11,3 @@ folder_files shelf = record { tells = false; at = λ _. None; found = None; fail
 -- the path that goes before each name
 abbrev pub folder_path : {R F D : Type 0} → DirShelf R F D → List ℕ
 folder_path shelf = string_bytes shelf.path
-
--- whether a read of an opened file failed, neither out of memory nor interrupted
-abbrev pub has_failed : {F : Type 0} → OpenedFile F → Bool
-has_failed file = file.failed

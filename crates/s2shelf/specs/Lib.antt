@@ -1,3 +1,4 @@
+pub mod OpenedFile
 pub mod Shelf
 pub mod MemoryShelf
 pub mod DirShelf

@@ -1,23 +1,26 @@
 -- What is known of named files, and what a call on them may do.
-use Rattle.std.specs.Prelude.{◌≡◌, ◌≢◌, ℕ, ◌+◌, ◌%◌, ◌^◌, ◌⊎◌, Bool, true, List, ◌∷◌, take, Option, None, Some}
-use Rattle.std.specs.Prelude.{option_map, IfSome, IsSome}
+use Rattle.std.specs.Prelude.{◌≡◌, ◌≢◌, ℕ, ◌+◌, ◌%◌, ◌^◌, ◌⊎◌, Bool, true, false, List, [], ◌∷◌, ◌++◌, take}
+use Rattle.std.specs.Prelude.{Option, None, Some, option_map}
+use Rattle.s2shelf.specs.OpenedFile.{name_of, given, has_ended, MayBe}
+use Rattle.s2shelf.specs.declared.opened_file.OpenedFile.{OpenedFile}
 use Rattle.s2shelf.specs.declared.shelf.ShelfFault.{ShelfFault}
 use Rattle.s2shelf.specs.declared.shelf.ShelfFault.TheVariants.{Device, Memory}
 
--- what was found by asking for a file once: that there is no file of that name; its content; or that it was opened, if
--- it isn't known what reads of it give
+-- what came of asking for a file or storing one, once: that there is no file of that name; its content; the first bytes
+-- of its content, if no more was read; or that these bytes were stored
 pub data Finding : Type 0 where
   NoFile : Finding
   Holding : (bytes : List ℕ) → Finding
-  Opened : Finding
+  Beginning : (bytes : List ℕ) → Finding
+  Written : (bytes : List ℕ) → Finding
 
--- what was found by asking for a file of this name once
+-- what came of asking for a file of this name or storing one, once
 pub record Found : Type 0 where
   pub name : List ℕ
   pub finding : Finding
 
--- what is known of a shelf: whether its contents are known, and the file of each name; what was found each time it was
--- asked for a file, newest first, or None if that isn't known; and how many failures of the device were counted
+-- what is known of a shelf: whether its contents are known, and the file of each name; what was found and stored,
+-- newest first, or None if that isn't known; and how many failures of the device were counted
 pub record Files : Type 0 where
   pub tells : Bool
   pub at : List ℕ → Option (List ℕ)
@@ -49,14 +52,14 @@ pub record LosesFile (old new : Files) (name : List ℕ) : Type 0 where
   pub failed : new.failures ≡ one_more old.failures
   pub found : new.found ≡ old.found
 
--- if the shelf exposes its contents, the file `name` holds the bytes and every other file stays as it was; and so do
--- the count and what was found
+-- if the shelf exposes its contents, the file `name` holds the bytes and every other file stays as it was; and so does
+-- the count; it is known that these bytes were stored, if what was stored is
 pub record PutsFile (old new : Files) (name bytes : List ℕ) : Type 0 where
   pub tells : new.tells ≡ old.tells
   pub there : old.tells ≡ true → new.at name ≡ Some bytes
   pub others : old.tells ≡ true → (other : List ℕ) → other ≢ name → new.at other ≡ old.at other
   pub failures : new.failures ≡ old.failures
-  pub found : new.found ≡ old.found
+  pub found : new.found ≡ option_map (λ before. record { name = name; finding = Written bytes } ∷ before) old.found
 
 -- if the shelf exposes its contents, `content` is what it holds under that name
 abbrev pub Holds : Files → List ℕ → Option (List ℕ) → Type 0
@@ -78,11 +81,12 @@ finding_of (Some bytes) = Holding bytes
 abbrev pub Finds : Files → List ℕ → Option (List ℕ) → Files → Type 0
 Finds old name content new = Asks old name content (finding_of content) new
 
--- the content may be what was found: it is just that, or the file was opened, and what reads of it give isn't known
+-- the content may be what was found: it is just that, or it begins with what was read; nothing is found by storing
 abbrev pub Allows : Finding → Option (List ℕ) → Type 0
 Allows NoFile content = content ≡ None
 Allows (Holding bytes) content = content ≡ Some bytes
-Allows Opened content = IsSome content
+Allows (Beginning bytes) content = (more : List ℕ) × (content ≡ Some (bytes ++ more))
+Allows (Written bytes) content = ⊥
 
 -- the shelf was asked for that name, once, and may have found this content; no file changes
 pub record MayFind (old : Files) (name : List ℕ) (content : Option (List ℕ)) (new : Files) : Type 0 where
@@ -98,21 +102,35 @@ pub record FindsBeginning (old : Files) (name : List ℕ) (most : ℕ) (beginnin
   pub finds : Finds old name content new
   pub is : beginning ≡ option_map (take most) content
 
--- reads of an opened file give this content, if it is known what they will give
-abbrev pub MayHold : Option (List ℕ) → List ℕ → Type 0
-MayHold ahead content = IfSome ahead (λ bytes. content ≡ bytes)
+-- the finding of a file of which these bytes were read: its content if its end was reached, and else its first bytes
+abbrev pub finding_read : (ended : Bool) → List ℕ → Finding
+finding_read true bytes = Holding bytes
+finding_read false bytes = Beginning bytes
 
--- the finding of a file that was opened, by what reads of it give, if that is known
-abbrev pub finding_ahead : Option (List ℕ) → Finding
-finding_ahead None = Opened
-finding_ahead (Some bytes) = Holding bytes
+-- what was found by opening a file and reading it as far as was done
+abbrev pub finding_of_file : {F : Type 0} → OpenedFile F → Finding
+finding_of_file file = finding_read (has_ended file) (given file)
 
--- the shelf was asked for that name, once: it has no such file; or it opened one, and found the content that reads of
--- it give (if it is not known what they give, it is any content); no file changes
-abbrev pub Opens : Files → List ℕ → Option (Option (List ℕ)) → Files → Type 0
-Opens old name None new = Finds old name None new
-Opens old name (Some ahead) new =
-    (content : List ℕ) → MayHold ahead content → Asks old name (Some content) (finding_ahead ahead) new
+-- the file was opened under that name, and nothing of it was read; the shelf holds a content that it may have, and
+-- nothing changes: what is found is added when the file is closed
+pub record IsOpened {F : Type 0} (remaining : F → Option (List ℕ)) (old : Files) (name : List ℕ) (file : OpenedFile F)
+    (new : Files) : Type 0 where
+  pub same : SameShelf old new
+  pub named : name_of file ≡ name
+  pub unread : given file ≡ []
+  pub begins : has_ended file ≡ false
+  pub holds : (content : List ℕ) → MayBe remaining file content → Holds old name (Some content)
+
+-- the shelf was asked for that name: it has no such file, which was found; or it opened one; no file changes
+abbrev pub Opens : {F : Type 0} → (F → Option (List ℕ)) → Files → List ℕ → Option (OpenedFile F) → Files → Type 0
+Opens remaining old name None new = Finds old name None new
+Opens remaining old name (Some file) new = IsOpened remaining old name file new
+
+-- an opened file was closed, and what its reads gave was found; no file changes
+pub record Closes {F : Type 0} (old : Files) (file : OpenedFile F) (new : Files) : Type 0 where
+  pub same : SameFiles old new
+  pub asked : new.found
+      ≡ option_map (λ before. record { name = name_of file; finding = finding_of_file file } ∷ before) old.found
 
 -- a call failed: no content changes, and nothing more is found; the count rises only if the fault is `Device`
 abbrev pub Fails : Files → Files → ShelfFault → Type 0

@@ -1,70 +1,20 @@
 //! A folder as a shelf.
-ghost use Rattle.std.specs.Prelude.{◌≡◌, ◌≢◌, ◌⊎◌, ◌↔◌, IfErr, IfOk, IsOk, IsErrOf, IsTrue, OnOk, MatchResult};
-ghost use Rattle.std.specs.Prelude.{Some, None, Ok, Err, true, false, option_map, take};
-ghost use Rattle.std.specs.Io.{ReadsAtMost};
-ghost use Rattle.std.specs.Io.KnownBytes.{ReadConsumes};
+ghost use Rattle.std.specs.Prelude.{◌≡◌, ◌≢◌, ◌⊎◌, ◌↔◌, IfErr, IfOk, IfSome, IsOk, IsErrOf, MatchResult};
+ghost use Rattle.std.specs.Prelude.{Some, None, Ok, Err, true, option_map, take};
 ghost use Rattle.std.specs.IoError.{error_kind};
-ghost use Rattle.s2shelf.specs.Shelf.{MayHold, SameShelf, Fails, one_more};
+ghost use Rattle.s2shelf.specs.OpenedFile.{has_failed};
+ghost use Rattle.s2shelf.specs.Shelf.{Closes, Fails, one_more};
 ghost use Rattle.std.specs.String.{string_bytes};
-ghost use Rattle.s2shelf.specs.DirShelf.{folder_files, folder_path, has_failed};
+ghost use Rattle.s2shelf.specs.DirShelf.{folder_files, folder_path};
 ghost use Rattle.s2shelf.specs.Working.DirShelf.{path_to};
 
+use crate::opened_file::OpenedFile;
 use crate::shelf::{Shelf, ShelfFault, beginning_of};
 use std::alloc::{AllocError, Global};
 use std::fs::{File, OpenFile};
 use std::io::{ErrorKind, Read};
 use std::rt::Files;
 use std::{fs, io};
-
-/// A file of a folder that was opened for reading. It remembers whether a read of it failed, neither out of memory
-/// nor interrupted.
-#[derive(Drop)]
-pub struct OpenedFile<F> {
-    file: F,
-    failed: bool,
-}
-
-impl<F> OpenedFile<F> {
-    /// Nothing was read yet.
-    fn of(file: F) -> OpenedFile<F>
-        ensures file { result.file ≡ file }
-        ensures failed { has_failed result ≡ false }
-    {
-        OpenedFile {
-            file,
-            failed: false,
-        }
-    }
-}
-
-/// Whether a read that failed so tells of a failure of the device.
-fn is_failure(kind: ErrorKind) -> bool
-    ensures { IsTrue result ↔ ((kind ≢ ErrorKind.OutOfMemory) × (kind ≢ ErrorKind.Interrupted)) }
-{
-    !matches!(kind, ErrorKind::OutOfMemory | ErrorKind::Interrupted)
-}
-
-impl<F: Read> Read for OpenedFile<F> {
-    ghost remaining = { λ f. F.remaining f.file };
-
-    fn read(&mut self, buf: &mut [u8]) -> io::Result<usize>
-        ensures bound { ReadsAtMost result buf.new }
-        ensures bytes { ReadConsumes (F.remaining self.old.file) (F.remaining self.new.file) result buf.new }
-        ensures well { OnOk result (has_failed self.new ≡ has_failed self.old) }
-        ensures failed { IfErr result (λ error. error_kind error ≢ ErrorKind.OutOfMemory
-            → error_kind error ≢ ErrorKind.Interrupted → has_failed self.new ≡ true) }
-        ensures passed_over { IfErr result (λ error. (error_kind error ≡ ErrorKind.OutOfMemory)
-            ⊎ (error_kind error ≡ ErrorKind.Interrupted) → has_failed self.new ≡ has_failed self.old) }
-    {
-        let result = self.file.read(buf);
-        if let Err(error) = &result {
-            if is_failure(error.kind()) {
-                self.failed = true;
-            }
-        }
-        result
-    }
-}
 
 /// A folder of files. It doesn't expose its contents, which are what the system gives.
 ///
@@ -170,7 +120,8 @@ fn open_regular<R: Files>(rt: &R, path: &str) -> io::Result<R::File> {
 
 /// The first `most` bytes that reads of an opened file give. Nothing is read after them. Closes it.
 fn read_beginning<F: Read + Drop>(alloc: Global, file: F, most: usize) -> io::Result<Vec<u8>>
-    ensures { IfOk result (λ bytes. MayHold (option_map (take most) (F.remaining file)) bytes.items) }
+    ensures { IfOk result (λ bytes. IfSome (option_map (take most) (F.remaining file))
+        (λ known. bytes.items ≡ known)) }
 {
     let mut bytes = Vec::new(alloc);
     file.take(most as u64).read_to_end(&mut bytes)?;
@@ -195,22 +146,24 @@ fn write_whole<R: Files>(rt: &R, path: &str, bytes: &[u8]) -> io::Result<()> {
 impl<R: Files + AllocGlobal> Shelf for DirShelf<R> {
     ghost files = { folder_files };
 
-    type Opened = OpenedFile<R::File>;
+    type File = R::File;
 
     fn open(&mut self, name: &str) -> Result<Option<OpenedFile<R::File>>, ShelfFault> {
         let path = self.path_of(name)?;
         let answer = open_regular(&self.rt, path.as_str());
-        let opened = read_answer(answer, &mut self.failures)?;
-        Ok(opened.map(OpenedFile::of))
+        let Some(file) = read_answer(answer, &mut self.failures)? else {
+            return Ok(None);
+        };
+        Ok(Some(OpenedFile::of(name, file)))
     }
 
     /// Answers `Device` if, and only if, a read of the file failed, neither out of memory nor interrupted.
     fn close(&mut self, file: OpenedFile<R::File>) -> Result<(), ShelfFault>
-        ensures answer { MatchResult result (λ _. SameShelf (folder_files self.old) (folder_files self.new))
+        ensures answer { MatchResult result (λ _. Closes (folder_files self.old) file (folder_files self.new))
             (λ fault. Fails (folder_files self.old) (folder_files self.new) fault) }
         ensures device { IsErrOf result ShelfFault.Device ↔ (has_failed file ≡ true) }
     {
-        if file.failed {
+        if file.has_failed() {
             return Err(count_failure(&mut self.failures));
         }
         Ok(())

@@ -1,10 +1,11 @@
 //! A shelf in memory.
 ghost use Rattle.std.specs.Prelude.{◌≡◌, ◌≤◌, ◌-◌, ◌≢◌, ◌↔◌, ℕ, List, None, IsErrOf, IsOk, OnErr, MatchResult};
 ghost use Rattle.std.specs.Prelude.{is_ok, option_map, if◌then◌else◌};
-ghost use Rattle.s2shelf.specs.Shelf.{one_more, KeepsFiles, SameFiles, Finds, FindsBeginning, Opens, PutsFile};
+ghost use Rattle.s2shelf.specs.Shelf.{one_more, KeepsFiles, SameFiles, Finds, FindsBeginning, Opens, Closes, PutsFile};
 ghost use Rattle.s2shelf.specs.Shelf.{Fails, FailsToGet, FailsToPut};
 ghost use Rattle.s2shelf.specs.MemoryShelf.{files_of, failing_of};
 
+use crate::opened_file::OpenedFile;
 use crate::shelf::{Shelf, ShelfFault, beginning_of};
 use std::alloc::Global;
 use std::collections::BTreeMap;
@@ -83,26 +84,29 @@ impl MemoryShelf {
 impl Shelf for MemoryShelf {
     ghost files = { files_of };
 
-    type Opened = Cursor<Vec<u8>>;
+    type File = Cursor<Vec<u8>>;
 
     /// A reader of a copy of the file. Answers `Device` if this is the call that was made to fail.
-    fn open(&mut self, name: &str) -> Result<Option<Cursor<Vec<u8>>>, ShelfFault>
+    fn open(&mut self, name: &str) -> Result<Option<OpenedFile<Cursor<Vec<u8>>>>, ShelfFault>
         ensures answer { MatchResult result
-            (λ opened. Opens (files_of self.old) name.now
-            (option_map ⟦<Cursor<Vec<u8>> as Read>⟧.remaining opened) (files_of self.new))
+            (λ opened. Opens ⟦<Cursor<Vec<u8>> as Read>⟧.remaining (files_of self.old) name.now opened
+            (files_of self.new))
             (λ fault. Fails (files_of self.old) (files_of self.new) fault) }
         ensures turn { IsErrOf result ShelfFault.Device ↔ (failing_of self.old ≡ 1) }
         ensures failing { failing_of self.new ≡ failing_of self.old - 1 }
     {
-        let copy = self.copy_of(name)?;
-        Ok(copy.map(Cursor::new))
+        let Some(bytes) = self.copy_of(name)? else {
+            return Ok(None);
+        };
+        Ok(Some(OpenedFile::of(name, Cursor::new(bytes))))
     }
 
     /// Never fails, as no read of a copy does. Does not count as a call.
-    fn close(&mut self, _file: Cursor<Vec<u8>>) -> Result<(), ShelfFault>
-        ensures closed { IsOk result }
+    fn close(&mut self, file: OpenedFile<Cursor<Vec<u8>>>) -> Result<(), ShelfFault>
+        ensures answer { IsOk result × Closes (files_of self.old) file (files_of self.new) }
         ensures shelf { self.new ≡ self.old }
     {
+        drop(file);
         Ok(())
     }
 

@@ -1,9 +1,10 @@
 //! Named files that may fail.
 ghost use Rattle.std.specs.Prelude.{◌≡◌, MatchResult, option_map, take};
-ghost use Rattle.s2shelf.specs.Shelf.{Files, SameShelf, Finds, FindsBeginning, Opens, PutsFile, Fails};
+ghost use Rattle.s2shelf.specs.Shelf.{Files, Finds, FindsBeginning, Opens, Closes, PutsFile, Fails};
 ghost use Rattle.s2shelf.specs.Shelf.{FailsToGet, FailsToPut};
 ghost use Rattle.s2shelf.specs.declared.shelf.ShelfFault.TheVariants.{Memory};
 
+use crate::opened_file::OpenedFile;
 use std::alloc::AllocError;
 use std::io::Read;
 use thiserror::Error;
@@ -38,31 +39,32 @@ pub(crate) fn beginning_of(content: Option<Vec<u8>>, most: usize) -> Option<Vec<
 
 /// Files by their names.
 ///
-/// A contract sees a shelf as `Files`: whether it exposes its contents, those contents, what was found by asking, and
-/// how many failures of the device were counted (a u64, which starts again at 0 after its greatest value): each call
-/// that answers `Device` is one, and nothing else is, so code for any shelf can't count one by itself. A shelf about
-/// which nothing is known doesn't expose its contents, and what was found is None. Code for any shelf can't know that:
-/// only the clauses of `open`, `get` and `get_beginning` show that a content was found, so the code has to call one of
-/// the three.
+/// A contract sees a shelf as `Files`: whether it exposes its contents, those contents, what was found by asking and
+/// what was stored, in order, and how many failures of the device were counted (a u64, which starts again at 0 after
+/// its greatest value): each call that answers `Device` is one, and nothing else is, so code for any shelf can't count
+/// one by itself. A shelf about which nothing is known doesn't expose its contents, and what was found and stored is
+/// None. Code for any shelf can't know that: only the clauses of the calls below show that a content was found or
+/// stored, so the code has to make one of them.
 pub trait Shelf {
     ghost files: { Self → Files };
 
-    /// A file of the shelf that was opened for reading. It remembers whether a read of it failed.
-    type Opened: Read + Drop;
+    /// The reader that gives the bytes of an opened file.
+    type File: Read + Drop;
 
-    /// Opens the file of that name for reading from its beginning, or answers None if there is none. The content that
-    /// is found is what reads of the file give; if that isn't known, what is found is that the file was opened. No
-    /// content changes; the count rises by one exactly when the answer is `Device`. A read may fail later, which
-    /// `close` tells.
-    fn open(&mut self, name: &str) -> Result<Option<Self::Opened>, ShelfFault>
+    /// Opens the file of that name for reading from its beginning, or answers None if there is none. If there is none,
+    /// that is found; what reads of an opened file give is found when it is closed. No content changes; the count rises
+    /// by one exactly when the answer is `Device`. A read may fail later, which `close` tells.
+    fn open(&mut self, name: &str) -> Result<Option<OpenedFile<Self::File>>, ShelfFault>
         ensures { MatchResult result
-            (λ opened. Opens (files self.old) name.now (option_map Self.Opened.remaining opened) (files self.new))
+            (λ opened. Opens Self.File.remaining (files self.old) name.now opened (files self.new))
             (λ fault. Fails (files self.old) (files self.new) fault) };
 
-    /// Closes an opened file. Answers `Device` if a read of it failed for another reason than that memory ran out or
-    /// that it was interrupted. No content changes; the count rises by one exactly when the answer is `Device`.
-    fn close(&mut self, file: Self::Opened) -> Result<(), ShelfFault>
-        ensures { MatchResult result (λ _. SameShelf (files self.old) (files self.new))
+    /// Closes an opened file. What is found is the bytes that its reads gave: they are the whole file if a read gave
+    /// nothing, and else its beginning. Answers `Device` if a read of it failed for another reason than that memory ran
+    /// out or that it was interrupted, and then nothing is found. No content changes; the count rises by one exactly
+    /// when the answer is `Device`.
+    fn close(&mut self, file: OpenedFile<Self::File>) -> Result<(), ShelfFault>
+        ensures { MatchResult result (λ _. Closes (files self.old) file (files self.new))
             (λ fault. Fails (files self.old) (files self.new) fault) };
 
     /// All bytes of the file of that name, or None if there is none. No content changes; the count rises by one exactly
@@ -100,8 +102,9 @@ pub trait Shelf {
             (files self.new))
             (λ fault. FailsToGet (files self.old) name.now (files self.new) fault) };
 
-    /// Overwrites the file of that name, so that it holds exactly these bytes; no other file changes. After `Device`
-    /// the content of that one file is not known, and the count has risen by one.
+    /// Overwrites the file of that name, so that it holds exactly these bytes, and they are what was stored; no other
+    /// file changes. After `Device` the content of that one file is not known, nothing counts as stored, and the count
+    /// has risen by one.
     fn put(&mut self, name: &str, bytes: &[u8]) -> Result<(), ShelfFault>
         ensures { MatchResult result
             (λ _. PutsFile (files self.old) (files self.new) name.now bytes.now)

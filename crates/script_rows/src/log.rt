@@ -1,8 +1,10 @@
 //! A writer and a shelf that log their calls in one text, in the order in which they come.
-ghost use Rattle.std.specs.Prelude.{◌≡◌, IfErr};
+ghost use Rattle.std.specs.Prelude.{◌≡◌, IfErr, MatchResult};
+ghost use Rattle.s2shelf.specs.Shelf.{Closes, Fails};
+ghost use Rattle.script_rows.specs.Working.Logged.{unknown_files};
 
 use s2calc::Sink;
-use s2shelf::{Shelf, ShelfFault};
+use s2shelf::{OpenedFile, Shelf, ShelfFault};
 use std::alloc::Global;
 use std::cell::RefCell;
 use std::io;
@@ -56,18 +58,19 @@ impl LoggedShelf<'_> {
 }
 
 impl Shelf for LoggedShelf<'_> {
-    ghost use Rattle.std.specs.Prelude.{None, false};
+    ghost files = { λ _. unknown_files };
 
-    ghost files = { λ _. record { tells = false; at = λ _. None; found = None; failures = 0 } };
+    type File = Empty;
 
-    type Opened = Empty;
-
-    fn open(&mut self, name: &str) -> Result<Option<Empty>, ShelfFault> {
+    fn open(&mut self, name: &str) -> Result<Option<OpenedFile<Empty>>, ShelfFault> {
         self.note("OPEN ", name)?;
         Ok(None)
     }
 
-    fn close(&mut self, _file: Empty) -> Result<(), ShelfFault> {
+    fn close(&mut self, _file: OpenedFile<Empty>) -> Result<(), ShelfFault>
+        ensures { MatchResult result (λ _. Closes unknown_files _file unknown_files)
+            (λ fault. Fails unknown_files unknown_files fault) }
+    {
         Ok(())
     }
 

@@ -1,7 +1,6 @@
--- What a clause reads of the bytes that a reader gives. No public clause cites this module.
-use Rattle.std.specs.Prelude.{ℕ, ◌-◌, List, slice_range}
-use Rattle.std.specs.Io.KnownBytes.{prepend_known}
-use Rattle.std.specs.declared.option.Option.{Option}
+-- What a clause reads of the bytes that a file gives. No public clause cites this module.
+use Rattle.std.specs.Prelude.{◌≡◌, ℕ, ◌-◌, List, ◌++◌, slice_range}
+use Rattle.s2shelf.specs.OpenedFile.{Claim}
 use Rattle.s2file.specs.declared.source.Buffer.{Buffer}
 
 -- the bytes that were read and not taken yet
@@ -12,6 +11,12 @@ held b = slice_range b.bytes.items b.start b.end
 abbrev pub room : Buffer → ℕ
 room b = 65536 - b.end
 
--- the bytes that are left, where they are known: those that are held, and those that reads will give
-abbrev pub ahead : Buffer → Option (List ℕ) → Option (List ℕ)
-ahead b coming = prepend_known (held b) coming
+-- by what is claimed of the file, these bytes may be left: those that are held, and then what may come
+pub record Ahead (b : Buffer) (coming : Claim → List ℕ → Type 0) (claim : Claim) (bytes : List ℕ) : Type 0 where
+  pub rest : List ℕ
+  pub is : bytes ≡ held b ++ rest
+  pub comes : coming claim rest
+
+-- these bytes were taken: what may be left now may have been left after them
+pub record Passes (old new : Claim → List ℕ → Type 0) (bytes : List ℕ) : Type 0 where
+  pub back : (claim : Claim) (rest : List ℕ) → new claim rest → old claim (bytes ++ rest)

@@ -1,6 +1,6 @@
 -- How proofs store calls and moments.
-use Rattle.std.specs.Prelude.{◌≡◌, ℕ, List, ◌⊎◌, refl}
-use Rattle.std.specs.Coded.{Coded, code_by, coded_ℕ, coded_list, coded⊎, coded×}
+use Rattle.std.specs.Prelude.{◌≡◌, ℕ, Bool, List, ◌⊎◌, refl}
+use Rattle.std.specs.Coded.{Coded, code_by, coded_ℕ, coded_bool, coded_list, coded⊎, coded×}
 use base.Stored.{coded_unit}
 use mathlib.Core.Logic.{inl, inr}
 use Rattle.s2calc.specs.Moments.{Event, Came, NotCame, LineBegins, LineEnds, Moment}
@@ -27,8 +27,8 @@ abbrev fault_coded : Coded ShelfFault
 fault_coded = code_by (Unit {0} ⊎ Unit {0}) (coded⊎ coded_unit coded_unit) fault_parts fault_from fault_from_parts
 
 abbrev ShelfCallParts : Type 0
-ShelfCallParts = (List ℕ × List ℕ) ⊎ (List ℕ ⊎ (List ℕ ⊎ ((List ℕ × List ℕ) ⊎ ((List ℕ × ShelfFault) ⊎ (List ℕ ⊎
-    (List ℕ × ShelfFault))))))
+ShelfCallParts = (List ℕ × List ℕ) ⊎ (List ℕ ⊎ (List ℕ ⊎ ((List ℕ × List ℕ) ⊎ ((List ℕ × ShelfFault) ⊎ ((List ℕ ×
+    (List ℕ × Bool)) ⊎ (List ℕ × (List ℕ × ShelfFault)))))))
 
 abbrev shelf_call_parts : ShelfCall → ShelfCallParts
 shelf_call_parts (HandedOver name bytes) = inl (name, bytes)
@@ -36,8 +36,8 @@ shelf_call_parts (HadNone name) = inr (inl name)
 shelf_call_parts (OpenedFile name) = inr (inr (inl name))
 shelf_call_parts (Stored name bytes) = inr (inr (inr (inl (name, bytes))))
 shelf_call_parts (Failed name fault) = inr (inr (inr (inr (inl (name, fault)))))
-shelf_call_parts (ClosedFile bytes) = inr (inr (inr (inr (inr (inl bytes)))))
-shelf_call_parts (ClosedNot bytes fault) = inr (inr (inr (inr (inr (inr (bytes, fault))))))
+shelf_call_parts (ClosedFile name bytes ended) = inr (inr (inr (inr (inr (inl (name, (bytes, ended)))))))
+shelf_call_parts (ClosedNot name bytes fault) = inr (inr (inr (inr (inr (inr (name, (bytes, fault)))))))
 
 abbrev shelf_call_from : ShelfCallParts → ShelfCall
 shelf_call_from (inl p) = HandedOver p.0 p.1
@@ -45,8 +45,8 @@ shelf_call_from (inr (inl name)) = HadNone name
 shelf_call_from (inr (inr (inl name))) = OpenedFile name
 shelf_call_from (inr (inr (inr (inl p)))) = Stored p.0 p.1
 shelf_call_from (inr (inr (inr (inr (inl p))))) = Failed p.0 p.1
-shelf_call_from (inr (inr (inr (inr (inr (inl bytes)))))) = ClosedFile bytes
-shelf_call_from (inr (inr (inr (inr (inr (inr p)))))) = ClosedNot p.0 p.1
+shelf_call_from (inr (inr (inr (inr (inr (inl p)))))) = ClosedFile p.0 p.1.0 p.1.1
+shelf_call_from (inr (inr (inr (inr (inr (inr p)))))) = ClosedNot p.0 p.1.0 p.1.1
 
 -- the parts of a call of a shelf are those of no other
 pub shelf_call_from_parts : (c : ShelfCall) → shelf_call_from (shelf_call_parts c) ≡ c
@@ -55,8 +55,8 @@ shelf_call_from_parts (HadNone name) = refl
 shelf_call_from_parts (OpenedFile name) = refl
 shelf_call_from_parts (Stored name bytes) = refl
 shelf_call_from_parts (Failed name fault) = refl
-shelf_call_from_parts (ClosedFile bytes) = refl
-shelf_call_from_parts (ClosedNot bytes fault) = refl
+shelf_call_from_parts (ClosedFile name bytes ended) = refl
+shelf_call_from_parts (ClosedNot name bytes fault) = refl
 
 abbrev bytes_coded : Coded (List ℕ)
 bytes_coded = coded_list coded_ℕ
@@ -65,8 +65,9 @@ bytes_coded = coded_list coded_ℕ
 abbrev shelf_call_coded : Coded ShelfCall
 shelf_call_coded =
     code_by ShelfCallParts (coded⊎ (coded× bytes_coded bytes_coded) (coded⊎ bytes_coded (coded⊎ bytes_coded (coded⊎
-    (coded× bytes_coded bytes_coded) (coded⊎ (coded× bytes_coded fault_coded) (coded⊎ bytes_coded (coded× bytes_coded
-    fault_coded))))))) shelf_call_parts shelf_call_from shelf_call_from_parts
+    (coded× bytes_coded bytes_coded) (coded⊎ (coded× bytes_coded fault_coded) (coded⊎ (coded× bytes_coded (coded×
+    bytes_coded coded_bool)) (coded× bytes_coded (coded× bytes_coded fault_coded)))))))) shelf_call_parts
+    shelf_call_from shelf_call_from_parts
 
 abbrev CallParts : Type 0
 CallParts = (ℕ × List ℕ) ⊎ (Unit {0} ⊎ (List ℕ ⊎ (Unit {0} ⊎ (Unit {0} ⊎ (Unit {0} ⊎ ShelfCall)))))

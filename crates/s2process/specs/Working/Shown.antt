@@ -3,7 +3,7 @@ use Rattle.std.specs.Prelude.{◌-◌}
 use Rattle.s2process.specs.ShelfCalls.{ShelfCall, HandedOver, HadNone, OpenedFile, Stored, Failed, ClosedFile}
 use Rattle.s2process.specs.ShelfCalls.{ClosedNot}
 use Rattle.s2process.specs.StreamCalls.{StreamCall, Gave, GaveNot, Took, TookNot, Flushed, FlushedNot, OfShelf}
-use Rattle.s2process.specs.StreamCalls.{given_in}
+use Rattle.s2shelf.specs.OpenedFile.{joined}
 use Rattle.s2process.specs.declared.calls.OneCall.{OneCall}
 use Rattle.s2process.specs.declared.calls.OneCall.TheVariants as call
 use Rattle.s2process.specs.declared.calls.OneShelfCall.{OneShelfCall}
@@ -19,8 +19,9 @@ shown_by_shelf (shelf.HadNone name) = HadNone name.now
 shown_by_shelf (shelf.OpenedFile name) = OpenedFile name.now
 shown_by_shelf (shelf.Stored name bytes) = Stored name.now bytes.now
 shown_by_shelf (shelf.Failed name fault) = Failed name.now fault
-shown_by_shelf (shelf.ClosedFile reads) = ClosedFile (given_in reads.now.calls)
-shown_by_shelf (shelf.ClosedNot reads fault) = ClosedNot (given_in reads.now.calls) fault
+shown_by_shelf (shelf.ClosedFile name given ended) =
+    ClosedFile (joined name.now.entries) (joined given.now.entries) ended
+shown_by_shelf (shelf.ClosedNot name given fault) = ClosedNot (joined name.now.entries) (joined given.now.entries) fault
 
 -- the call that is shown
 abbrev pub shown : OneCall → StreamCall

@@ -1,5 +1,5 @@
 use Rattle.std.proofs.Common.{◌≡◌, Some, inl, inr, refl, rules, subst}
-use Rattle.s2shelf.specs.Shelf.{MayFind}
+use Rattle.s2shelf.specs.Shelf.{Finds}
 use Rattle.s2calc.specs.Sessions.{FetchesNoState}
 use Rattle.s2calc.proofs.sessions.restore.Goals as goal
 
@@ -7,7 +7,7 @@ pub returns-in-Ok : goal.returns-in-Ok
 returns-in-Ok g c =
     let (bytes, fetched, taken) = c.in-Ok.ensures.answer in
     let name : c.as_str.result.now ≡ c.args.name.now = search rules in
-    let found = subst (λ n. MayFind (g.S.Shelf.files c.args.shelf.now) n (Some bytes)
+    let found = subst (λ n. Finds (g.S.Shelf.files c.args.shelf.now) n (Some bytes)
     (g.S.Shelf.files c.take_over_file.new.shelf)) name fetched in
     inl (bytes, found, taken, refl)
 

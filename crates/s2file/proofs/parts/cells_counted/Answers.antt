@@ -2,17 +2,23 @@ use Rattle.std.proofs.Common.{◌≡◌, ◌+◌, ◌*◌, ◌≤◌, ℕ, List,
 use Rattle.std.proofs.lemmas.Bool.{MatchBool-at_false}
 use Rattle.std.proofs.lemmas.List.{take-append-drop, length-take-le}
 use Rattle.std.proofs.lemmas.Result.{err_from_is_err_and}
-use Rattle.s2file.specs.Working.Source.{ahead, held}
-use Rattle.s2file.specs.Working.SessionParts.{Lacks, AreCounted, SpellsWrong, identifiers_text}
-use Rattle.s2file.proofs.SessionReading.{refuses}
-use Rattle.s2file.proofs.TakingCells.{cells_more, cells_end, cells_wrong, length_more}
+use Rattle.s2shelf.proofs.Given.{none_left}
+use Rattle.s2file.proofs.Taking.{joined, failed}
+use Rattle.s2file.proofs.TakingCells.{cells_more, cells_end, cells_refused, length_more}
 use Rattle.s2file.proofs.parts.cells_counted.Goals as goal
+
+pub returns-in_err-has : goal.returns-in_err-has
+returns-in_err-has g c =
+    let p = err_from_is_err_and c.from_residual.result c.from_residual.ensures.1 in
+    rw (p.1, p.2) (failed c.in_err-has.field-0.0 _ c.in_err-has.ensures.has
+    (joined c.pieces.invariant.taken.is c.in_err-has.ensures.kept))
 
 pub returns-then-not-branch : goal.returns-then-not-branch
 returns-then-not-branch g c =
     let few = MatchBool-at_false _ _ c.if-not-branch.true c.in_ok-has.ensures.has in
-    cells_end _ (held c.has.new.self) c.args.count c.pieces.invariant.taken
-    c.in_ok-has.ensures.kept few.1 few.0 (omega (arith, c.pieces-test.true, c.len.ensures, c.pieces.cells.ok.0))
+    cells_end c.pieces.invariant.taken c.has.new.self c.in_ok-has.ensures.kept c.args.count
+    (none_left g.F.Read.remaining c.has.new.file few.1) few.0
+    (omega (arith, c.pieces-test.true, c.len.ensures, c.pieces.cells.ok.0))
 
 pub returns-in_err-push_cells : goal.returns-in_err-push_cells
 returns-in_err-push_cells g c =
@@ -30,11 +36,10 @@ returns-in_err-push_cells g c =
       c.pieces.cells.ok.0,
       c.pieces.invariant.few,
     ) in
-    rw (p.1, p.2) (refuses c.in_err-push_cells.field-0.0 (SpellsWrong front)
-    (Lacks identifiers_text (AreCounted c.args.count) (ahead c.args.buffer.now (g.R.Read.remaining c.args.reader.now)))
-    (cells_wrong (g.R.Read.remaining c.has.new.reader) (held c.has.new.self) (drop size slice) c.args.count
-    c.pieces.invariant.taken c.in_ok-has.ensures.kept (sym c.as_slice-bytes.ensures ∙ sym (take-append-drop size slice))
-    (omega (arith, len, most))) c.in_err-push_cells.ensures)
+    rw (p.1, p.2) (cells_refused c.pieces.invariant.taken c.has.new.self c.in_ok-has.ensures.kept c.args.count
+    c.in_err-push_cells.field-0.0 front (drop size slice)
+    (sym c.as_slice-bytes.ensures ∙ sym (take-append-drop size slice)) (omega (arith, len, most))
+    c.in_err-push_cells.ensures)
 
 pub pieces-preserved : goal.pieces-preserved
 pieces-preserved g c =
@@ -53,8 +58,7 @@ pieces-preserved g c =
       c.pieces.invariant.few,
     ) in
     record {
-      taken = cells_more (g.R.Read.remaining c.has.new.reader)
-          (held c.has.new.self) _ c.pieces.invariant.taken c.in_ok-has.ensures.kept
+      taken = cells_more c.pieces.invariant.taken c.has.new.self c.consume.new.self c.in_ok-has.ensures.kept
           (sym c.as_slice-bytes.ensures ∙ sym (take-append-drop size slice) ∙ ap (λ (l : List ℕ). front ++ l)
           (ap (drop size) c.as_slice-bytes.ensures ∙ sym c.consume.ensures)) c.in_ok-push_cells.ensures;
       few = omega (arith, most, length_more c.min-here.result len c.in_ok-push_cells.ensures);

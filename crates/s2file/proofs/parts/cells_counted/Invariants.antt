@@ -1,13 +1,14 @@
 use Rattle.std.proofs.Common.{◌-◌, ◌≤◌, All, length}
 use Rattle.s2cell.specs.Cell.{IsCell}
-use Rattle.s2file.specs.Working.Source.{ahead}
+use Rattle.s2shelf.specs.OpenedFile.{Left}
+use Rattle.s2file.specs.Working.Source.{Ahead}
 use Rattle.s2file.specs.Working.SessionParts.{Takes, identifiers_text}
 use Rattle.s2file.proofs.parts.cells_counted.Given as goal
 
 abbrev pub invariant-pieces : goal.invariant-pieces
 invariant-pieces g l = record {
-  taken : Takes identifiers_text (All IsCell) (ahead l.fn.buffer (g.R.Read.remaining l.fn.reader)) l.cells.items
-      (ahead l.buffer (g.R.Read.remaining l.reader));
+  taken : Takes identifiers_text (All IsCell) (Ahead l.fn.buffer (Left g.F.Read.remaining l.fn.file)) l.cells.items
+      (Ahead l.buffer (Left g.F.Read.remaining l.file));
   few : length l.cells.items ≤ l.count;
 }
 

@@ -1,19 +1,32 @@
-use Rattle.std.proofs.Common.{◌≡◌, ℕ, ◌+◌, ◌<◌, List, ◌++◌, length, take, IfSome, ap, ◌∙◌, subst, arith}
-use Rattle.std.specs.Option.{option_map}
-use Rattle.s2file.specs.declared.union_file.TheConstants.{MOST_SIZE}
-use Rattle.s2file.specs.Working.Source.{held}
-use Rattle.s2file.proofs.TakingSession.{all_read, union_found}
+use Rattle.std.proofs.Common.{sym, ◌∙◌, arith}
+use Rattle.std.proofs.lemmas.Bool.{MatchBool-at_false}
+use Rattle.std.proofs.lemmas.Result.{err_from_is_err_and}
+use Rattle.s2shelf.proofs.Given.{none_left}
+use Rattle.s2file.proofs.Taking.{failed, joined, of_front, weaker}
+use Rattle.s2file.proofs.TakingSession.{all_of, union_found, union_too_long}
 use Rattle.s2file.proofs.session_file.session_of_union.Goals as goal
 
-pub returns-in-Ok : goal.returns-in-Ok
-returns-in-Ok g c =
-    let before = c.in_ok-extend_from_slice.ensures.items
-    ∙ ap (λ (l : List ℕ). l ++ c.as_slice.result.now) c.new-bytes.ensures.items in
-    let most : MOST_SIZE < length (held c.args.buffer.now) + c.take.result.limit
-    = omega (arith, c.take.ensures.limit, c.len.ensures, ap length before, ap length c.as_slice.ensures) in
-    let read = subst (λ r. IfSome (option_map (take c.take.result.limit) (g.R.Read.remaining r.now))
-    (λ rest. c.read_to_end.new.buf.items ≡ c.extend_from_slice.new.self.items ++ rest)) c.take.ensures.inner
-    c.in-Ok.ensures.bytes in
-    union_found (g.R.Read.remaining c.args.reader.now) _ c.deref.result.now _ c.session_of_bytes.result most
-    (all_read _ (held c.args.buffer.now) _ _ _ _ before c.as_slice.ensures read c.deref.ensures.value)
-    c.session_of_bytes.ensures
+pub returns-in_err-has-clause-finds : goal.returns-in_err-has-clause-finds
+returns-in_err-has-clause-finds g c =
+    let p = err_from_is_err_and c.from_residual.result c.from_residual.ensures.1 in
+    rw (p.1, p.2) (failed c.in_err-has.field-0.0 _ c.in_err-has.ensures.has
+    (joined c.pieces.invariant c.in_err-has.ensures.kept))
+
+pub returns-then-not-branch-clause-finds : goal.returns-then-not-branch-clause-finds
+returns-then-not-branch-clause-finds g c =
+    let few = MatchBool-at_false _ _ c.if-not-branch.true c.in_ok-has.ensures.has in
+    let all = all_of c.pieces.invariant c.has.new.self c.in_ok-has.ensures.kept
+    (none_left g.F.Read.remaining c.has.new.file few.1) few.0 in
+    union_found c.deref.result.now c.session_of_bytes.result
+    (weaker (λ bytes is. is ∙ sym c.deref.ensures.value) all) c.session_of_bytes.ensures
+
+pub returns-in_err-extend_from_slice-clause-finds : goal.returns-in_err-extend_from_slice-clause-finds
+returns-in_err-extend_from_slice-clause-finds g c =
+    let p = err_from_is_err_and c.from_residual-in_err-extend_from_slice.result
+    c.from_residual-in_err-extend_from_slice.ensures.1 in
+    rw (p.1, p.2) (of_front (joined c.pieces.invariant c.in_ok-has.ensures.kept) (λ rest. tt))
+
+pub returns-clause-finds : goal.returns-clause-finds
+returns-clause-finds g c =
+    union_too_long c.pieces.bytes.items c.pieces.invariant
+    (omega (arith, c.pieces-test.false, c.len.ensures, c.pieces.bytes.ok.0))
