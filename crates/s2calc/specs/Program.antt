@@ -1,6 +1,6 @@
 -- What the program's own calls answer.
 use Rattle.std.specs.Prelude.{◌≡◌, ◌≤◌, ℕ, zero, suc, Bool, true, false, not, List, Option, None, Some}
-use Rattle.std.specs.Prelude.{Result, Ok, Err, MatchResult}
+use Rattle.std.specs.Prelude.{Result, Ok, Err, MatchResult, ◌++◌, codes, string_bytes}
 use Rattle.std.specs.Io.KnownBytes.{Appends}
 use Rattle.s2script.specs.declared.refusal.Refusal.TheVariants.{Cell as NoCell}
 use Rattle.s2calc.specs.declared.refusal.Refusal.TheVariants.{Words}
@@ -56,6 +56,17 @@ abbrev pub status_of_stop : Stop → ℕ
 status_of_stop (Help text) = 0
 status_of_stop (Usage text) = 2
 status_of_stop NoMemory = 3
+
+-- what is wrong with words that are not UTF-8
+unfoldable pub invalid_utf8_text : List ℕ
+invalid_utf8_text = codes "error: invalid UTF-8 was detected in one or more arguments\n\n"
+    ++ codes "For more information, try '--help'.\n"
+
+-- words that are not UTF-8 make no sense, and this is what is wrong with them; or there was no memory to say so
+abbrev pub StopsForInvalid : Stop → Type 0
+StopsForInvalid (Help text) = ⊥
+StopsForInvalid (Usage text) = string_bytes text ≡ invalid_utf8_text
+StopsForInvalid NoMemory = Unit {0}
 
 -- the limit and the depth of a run are in range
 abbrev pub IsInRange : Job → Type 0

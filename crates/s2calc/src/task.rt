@@ -1,6 +1,6 @@
 //! What the program is asked for, and why it may be asked for nothing.
-ghost use Rattle.std.specs.Prelude.{◌≡◌, ◌≤◌};
-ghost use Rattle.s2calc.specs.Program.{status_of_stop};
+ghost use Rattle.std.specs.Prelude.{◌≡◌};
+ghost use Rattle.s2calc.specs.Program.{status_of_stop, StopsForInvalid};
 
 use std::alloc::Global;
 
@@ -74,8 +74,9 @@ impl Stop {
     }
 
     /// What clap says of words that are not UTF-8, as words that make no sense; or out of memory.
+    #[tactic(auto, unfolding(crate::specs::Program::invalid_utf8_text))]
     pub fn invalid_utf8(alloc: Global) -> Stop
-        ensures { 2 ≤ status_of_stop result }
+        ensures { StopsForInvalid result }
     {
         match String::from_str(alloc, INVALID_UTF8) {
             Ok(text) => Stop::Usage(text),
