@@ -41,6 +41,14 @@ class UnionFiles(unittest.TestCase):
         self.answers("add a 3\nsave a f\nload a f\n", "ok 0 1\nerror file\nerror missing\n")
         self.checks("f", "error missing")
 
+    def test_the_longest_name_and_one_byte_more(self):
+        longest = "n" * 64
+        self.write(longest, b"\x01" + number(0))
+        self.checks(longest, "cells 0 leaves 0")
+        self.checks(longest + "n", "error name")
+        for words in ([longest], [longest, longest], ["--fit", longest]):
+            self.assertEqual(answered("draw", "--dir", self.folder, *words)[0], 0)
+
     def test_a_device_is_not_opened_and_a_link_is_followed(self):
         os.symlink("/dev/zero", self.path("zero"))
         os.mkfifo(self.path("fifo"))

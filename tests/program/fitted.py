@@ -101,6 +101,7 @@ class Fitted(unittest.TestCase):
         self.check(corner="9ffffffffffffffd b000000000000001")
         self.check(nothing="")
         self.check(nothing="", all="1 3 5 7 9 b")
+        self.check(**{f"f{k}": "0/1 0/3" for k in range(40)})
         self.check(france="47e7 47e1 0d50d", germany="479 47b1", far="47e66e1d8f8be23b")
 
     def test_random_pictures(self):
