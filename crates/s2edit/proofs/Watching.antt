@@ -1,25 +1,24 @@
 -- The cells that are watched for changes: those that are named, and those beside them.
 use Rattle.std.proofs.Common.{◌≡◌, ℕ, ◌+◌, ◌-◌, ◌*◌, ◌<◌, ◌≤◌, Bool, true, ◌||◌, eqb, List, [], ◌∷◌, ◌++◌, length}
-use Rattle.std.proofs.Common.{◌⊎◌, inl, inr, map, drop, get_or, refl, sym, ap, ◌∙◌, subst, arith}
+use Rattle.std.proofs.Common.{map, drop, get_or, refl, sym, ap, ◌∙◌, subst, arith}
 use Rattle.std.proofs.Math.Logic.{⊎_elim}
-use Rattle.std.proofs.lemmas.Bool.{cases_lt, cases_order}
+use Rattle.std.proofs.lemmas.Bool.{cases_order}
 use Rattle.std.proofs.lemmas.Grind.{common_steps}
-use Rattle.std.proofs.lemmas.List.Elements.{All-contains}
+use Rattle.std.proofs.lemmas.List.Sorted.{Contains-permutation}
 use Rattle.std.proofs.lemmas.List.Folds.{list_any-append}
 use Rattle.std.specs.List.{AllByRecursion}
-use Rattle.s2cell.specs.Cell.{IsCell, level_of, first_leaf, size_of, covers, child_of, parent_of}
-use Rattle.s2cell.proofs.CellLemmas.{cell_leaves}
+use Rattle.std.specs.List.Sorted.{IsPermutation}
+use Rattle.s2cell.specs.Cell.{IsCell, level_of, first_leaf, size_of, covers, child_of}
 use Rattle.s2cell.proofs.Calls.{IsCell-parent_of, child_leaves, shallow}
-use Rattle.s2cell.proofs.Family.{same_ends, size_le, deeper_inside, child_within, parent_level, parent_around}
-use Rattle.s2cell.proofs.Leaves.{covers_from, Within, inside_from_within}
+use Rattle.s2cell.proofs.Family.{child_within, parent_level, parent_around}
+use Rattle.s2cell.proofs.Leaves.{covers_from, inside_from_within}
 use Rattle.s2list.specs.Packed.{IsPacked, IsPlace, FirstEndBy, EndsAfter}
 use Rattle.s2list.specs.Union.{has_leaf, IsLocal, IsWithin, LiesIn}
 use Rattle.s2list.proofs.Checking.{packed_from_local}
-use Rattle.s2list.proofs.Normal.{holder, family, all_held, leaf_to}
 use Rattle.s2list.proofs.PackedLocal.{place}
 use Rattle.s2union.specs.Apply.{has}
 use Rattle.s2file.specs.declared.session.Move.{Move}
-use Rattle.s2file.specs.Session.{Diff, IsMove, diff_of}
+use Rattle.s2file.specs.Session.{Diff, diff_of}
 use Rattle.s2edit.specs.Working.InTurn.{of_register}
 use Rattle.s2edit.specs.Working.Part.{around, IsWatched, HoldsNamed, AllWatched}
 use Rattle.s2edit.proofs.Following.{drop_next}
@@ -102,22 +101,6 @@ next_watched {T} {u} xs i c low is w rest k h =
     (λ e. subst (IsWatched T u) (grind (arith, common_steps, e)) w)
     (λ n. rest k (grind (arith, common_steps, n, here)))
 
--- what lies in a cell is that cell, or its parent lies there too
-in_holder : (d w : ℕ) → IsCell d → IsCell w → Within d w → (w ≡ d) ⊎ Within (around d) w
-in_holder d w g k v =
-    let up : level_of d - 1 ≤ level_of d = omega arith in
-    let p : IsCell (around d) = IsCell-parent_of d (level_of d - 1) (around d) g up refl in
-    let level = parent_level d (level_of d - 1) g up in
-    let here = parent_around d (level_of d - 1) g up in
-    let some = (cell_leaves d g).some in
-    ⊎_elim
-    (λ (l : level_of w < level_of d). inr (deeper_inside (around d) w (first_leaf d) p k (omega (arith, level, l))
-    here.low (omega (arith, here.high, some)) v.low (omega (arith, v.high, some))))
-    (λ (l : level_of d ≤ level_of w).
-    let s = size_le w d k g l in
-    inl (same_ends w d k g (omega (arith, s, v.low, v.high)) (omega (arith, s, v.low, v.high))))
-    (cases_lt (level_of w) (level_of d))
-
 -- a cell is watched if all of its parent is
 pub watched_around : {T : ℕ → Bool} {u : List ℕ} (d : ℕ) → IsCell d → LiesIn T (around d) → IsWatched T u d
 watched_around d g inside =
@@ -132,42 +115,23 @@ watched_around d g inside =
           (child_within (around d) i p (omega (arith, level, most)) l) x v);
     }
 
--- what is said of a cell holds of the cells in it
-watched_in : {T : ℕ → Bool} {u : List ℕ} (d w : ℕ) → IsCell d → Within d w → IsWatched T u w → IsWatched T u d
-watched_in {T} {u} d w g v a = ⊎_elim
-    (λ (e : w ≡ d). subst (IsWatched T u) e a)
-    (λ (b : Within (around d) w). watched_around d g (λ x h. a.own x (inside_from_within (around d) w b x h)))
-    (in_holder d w g a.cell v)
-
--- if the cells of a union are watched, so are those that lie in its leaves
-watched_by : {T : ℕ → Bool} {u : List ℕ} (v : List ℕ) (d : ℕ) → IsLocal v →
-    ((w : ℕ) → has v w ≡ true → IsWatched T u w) → IsCell d → LiesIn (has_leaf v) d → IsWatched T u d
-watched_by v d l each g inside =
-    let most = shallow d g in
-    elim (all_held (30 - level_of d) v d l.cells g (omega arith) inside) [
-      | holder w mw within ↦ watched_in d w g within (each w (has_member v w mw))
-      | family q cq lq f ↦ absurd (l.unmerged q cq lq f)
-    ]
-
-pub all_watched : {T : ℕ → Bool} {u : List ℕ} (v named : List ℕ) (ds : List Diff) → IsLocal v →
-    ((x : ℕ) → has_leaf v x ≡ has_leaf named x) → ((w : ℕ) → has v w ≡ true → IsWatched T u w) →
-    AllByRecursion (HoldsNamed (has_leaf named)) ds → AllWatched T u ds
-all_watched v named [] l same each a = tt
-all_watched v named (d ∷ ds) l same each a = (
-  record {
-    out = λ c h. let n = a.0.out c h in watched_by v c l each n.0 (λ x y. same x ∙ n.1 x y);
-    put = λ c h. let n = a.0.put c h in watched_by v c l each n.0 (λ x y. same x ∙ n.1 x y);
-  },
-  all_watched v named ds l same each a.1,
+-- if all cells of a set are watched, so are those that changes name
+pub all_watched : {S T : ℕ → Bool} {u : List ℕ} (ds : List Diff) → ((c : ℕ) → S c ≡ true → IsWatched T u c) →
+    AllByRecursion (HoldsNamed S) ds → AllWatched T u ds
+all_watched [] each a = tt
+all_watched (d ∷ ds) each a = (
+  record { out = λ c h. each c (a.0.out c h); put = λ c h. each c (a.0.put c h) },
+  all_watched ds each a.1,
 )
+
+-- in another order it has the same cells
+pub still_had : (xs ys : List ℕ) → IsPermutation xs ys → IsWithin (has xs) (has ys)
+still_had xs ys p c h = has_member ys c (Contains-permutation xs ys c p (member_had xs c h))
 
 -- ---- the cells that changes name
 
 pub holds_more : {S T : ℕ → Bool} {d : Diff} → IsWithin S T → HoldsNamed S d → HoldsNamed T d
-holds_more w a = record {
-  out = λ c h. ((a.out c h).0, λ x v. w x ((a.out c h).1 x v));
-  put = λ c h. ((a.put c h).0, λ x v. w x ((a.put c h).1 x v));
-}
+holds_more w a = record { out = λ c h. w c (a.out c h); put = λ c h. w c (a.put c h) }
 
 -- what the next of the changes that are left names, if it is one of the register
 pub next_held : {T : ℕ → Bool} (r : ℕ) (ms : List Move) (i : ℕ) (m : Move) → i < length ms → m ≡ get_or ms i m →
@@ -181,25 +145,22 @@ next_held {T} r ms i m low is w rest =
     (λ e. rw e (w (grind (arith, common_steps, e)), rest))
     (λ n. rw n rest))
 
+has-append : (xs ys : List ℕ) (c : ℕ) → has (xs ++ ys) c ≡ (has xs c || has ys c)
+has-append [] ys c = refl
+has-append (x ∷ xs) ys c = grind (arith, common_steps, has-append xs ys c)
+
 -- a list with the cells that a change takes out and puts in
 module _ (named mid all : List ℕ) (m : Move) (first : mid ≡ named ++ m.out.items)
     (second : all ≡ mid ++ m.put.items) where
-  leaves_of_all : (x : ℕ) → has_leaf all x ≡ ((has_leaf named x || has_leaf m.out.items x) || has_leaf m.put.items x)
-  leaves_of_all x = ap (λ (l : List ℕ). has_leaf l x) second ∙ list_any-append (λ c. covers c x) mid m.put.items
-      ∙ ap (λ b. b || has_leaf m.put.items x)
-      (ap (λ (l : List ℕ). has_leaf l x) first ∙ list_any-append (λ c. covers c x) named m.out.items)
+  cells_of_all : (c : ℕ) → has all c ≡ ((has named c || has m.out.items c) || has m.put.items c)
+  cells_of_all c = ap (λ (l : List ℕ). has l c) second ∙ has-append mid m.put.items c
+      ∙ ap (λ b. b || has m.put.items c) (ap (λ (l : List ℕ). has l c) first ∙ has-append named m.out.items c)
 
-  pub named_kept : IsWithin (has_leaf named) (has_leaf all)
-  named_kept x h = grind (arith, common_steps, leaves_of_all x, h)
+  pub named_kept : IsWithin (has named) (has all)
+  named_kept c h = grind (arith, common_steps, cells_of_all c, h)
 
-  pub named_held : IsMove (diff_of m) → HoldsNamed (has_leaf all) (diff_of m)
-  named_held g = record {
-    out = λ c h. (
-      All-contains IsCell m.out.items c g.out.valid (member_had m.out.items c h),
-      λ x v. grind (arith, common_steps, leaves_of_all x, leaf_to m.out.items c x (member_had m.out.items c h) v),
-    );
-    put = λ c h. (
-      All-contains IsCell m.put.items c g.put.valid (member_had m.put.items c h),
-      λ x v. grind (arith, common_steps, leaves_of_all x, leaf_to m.put.items c x (member_had m.put.items c h) v),
-    );
+  pub named_held : HoldsNamed (has all) (diff_of m)
+  named_held = record {
+    out = λ c h. grind (arith, common_steps, cells_of_all c, h);
+    put = λ c h. grind (arith, common_steps, cells_of_all c, h);
   }

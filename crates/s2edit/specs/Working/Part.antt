@@ -11,10 +11,10 @@ use Rattle.s2file.specs.Session.{Diff}
 abbrev pub around : ℕ → ℕ
 around c = parent_of c (level_of c - 1)
 
--- the set has all leaves of each cell that the change names
+-- the set has each cell that the change names
 pub record HoldsNamed (S : ℕ → Bool) (d : Diff) : Type 0 where
-  pub out : (c : ℕ) → has d.out c ≡ true → IsCell c × LiesIn S c
-  pub put : (c : ℕ) → has d.put c ≡ true → IsCell c × LiesIn S c
+  pub out : (c : ℕ) → has d.out c ≡ true → S c ≡ true
+  pub put : (c : ℕ) → has d.put c ≡ true → S c ≡ true
 
 -- the set has all leaves of each child of the cell `p` that is in the list
 abbrev pub HasChildren : (ℕ → Bool) → List ℕ → ℕ → Type 0

@@ -5,7 +5,7 @@ ghost use Rattle.s2cell.specs.Cell.{level_of, first_leaf};
 ghost use Rattle.s2list.specs.Union.{has_leaf, IsLocal, IsWithin, LiesIn};
 ghost use Rattle.s2list.specs.Packed.{FirstEndBy};
 ghost use Rattle.s2union.specs.Apply.{has};
-ghost use Rattle.s2file.specs.Session.{diff_of, IsMove};
+ghost use Rattle.s2file.specs.Session.{diff_of};
 ghost use Rattle.s2edit.specs.Working.InTurn.{of_register};
 ghost use Rattle.s2edit.specs.Working.Part.{around, IsPartFor, IsWatched, HoldsNamed, HasChildren};
 
@@ -29,14 +29,14 @@ pub(crate) fn part_of(
     moves: &[Move],
     register: usize,
 ) -> Result<CellUnion, AllocError>
-    requires { AllByRecursion IsMove (map diff_of moves.now) }
     ensures { IfOk result (λ part. IsPartFor (of_register register (map diff_of moves.now)) union.now.cells
         part.cells) }
 {
     let _ = union.cells();
-    let named = normalise(named_cells(alloc, moves, register)?);
+    let mut named = named_cells(alloc, moves, register)?;
+    named.sort_unstable();
     let mut cells = Vec::new(alloc);
-    watch(&mut cells, union, named.cells())?;
+    watch(&mut cells, union, &named)?;
     let watched = normalise(cells);
     let part = union.intersection(&watched)?;
     if union.can_apply(part.cells(), &[]) {
@@ -48,8 +48,7 @@ pub(crate) fn part_of(
 
 /// The cells that changes of the register name.
 fn named_cells(alloc: Global, moves: &[Move], register: usize) -> Result<Vec<CellId>, AllocError>
-    requires { AllByRecursion IsMove (map diff_of moves.now) }
-    ensures { IfOk result (λ named. AllByRecursion (HoldsNamed (has_leaf named.items))
+    ensures { IfOk result (λ named. AllByRecursion (HoldsNamed (has named.items))
         (of_register register (map diff_of moves.now))) }
 {
     let mut named = Vec::new(alloc);
@@ -61,10 +60,9 @@ fn named_cells(alloc: Global, moves: &[Move], register: usize) -> Result<Vec<Cel
 
 /// Appends the cells that a change names, if it is one of the register.
 fn name_cells(named: &mut Vec<CellId>, change: &Move, register: usize) -> Result<(), AllocError>
-    requires { IsMove (diff_of change.now) }
-    ensures kept { OnOk result (IsWithin (has_leaf named.old.items) (has_leaf named.new.items)) }
+    ensures kept { OnOk result (IsWithin (has named.old.items) (has named.new.items)) }
     ensures each { OnOk result ((diff_of change.now).register ≡ register →
-        HoldsNamed (has_leaf named.new.items) (diff_of change.now)) }
+        HoldsNamed (has named.new.items) (diff_of change.now)) }
 {
     if change.register as usize != register {
         return Ok(());

@@ -17,4 +17,3 @@ returns-clause-each c e = named_held c.args.named.now.items c.extend_from_slice.
     ∙ ap (λ (l : List ℕ). c.args.named.now.items ++ l) c.deref.ensures.value)
     (c.in_ok-extend_from_slice-2.ensures.items
     ∙ ap (λ (l : List ℕ). c.extend_from_slice.new.self.items ++ l) c.deref-2.ensures.value)
-    c.requires
