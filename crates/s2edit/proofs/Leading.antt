@@ -3,6 +3,7 @@ use Rattle.std.proofs.Common.{◌≡◌, ℕ, zero, suc, ◌+◌, ◌≤◌, Lis
 use Rattle.std.proofs.Common.{Option, Some, None, IsNone, IfSome, ◌↔◌, option_copied, Bor, refl, sym, ap, ◌∙◌, subst}
 use Rattle.std.proofs.Common.{arith}
 use Rattle.std.proofs.lemmas.Bool.{true≢false}
+use Rattle.std.proofs.lemmas.List.{length-map}
 use Rattle.std.proofs.lemmas.Option.{slice_get_past}
 use Rattle.s2list.specs.Union.{IsLocal}
 use Rattle.s2union.specs.Apply.{cells_without}
@@ -10,13 +11,26 @@ use Rattle.s2union.proofs.Applied.{only_out, only_put}
 use Rattle.s2list.specs.Union.{Union}
 use Rattle.s2file.proofs.Places.{none_past}
 use Rattle.s2file.specs.Session.{Diff}
-use Rattle.s2edit.specs.History.{AllLists, AllTables, EachList}
+use Rattle.s2edit.specs.History.{History, AllLists, AllTables, EachList}
 use Rattle.s2edit.specs.Diff.{inverse}
 use Rattle.s2edit.specs.Leads.{list_at, table_at, Leads}
 use Rattle.s2edit.specs.Working.Chain.{list_after, table_after, tables_after, FitsTable, FitAlong, lists_of}
 use Rattle.s2edit.specs.Chain.{IsLocalWithin}
 use Rattle.s2edit.specs.Working.Chain.{AllWithin, history}
+use Rattle.s2edit.specs.Working.Editor.{history_of}
+use Rattle.s2edit.specs.declared.editor.Editor.TheInside.{Inside}
 use Rattle.s2edit.proofs.Tables.{AllWithin-at, list_at-table_after, table_back, fits_back, within_after}
+use Rattle.s2edit.proofs.Tables.{length-tables_after}
+
+-- how many tables each side of an editor's history has
+pub side_counts : (e : Inside) (h : History (List ℕ)) → history_of e ≡ h →
+    (length e.past.items ≡ length h.past) × (length e.future.items ≡ length h.future)
+side_counts e h view =
+    let now : List (List ℕ) = lists_of e.registers.items in (
+      sym (length-tables_after now (map inverse e.past.items) ∙ length-map e.past.items inverse)
+          ∙ ap (λ (k : History (List ℕ)). length k.past) view,
+      sym (length-tables_after now e.future.items) ∙ ap (λ (k : History (List ℕ)). length k.future) view,
+    )
 
 -- a change that fits leads from one table to the next
 pub lead_ahead : (limit : ℕ) (t : List (List ℕ)) (d : Diff) → AllWithin limit t → FitsTable limit t d →

@@ -74,6 +74,11 @@ pub as_long : (S : ℕ → Bool) (limit : ℕ) (u v : List ℕ) → IsNormalForm
     limit < length v
 as_long S limit u v nu l nv = subst (λ (x : List ℕ). limit < length x) (one_normal_form S u v nu nv) l
 
+-- what is said of the leaves of a register's list
+pub of_list : (X : List ℕ → Type 0) (h : History (List ℕ)) (r : ℕ) (u : List ℕ) → slice_get h.now r ≡ Some u → X u →
+    X (list_at h.now r)
+of_list X h r u there x = subst X (sym (get_or_from_slice_get h.now r u [] there)) x
+
 -- by a change that was made
 module _ (S : ℕ → Bool) (r : ℕ) (h h' : History (List ℕ)) (d : Diff) (u : List ℕ)
     (there : slice_get h.now r ≡ Some u) (local : IsLocal u) (g : Gives S r u d) where

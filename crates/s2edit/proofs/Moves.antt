@@ -10,7 +10,7 @@ use Rattle.s2edit.specs.Diff.{inverse}
 use Rattle.s2edit.specs.Leads.{list_at}
 use Rattle.s2edit.specs.Working.Chain.{list_after, table_after, tables_after, FitsTable, FitAlong, lists_of, AllWithin}
 use Rattle.s2edit.specs.Working.Chain.{AllRoomy, history}
-use Rattle.s2edit.proofs.Tables.{within_after, tables_back, along_back}
+use Rattle.s2edit.proofs.Tables.{within_after, tables_back, along_back, AllRoomy-get}
 use Rattle.s2edit.proofs.Numbers.{out_lost, put_won}
 
 first_and_rest : {X : Type 0} (xs : List X) (x : X) → Some x ≡ slice_get xs 0 → xs ≡ x ∷ drop 1 xs
@@ -27,6 +27,16 @@ pub last_fits : (limit : ℕ) (t : List (List ℕ)) (ds : List Diff) (d : Diff) 
     Some d ≡ slice_get ds 0 → FitsTable limit t (inverse d)
 last_fits limit t [] d f h = absurd (cc)
 last_fits limit t (e ∷ ds) d f h = let same : e ≡ d = cc in subst (λ (x : Diff). FitsTable limit t (inverse x)) same f.0
+
+-- the register has room for what such a change makes of its list
+pub room_for : (limit : ℕ) (us : List Union) (d : Diff) (out put : List ℕ) (u : Union) → FitsTable limit (lists_of us) d
+    → out ≡ d.out → put ≡ d.put → AllRoomy limit us → slice_get us d.register ≡ Some u →
+    length (applied out put (list_at (lists_of us) d.register)) ≤ u.room
+room_for limit us d out put u fits e f roomy h = rw (e, f) (omega (
+  arith,
+  fits.few,
+  AllRoomy-get limit us d.register u roomy h,
+))
 
 -- what a change of one register's list leaves: the table with the change made, and each list's room
 pub record Rewrites (us us' : List Union) (spare spare' : Union) (d : Diff) : Type 0 where

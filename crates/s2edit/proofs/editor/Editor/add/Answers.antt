@@ -1,51 +1,44 @@
-use Rattle.std.proofs.Common.{◌≡◌, ℕ, List, [], sym, subst}
-use Rattle.std.proofs.lemmas.Option.{get_or_from_slice_get}
+use Rattle.std.proofs.Common.{ℕ, List}
 use Rattle.s2list.specs.Union.{has_leaf, IsNormalForm}
 use Rattle.s2list.specs.Sets.{either}
 use Rattle.s2edit.specs.Leads.{list_at}
 use Rattle.s2edit.specs.Working.Named.{Gives}
-use Rattle.s2edit.proofs.Making.{made_becomes, made_too_long, assigned_becomes, as_long}
+use Rattle.s2edit.proofs.Making.{of_list, made_becomes, made_too_long, assigned_becomes, as_long}
+use Rattle.s2edit.proofs.editor.Editor.add.Goals.{In-Some, After-assign}
 use Rattle.s2edit.proofs.editor.Editor.add.Goals as goal
+
+-- what the change gives
+given : (c : In-Some) → Gives (either (has_leaf (list_at c.args.self.now.now c.args.register))
+    (has_leaf c.args.named.now.cells)) c.args.register c.register-union.result.now.cells c.in-Some.change
+given c = of_list (λ (k : List ℕ). Gives (either (has_leaf k) (has_leaf c.args.named.now.cells)) c.args.register
+    c.register-union.result.now.cells c.in-Some.change) c.args.self.now c.args.register
+    c.register-union.result.now.cells c.register-union.ensures.list (rw c.in-Some.is at c.in_ok-change.ensures)
 
 pub returns-in-Some-clause-ok : goal.returns-in-Some-clause-ok
 returns-in-Some-clause-ok c =
-    let u = c.register-union.result.now.cells in
-    let e : list_at c.args.self.now.now c.args.register ≡ u =
-    get_or_from_slice_get c.args.self.now.now c.args.register u [] c.register-union.ensures.list in
-    let g : Gives (either (has_leaf (list_at c.args.self.now.now c.args.register)) (has_leaf c.args.named.now.cells))
-    c.args.register u c.in-Some.change =
-    subst (λ (k : List ℕ). Gives (either (has_leaf k) (has_leaf c.args.named.now.cells)) c.args.register u
-    c.in-Some.change) (sym e) (rw c.in-Some.is at c.in_ok-change.ensures) in
-    made_becomes _ c.args.register c.args.self.now _ c.in-Some.change u c.register-union.ensures.list
-    c.cells.ensures.local g c.make.result c.make.ensures.ok c.make.ensures.within
+    made_becomes _ c.args.register c.args.self.now _ c.in-Some.change c.register-union.result.now.cells
+    c.register-union.ensures.list c.cells.ensures.local (given (goal.at.returns-in-Some-clause-ok c).In-Some)
+    c.make.result c.make.ensures.ok c.make.ensures.within
 
 pub returns-in-Some-clause-too_many : goal.returns-in-Some-clause-too_many
 returns-in-Some-clause-too_many c =
-    let u = c.register-union.result.now.cells in
-    let e : list_at c.args.self.now.now c.args.register ≡ u =
-    get_or_from_slice_get c.args.self.now.now c.args.register u [] c.register-union.ensures.list in
-    let g : Gives (either (has_leaf (list_at c.args.self.now.now c.args.register)) (has_leaf c.args.named.now.cells))
-    c.args.register u c.in-Some.change =
-    subst (λ (k : List ℕ). Gives (either (has_leaf k) (has_leaf c.args.named.now.cells)) c.args.register u
-    c.in-Some.change) (sym e) (rw c.in-Some.is at c.in_ok-change.ensures) in
-    made_too_long _ c.args.register c.args.self.now c.make.new.self c.in-Some.change u c.register-union.ensures.list
-    c.cells.ensures.local g c.make.result c.make.ensures.too_many
+    made_too_long _ c.args.register c.args.self.now c.make.new.self c.in-Some.change
+    c.register-union.result.now.cells c.register-union.ensures.list c.cells.ensures.local
+    (given (goal.at.returns-in-Some-clause-too_many c).In-Some) c.make.result c.make.ensures.too_many
+
+normal : (c : After-assign) → IsNormalForm (either (has_leaf (list_at c.args.self.now.now c.args.register))
+    (has_leaf c.args.named.now.cells)) c.in_ok-sum.sum.cells
+normal c = of_list (λ (k : List ℕ). IsNormalForm (either (has_leaf k) (has_leaf c.args.named.now.cells))
+    c.in_ok-sum.sum.cells) c.args.self.now c.args.register c.register-union.result.now.cells
+    c.register-union.ensures.list c.in_ok-sum.ensures.normal
 
 pub returns-clause-ok : goal.returns-clause-ok
 returns-clause-ok c =
-    let u = c.register-union.result.now.cells in
-    let e : list_at c.args.self.now.now c.args.register ≡ u =
-    get_or_from_slice_get c.args.self.now.now c.args.register u [] c.register-union.ensures.list in
-    let n = subst (λ (k : List ℕ). IsNormalForm (either (has_leaf k) (has_leaf c.args.named.now.cells))
-    c.in_ok-sum.sum.cells) (sym e) c.in_ok-sum.ensures.normal in
-    assigned_becomes _ c.args.register c.args.self.now _ c.in_ok-sum.sum.cells c.assign.result n c.assign.ensures.ok
-    c.assign.ensures.ok_sets c.assign.ensures.too_many
+    assigned_becomes _ c.args.register c.args.self.now _ c.in_ok-sum.sum.cells c.assign.result
+    (normal (goal.at.returns-clause-ok c).After-assign) c.assign.ensures.ok c.assign.ensures.ok_sets
+    c.assign.ensures.too_many
 
 pub returns-clause-too_many : goal.returns-clause-too_many
-returns-clause-too_many c many v normal =
-    let u = c.register-union.result.now.cells in
-    let e : list_at c.args.self.now.now c.args.register ≡ u =
-    get_or_from_slice_get c.args.self.now.now c.args.register u [] c.register-union.ensures.list in
-    let n = subst (λ (k : List ℕ). IsNormalForm (either (has_leaf k) (has_leaf c.args.named.now.cells))
-    c.in_ok-sum.sum.cells) (sym e) c.in_ok-sum.ensures.normal in
-    as_long _ c.args.self.now.limit c.in_ok-sum.sum.cells v n (c.assign.ensures.too_many.0 many) normal
+returns-clause-too_many c many v form =
+    as_long _ c.args.self.now.limit c.in_ok-sum.sum.cells v
+    (normal (goal.at.returns-clause-too_many c).After-assign) (c.assign.ensures.too_many.0 many) form

@@ -1,21 +1,15 @@
-use Rattle.std.proofs.Common.{◌+◌, ℕ, List, ◌∷◌, length, ap, subst, arith}
+use Rattle.std.proofs.Common.{◌+◌, ℕ, List, ◌∷◌, length, subst}
 use Rattle.s2edit.specs.History.{History}
 use Rattle.s2file.specs.Session.{Diff}
 use Rattle.s2edit.specs.Leads.{table_at, Leads}
 use Rattle.s2edit.specs.Working.Chain.{lists_of}
-use Rattle.s2edit.proofs.Leading.{ahead_leads, kept_none, kept_some}
-use Rattle.s2edit.proofs.Tables.{length-tables_after}
+use Rattle.s2edit.proofs.Leading.{side_counts, ahead_leads, kept_none, kept_some}
 use Rattle.s2edit.proofs.editor.Editor.change_ahead.Goals as goal
 
 pub returns-clause-none : goal.returns-clause-none
 returns-clause-none c =
-    let t : List (List ℕ) = lists_of c.self.inside.registers.items in
     kept_none c.get.result c.self.inside.future.items c.args.n (length c.args.self.now.future) c.get.ensures
-    (omega (
-      arith,
-      length-tables_after t c.self.inside.future.items,
-      ap (λ (h : History (List ℕ)). length h.future) c.self.view_is,
-    ))
+    (side_counts c.self.inside c.args.self.now c.self.view_is).1
 
 pub returns-clause-leads : goal.returns-clause-leads
 returns-clause-leads c =

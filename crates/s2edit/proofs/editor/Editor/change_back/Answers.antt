@@ -1,24 +1,15 @@
-use Rattle.std.proofs.Common.{◌+◌, ℕ, List, ◌∷◌, length, map, ap, subst, arith}
-use Rattle.std.proofs.lemmas.List.{length-map}
+use Rattle.std.proofs.Common.{◌+◌, ℕ, List, ◌∷◌, length, subst}
 use Rattle.s2file.specs.Session.{Diff}
 use Rattle.s2edit.specs.History.{History}
-use Rattle.s2edit.specs.Diff.{inverse}
 use Rattle.s2edit.specs.Leads.{table_at, Leads}
 use Rattle.s2edit.specs.Working.Chain.{lists_of}
-use Rattle.s2edit.proofs.Leading.{back_leads, kept_none, kept_some}
-use Rattle.s2edit.proofs.Tables.{length-tables_after}
+use Rattle.s2edit.proofs.Leading.{side_counts, back_leads, kept_none, kept_some}
 use Rattle.s2edit.proofs.editor.Editor.change_back.Goals as goal
 
 pub returns-clause-none : goal.returns-clause-none
 returns-clause-none c =
-    let t : List (List ℕ) = lists_of c.self.inside.registers.items in
     kept_none c.get.result c.self.inside.past.items c.args.n (length c.args.self.now.past) c.get.ensures
-    (omega (
-      arith,
-      length-tables_after t (map inverse c.self.inside.past.items),
-      length-map c.self.inside.past.items inverse,
-      ap (λ (h : History (List ℕ)). length h.past) c.self.view_is,
-    ))
+    (side_counts c.self.inside c.args.self.now c.self.view_is).0
 
 pub returns-clause-leads : goal.returns-clause-leads
 returns-clause-leads c =

@@ -1,4 +1,4 @@
-use Rattle.std.proofs.Common.{◌≡◌, ◌≢◌, ◌<◌, ◌≤◌, ℕ, List, [], ◌∷◌, length, take, slice_get}
+use Rattle.std.proofs.Common.{◌≡◌, ◌≢◌, ◌<◌, ◌≤◌, ◌+◌, ℕ, List, [], ◌∷◌, length, take, slice_get}
 use Rattle.std.proofs.Common.{ap, refl, sym, ◌∙◌, subst, arith, rules}
 use Rattle.std.specs.Vec.{vec_len}
 use Rattle.circular_buffer.specs.Buffer.{Buffer}
@@ -10,6 +10,7 @@ use Rattle.s2edit.specs.History.{History, changed, Assigned}
 use Rattle.s2edit.specs.Diff.{FitsList, change_between}
 use Rattle.s2edit.specs.Leads.{list_at}
 use Rattle.s2edit.specs.Chain.{IsLocalWithin}
+use Rattle.s2edit.specs.Working.Change.{diff_inside}
 use Rattle.s2edit.specs.Working.Chain.{lists_of, list_after, table_after, history}
 use Rattle.s2edit.specs.declared.TheConstants.{REGISTERS}
 use Rattle.s2edit.proofs.Tables.{list_read, AllRoomy-get}
@@ -20,28 +21,25 @@ use Rattle.s2edit.proofs.Making.{in_table, fits_here, within_here, fewer, sizes,
 use Rattle.s2edit.proofs.Moves.{rewrites_from}
 use Rattle.s2edit.proofs.Numbers.{numbers-same}
 use Rattle.s2edit.proofs.editor.Editor.make.Goals as goal
+use Rattle.s2edit.proofs.editor.Editor.make.Goals.{After-len-put, After-len}
 use Rattle.s2edit.proofs.editor.Editor.make.Goals.{else-out-eq0-via-then-out-eq0+else-put-eq0}
 use Rattle.s2edit.proofs.editor.Editor.make.Goals.{else-out-eq0-via-else-out-eq0}
+
+-- how many cells the change takes out and puts in
+counts : (c : After-len-put) →
+    (c.len-out.result ≡ length c.args.change.out) × (c.len-put.result ≡ length c.args.change.put)
+counts c = (
+  omega (arith, c.len-out.ensures, c.change.inside.out.ok, ap (λ (d : Diff). length d.out) c.change.view_is),
+  omega (arith, c.len-put.ensures, c.change.inside.put.ok, ap (λ (d : Diff). length d.put) c.change.view_is),
+)
 
 pub returns-then-put-eq0-clause-ok : goal.returns-then-put-eq0-clause-ok
 returns-then-put-eq0-clause-ok c =
     let i = c.self.inside in
+    let n = counts (goal.at.returns-then-put-eq0-clause-ok c).After-len-put in
     nothing_made i.limit i.depth i.registers.items i.past.items i.future.items c.args.self.now c.args.change
     c.self.view_is c.self.invariant.count c.self.invariant.registers_within c.requires.in_range c.requires.fits
-    (omega (
-      arith,
-      c.len-out.ensures,
-      c.change.inside.out.ok,
-      ap (λ (d : Diff). length d.out) c.change.view_is,
-      c.if-out-eq0.true,
-    ))
-    (omega (
-      arith,
-      c.len-put.ensures,
-      c.change.inside.put.ok,
-      ap (λ (d : Diff). length d.put) c.change.view_is,
-      c.if-put-eq0.true,
-    ))
+    (omega (arith, n.0, c.if-out-eq0.true)) (omega (arith, n.1, c.if-put-eq0.true))
 
 pub returns-then-put-eq0-clause-numbers : goal.returns-then-put-eq0-clause-numbers
 returns-then-put-eq0-clause-numbers c = numbers-same c.args.self.now.now
@@ -49,96 +47,49 @@ returns-then-put-eq0-clause-numbers c = numbers-same c.args.self.now.now
 pub returns-then-put-eq0-clause-within : goal.returns-then-put-eq0-clause-within
 returns-then-put-eq0-clause-within c =
     let i = c.self.inside in
+    let n = counts (goal.at.returns-then-put-eq0-clause-within c).After-len-put in
     nothing_more i.limit i.depth i.registers.items i.past.items i.future.items c.args.self.now c.args.change
     c.self.view_is c.self.invariant.count c.self.invariant.registers_within c.requires.in_range c.requires.fits
-    (omega (
-      arith,
-      c.len-out.ensures,
-      c.change.inside.out.ok,
-      ap (λ (d : Diff). length d.out) c.change.view_is,
-      c.if-out-eq0.true,
-    ))
-    (omega (
-      arith,
-      c.len-put.ensures,
-      c.change.inside.put.ok,
-      ap (λ (d : Diff). length d.put) c.change.view_is,
-      c.if-put-eq0.true,
-    ))
+    (omega (arith, n.0, c.if-out-eq0.true)) (omega (arith, n.1, c.if-put-eq0.true))
 
-pub overflow_sub-len : goal.overflow_sub-len
-overflow_sub-len c =
+-- how long the list is before the change and after it
+lengths : (c : After-len) → (c.len-out.result ≤ c.len.result) × (c.len.result + c.len-put.result
+    ≡ length (list_after c.args.self.now.now c.args.change) + c.len-out.result)
+lengths c =
     let i = c.self.inside in
+    let out : c.len-out.result ≡ length c.args.change.out =
+    omega (arith, c.len-out.ensures, c.change.inside.out.ok, ap (λ (d : Diff). length d.out) c.change.view_is) in
+    let put : c.len-put.result ≡ length c.args.change.put =
+    omega (arith, c.len-put.ensures, c.change.inside.put.ok, ap (λ (d : Diff). length d.put) c.change.view_is) in
     let l : c.index.result < length i.registers.items = omega (arith, c.index.ensures.within, c.self.invariant.count) in
     let old : list_at (lists_of i.registers.items) c.args.change.register ≡ c.index-old.result.now.cells =
     list_read i.registers.items _ _ _ c.index-old.ensures
     (c.index.ensures.value ∙ ap (λ (d : Diff). d.register) c.change.view_is) l in
     let few = fewer i.limit i.depth i.registers.items i.past.items i.future.items c.args.self.now c.args.change
     c.self.view_is c.self.invariant.count c.self.invariant.registers_within c.requires.in_range c.requires.fits in
-    omega (
-      arith,
-      c.len-out.ensures,
-      c.change.inside.out.ok,
-      ap (λ (d : Diff). length d.out) c.change.view_is,
-      c.len.ensures,
-      ap length old,
-      few,
+    let s = sizes i.limit i.depth i.registers.items i.past.items i.future.items c.args.self.now c.args.change
+    c.self.view_is c.self.invariant.count c.self.invariant.registers_within c.requires.in_range c.requires.fits in (
+      omega (arith, out, c.len.ensures, ap length old, few),
+      omega (arith, out, put, c.len.ensures, ap length old, s),
     )
+
+pub overflow_sub-len : goal.overflow_sub-len
+overflow_sub-len c = omega (arith, (lengths (goal.at.overflow_sub-len c).After-len).0)
 
 pub returns-then-len-out-clause-too_many : goal.returns-then-len-out-clause-too_many
 returns-then-len-out-clause-too_many c =
-    let i = c.self.inside in
-    let l : c.index.result < length i.registers.items = omega (arith, c.index.ensures.within, c.self.invariant.count) in
-    let old : list_at (lists_of i.registers.items) c.args.change.register ≡ c.index-old.result.now.cells =
-    list_read i.registers.items _ _ _ c.index-old.ensures
-    (c.index.ensures.value ∙ ap (λ (d : Diff). d.register) c.change.view_is) l in
-    let s = sizes i.limit i.depth i.registers.items i.past.items i.future.items c.args.self.now c.args.change
-    c.self.view_is c.self.invariant.count c.self.invariant.registers_within c.requires.in_range c.requires.fits in
-    let few = fewer i.limit i.depth i.registers.items i.past.items i.future.items c.args.self.now c.args.change
-    c.self.view_is c.self.invariant.count c.self.invariant.registers_within c.requires.in_range c.requires.fits in
-    omega (
-      arith,
-      few,
-      c.len-out.ensures,
-      c.change.inside.out.ok,
-      ap (λ (d : Diff). length d.out) c.change.view_is,
-      c.len-put.ensures,
-      c.change.inside.put.ok,
-      ap (λ (d : Diff). length d.put) c.change.view_is,
-      c.len.ensures,
-      ap length old,
-      s,
-      c.if-len-out.true,
-      ap (λ (k : History (List ℕ)). k.limit) c.self.view_is,
-    )
+    let n = lengths (goal.at.returns-then-len-out-clause-too_many c).After-len in
+    omega (arith, n.0, n.1, c.if-len-out.true, ap (λ (k : History (List ℕ)). k.limit) c.self.view_is)
 
 pub change_register-requires : goal.change_register-requires
 change_register-requires c =
     let i = c.self.inside in
     let whole : vec_len i.registers ≡ length i.registers.items = search rules in
-    let l : c.index.result < length i.registers.items = omega (arith, c.index.ensures.within, c.self.invariant.count) in
-    let old : list_at (lists_of i.registers.items) c.args.change.register ≡ c.index-old.result.now.cells =
-    list_read i.registers.items _ _ _ c.index-old.ensures
-    (c.index.ensures.value ∙ ap (λ (d : Diff). d.register) c.change.view_is) l in
-    let s = sizes i.limit i.depth i.registers.items i.past.items i.future.items c.args.self.now c.args.change
-    c.self.view_is c.self.invariant.count c.self.invariant.registers_within c.requires.in_range c.requires.fits in
+    let n = lengths (goal.at.change_register-requires c).After-len in
     let t : lists_of i.registers.items ≡ c.args.self.now.now =
     ap (λ (k : History (List ℕ)). k.now) c.self.view_is in
     let few : length (list_after (lists_of i.registers.items) c.args.change) ≤ i.limit =
-    omega (
-      arith,
-      c.len-out.ensures,
-      c.change.inside.out.ok,
-      ap (λ (d : Diff). length d.out) c.change.view_is,
-      c.len-put.ensures,
-      c.change.inside.put.ok,
-      ap (λ (d : Diff). length d.put) c.change.view_is,
-      c.len.ensures,
-      ap length old,
-      s,
-      c.if-len-out.false,
-      ap (λ (k : List (List ℕ)). length (list_after k c.args.change)) t,
-    ) in
+    omega (arith, n.0, n.1, c.if-len-out.false, ap (λ (k : List (List ℕ)). length (list_after k c.args.change)) t) in
     let e : c.args.change ≡ record {
       register = c.change.inside.register;
       out = c.deref.result.now;
@@ -167,35 +118,12 @@ change_register-requires c =
 
 pub returns-clause-within : goal.returns-clause-within
 returns-clause-within c =
-    let i = c.self.inside in
-    let l : c.index.result < length i.registers.items = omega (arith, c.index.ensures.within, c.self.invariant.count) in
-    let old : list_at (lists_of i.registers.items) c.args.change.register ≡ c.index-old.result.now.cells =
-    list_read i.registers.items _ _ _ c.index-old.ensures
-    (c.index.ensures.value ∙ ap (λ (d : Diff). d.register) c.change.view_is) l in
-    let s = sizes i.limit i.depth i.registers.items i.past.items i.future.items c.args.self.now c.args.change
-    c.self.view_is c.self.invariant.count c.self.invariant.registers_within c.requires.in_range c.requires.fits in
-    omega (
-      arith,
-      c.len-out.ensures,
-      c.change.inside.out.ok,
-      ap (λ (d : Diff). length d.out) c.change.view_is,
-      c.len-put.ensures,
-      c.change.inside.put.ok,
-      ap (λ (d : Diff). length d.put) c.change.view_is,
-      c.len.ensures,
-      ap length old,
-      s,
-      c.if-len-out.false,
-      ap (λ (k : History (List ℕ)). k.limit) c.self.view_is,
-    )
+    let n = lengths (goal.at.returns-clause-within c).After-len in
+    omega (arith, n.0, n.1, c.if-len-out.false, ap (λ (k : History (List ℕ)). k.limit) c.self.view_is)
 
 -- the change that is made
 abbrev change : goal.After-clear → Diff
-change c = record {
-  register = c.change.inside.register;
-  out = c.change.inside.out.items;
-  put = c.change.inside.put.items;
-}
+change c = diff_inside c.change.inside
 
 in_range : (c : goal.After-clear) → c.change.inside.register < REGISTERS
 in_range c = subst (λ (d : Diff). d.register < REGISTERS) (sym c.change.view_is) c.requires.in_range

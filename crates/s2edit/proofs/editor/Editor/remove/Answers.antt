@@ -1,42 +1,34 @@
-use Rattle.std.proofs.Common.{◌≡◌, ℕ, List, [], sym, subst}
-use Rattle.std.proofs.lemmas.Option.{get_or_from_slice_get}
+use Rattle.std.proofs.Common.{ℕ, List}
 use Rattle.s2list.specs.Union.{has_leaf, IsNormalForm}
 use Rattle.s2list.specs.Sets.{without}
 use Rattle.s2edit.specs.Leads.{list_at}
 use Rattle.s2edit.specs.Working.Named.{Gives}
-use Rattle.s2edit.proofs.Making.{made_becomes, made_too_long, assigned_becomes}
+use Rattle.s2edit.proofs.Making.{of_list, made_becomes, made_too_long, assigned_becomes}
+use Rattle.s2edit.proofs.editor.Editor.remove.Goals.{In-Some}
 use Rattle.s2edit.proofs.editor.Editor.remove.Goals as goal
+
+-- what the change gives
+given : (c : In-Some) → Gives (without (has_leaf (list_at c.args.self.now.now c.args.register))
+    (has_leaf c.args.named.now.cells)) c.args.register c.register-union.result.now.cells c.in-Some.change
+given c = of_list (λ (k : List ℕ). Gives (without (has_leaf k) (has_leaf c.args.named.now.cells)) c.args.register
+    c.register-union.result.now.cells c.in-Some.change) c.args.self.now c.args.register
+    c.register-union.result.now.cells c.register-union.ensures.list (rw c.in-Some.is at c.in_ok-change.ensures)
 
 pub returns-in-Some-clause-ok : goal.returns-in-Some-clause-ok
 returns-in-Some-clause-ok c =
-    let u = c.register-union.result.now.cells in
-    let e : list_at c.args.self.now.now c.args.register ≡ u =
-    get_or_from_slice_get c.args.self.now.now c.args.register u [] c.register-union.ensures.list in
-    let g : Gives (without (has_leaf (list_at c.args.self.now.now c.args.register)) (has_leaf c.args.named.now.cells))
-    c.args.register u c.in-Some.change =
-    subst (λ (k : List ℕ). Gives (without (has_leaf k) (has_leaf c.args.named.now.cells)) c.args.register u
-    c.in-Some.change) (sym e) (rw c.in-Some.is at c.in_ok-change.ensures) in
-    made_becomes _ c.args.register c.args.self.now _ c.in-Some.change u c.register-union.ensures.list
-    c.cells.ensures.local g c.make.result c.make.ensures.ok c.make.ensures.within
+    made_becomes _ c.args.register c.args.self.now _ c.in-Some.change c.register-union.result.now.cells
+    c.register-union.ensures.list c.cells.ensures.local (given (goal.at.returns-in-Some-clause-ok c).In-Some)
+    c.make.result c.make.ensures.ok c.make.ensures.within
 
 pub returns-in-Some-clause-too_many : goal.returns-in-Some-clause-too_many
 returns-in-Some-clause-too_many c =
-    let u = c.register-union.result.now.cells in
-    let e : list_at c.args.self.now.now c.args.register ≡ u =
-    get_or_from_slice_get c.args.self.now.now c.args.register u [] c.register-union.ensures.list in
-    let g : Gives (without (has_leaf (list_at c.args.self.now.now c.args.register)) (has_leaf c.args.named.now.cells))
-    c.args.register u c.in-Some.change =
-    subst (λ (k : List ℕ). Gives (without (has_leaf k) (has_leaf c.args.named.now.cells)) c.args.register u
-    c.in-Some.change) (sym e) (rw c.in-Some.is at c.in_ok-change.ensures) in
-    made_too_long _ c.args.register c.args.self.now c.make.new.self c.in-Some.change u c.register-union.ensures.list
-    c.cells.ensures.local g c.make.result c.make.ensures.too_many
+    made_too_long _ c.args.register c.args.self.now c.make.new.self c.in-Some.change
+    c.register-union.result.now.cells c.register-union.ensures.list c.cells.ensures.local
+    (given (goal.at.returns-in-Some-clause-too_many c).In-Some) c.make.result c.make.ensures.too_many
 
 pub returns-in-Ok-clause-ok : goal.returns-in-Ok-clause-ok
 returns-in-Ok-clause-ok c =
-    let u = c.register-union.result.now.cells in
-    let e : list_at c.args.self.now.now c.args.register ≡ u =
-    get_or_from_slice_get c.args.self.now.now c.args.register u [] c.register-union.ensures.list in
-    let n = subst (λ (k : List ℕ). IsNormalForm (without (has_leaf k) (has_leaf c.args.named.now.cells))
-    c.in-Ok.rest.cells) (sym e) c.in-Ok.ensures.normal in
-    assigned_becomes _ c.args.register c.args.self.now _ c.in-Ok.rest.cells c.assign.result n c.assign.ensures.ok
-    c.assign.ensures.ok_sets c.assign.ensures.too_many
+    assigned_becomes _ c.args.register c.args.self.now _ c.in-Ok.rest.cells c.assign.result
+    (of_list (λ (k : List ℕ). IsNormalForm (without (has_leaf k) (has_leaf c.args.named.now.cells)) c.in-Ok.rest.cells)
+    c.args.self.now c.args.register c.register-union.result.now.cells c.register-union.ensures.list
+    c.in-Ok.ensures.normal) c.assign.ensures.ok c.assign.ensures.ok_sets c.assign.ensures.too_many

@@ -1,4 +1,4 @@
-use Rattle.std.proofs.Common.{◌≡◌, ◌+◌, ◌<◌, ◌≤◌, ◌&&◌, ℕ, Bool, true, List, length, map, sym, ap, ◌∙◌}
+use Rattle.std.proofs.Common.{◌≡◌, ◌+◌, ◌≤◌, ◌&&◌, ℕ, Bool, true, List, length, map, sym, ap, ◌∙◌, reverse}
 use Rattle.std.proofs.Common.{subst, arith}
 use Rattle.std.proofs.lemmas.List.{length-map}
 use Rattle.std.proofs.lemmas.Result.{err_from_is_err_and}
@@ -17,6 +17,7 @@ use Rattle.s2edit.proofs.Following.{have_room, keep_room, keep_count}
 use Rattle.s2edit.proofs.Restoring.{registers_within, follows, too_deep, too_many, past_fails, future_fails, not_three}
 use Rattle.s2edit.proofs.Restoring.{three, back_side, ahead_side, left_within, left_past, left_future, left_bound}
 use Rattle.s2edit.proofs.Restoring.{left_restored, inverted_moved, inverted_twice, inverted_count}
+use Rattle.s2edit.proofs.editor.Editor.restore.Goals.{After-len-2}
 use Rattle.s2edit.proofs.editor.Editor.restore.Goals as goal
 
 pub fit-requires-clause-within : goal.fit-requires-clause-within
@@ -57,68 +58,68 @@ returns-in_err-future_within-clause-answer c =
     s.registers.items c.deref-3.result.now s.future.items c.deref-4.result.now
     c.deref-3.ensures.value c.deref-4.ensures.value c.in_err-future_within.ensures))
 
-pub returns-then-len-self-clause-answer : goal.returns-then-len-self-clause-answer
-returns-then-len-self-clause-answer c =
+-- the past is again as it was, turned round
+past_is : (c : After-len-2) → map diff_of c.invert-2.new.moves.items ≡ reverse (map diff_of c.args.session.past.items)
+past_is c = inverted_twice c.args.session.past.items c.reverse.new.self.items c.invert.new.moves.items
+    c.invert-2.new.moves.items c.reverse.ensures.items c.invert.ensures c.invert-2.ensures
+
+-- how many changes the session has
+counted : (c : After-len-2) → c.len.result + c.len-2.result
+    ≡ length (map diff_of c.args.session.past.items) + length (map diff_of c.args.session.future.items)
+counted c = omega (
+  arith,
+  c.len.ensures,
+  c.len-2.ensures,
+  inverted_count c.args.session.past.items c.invert-2.new.moves.items (past_is c),
+  c.args.session.future.ok,
+  c.invert-2.new.moves.ok,
+  length-map c.args.session.future.items diff_of,
+)
+
+-- what the tests of both sides say
+past_made : (c : After-len-2) → MakesChanges c.self.inside.limit (lists_of c.args.session.registers.items)
+    (map inverse (reverse (map diff_of c.args.session.past.items))) c.in_ok-past_within.past_within
+past_made c =
     let s = c.args.session in
-    let e = c.self.inside in
-    let a = back_side (λ (t : List (List ℕ)) (ds : List Diff).
-    MakesChanges e.limit t ds c.in_ok-past_within.past_within) s.registers.items c.deref.result.now
+    back_side (λ (t : List (List ℕ)) (ds : List Diff).
+    MakesChanges c.self.inside.limit t ds c.in_ok-past_within.past_within) s.registers.items c.deref.result.now
     c.invert.new.moves.items c.deref-2.result.now c.reverse.new.self.items s.past.items
     c.deref.ensures.value c.deref-2.ensures.value c.reverse.ensures.items c.invert.ensures
-    c.in_ok-past_within.ensures in
-    let b = ahead_side (λ (t : List (List ℕ)) (ds : List Diff).
-    MakesChanges e.limit t ds c.in_ok-future_within.future_within) s.registers.items c.deref-3.result.now
+    c.in_ok-past_within.ensures
+
+future_made : (c : After-len-2) → MakesChanges c.self.inside.limit (lists_of c.args.session.registers.items)
+    (map diff_of c.args.session.future.items) c.in_ok-future_within.future_within
+future_made c =
+    let s = c.args.session in
+    ahead_side (λ (t : List (List ℕ)) (ds : List Diff).
+    MakesChanges c.self.inside.limit t ds c.in_ok-future_within.future_within) s.registers.items c.deref-3.result.now
     s.future.items c.deref-4.result.now
-    c.deref-3.ensures.value c.deref-4.ensures.value c.in_ok-future_within.ensures in
-    let past_is = inverted_twice s.past.items c.reverse.new.self.items c.invert.new.moves.items
-    c.invert-2.new.moves.items c.reverse.ensures.items c.invert.ensures c.invert-2.ensures in
-    let deep : e.depth < length (map diff_of s.past.items) + length (map diff_of s.future.items) =
-    omega (
-      arith,
-      c.if-len-self.true,
-      c.len.ensures,
-      c.len-2.ensures,
-      inverted_count s.past.items c.invert-2.new.moves.items past_is,
-      s.future.ok,
-      c.invert-2.new.moves.ok,
-      length-map s.future.items diff_of,
-    ) in
-    subst (IsTooDeep (Records (content_of s))) c.self.view_is
-    (too_deep (content_of s) c.requires (history e.limit e.depth e.registers.items e.past.items e.future.items)
-    (follows (content_of s) c.requires e.limit c.in_ok-past_within.past_within c.in_ok-future_within.future_within
-    a b) deep)
+    c.deref-3.ensures.value c.deref-4.ensures.value c.in_ok-future_within.ensures
+
+pub returns-then-len-self-clause-answer : goal.returns-then-len-self-clause-answer
+returns-then-len-self-clause-answer c =
+    let s = content_of c.args.session in
+    let e = c.self.inside in
+    let g = (goal.at.returns-then-len-self-clause-answer c).After-len-2 in
+    subst (IsTooDeep (Records s)) c.self.view_is
+    (too_deep s c.requires (history e.limit e.depth e.registers.items e.past.items e.future.items)
+    (follows s c.requires e.limit c.in_ok-past_within.past_within c.in_ok-future_within.future_within
+    (past_made g) (future_made g)) (omega (arith, c.if-len-self.true, counted g)))
 
 pub returns-then-not-both-clause-answer : goal.returns-then-not-both-clause-answer
 returns-then-not-both-clause-answer c =
-    let s = c.args.session in
+    let s = content_of c.args.session in
     let e = c.self.inside in
     let p = c.in_ok-past_within.past_within in
     let f = c.in_ok-future_within.future_within in
-    let a = back_side (λ (t : List (List ℕ)) (ds : List Diff). MakesChanges e.limit t ds p) s.registers.items
-    c.deref.result.now c.invert.new.moves.items c.deref-2.result.now c.reverse.new.self.items s.past.items
-    c.deref.ensures.value c.deref-2.ensures.value c.reverse.ensures.items c.invert.ensures
-    c.in_ok-past_within.ensures in
-    let b = ahead_side (λ (t : List (List ℕ)) (ds : List Diff). MakesChanges e.limit t ds f) s.registers.items
-    c.deref-3.result.now s.future.items c.deref-4.result.now
-    c.deref-3.ensures.value c.deref-4.ensures.value c.in_ok-future_within.ensures in
-    let past_is = inverted_twice s.past.items c.reverse.new.self.items c.invert.new.moves.items
-    c.invert-2.new.moves.items c.reverse.ensures.items c.invert.ensures c.invert-2.ensures in
-    let kept : length (map diff_of s.past.items) + length (map diff_of s.future.items) ≤ e.depth =
-    omega (
-      arith,
-      c.if-len-self.false,
-      c.len.ensures,
-      c.len-2.ensures,
-      inverted_count s.past.items c.invert-2.new.moves.items past_is,
-      s.future.ok,
-      c.invert-2.new.moves.ok,
-      length-map s.future.items diff_of,
-    ) in
+    let g = (goal.at.returns-then-not-both-clause-answer c).After-len-2 in
+    let a = past_made g in
+    let b = future_made g in
     let failed = sym (c.both.ensures ∙ ap (λ (x : Bool). x && c.are_within.result) c.both-changes_within.ensures)
     ∙ c.if-not-both.true in
-    subst (IsTooMany (Records (content_of s))) c.self.view_is
-    (too_many (content_of s) c.requires (history e.limit e.depth e.registers.items e.past.items e.future.items)
-    (follows (content_of s) c.requires e.limit p f a b) kept
+    subst (IsTooMany (Records s)) c.self.view_is
+    (too_many s c.requires (history e.limit e.depth e.registers.items e.past.items e.future.items)
+    (follows s c.requires e.limit p f a b) (omega (arith, c.if-len-self.false, counted g))
     (λ now past future. not_three p f c.are_within.result failed (a.many past) (b.many future)
     (c.are_within.ensures.1 (subst (λ (us : List Union). AllLists (λ u. length u ≤ e.limit) (lists_of us))
     (sym c.deref-5.ensures.value) now))))
@@ -139,10 +140,8 @@ take_all-requires c =
 
 pub fill-requires-clause-each : goal.fill-requires-clause-each
 fill-requires-clause-each c =
-    let s = c.args.session in
-    subst (AllByRecursion IsMove) (sym (inverted_twice s.past.items c.reverse.new.self.items
-    c.invert.new.moves.items c.invert-2.new.moves.items c.reverse.ensures.items c.invert.ensures c.invert-2.ensures))
-    (all_reverse IsMove (map diff_of s.past.items) c.requires.past)
+    subst (AllByRecursion IsMove) (sym (past_is (goal.at.fill-requires-clause-each c).After-len-2))
+    (all_reverse IsMove (map diff_of c.args.session.past.items) c.requires.past)
 
 -- what is known once everything was taken over
 pub record Taken (limit depth : ℕ) (us us' : List Union) (past' future' : List Diff) (s : Content) : Type 0 where
@@ -165,31 +164,16 @@ taken c =
     let us' = c.take_all.new.unions.items in
     let past' = c.fill.new.ring.items in
     let future' = c.fill-2.new.ring.items in
-    let a = back_side (λ (t : List (List ℕ)) (ds : List Diff). MakesChanges e.limit t ds p) s.registers.items
-    c.deref.result.now c.invert.new.moves.items c.deref-2.result.now c.reverse.new.self.items s.past.items
-    c.deref.ensures.value c.deref-2.ensures.value c.reverse.ensures.items c.invert.ensures
-    c.in_ok-past_within.ensures in
-    let b = ahead_side (λ (t : List (List ℕ)) (ds : List Diff). MakesChanges e.limit t ds f) s.registers.items
-    c.deref-3.result.now s.future.items c.deref-4.result.now
-    c.deref-3.ensures.value c.deref-4.ensures.value c.in_ok-future_within.ensures in
-    let past_is = inverted_twice s.past.items c.reverse.new.self.items c.invert.new.moves.items
-    c.invert-2.new.moves.items c.reverse.ensures.items c.invert.ensures c.invert-2.ensures in
+    let g = (goal.at.invariant_of-self c).After-len-2 in
+    let a = past_made g in
+    let b = future_made g in
     let kept : length (map diff_of s.past.items) + length (map diff_of s.future.items) ≤ e.depth =
-    omega (
-      arith,
-      c.if-len-self.false,
-      c.len.ensures,
-      c.len-2.ensures,
-      inverted_count s.past.items c.invert-2.new.moves.items past_is,
-      s.future.ok,
-      c.invert-2.new.moves.ok,
-      length-map s.future.items diff_of,
-    ) in
+    omega (arith, c.if-len-self.false, counted g) in
     let passed = sym (c.both.ensures ∙ ap (λ (x : Bool). x && r) c.both-changes_within.ensures) ∙ c.if-not-both.false in
     let few = λ (h : r ≡ true). subst (λ (us : List Union). AllLists (λ u. length u ≤ e.limit) (lists_of us))
     c.deref-5.ensures.value (c.are_within.ensures.0 h) in
     let lists = c.take_all.ensures.lists in
-    let past_filled = ap (λ (b : Buffer Diff). b.items) c.fill.ensures ∙ past_is in
+    let past_filled = ap (λ (b : Buffer Diff). b.items) c.fill.ensures ∙ past_is g in
     let future_is = ap (λ (b : Buffer Diff). b.items) c.fill-2.ensures in
     record {
       within = left_within e.limit e.depth e.registers.items us' past' future' (content_of s) c.requires lists

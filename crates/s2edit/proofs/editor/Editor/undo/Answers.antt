@@ -1,29 +1,22 @@
-use Rattle.std.proofs.Common.{ℕ, List, ◌∷◌, length, Some, take, ap, sym, ◌∙◌, arith}
+use Rattle.std.proofs.Common.{ℕ, List, ◌∷◌, Some, take, ap, sym, ◌∙◌, arith}
 use Rattle.circular_buffer.specs.Buffer.{Buffer}
 use Rattle.s2file.specs.Session.{Diff}
 use Rattle.s2edit.specs.History.{History, undone, sets}
 use Rattle.s2edit.specs.Diff.{inverse}
-use Rattle.s2union.specs.Apply.{applied}
-use Rattle.s2edit.specs.Leads.{list_at}
-use Rattle.s2edit.specs.Working.Chain.{lists_of, FitsTable}
-use Rattle.s2edit.proofs.Tables.{AllRoomy-get}
-use Rattle.s2edit.proofs.Moves.{last_fits}
+use Rattle.s2edit.specs.Working.Change.{diff_inside}
+use Rattle.s2edit.specs.Working.Chain.{lists_of}
+use Rattle.s2edit.proofs.Moves.{last_fits, room_for}
 use Rattle.s2edit.proofs.Moves.{Shifts, Rewrites, rewrites_from, rewritten_count, still_bound}
 use Rattle.s2edit.proofs.Moves.{undo_leaves, undo_within, undo_past, undo_future, undo_numbers}
 use Rattle.s2edit.proofs.SetLemmas.{sets-undone}
 use Rattle.s2edit.proofs.editor.Editor.undo.Goals as goal
 
 -- the change that is moved across
-change : goal.Joined-push_front → Diff
-change c = record {
-  register = c.change.inside.register;
-  out = c.change.inside.out.items;
-  put = c.change.inside.put.items;
-}
+abbrev change : goal.Joined-push_front → Diff
+change c = diff_inside c.change.inside
 
 shifts : (c : goal.Joined-push_front) → Shifts c.self.inside.depth c.self.inside.past.items
     c.pop_front.new.self.items c.self.inside.future.items c.push_front.new.self.items (change c)
-unfolding change
 shifts c = record {
   first = ap (λ (d : Diff). Some d) c.change.view_is ∙ c.in_ok-change.ensures.value;
   rest = ap (λ (b : Buffer Diff). b.items) c.pop_front.ensures.items;
@@ -36,27 +29,13 @@ shifts c = record {
 pub change_register-requires-clause-own_room : goal.change_register-requires-clause-own_room
 change_register-requires-clause-own_room c u e =
     let i = c.self.inside in
-    let d : Diff = record {
-      register = c.change.inside.register;
-      out = c.change.inside.out.items;
-      put = c.change.inside.put.items;
-    } in
-    let fits : FitsTable i.limit (lists_of i.registers.items) (inverse d) =
-    last_fits i.limit (lists_of i.registers.items) i.past.items d c.self.invariant.past_fits
-    (ap (λ (k : Diff). Some k) c.change.view_is ∙ c.in_ok-change.ensures.value) in
-    omega (
-      arith,
-      fits.few,
-      ap (λ (x : List ℕ). length (applied x c.deref-2.result.now (list_at (lists_of i.registers.items) d.register)))
-          c.deref.ensures.value,
-      ap (λ (x : List ℕ). length (applied d.put x (list_at (lists_of i.registers.items) d.register)))
-          c.deref-2.ensures.value,
-      AllRoomy-get i.limit i.registers.items d.register u c.self.invariant.registers_roomy e,
-    )
+    room_for i.limit i.registers.items (inverse (diff_inside c.change.inside)) c.deref.result.now c.deref-2.result.now u
+    (last_fits i.limit (lists_of i.registers.items) i.past.items (diff_inside c.change.inside)
+    c.self.invariant.past_fits (ap (λ (k : Diff). Some k) c.change.view_is ∙ c.in_ok-change.ensures.value))
+    c.deref.ensures.value c.deref-2.ensures.value c.self.invariant.registers_roomy e
 
 rewrites : (c : goal.Joined-push_front) → Rewrites c.self.inside.registers.items c.change_register.new.registers.items
     c.self.inside.spare c.change_register.new.spare (inverse (change c))
-unfolding change
 rewrites c =
     rewrites_from c.self.inside.registers.items c.change_register.new.registers.items c.self.inside.spare
     c.change_register.new.spare (inverse (change c)) _ _
@@ -71,7 +50,6 @@ pub returns-clause-after_sets : goal.returns-clause-after_sets
 returns-clause-after_sets c = ap sets (returns-clause-after c) ∙ sets-undone c.args.self.now
 
 pub returns-clause-numbers : goal.returns-clause-numbers
-unfolding change
 returns-clause-numbers c =
     undo_numbers c.self.inside.limit c.self.inside.depth _ _ _ _ (change c) _ _ _ _
     c.self.invariant.registers_within c.self.invariant.past_fits c.self.invariant.future_fits (shifts c)
