@@ -154,8 +154,8 @@ def read_specs(file):
 
 
 # The sources.
-NAMED = re.compile(r"\b(fn|struct|enum|trait|const|static|impl|mod|macro_rules!) *(\w*)")
-KINDS = {"struct": "type", "enum": "type", "trait": "type", "const": "const", "fn": "fn"}
+NAMED = re.compile(r"\b(fn|struct|enum|trait|type|const|static|impl|mod|macro_rules!) *(\w*)")
+KINDS = {"struct": "type", "enum": "type", "trait": "type", "type": "type", "const": "const", "fn": "fn"}
 CONSTANT = re.compile(r"[A-Z][A-Z0-9_]+")
 CLAUSE = re.compile(r"\b(?:ensures|requires)(?: \w+)?\s*\{")
 
@@ -278,7 +278,7 @@ class Source:
         self.names, self.aliases = imports_of(re.sub(r"//[^\n]*", "", self.text))
         self.rust = rust_names(self.blank)
         self.pieces = pieces(self.blank, 0, len(self.blank))
-        self.types = {piece.name for piece in self.pieces if piece.kind in ("struct", "enum", "trait")}
+        self.types = {piece.name for piece in self.pieces if piece.kind in ("struct", "enum", "trait", "type")}
 
     def uses(self, clause):
         """The keys of the definitions and constants that a clause or a ghost item names, and its other words."""
@@ -348,7 +348,7 @@ class House:
                   if piece.kind == "impl" and " Model for " in piece.head
                   for ghost in piece.inner if ghost.name == "Value"}
         for piece in source.pieces:
-            if piece.kind in ("struct", "enum"):
+            if piece.kind in ("struct", "enum", "type"):
                 key, value = (source.crate, "type", piece.name), values.get(piece.name)
                 if value:
                     self.values[key] = re.search(r"\{ (.*) \}", value)[1]
