@@ -143,7 +143,7 @@ impl<W: Sink> TextSink for NoteText<W> {
 
     ghost puts = { Puts W.contents W.calls };
 
-    /// A part that finds no room waits for nothing.
+    /// Has a part wait. If there is no memory for it, what waits is written first, and then the part, at once.
     fn put(&mut self, part: &[u8]) {
         match self.waiting.extend_from_slice(part) {
             Ok(()) => {}
@@ -202,13 +202,6 @@ impl<W> NoteWriter<W> {
         ensures { result ≡ self.writer }
     {
         self.notes.writer
-    }
-
-    /// Whether a note could not be written.
-    pub fn has_stopped(&self) -> bool
-        ensures { result ≡ self.now.stopped }
-    {
-        self.notes.stopped
     }
 }
 
