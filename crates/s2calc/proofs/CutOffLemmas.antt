@@ -4,7 +4,7 @@ use Rattle.std.proofs.Common.{append_assoc, append-nil, length, eqb, arith, inl,
 use Rattle.std.proofs.lemmas.List.{append_cancel_left, append_cancel_right, take_at}
 use Rattle.std.proofs.lemmas.List.Splits.{length-slice_split}
 use Rattle.std.specs.List.{AllByRecursion}
-use Rattle.std.specs.Io.KnownBytes.{Consumes}
+use Rattle.std.specs.Io.KnownBytes.{Consumes, IsAtEnd}
 use Rattle.s2script.specs.Lines.{IsUnbroken, ended, lines, pieces, whole_lines, but_last, last_piece}
 use Rattle.s2script.specs.Lines.{last_line, unended}
 use Rattle.s2calc.specs.World.{World}
@@ -179,7 +179,7 @@ lines_ended (line ∷ done) rest e =
 
 -- lines that were read whole are the first of the lines of the whole script
 read_lines : (whole script : List ℕ) (left : Option (List ℕ)) (done : List (List ℕ)) →
-    Consumes (Some whole) left script → WereReadWhole left script done
+    Consumes (Some whole) left script → WereReadWhole script (IsAtEnd left) done
     → (more : List (List ℕ)) × (done ++ more ≡ lines whole)
 read_lines whole script None done c w = absurd c
 read_lines whole script (Some left) done c (inl (rest, begins)) =

@@ -15,7 +15,7 @@ use Rattle.s2calc.specs.declared.limits.TheConstants.{KEPT}
 use Rattle.s2calc.specs.World.{World}
 use Rattle.s2calc.specs.Replies.{Reply, text_of, texts}
 use Rattle.s2calc.specs.Step.{asks_for_file}
-use Rattle.s2calc.specs.Run.{Steps, Known, Runs}
+use Rattle.s2calc.specs.Run.{Steps, Known, Runs, WereReadWhole}
 use Rattle.s2calc.specs.Working.Stands.{Point}
 use Rattle.s2calc.specs.Calls.{Call, NoneFailed}
 use Rattle.s2calc.specs.Reads.{Gives, ReadsLast}
@@ -186,9 +186,8 @@ module _ {W S : Type 0} (contents : W → Option (List ℕ)) (calls : W → Opti
 
     -- the line was read to its end, and still is
     read_more : (past ms : List (Moment W S)) (ls : List (List ℕ)) → bytes_read ms ≡ [] →
-        ((rest : List ℕ) × BeginsWith (bytes_read past) ls rest) ⊎ ((ls ≡ lines (bytes_read past)) × HasEnded past)
-        → ((rest : List ℕ) × BeginsWith (bytes_read (past ++ ms)) ls rest)
-        ⊎ ((ls ≡ lines (bytes_read (past ++ ms))) × HasEnded (past ++ ms))
+        WereReadWhole (bytes_read past) (HasEnded past) ls
+        → WereReadWhole (bytes_read (past ++ ms)) (HasEnded (past ++ ms)) ls
     read_more past ms ls e (inl p) =
         inl (p.0, subst (λ (b : List ℕ). BeginsWith b ls p.0) (sym (bytes_read-quiet past ms e)) p.1)
     read_more past ms ls e (inr p) =
@@ -212,8 +211,7 @@ module _ {W S : Type 0} (contents : W → Option (List ℕ)) (calls : W → Opti
     begins_here : (old mid : W) (shelf : S) → now.world.files ≡ files shelf
         → Settled contents calls is_sent may_flush (asks_for_file (line_of progress.kept)) old mid
         → (first : W) (later : List Reply) (past : List (Moment W S))
-        → ((rest : List ℕ) × BeginsWith (bytes_read past) (s.done ++ s.rest ∷ []) rest)
-        ⊎ ((s.done ++ s.rest ∷ [] ≡ lines (bytes_read past)) × HasEnded past)
+        → WereReadWhole (bytes_read past) (HasEnded past) (s.done ++ s.rest ∷ [])
         → LinesSeen (length s.done) past → Appends (contents first) (contents old) (texts replies)
         → NoneFailed may_flush (calls first) (calls old)
         → LineWhen contents calls is_sent files may_flush start.world first (replies ++ later) past
@@ -244,8 +242,7 @@ module _ {W S : Type 0} (contents : W → Option (List ℕ)) (calls : W → Opti
     cut_each : (old : W) (shelf : S) (ms : List (Moment W S)) → now.world.files ≡ files shelf
         → LineCut contents calls is_sent files may_flush (asks_for_file (line_of progress.kept)) old shelf ms
         → (first : W) (later : List Reply) (past : List (Moment W S))
-        → ((rest : List ℕ) × BeginsWith (bytes_read past) (s.done ++ s.rest ∷ []) rest)
-        ⊎ ((s.done ++ s.rest ∷ [] ≡ lines (bytes_read past)) × HasEnded past)
+        → WereReadWhole (bytes_read past) (HasEnded past) (s.done ++ s.rest ∷ [])
         → LinesSeen (length s.done) past → Appends (contents first) (contents old) (texts replies)
         → NoneFailed may_flush (calls first) (calls old)
         → EachMay contents calls is_sent files may_flush start.world first (replies ++ later) past ms
@@ -261,8 +258,7 @@ module _ {W S : Type 0} (contents : W → Option (List ℕ)) (calls : W → Opti
       (l : LineSeen contents calls is_sent files may_flush (asks_for_file (line_of progress.kept)) old writer old_shelf
       new_shelf ms) where
     module _ (first : W) (past : List (Moment W S))
-        (whole : ((rest : List ℕ) × BeginsWith (bytes_read past) (s.done ++ s.rest ∷ []) rest)
-        ⊎ ((s.done ++ s.rest ∷ [] ≡ lines (bytes_read past)) × HasEnded past))
+        (whole : WereReadWhole (bytes_read past) (HasEnded past) (s.done ++ s.rest ∷ []))
         (seen : LinesSeen (length s.done) past) (out : Appends (contents first) (contents old) (texts replies))
         (n : NoneFailed may_flush (calls first) (calls old)) where
       ends_here : LineWhen contents calls is_sent files may_flush start.world first (replies ++ a.reply ∷ [])

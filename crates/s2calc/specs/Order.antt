@@ -3,14 +3,14 @@ use Rattle.std.specs.Prelude.{◌≡◌, ℕ, ◌⊎◌, true, List, [], ◌∷�
 use Rattle.std.specs.Io.KnownBytes.{Appends}
 use Rattle.s2shelf.specs.Shelf.{Files}
 use Rattle.s2script.specs.Line.{line_of}
-use Rattle.s2script.specs.Lines.{lines, whole_lines, BeginsWith}
+use Rattle.s2script.specs.Lines.{whole_lines}
 use Rattle.s2calc.specs.declared.engine.Tally.{Tally}
 use Rattle.s2calc.specs.declared.fault.RunFault.{RunFault}
 use Rattle.s2calc.specs.declared.fault.RunFault.TheVariants.{Input, Output, Memory}
 use Rattle.s2calc.specs.World.{World}
 use Rattle.s2calc.specs.Replies.{Reply, texts}
 use Rattle.s2calc.specs.Step.{asks_for_file}
-use Rattle.s2calc.specs.Run.{Steps, Known, Ran}
+use Rattle.s2calc.specs.Run.{Steps, Known, Ran, WereReadWhole}
 use Rattle.s2calc.specs.Calls.{Call, NoneFailed, LastFlushed}
 use Rattle.s2calc.specs.Moments.{Event, Came, NotCame, LineBegins, LineEnds, Moment, bytes_read, ends_of}
 use Rattle.s2calc.specs.Moments.{begun_in, ended_in, Adds}
@@ -64,8 +64,7 @@ module _ {W S : Type 0} (contents : W → Option (List ℕ)) (calls : W → Opti
     pub line : List ℕ
     pub begun : begun_in past ≡ length before + ends_of now.event
     pub ended : ended_in past ≡ length before
-    pub read_whole : ((rest : List ℕ) × BeginsWith (bytes_read past) (before ++ line ∷ []) rest)
-        ⊎ ((before ++ line ∷ [] ≡ lines (bytes_read past)) × HasEnded past)
+    pub read_whole : WereReadWhole (bytes_read past) (HasEnded past) (before ++ line ∷ [])
     pub answers : AllOut (done_at now.event before line) now.writer
     pub files_are : answers.now.files ≡ files now.shelf
     pub gone_out : asks_for_file (line_of line) ≡ true → GoneOut calls is_sent may_flush first now.writer

@@ -61,10 +61,10 @@ pub record Ran (old new : Known) : Type 0 where
   pub all_but_last : (more : List ℕ) × (written ≡ texts (came_out replies left) ++ more)
   pub noted : WritesNotes old.noted (notes_of done (came_out replies left)) new.noted
 
--- the lines are the first of those that were read to their end: each ends in a newline, or they are all lines and the
--- script has ended
-abbrev pub WereReadWhole : Option (List ℕ) → List ℕ → List (List ℕ) → Type 0
-WereReadWhole ahead script ls = ((more : List ℕ) × BeginsWith script ls more) ⊎ ((ls ≡ lines script) × IsAtEnd ahead)
+-- The lines are the first of a script's, and were read to their end: each ends in a newline, or they are all lines and
+-- the script has ended, which `Ended` says.
+abbrev pub WereReadWhole : List ℕ → Type 0 → List (List ℕ) → Type 0
+WereReadWhole script Ended ls = ((more : List ℕ) × BeginsWith script ls more) ⊎ ((ls ≡ lines script) × Ended)
 
 -- these lines were read to their end: each ends in a newline, or the last read gave nothing
 abbrev pub HaveEnded : Known → Known → List ℕ → List (List ℕ) → Type 0
@@ -82,14 +82,14 @@ module _ {old new : Known} where
 
   -- the last line that was carried out was read to its end, and some bytes of its answer are missing
   abbrev pub InsideAnswer : Ran old new → Type 0
-  InsideAnswer ran = WereReadWhole new.input.ahead ran.script ran.done × (0 < length ran.left)
+  InsideAnswer ran = WereReadWhole ran.script (IsAtEnd new.input.ahead) ran.done × (0 < length ran.left)
 
   -- A command with a file was read to its end. The lines before it were carried out, or the command too, and exactly
   -- their answers were written.
   pub record BesideFile (ran : Ran old new) : Type 0 where
     pub before : List (List ℕ)
     pub line : List ℕ
-    pub read_whole : WereReadWhole new.input.ahead ran.script (before ++ line ∷ [])
+    pub read_whole : WereReadWhole ran.script (IsAtEnd new.input.ahead) (before ++ line ∷ [])
     pub ended : HaveEnded old new ran.script (before ++ line ∷ [])
     pub has_file : asks_for_file (line_of line) ≡ true
     pub done_are : (ran.done ≡ before) ⊎ (ran.done ≡ before ++ line ∷ [])

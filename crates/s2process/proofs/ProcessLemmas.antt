@@ -1,7 +1,7 @@
 -- What a run did over streams whose calls are all known.
 use Rattle.std.proofs.Common.{◌≡◌, ◌≤◌, ℕ, ◌+◌, ◌⊎◌, List, [], ◌∷◌, ◌++◌, length, Option, Some, None, Result, Ok, Err}
 use Rattle.std.proofs.Common.{Bool, false, MatchResult, refl, sym, ap, ◌∙◌, subst, inl, inr}
-use Rattle.std.specs.Io.KnownBytes.{Appends}
+use Rattle.std.specs.Io.KnownBytes.{Appends, IsAtEnd}
 use Rattle.s2shelf.specs.Shelf.{Files}
 use Rattle.s2script.specs.Lines.{lines, whole_lines, BeginsWith}
 use Rattle.s2calc.specs.declared.engine.Tally.{Tally}
@@ -12,7 +12,7 @@ use Rattle.s2calc.specs.World.{World}
 use Rattle.s2calc.specs.Replies.{Reply, texts}
 use Rattle.s2calc.specs.Notes.{Noted}
 use Rattle.s2calc.specs.Run as run
-use Rattle.s2calc.specs.Run.{Steps, Known, known, Ran, Runs}
+use Rattle.s2calc.specs.Run.{Steps, Known, known, Ran, Runs, WereReadWhole}
 use Rattle.s2calc.specs.Calls as calls
 use Rattle.s2calc.specs.Calls.{Call, Gains, AllWell}
 use Rattle.s2calc.specs.Reads as reads
@@ -25,7 +25,7 @@ use Rattle.s2calc.specs.Order.{InOrder, Ordered, HasEnded}
 use Rattle.s2calc.proofs.CallLemmas.{none_failed_may, last_failed_may}
 use Rattle.s2process.specs.Ends.{NoneFailed, LastFlushed, LastFailed, ReadsLast, ReadsStop, ReadsWell}
 use Rattle.s2process.specs.Order.{AllOut, GoneOut, ReadsWhen, LineWhen, MayCome, EachMay}
-use Rattle.s2process.specs.Process.{Did, WereReadWhole, InsideAnswer, AllLines, WholeLines, BesideFile}
+use Rattle.s2process.specs.Process.{Did, InsideAnswer, AllLines, WholeLines, BesideFile}
 use Rattle.s2process.specs.Process.{RunsListed}
 use Rattle.s2process.specs.Explained.{Explains}
 
@@ -199,11 +199,11 @@ module _ {V S : Type 0} (taken : V → List ℕ) (called : V → List Call) (fil
       all_read r = reads_last reads_old reads_new not_read (Some 0) r
 
       begin_there : (ls : List (List ℕ)) → ((more : List ℕ) × BeginsWith ran.script ls more)
-          → WereReadWhole given_new reads_new ls
+          → WereReadWhole given_new (ReadsLast (Some 0) reads_new) ls
       begin_there ls p = inl (p.0, subst (λ (s : List ℕ). BeginsWith s ls p.0) (sym script_is) p.1)
 
-      read_whole : (ls : List (List ℕ)) → run.WereReadWhole ahead_new ran.script ls →
-          run.HaveEnded old new ran.script ls → WereReadWhole given_new reads_new ls
+      read_whole : (ls : List (List ℕ)) → WereReadWhole ran.script (IsAtEnd ahead_new) ls →
+          run.HaveEnded old new ran.script ls → WereReadWhole given_new (ReadsLast (Some 0) reads_new) ls
       read_whole ls (inl p) e = begin_there ls p
       read_whole ls (inr p) (inl e) = begin_there ls e
       read_whole ls (inr p) (inr e) = inr (p.0 ∙ ap lines (sym script_is), all_read e)

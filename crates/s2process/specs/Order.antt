@@ -1,12 +1,12 @@
 -- The order in which the process reads, carries out lines, and writes, where all that was written is known.
-use Rattle.std.specs.Prelude.{◌≡◌, ℕ, ◌⊎◌, true, List, [], ◌∷◌, ◌++◌, length, ◌+◌}
+use Rattle.std.specs.Prelude.{◌≡◌, ℕ, true, List, [], ◌∷◌, ◌++◌, length, ◌+◌}
 use Rattle.s2shelf.specs.Shelf.{Files}
 use Rattle.s2script.specs.Line.{line_of}
-use Rattle.s2script.specs.Lines.{lines, whole_lines, BeginsWith}
+use Rattle.s2script.specs.Lines.{whole_lines}
 use Rattle.s2calc.specs.World.{World}
 use Rattle.s2calc.specs.Replies.{Reply, texts}
 use Rattle.s2calc.specs.Step.{asks_for_file}
-use Rattle.s2calc.specs.Run.{Steps}
+use Rattle.s2calc.specs.Run.{Steps, WereReadWhole}
 use Rattle.s2calc.specs.Calls.{Call}
 use Rattle.s2calc.specs.Buffered.{Buffered}
 use Rattle.s2calc.specs.Moments.{Event, Came, NotCame, LineBegins, LineEnds, Moment, bytes_read, begun_in, ended_in}
@@ -47,8 +47,7 @@ module _ {V S : Type 0} (taken : V → List ℕ) (called : V → List Call) (fil
     pub line : List ℕ
     pub begun : begun_in past ≡ length before + ends_of now.event
     pub ended : ended_in past ≡ length before
-    pub read_whole : ((rest : List ℕ) × BeginsWith (bytes_read past) (before ++ line ∷ []) rest)
-        ⊎ ((before ++ line ∷ [] ≡ lines (bytes_read past)) × HasEnded past)
+    pub read_whole : WereReadWhole (bytes_read past) (HasEnded past) (before ++ line ∷ [])
     pub answers : AllOut (done_at now.event before line) now.writer
     pub files_are : answers.now.files ≡ files now.shelf
     pub gone_out : asks_for_file (line_of line) ≡ true → GoneOut called now.writer

@@ -3,7 +3,7 @@ use Rattle.std.specs.Prelude.{◌≡◌, ◌<◌, ◌≤◌, ◌+◌, ℕ, ◌�
 use Rattle.std.specs.Prelude.{Option, Result, Ok, Err, Some}
 use Rattle.s2shelf.specs.Shelf.{Files}
 use Rattle.s2script.specs.Line.{line_of}
-use Rattle.s2script.specs.Lines.{lines, whole_lines, BeginsWith}
+use Rattle.s2script.specs.Lines.{lines, whole_lines}
 use Rattle.s2calc.specs.declared.engine.Tally.{Tally}
 use Rattle.s2calc.specs.declared.fault.RunFault.{RunFault}
 use Rattle.s2calc.specs.declared.fault.RunFault.TheVariants.{Input, Output, Memory}
@@ -11,7 +11,7 @@ use Rattle.s2calc.specs.declared.limits.TheConstants.{MOST_WAITING}
 use Rattle.s2calc.specs.World.{World}
 use Rattle.s2calc.specs.Replies.{Reply, texts, tally_of}
 use Rattle.s2calc.specs.Step.{asks_for_file}
-use Rattle.s2calc.specs.Run.{Steps, came_out}
+use Rattle.s2calc.specs.Run.{Steps, came_out, WereReadWhole}
 use Rattle.s2calc.specs.Calls.{Call}
 use Rattle.s2calc.specs.Buffered.{Buffered}
 use Rattle.s2calc.specs.Moments.{Moment, bytes_read, begun_in, ended_in}
@@ -30,19 +30,12 @@ pub record Did (start now : World) (written waiting : List ℕ) : Type 0 where
   pub texts_are : texts replies ≡ written ++ waiting ++ left
   pub all_but_last : (more : List ℕ) × (written ++ waiting ≡ texts (came_out replies left) ++ more)
 
--- `reads` says how the reads of the script ended
-module _ (script : List ℕ) (reads : List (Option ℕ)) where
-  -- the lines are the first of those of the script, and were read to their end: each ends in a newline, or they are all
-  -- lines and the last read gave nothing
-  abbrev pub WereReadWhole : List (List ℕ) → Type 0
-  WereReadWhole ls =
-      ((more : List ℕ) × BeginsWith script ls more) ⊎ ((ls ≡ lines script) × ReadsLast (Some 0) reads)
-
 module _ {start now : World} {written waiting : List ℕ} (script : List ℕ) where
   -- exactly the lines that were read whole were carried out, and exactly their answers were written
   abbrev pub WholeLines : Did start now written waiting → Type 0
   WholeLines did = (did.done ≡ whole_lines script) × (did.left ≡ [])
 
+-- `reads` says how the reads of the script ended: it has ended if the last gave nothing
 module _ {start now : World} {written waiting : List ℕ} (script : List ℕ) (reads : List (Option ℕ)) where
   -- the last read gave nothing, all lines of the script were carried out, and all answers were written
   abbrev pub AllLines : Did start now written waiting → Type 0
@@ -50,14 +43,14 @@ module _ {start now : World} {written waiting : List ℕ} (script : List ℕ) (r
 
   -- the last line that was carried out was read to its end, and some bytes of its answer are missing
   abbrev pub InsideAnswer : Did start now written waiting → Type 0
-  InsideAnswer did = WereReadWhole script reads did.done × (0 < length did.left)
+  InsideAnswer did = WereReadWhole script (ReadsLast (Some 0) reads) did.done × (0 < length did.left)
 
   -- A command with a file was read to its end. The lines before it were carried out, or the command too, and exactly
   -- their answers were written.
   pub record BesideFile (did : Did start now written waiting) : Type 0 where
     pub before : List (List ℕ)
     pub line : List ℕ
-    pub read_whole : WereReadWhole script reads (before ++ line ∷ [])
+    pub read_whole : WereReadWhole script (ReadsLast (Some 0) reads) (before ++ line ∷ [])
     pub has_file : asks_for_file (line_of line) ≡ true
     pub done_are : (did.done ≡ before) ⊎ (did.done ≡ before ++ line ∷ [])
     pub none_left : did.left ≡ []
