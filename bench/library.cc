@@ -88,32 +88,28 @@ static void questions(Table& table, const List& xs) {
   std::vector<uint8_t> answers(N);
   size_t bad = 0;
   u64 peer_yes = 0, yes = 0;
-  auto row = [&](const char* name, bool (S2CellUnion::*peer)(S2CellId) const, CellCall call) {
+  using Asked = bool (S2CellUnion::*)(S2CellId) const;
+  auto row = [&](const char* name, Asked peer, auto ours, auto sum) {
     table.row({name, N, 0},
               {[&](uint32_t) {
                  peer_yes = 0;
                  for (S2CellId cell : cells) peer_yes += (x.*peer)(cell);
                },
                [&] { return peer_yes; }},
-              {[&](uint32_t) {
-                 yes = 0;
-                 for (u64 cell : asked) yes += static_cast<u64>(call(xs.data(), xs.size(), cell));
-               },
-               [&] { return yes; }});
+              {[&](uint32_t) { ours(); }, sum});
   };
-  row("contains_cell", &S2CellUnion::Contains, s2u_contains_cell);
-  row("intersects_cell", &S2CellUnion::Intersects, s2u_intersects_cell);
-  auto all = [&](const char* name, bool (S2CellUnion::*peer)(S2CellId) const, decltype(&s2u_contains_cells) call) {
-    table.row({name, N, 0},
-              {[&](uint32_t) {
-                 peer_yes = 0;
-                 for (S2CellId cell : cells) peer_yes += (x.*peer)(cell);
-               },
-               [&] { return peer_yes; }},
-              {[&](uint32_t) {
-                 made(call(xs.data(), xs.size(), asked.data(), N, answers.data(), N, &bad), name);
-               },
-               [&] { return static_cast<u64>(std::count(answers.begin(), answers.end(), 1)); }});
+  auto each = [&](const char* name, Asked peer, CellCall call) {
+    auto ask = [&] {
+      yes = 0;
+      for (u64 cell : asked) yes += static_cast<u64>(call(xs.data(), xs.size(), cell));
+    };
+    row(name, peer, ask, [&] { return yes; });
+  };
+  each("contains_cell", &S2CellUnion::Contains, s2u_contains_cell);
+  each("intersects_cell", &S2CellUnion::Intersects, s2u_intersects_cell);
+  auto all = [&](const char* name, Asked peer, decltype(&s2u_contains_cells) call) {
+    auto ask = [&] { made(call(xs.data(), xs.size(), asked.data(), N, answers.data(), N, &bad), name); };
+    row(name, peer, ask, [&] { return static_cast<u64>(std::count(answers.begin(), answers.end(), 1)); });
   };
   all("contains_cells", &S2CellUnion::Contains, s2u_contains_cells);
   all("intersects_cells", &S2CellUnion::Intersects, s2u_intersects_cells);
