@@ -239,7 +239,7 @@ def prints_usage(command):
     usage = head.split('"""')[1] if is_python else re.match("(?:#.*\n)*", head)[0].replace("# ", "").replace("#", "")
     try:
         done = subprocess.run(["python3" if is_python else "bash", command, "--help"], stdin=subprocess.DEVNULL,
-                              capture_output=True, text=True, check=False, timeout=10)
+                              capture_output=True, text=True, check=False, timeout=100)
     except subprocess.TimeoutExpired:
         return False
     return done.returncode == 0 and done.stdout.strip() == usage.strip() and command.name in usage
