@@ -195,7 +195,7 @@ class AgainstTheModel(Tests):
         pairs = []
         for _ in range(ROUNDS // 3):
             normal = model.normal(model.runs(self.random.cells()))
-            least = min([model.cell(c)[0] for c in normal] + [27]) + self.random.randrange(4)
+            least = self.random.level_from(normal)
             small, modulus = [c for c in normal if model.cell(c)[0] > least - 4], self.random.randint(1, 3)
             pairs += [
                 (f"s2_cells({u(small)}, {least}, {modulus})", array(model.cut(small, least, modulus))),
@@ -208,9 +208,8 @@ class AgainstTheModel(Tests):
         for _ in range(ROUNDS // 3):
             xs = self.random.cells()
             runs = model.runs(xs)
-            level = min([model.cell(c)[0] for c in model.normal(runs)] + [27]) + self.random.randrange(4)
-            rows = [f"{signed(tile)}: {tokens(model.normal(model.common(runs, [model.run(tile)])))}"
-                    for tile in model.cut(model.normal(model.around(runs, level)), level, 1)]
+            level = self.random.level_from(model.normal(runs))
+            rows = [f"{signed(tile)}: {tokens(part)}" for tile, part in model.tiles(runs, level)]
             pairs.append((f"string_agg(tile || ': ' || part, ', ') FROM s2_tiles({u(xs)}, {level})",
                           ", ".join(rows) or "null"))
         pairs = [(f"(SELECT {query})", answer) for query, answer in pairs]

@@ -72,6 +72,11 @@ def within(xs, level):
     return joined([(-(-first // unit) * unit, end // unit * unit) for first, end in joined(xs)])
 
 
+def tiles(xs, level):
+    """The cells of a level that share a leaf with the runs, each with the cells of what it shares with them."""
+    return [(tile, normal(common(xs, [run(tile)]))) for tile in cut(normal(around(xs, level)), level, 1)]
+
+
 def ancestors(cells):
     """The cells and all their ancestors, each once."""
     placed = [cell(each) for each in cells]

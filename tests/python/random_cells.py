@@ -35,6 +35,10 @@ class Random(random.Random):
             cells.append(self.near(self.choice(cells)))
         return cells if self.random() < 0.95 else []
 
+    def level_from(self, cells):
+        """The level of the largest of the cells, or 27 if that is less, and up to three more."""
+        return min([model.cell(cell)[0] for cell in cells] + [27]) + self.randrange(4)
+
     def number(self):
         """Any number: sometimes a cell, mostly not."""
         damaged = self.cell() ^ 1 << self.randrange(64)

@@ -166,7 +166,7 @@ class AgainstTheModel(unittest.TestCase):
             else:
                 self.assertRaises(ValueError, Union.from_range, first, last)
             xs = Union(self.random.cells())
-            least = min([model.cell(c)[0] for c in xs] + [27]) + self.random.randrange(4)
+            least = self.random.level_from(xs)
             modulus = self.random.randint(1, 3)
             cells = [c for c in xs if model.cell(c)[0] > least - 5]
             self.assertEqual(Union(cells).denormalised(least, modulus), model.cut(Union(cells), least, modulus))

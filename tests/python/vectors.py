@@ -166,7 +166,7 @@ def ranges_and_cuts(a):
     say("leaves", 2 * begin + 1, 2 * end + 1, model.normal([(begin, end)]))
     say("leaves", 2 * begin + 1, 2 * 6 * 4**30 + 1, model.normal([(begin, 6 * 4**30)]))
     say("leaves", 2 * end + 3, 2 * begin + 1, "!argument")
-    least = min([model.cell(c)[0] for c in a] + [27]) + random.randrange(4)
+    least = random.level_from(a)
     a = model.normal(model.runs([c for c in a if model.cell(c)[0] > least - 5]))
     modulus = random.randint(1, 3)
     say("denormalised", a, numbers(least, modulus), model.cut(a, least, modulus))

@@ -251,7 +251,7 @@ class AgainstTheModel(Tests):
             value = self.random.form(xs)
             rows = [(signed(c), signed(2 * model.run(c)[0] + 1), signed(2 * model.run(c)[1] - 1)) for c in normal]
             self.assertEqual(self.db.execute("SELECT * FROM s2_cells(?)", (value,)).fetchall(), rows)
-            least = min([model.cell(c)[0] for c in normal] + [27]) + self.random.randrange(4)
+            least = self.random.level_from(normal)
             small = [c for c in normal if model.cell(c)[0] > least - 4]
             modulus = self.random.randint(1, 3)
             said = self.db.execute("SELECT cell FROM s2_cells(?, ?, ?)", (model.file(small), least, modulus)).fetchall()
@@ -268,9 +268,8 @@ class AgainstTheModel(Tests):
         for _ in range(ROUNDS // 3):
             xs = self.random.cells()
             runs = model.runs(xs)
-            level = min([model.cell(c)[0] for c in model.normal(runs)] + [27]) + self.random.randrange(4)
-            tiles = model.cut(model.normal(model.around(runs, level)), level, 1)
-            wanted = [(signed(tile), model.file(model.normal(model.common(runs, [model.run(tile)])))) for tile in tiles]
+            level = self.random.level_from(model.normal(runs))
+            wanted = [(signed(tile), model.file(part)) for tile, part in model.tiles(runs, level)]
             said = self.db.execute("SELECT * FROM s2_tiles(?, ?)", (self.random.form(xs), level)).fetchall()
             self.assertEqual(said, wanted)
         self.refused("no query solution", "* FROM s2_tiles('1')")
