@@ -86,6 +86,18 @@ def rows():
         return [Row(part) for part in re.split(r"^## ", it.read(), flags=re.M)[1:]]
 
 
+def words_in(folder, words):
+    """The words of a command line, for the files of this folder if the command has files."""
+    command, *rest = words.split()
+    return [command, *(["--dir", folder] if command in ("run", "check") else []), *rest]
+
+
+def told(status, out, error):
+    """What the program did, as the lines that `? program` answers."""
+    lines = [*out.decode().splitlines(), *("!" + line for line in error.decode().splitlines())]
+    return [*lines, f"status {status}"]
+
+
 class Scripts(unittest.TestCase):
     def test_each_has_its_answers(self):
         for row in rows():
@@ -101,7 +113,10 @@ class Scripts(unittest.TestCase):
         self.assertTrue(row.has(answers), answers[-1000:])
         self.assertEqual((status, error), (int(b"error " in answers), b""))
         for name, words, wanted in row.calls:
-            self.call(name, words, wanted, status, folder)
+            if name == "program":
+                self.assertEqual(told(*ran(*words_in(folder, words), script=row.script)), wanted)
+            else:
+                self.call(name, words, wanted, status, folder)
 
     def call(self, name, words, wanted, status, folder):
         """Makes a call of a row, if the program has it."""

@@ -5,6 +5,7 @@ use crate::failing_runs::{reads_fail, shelf_fails, writes_fail};
 use crate::left::Flushing;
 use crate::logged::{add_log, add_seen};
 use crate::narrow::Mishap;
+use crate::process::{Failing, add_process};
 use crate::row::Done;
 use row_table::{add_line, bytes_of, number};
 use s2calc::{RunFault, Stop, Tally, cell_answer, check_answer, job, status};
@@ -62,6 +63,12 @@ fn make_other(
     }
     if name == "job" {
         return add_job(alloc, rest, found);
+    }
+    if name == "program" {
+        return add_process(alloc, lines, rest, Failing { of: "", call: 0 }, found);
+    }
+    if name == "failing" {
+        return add_failing(alloc, lines, rest, found);
     }
     let failed = if name == "reads" {
         let (size, more) = sized(rest);
@@ -184,18 +191,39 @@ fn add_rest(alloc: Global, tokens: &str, found: &mut Vec<u8>) -> Result<(), Allo
 
 /// Adds what words after the program's name ask for, or why they ask for nothing, with the exit status.
 fn add_job(alloc: Global, words: &str, found: &mut Vec<u8>) -> Result<(), AllocError> {
-    let mut all = Vec::new(alloc);
-    all.push(String::from_str(alloc, "s2calc")?)?;
-    for word in words.split_whitespace() {
-        all.push(String::from_str(alloc, word)?)?;
-    }
-    match job(alloc, all) {
+    match job(alloc, words_of(alloc, words)?) {
         Ok(asked) => add_line(found, &format!(in alloc; "{asked:?}")?),
         Err(stop) => {
             let name = stop_name(&stop);
             add_line(found, &format!(in alloc; "{name} {}", stop.status())?)
         }
     }
+}
+
+/// The words of a command line: the program's name, and those after it.
+pub fn words_of(alloc: Global, words: &str) -> Result<Vec<String>, AllocError> {
+    let mut all = Vec::new(alloc);
+    all.push(String::from_str(alloc, "s2calc")?)?;
+    for word in words.split_whitespace() {
+        all.push(String::from_str(alloc, word)?)?;
+    }
+    Ok(all)
+}
+
+/// Adds what the program does if a call fails: `STREAM N` and the words of the command line.
+fn add_failing(
+    alloc: Global,
+    lines: &[&str],
+    rest: &str,
+    found: &mut Vec<u8>,
+) -> Result<(), AllocError> {
+    let (of, rest) = rest.split_once(" ").unwrap_or((rest, ""));
+    let (call, words) = rest.split_once(" ").unwrap_or((rest, ""));
+    let failing = Failing {
+        of,
+        call: number(call),
+    };
+    add_process(alloc, lines, words, failing, found)
 }
 
 fn stop_name(stop: &Stop) -> &'static str {

@@ -16,6 +16,8 @@
 //! | `? file NAME HEX` | `same` if the file has these bytes, or the bytes that it has |
 //! | `? cell WORD`, `? check NAME` | the program's other answers, and what the call returned |
 //! | `? job WORDS` | what words of the command line ask for, or why they ask for nothing, with the exit status |
+//! | `? program WORDS` | what the program does with these words: output, `!` and each line of standard error, status |
+//! | `? failing STREAM N WORDS` | the same if the N-th call of `input`, `output`, `errors` or `files` fails |
 //! | `? without CELL CELL` | how many cells the first cell has without the leaves of the second |
 //! | `? log`, `? log promptly` | what a run writes, `|` for each flush, and how it calls a shelf without files |
 //! | `? seen SIZE` | what an observer sees of a run over reads of SIZE bytes: each read, and each line begin and end |
@@ -29,6 +31,7 @@
 //!
 //! Modules: `row` has a row answered, `calls` its calls. `failing_runs` and `failing_answers` make each call of a
 //! stream or the shelf fail in turn, over `pieces` (a reader) and `narrow` (a writer), and compare what is `left`.
+//! `process` has `program` of `s2process` do a row, over the same reader and writer and the row's files.
 //! `logged` makes a log of a run, over the writer and the shelf of `log`, and says what a `watcher` (an observer) sees.
 //! These readers, writers and observers list their calls by `known`, so that contracts see them. `example` is the
 //! example of README.md.
@@ -44,6 +47,7 @@ mod log;
 mod logged;
 mod narrow;
 mod pieces;
+mod process;
 mod row;
 mod watcher;
 
