@@ -34,10 +34,30 @@ install_packages() {
   "${as_root[@]}" apt-get update && "${as_root[@]}" apt-get install -y --no-install-recommends "$@"
 }
 
+# ---- what is needed: need_packages installs the Debian packages whose parts these miss
+
+packages=()
+need() { # COMMAND PACKAGE..
+  command -v "$1" >/dev/null || packages+=("${@:2}")
+}
+need_file() { # PATH PACKAGE..
+  [ -e "$1" ] || packages+=("${@:2}")
+}
+need_modules() { # NAME[,NAME..] PACKAGE..: of Debian's Python
+  /usr/bin/python3 -c "import $1" 2>/dev/null || packages+=("${@:2}")
+}
+need_headers() { # [PACKAGE..]: of Python
+  [ -n "$(python_headers)" ] || packages+=(libpython3-dev "$@")
+}
+need_installed() { # PACKAGE..
+  local package
+  for package; do dpkg-query -s "$package" >/dev/null 2>&1 || packages+=("$package"); done
+}
 need_packages() {
   [ ${#packages[@]} -eq 0 ] && return
   step "Debian packages: ${packages[*]}" install_packages "${packages[@]}"
   [ "$failed" -eq 0 ] || { echo "these packages are needed"; finish; }
+  packages=()
 }
 
 # The headers of Python, for its module in C: the folder in which they are, or nothing.
@@ -54,8 +74,7 @@ need_library() {
     cp -a "$S2UNION_PREFIX" "$work/usr"
     return
   fi
-  packages=()
-  [ ! -x /usr/bin/python3 ] || [ -n "$(python_headers)" ] || packages+=(libpython3-dev)
+  [ ! -x /usr/bin/python3 ] || need_headers
   need_packages
   step "tools/library" "$top/tools/library" "$work/usr"
   [ "$failed" -eq 0 ] || finish

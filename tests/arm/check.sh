@@ -10,8 +10,6 @@ rounds=${1:-20000}
 
 # ---- what is needed
 
-packages=()
-need() { command -v "$1" >/dev/null || packages+=("$2"); }
 need gcc gcc
 need make make
 need pkg-config pkg-config
@@ -20,7 +18,7 @@ need qemu-aarch64-static qemu-user-static
 need musl-gcc musl-tools
 need mmdebstrap mmdebstrap
 need go golang-go
-[ -e /usr/include/sqlite3ext.h ] || packages+=(libsqlite3-dev)
+need_file /usr/include/sqlite3ext.h libsqlite3-dev
 need_packages
 
 arm=$work/arm

@@ -9,16 +9,16 @@ tests=$top/tests/c
 
 # ---- what is needed
 
-packages=()
-command -v gcc >/dev/null && command -v g++ >/dev/null || packages+=(gcc g++ libc6-dev)
-command -v clang >/dev/null || packages+=(clang libclang-rt-dev) # the latter has the fuzzer
-command -v pkg-config >/dev/null || packages+=(pkg-config)
-[ -x /usr/bin/python3 ] || packages+=(python3)
-/usr/bin/python3 -c 'import numpy' 2>/dev/null || packages+=(python3-numpy)
-/usr/bin/python3 -c 'import hypothesis' 2>/dev/null || packages+=(python3-hypothesis)
-/usr/bin/python3 -c 'import pip, setuptools, wheel' 2>/dev/null || packages+=(python3-{pip,setuptools,wheel})
-[ -n "$(python_headers)" ] || packages+=(libpython3-dev)
-command -v gcovr >/dev/null || packages+=(gcovr)
+need gcc gcc libc6-dev
+need g++ g++
+need clang clang libclang-rt-dev # the latter has the fuzzer
+need pkg-config pkg-config
+need /usr/bin/python3 python3
+need_modules numpy python3-numpy
+need_modules hypothesis python3-hypothesis
+need_modules pip,setuptools,wheel python3-{pip,setuptools,wheel}
+need_headers
+need gcovr gcovr
 need_packages
 
 # ---- the library, installed as a package would be

@@ -10,12 +10,8 @@ export S2CALC=${S2CALC:-$top/crates/calculator/out/calculator}
 [ -z "${1:-}" ] || [ "$1" = --costs ] || S2CALC=$(realpath "$1")
 [ -x "$S2CALC" ] || { echo "there is no program: tools/prove builds it"; failed=1; finish; }
 
-packages=()
-for package in g++ make time sqlite3 libsqlite3-dev libs2-dev nlohmann-json3-dev gmt-gshhg-low \
-  python3-{numpy,netcdf4,shapely,geopandas,pywraps2}; do
-  dpkg-query -s "$package" >/dev/null 2>&1 || packages+=("$package")
-done
-need_packages
+. "$top/tests/geo/countries.sh"
+need_countries make time sqlite3 libsqlite3-dev
 . "$top/tests/postgres/server.sh"
 
 # ---- what the pages take as installed: the library, both extensions, a server

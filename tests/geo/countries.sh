@@ -2,12 +2,7 @@
 # for bench/databases. The caller has read tests/steps.sh.
 
 need_countries() { # PACKAGE..: installs what is missing of these too
-  local package
-  packages=()
-  for package in g++ libs2-dev nlohmann-json3-dev gmt-gshhg-low python3-{numpy,netcdf4,shapely,geopandas,pywraps2} "$@"
-  do
-    dpkg-query -s "$package" >/dev/null 2>&1 || packages+=("$package")
-  done
+  need_installed g++ libs2-dev nlohmann-json3-dev gmt-gshhg-low python3-{numpy,netcdf4,shapely,geopandas,pywraps2} "$@"
   need_packages
 }
 

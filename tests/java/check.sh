@@ -4,10 +4,9 @@
 . "$(dirname "$0")/../steps.sh"
 tests=$top/tests/java
 
-packages=()
-command -v javac >/dev/null || packages+=(openjdk-17-jdk-headless)
-command -v gcc >/dev/null || packages+=(gcc libc6-dev)
-command -v aarch64-linux-gnu-gcc >/dev/null || packages+=(gcc-aarch64-linux-gnu)
+need javac openjdk-17-jdk-headless
+need gcc gcc libc6-dev
+need aarch64-linux-gnu-gcc gcc-aarch64-linux-gnu
 need_packages
 
 step "no arithmetic on cells" no_arithmetic "$top/bindings/java/s2union.c"

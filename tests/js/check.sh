@@ -4,9 +4,8 @@
 . "$(dirname "$0")/../steps.sh"
 tests=$top/tests/js
 
-packages=()
-command -v node >/dev/null || packages+=(nodejs)
-command -v wasm-opt >/dev/null || packages+=(binaryen)
+need node nodejs
+need wasm-opt binaryen
 need_packages
 
 step "tools/page" "$top/tools/page" "$work/page" --jobs 1

@@ -7,13 +7,11 @@
 # Its last line is 'N passed, M failed'; the status is 1 if any failed.
 . "$(dirname "$0")/../steps.sh"
 
-packages=()
-for command in chromium chromedriver; do
-  command -v "$command" >/dev/null || packages+=("${command/chromedriver/chromium-driver}")
-done
-/usr/bin/python3 -c 'import selenium' 2>/dev/null || packages+=(python3-selenium)
-/usr/bin/python3 -c 'import numpy' 2>/dev/null || packages+=(python3-numpy)
-command -v wasm-opt >/dev/null || [ "${1:-}" = --short ] || packages+=(binaryen)
+need chromium chromium
+need chromedriver chromium-driver
+need_modules selenium python3-selenium
+need_modules numpy python3-numpy
+[ "${1:-}" = --short ] || need wasm-opt binaryen
 
 lacking_calls() { # what is left out of the module, from the copy of the sources that it is made of
   /usr/bin/python3 -c 'import runpy, sys; print(*runpy.run_path(sys.argv[1])["make_copy"](sys.argv[2]), sep="\n")' \

@@ -1,15 +1,13 @@
 # What the tests of PostgreSQL, its mutants and tests/geo share: a copy of the server that Debian ships,
 # in $work, with the extension. Nothing is installed except Debian's packages. The caller has read tests/steps.sh.
 
-packages=()
-command -v gcc >/dev/null || packages+=(gcc libc6-dev)
-command -v make >/dev/null || packages+=(make)
-headers=$(pg_config --includedir-server 2>/dev/null || true)
-[ -n "$headers" ] && [ -e "$headers/postgres.h" ] || packages+=(postgresql-server-dev-all)
-command -v pg_ctlcluster >/dev/null || packages+=(postgresql)
-[ -e /usr/include/valgrind/memcheck.h ] || packages+=(valgrind)
-command -v gcovr >/dev/null || packages+=(gcovr)
-[ -x /usr/bin/python3 ] || packages+=(python3)
+need gcc gcc libc6-dev
+need make make
+need_file "$(pg_config --includedir-server 2>/dev/null)/postgres.h" postgresql-server-dev-all
+need pg_ctlcluster postgresql
+need_file /usr/include/valgrind/memcheck.h valgrind
+need gcovr gcovr
+need /usr/bin/python3 python3
 need_packages
 need_library
 

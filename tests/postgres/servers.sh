@@ -3,8 +3,7 @@
 # network namespaces of their own, so it needs root; the machine's own network is left alone. Nothing is installed
 # except Debian's packages. The last line is 'N passed, M failed'; the status is 1 if any failed.
 . "$(dirname "$0")/../steps.sh"
-packages=()
-command -v ip >/dev/null || packages+=(iproute2)
+need ip iproute2
 need_packages
 . "$top/tests/geo/countries.sh"
 need_countries

@@ -5,8 +5,7 @@
 . "$(dirname "$0")/../steps.sh"
 [ -z "${1:-}" ] || export S2UNION_CELLS=$1
 
-packages=()
-/usr/bin/python3 -c 'import dask.dataframe, distributed' 2>/dev/null || packages+=(python3-{dask,distributed,pandas})
+need_modules dask.dataframe,distributed python3-{dask,distributed,pandas}
 need_packages
 . "$top/tests/geo/countries.sh"
 need_countries

@@ -3,11 +3,10 @@
 # They are the edits of bindings/python/mutants. One whose tests were killed was not tried, and fails. The last line is
 # 'N passed, M failed'.
 . "$(dirname "$0")/../steps.sh"
-packages=()
-[ -x /usr/bin/python3 ] || packages+=(python3)
-/usr/bin/python3 -c 'import numpy' 2>/dev/null || packages+=(python3-numpy)
-/usr/bin/python3 -c 'import setuptools' 2>/dev/null || packages+=(python3-setuptools)
-[ -n "$(python_headers)" ] || packages+=(gcc libc6-dev libpython3-dev)
+need /usr/bin/python3 python3
+need_modules numpy python3-numpy
+need_modules setuptools python3-setuptools
+need_headers gcc libc6-dev
 need_packages
 need_library
 
