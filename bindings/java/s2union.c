@@ -67,6 +67,13 @@ static void put(JNIEnv* env, jlongArray to, uint64_t number) {
   (*env)->SetLongArrayRegion(env, to, 0, 1, &signed_number);
 }
 
+/* Lets the lists of a call go, gives Java the number that it found, and answers its status. */
+static jint ended(passed* lists, int32_t status, jlongArray to, uint64_t found) {
+  end(lists);
+  put(lists->env, to, found);
+  return status;
+}
+
 /* ---- one cell */
 
 CALL(jlong, number)(JNIEnv* env, jclass of, jint call, jlong a, jlong b) {
@@ -196,9 +203,7 @@ CALL(jint, make)(JNIEnv* env, jclass of, jint call, jlongArray xs, jlongArray ys
   (*env)->GetIntArrayRegion(env, numbers, 0, (*env)->GetArrayLength(env, numbers), n);
   add(&lists, xs, 0, 0), add(&lists, ys, 0, 0), add(&lists, out, 0, 1);
   int32_t status = begin(&lists) ? made(call, &lists, (const uint32_t*)n, &len) : S2U_MEMORY;
-  end(&lists);
-  put(env, length, len);
-  return status;
+  return ended(&lists, status, length, len);
 }
 
 CALL(jint, denormalisedLength)(JNIEnv* env, jclass of, jlongArray xs, jint min, jint modulus, jlongArray length) {
@@ -208,9 +213,7 @@ CALL(jint, denormalisedLength)(JNIEnv* env, jclass of, jlongArray xs, jint min, 
   add(&lists, xs, 0, 0);
   int32_t status =
       begin(&lists) ? s2u_denormalised_len(LIST(0), (uint32_t)min, (uint32_t)modulus, &len) : S2U_MEMORY;
-  end(&lists);
-  put(env, length, len);
-  return status;
+  return ended(&lists, status, length, len);
 }
 
 CALL(jint, cellsAt)(JNIEnv* env, jclass of, jlongArray xs, jlong cell, jlongArray out) {
@@ -261,9 +264,7 @@ CALL(jint, write)(JNIEnv* env, jclass of, jint call, jlongArray xs, jlongArray y
   size_t len = 0;
   add(&lists, xs, 0, 0), add(&lists, ys, 0, 0), add(&lists, out, 1, 1);
   int32_t status = begin(&lists) ? written(call, &lists, &len) : S2U_MEMORY;
-  end(&lists);
-  put(env, length, len);
-  return status;
+  return ended(&lists, status, length, len);
 }
 
 CALL(jint, read)(JNIEnv* env, jclass of, jint call, jbyteArray bytes, jlongArray out, jlongArray length) {
@@ -275,9 +276,7 @@ CALL(jint, read)(JNIEnv* env, jclass of, jint call, jbyteArray bytes, jlongArray
                    : call == 0    ? s2u_decode(BYTES(0), LIST(1), &len)
                    : call == 1    ? s2u_file_ancestors(BYTES(0), LIST(1), &len)
                                   : s2u_from_tokens(TEXT(0), LIST(1), &len);
-  end(&lists);
-  put(env, length, len);
-  return status;
+  return ended(&lists, status, length, len);
 }
 
 static int32_t asked_of_file(jint call, const passed* given, uint64_t a, uint64_t* out) {
@@ -301,7 +300,5 @@ CALL(jint, askFile)(JNIEnv* env, jclass of, jint call, jbyteArray xs, jbyteArray
   uint64_t found = 0;
   add(&lists, xs, 1, 0), add(&lists, ys, 1, 0);
   int32_t status = begin(&lists) ? asked_of_file(call, &lists, (uint64_t)a, &found) : S2U_MEMORY;
-  end(&lists);
-  put(env, out, found);
-  return status;
+  return ended(&lists, status, out, found);
 }
