@@ -1,40 +1,21 @@
 #!/usr/bin/env bash
 # The library, its bindings and the program for ARM, which are run by qemu, beside x86-64; and the library with musl:
-# tests/run arm -- [ROUNDS]. ROUNDS of all calls with drawn questions, 20,000 if none are given, are asked three times.
-# It has to run as root, and installs the Debian packages that it needs. Debian's Python for ARM is only unpacked. What
-# qemu can't do is in left_out.txt, each with its reason. The last line is 'N passed, M failed'; the status is 1 if any
-# failed.
-. "$(dirname "$0")/../steps.sh"
-tests=$top/tests/arm
-rounds=${1:-20000}
+# tests/run arm -- [ROUNDS [SCRIPTS]]. ROUNDS of all calls with drawn questions are asked three times, and SCRIPTS
+# random scripts are answered; if none are given, 20,000 and 2,000. It has to run as root, and installs the Debian
+# packages that it needs. Debian's Python for ARM is only unpacked. What qemu can't do is in left_out.txt, each with its
+# reason. The last line is 'N passed, M failed'; the status is 1 if any failed.
+. "$(dirname "$0")/system.sh"
+rounds=${1:-20000} scripts=${2:-2000}
 
 # ---- what is needed
 
 need gcc gcc
-need make make
-need pkg-config pkg-config
-need aarch64-linux-gnu-g++ g++-aarch64-linux-gnu
-need qemu-aarch64-static qemu-user-static
 need musl-gcc musl-tools
-need mmdebstrap mmdebstrap
 need go golang-go
 need_file /usr/include/sqlite3ext.h libsqlite3-dev
 need_packages
-
-arm=$work/arm
-system=$work/system
-strict=(-Wall -Wextra -pedantic -Werror)
 need_library
-step "tools/library for ARM" "$top/tools/library" "$arm" --target aarch64
-unpacked() { # Debian's Python for ARM, of which no part is installed
-  local sources
-  mapfile -t sources < <("$top/tools/packaging/sources")
-  mmdebstrap --quiet --variant=extract --architectures=arm64 --include=python3,python3-numpy,libsqlite3-0 \
-    "${sources[0]}" "$system" "${sources[@]:1}"
-}
-step "Debian's Python for ARM, unpacked" unpacked
-[ "$failed" -eq 0 ] || finish
-on_arm() { timeout 1800 qemu-aarch64-static -L /usr/aarch64-linux-gnu -E LD_LIBRARY_PATH="$arm/lib" "$@"; }
+need_arm python3 python3-numpy libsqlite3-0
 python_on_arm() {
   local numpy=/usr/lib/aarch64-linux-gnu
   PYTHONDONTWRITEBYTECODE=1 S2UNION_LIBRARY=$arm/lib/libs2union.so.1 timeout 1800 qemu-aarch64-static -L "$system" \
@@ -162,6 +143,6 @@ as_a_process() {
     "$top/tests/program"
 }
 step "s2calc: as a process" as_a_process
-step "s2calc: random scripts, and a plain model" python3 "$top/tests/peer/scripts.py" 2000
+step "s2calc: $scripts random scripts, and a plain model" python3 "$top/tests/peer/scripts.py" "$scripts"
 grep -v '^#' "$tests/left_out.txt" | sed 's/^/       left out: /'
 finish

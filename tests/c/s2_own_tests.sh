@@ -1,23 +1,31 @@
 #!/usr/bin/env bash
 # S2's own tests of unions, coverings, cell indexes and index terms, with the operations of S2CellUnion replaced by
 # those of s2union.hpp; the program of docs/FROM_S2.md; and whether S2 has the names of that page:
-# tests/run s2-own-tests -- [--no-build]. It takes S2's source from the package sources that this machine has, and
-# installs the Debian packages that it needs. It takes some minutes, nearly all to compile. Its last line is
+# tests/run s2-own-tests -- [--arm SYSTEM] [--no-build]. With --arm all is for ARM, by qemu, over Debian's packages for
+# ARM that are unpacked in SYSTEM. It takes S2's source from the package sources that this machine has, and installs
+# the Debian packages that it needs. It takes some minutes, nearly all to compile. Its last line is
 # 'N passed, M failed', where N counts the names, the program and S2's tests; the status is 1 if any failed.
 set -euo pipefail
 top=$(CDPATH= cd "$(dirname "$0")/../.." && pwd)
-out=$top/tests/c/out
+out=$top/tests/c/out sources=$top/tests/c/out/s2 processor=x86_64 system= cross= by=()
+if [ "${1:-}" = --arm ]; then
+  system=$2 processor=aarch64 cross=aarch64-linux-gnu- by=(qemu-aarch64-static -L "$2") out=$out/aarch64
+  shift 2
+fi
+includes=$system/usr/include libraries=$system/usr/lib/$processor-linux-gnu
 as_root=()
 [ "$(id -u)" -eq 0 ] || as_root=(sudo -n)
-if [ ! -e /usr/include/s2/s2cell_union.h ] || [ ! -e /usr/include/gtest/gtest.h ] || ! command -v dpkg-source >/dev/null
+if [ ! -e "$includes/s2/s2cell_union.h" ] || [ ! -e "$includes/gtest/gtest.h" ] || ! command -v dpkg-source >/dev/null
 then
   "${as_root[@]}" apt-get update
   "${as_root[@]}" apt-get install -y --no-install-recommends g++ dpkg-dev libs2-dev libgtest-dev
 fi
 mkdir -p "$out"
-bash "$top/bench/s2_sources" "$out/s2"
-"$top/tools/library" "$out/usr" "$@"
-source=$out/s2/source/src
+bash "$top/bench/s2_sources" "$sources"
+"$top/tools/library" "$out/usr" --target "$processor" "$@"
+source=$sources/source/src
+compiler="${cross}g++ -std=c++17 -w"
+[ -z "$cross" ] || compiler="$compiler -Wno-psabi -isystem $includes -isystem $includes/$processor-linux-gnu"
 
 # What is compiled from S2's source, so that all of its calls of a union's operations are those that are tested.
 tests=(s2cell_union_test s2region_coverer_test s2cell_index_test s2region_term_indexer_test)
@@ -25,14 +33,14 @@ users=(s2region_coverer s2cell_index s2region_term_indexer s2testing)
 compile() { # NAME OPTION..: an object of one of S2's files
   local name=$1
   shift
-  [ -e "$out/$name.o" ] || g++ -std=c++17 -w -I"$source" "$@" -c "$source/s2/$name.cc" -o "$out/$name.o"
+  [ -e "$out/$name.o" ] || $compiler -I"$source" "$@" -c "$source/s2/$name.cc" -o "$out/$name.o"
 }
 export -f compile
-export out source
+export out source compiler
 printf '%s -O1\n' "${tests[@]}" "${users[@]}" | xargs -P "$(nproc)" -I{} bash -c 'compile {}'
 compile s2cell_union -O0 # nothing is inlined, so each call can be replaced
-objcopy --weaken "$out/s2cell_union.o" "$out/s2_union_weak.o"
-g++ -std=c++17 -O1 -w -I"$out/usr/include" -I"$source" -c "$top/tests/c/s2_operations.cc" -o "$out/s2_operations.o"
+"${cross}objcopy" --weaken "$out/s2cell_union.o" "$out/s2_union_weak.o"
+$compiler -O1 -I"$out/usr/include" -I"$source" -c "$top/tests/c/s2_operations.cc" -o "$out/s2_operations.o"
 
 objects=("$out/s2_operations.o" "$out/s2_union_weak.o")
 for name in "${users[@]}"; do objects+=("$out/$name.o"); done
@@ -50,10 +58,11 @@ done
 echo "$passed names of S2 in docs/FROM_S2.md"
 
 block() { sed -n "/^\`\`\`$1\$/,/^\`\`\`\$/p" "$top/docs/FROM_S2.md" | grep -v '^```'; }
-linked=("$out/usr/lib/libs2union.a" -ls2 -Wl,--as-needed /usr/lib/*/libabsl_*.so -lcrypto)
+linked=("$out/usr/lib/libs2union.a" "$libraries/libs2.so" -Wl,--as-needed,-rpath-link,"$libraries"
+  "$libraries"/libabsl_*.so "$libraries/libcrypto.so")
 block cpp >"$out/example.cc"
-if g++ -std=c++17 -w -I"$out/usr/include" "$out/example.cc" "${linked[@]}" -o "$out/example" \
-  && diff <(block text) <("$out/example"); then
+if $compiler -I"$out/usr/include" "$out/example.cc" "${linked[@]}" -o "$out/example" \
+  && diff <(block text) <("${by[@]}" "$out/example"); then
   passed=$((passed + 1))
 else
   echo "FAILED docs/FROM_S2.md: the program in C++"
@@ -61,9 +70,9 @@ else
 fi
 
 for name in "${tests[@]}"; do
-  g++ "$out/$name.o" "${objects[@]}" -o "$out/$name" "${linked[@]}" -lgtest -lgtest_main -lpthread
+  "${cross}g++" "$out/$name.o" "${objects[@]}" -o "$out/$name" "${linked[@]}" "$libraries"/libgtest{,_main}.a -lpthread
   echo "== $name"
-  "$out/$name" >"$out/$name.log" 2>&1 || true
+  "${by[@]}" "$out/$name" >"$out/$name.log" 2>&1 || true
   grep -E '^(\[  FAILED  \]|calls: )' "$out/$name.log" || true
   ran=$(sed -n 's/^\[==========\] \([0-9]*\) tests\? .* ran\..*/\1/p' "$out/$name.log")
   good=$(sed -n 's/^\[  PASSED  \] \([0-9]*\) tests\?\..*/\1/p' "$out/$name.log")
