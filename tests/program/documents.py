@@ -90,15 +90,20 @@ class Tools(unittest.TestCase):
     """The tools that write into a folder."""
 
     def test_no_folder_is_named(self):
-        """Then nothing is made, and nothing installed."""
+        """Then nothing is made, and nothing installed. Who asks for help gets it."""
         for tool in ("library", "package", "package-trial", "page"):
             for words in ([], [""], ["--help"]) + ((["f", "--once"],) if tool in ("library", "package") else ()):
                 with self.subTest(tool=tool, words=words), tempfile.TemporaryDirectory() as room:
                     done = subprocess.run([os.path.join(TOP, "tools", tool), *words], cwd=room, capture_output=True,
                                           env={"PATH": "/usr/bin:/bin"}, timeout=60, text=True)
+                    self.assertEqual(os.listdir(room), [])
+                    if words == ["--help"]:
+                        self.assertEqual((done.returncode, done.stderr), (0, ""))
+                        self.assertIn(f"tools/{tool} ", done.stdout)
+                        continue
                     self.assertNotEqual(done.returncode, 0)
                     self.assertRegex(done.stderr, f"^(the folder is missing: )?tools/{tool} ")
-                    self.assertEqual((done.stdout, os.listdir(room)), ("", []))
+                    self.assertEqual(done.stdout, "")
 
 
 class Documents(unittest.TestCase):
