@@ -203,6 +203,7 @@ impl<'a> Words<'a> {
 }
 
 /// `CELL`
+#[inline(always)]
 #[tactic(auto, unfolding(crate::specs::Forms::one_cell))]
 pub(crate) fn one_cell(mut words: Words<'_>) -> Result<CellId, Misfit<'_>>
     ensures { result ≡ one_cell words.entry }
@@ -213,6 +214,7 @@ pub(crate) fn one_cell(mut words: Words<'_>) -> Result<CellId, Misfit<'_>>
 }
 
 /// `FACE I J`
+#[inline(always)]
 #[tactic(auto, unfolding(crate::specs::Forms::one_place))]
 pub(crate) fn one_place(mut words: Words<'_>) -> Result<Place, Misfit<'_>>
     ensures { result ≡ one_place words.entry }
@@ -223,6 +225,7 @@ pub(crate) fn one_place(mut words: Words<'_>) -> Result<Place, Misfit<'_>>
 }
 
 /// `r`
+#[inline(always)]
 #[tactic(auto, unfolding(crate::specs::Forms::one_register))]
 pub(crate) fn one_register(mut words: Words<'_>) -> Result<Register, Misfit<'_>>
     ensures { result ≡ one_register words.entry }
@@ -233,6 +236,7 @@ pub(crate) fn one_register(mut words: Words<'_>) -> Result<Register, Misfit<'_>>
 }
 
 /// `r s`
+#[inline(always)]
 #[tactic(auto, unfolding(crate::specs::Forms::two_registers))]
 pub(crate) fn two_registers(mut words: Words<'_>) -> Result<(Register, Register), Misfit<'_>>
     ensures { result ≡ two_registers words.entry }
@@ -244,6 +248,7 @@ pub(crate) fn two_registers(mut words: Words<'_>) -> Result<(Register, Register)
 }
 
 /// `r CELL`
+#[inline(always)]
 #[tactic(auto, unfolding(crate::specs::Forms::register_and_cell))]
 pub(crate) fn register_and_cell(mut words: Words<'_>) -> Result<(Register, CellId), Misfit<'_>>
     ensures { result ≡ register_and_cell words.entry }
@@ -255,6 +260,7 @@ pub(crate) fn register_and_cell(mut words: Words<'_>) -> Result<(Register, CellI
 }
 
 /// `r CELL..`
+#[inline(always)]
 #[tactic(auto, unfolding(crate::specs::Forms::register_and_cells))]
 pub(crate) fn register_and_cells(mut words: Words<'_>) -> Result<(Register, Cells<'_>), Misfit<'_>>
     ensures { result ≡ register_and_cells words.entry }
@@ -265,6 +271,7 @@ pub(crate) fn register_and_cells(mut words: Words<'_>) -> Result<(Register, Cell
 }
 
 /// `r CELL CELL`
+#[inline(always)]
 #[tactic(auto, unfolding(crate::specs::Forms::register_and_span))]
 pub(crate) fn register_and_span(mut words: Words<'_>) -> Result<(Register, Span), Misfit<'_>>
     ensures { result ≡ register_and_span words.entry }
@@ -276,6 +283,7 @@ pub(crate) fn register_and_span(mut words: Words<'_>) -> Result<(Register, Span)
 }
 
 /// `r NAME`
+#[inline(always)]
 #[tactic(auto, unfolding(crate::specs::Forms::register_and_name))]
 pub(crate) fn register_and_name(mut words: Words<'_>) -> Result<(Register, Name<'_>), Misfit<'_>>
     ensures { result ≡ register_and_name words.entry }
@@ -287,6 +295,7 @@ pub(crate) fn register_and_name(mut words: Words<'_>) -> Result<(Register, Name<
 }
 
 /// `NAME`
+#[inline(always)]
 #[tactic(auto, unfolding(crate::specs::Forms::one_name))]
 pub(crate) fn one_name(mut words: Words<'_>) -> Result<Name<'_>, Misfit<'_>>
     ensures { result ≡ one_name words.entry }
@@ -297,6 +306,7 @@ pub(crate) fn one_name(mut words: Words<'_>) -> Result<Name<'_>, Misfit<'_>>
 }
 
 /// `r MIN MOD`
+#[inline(always)]
 #[tactic(auto, unfolding(crate::specs::Forms::register_level_modulus))]
 pub(crate) fn register_level_modulus(
     mut words: Words<'_>,
@@ -311,6 +321,7 @@ pub(crate) fn register_level_modulus(
 }
 
 /// `r LEVEL FACE I0 I1 J0 J1`
+#[inline(always)]
 #[tactic(auto, unfolding(crate::specs::Forms::register_level_rect))]
 pub(crate) fn register_level_rect(
     mut words: Words<'_>,
@@ -325,6 +336,7 @@ pub(crate) fn register_level_rect(
 }
 
 /// `r s LEVEL`, and nothing or `FACE I0 I1 J0 J1`
+#[inline(always)]
 #[tactic(auto, unfolding(crate::specs::Forms::registers_level_rect))]
 pub(crate) fn registers_level_rect(
     mut words: Words<'_>,

@@ -53,6 +53,7 @@ text (3/021).
 A line that can't be carried out is answered 'error NAME' and changes no register.";
 
 /// What the command with this name asks for, by the words after it: an edit of a register by cells, or another command.
+#[inline(always)]
 #[tactic(auto, unfolding(crate::specs::Table::command_of))]
 pub(crate) fn command_of<'a>(name: &'a [u8], words: Words<'a>) -> Result<Command<'a>, Misfit<'a>>
     ensures { result ≡ command_of name.now words.entry }
@@ -78,6 +79,7 @@ pub(crate) fn command_of<'a>(name: &'a [u8], words: Words<'a>) -> Result<Command
 }
 
 /// What a command asks for: an edit of a register by another register, or another command.
+#[inline(always)]
 #[tactic(auto, unfolding(crate::specs::Table::combination_of))]
 fn combination_of<'a>(name: &'a [u8], words: Words<'a>) -> Result<Command<'a>, Misfit<'a>>
     ensures { result ≡ combination_of name.now words.entry }
@@ -100,6 +102,7 @@ fn combination_of<'a>(name: &'a [u8], words: Words<'a>) -> Result<Command<'a>, M
 }
 
 /// What a command asks for: an edit of a register by a covering, or another command.
+#[inline(always)]
 #[tactic(auto, unfolding(crate::specs::Table::covering_of))]
 fn covering_of<'a>(name: &'a [u8], words: Words<'a>) -> Result<Command<'a>, Misfit<'a>>
     ensures { result ≡ covering_of name.now words.entry }
@@ -122,6 +125,7 @@ fn covering_of<'a>(name: &'a [u8], words: Words<'a>) -> Result<Command<'a>, Misf
 }
 
 /// What a command asks for: a file, a move in the history, or an answer.
+#[inline(always)]
 #[tactic(auto, unfolding(crate::specs::Table::file_or_move_of))]
 fn file_or_move_of<'a>(name: &'a [u8], mut words: Words<'a>) -> Result<Command<'a>, Misfit<'a>>
     ensures { result ≡ file_or_move_of name.now words.entry }
@@ -151,6 +155,7 @@ fn file_or_move_of<'a>(name: &'a [u8], mut words: Words<'a>) -> Result<Command<'
 }
 
 /// What the question with this name asks, by the words after it: a question about registers, or another one.
+#[inline(always)]
 #[tactic(auto, unfolding(crate::specs::Table::question_of))]
 fn question_of<'a>(name: &'a [u8], words: Words<'a>) -> Result<Question, Misfit<'a>>
     ensures { result ≡ question_of name.now words.entry }
@@ -186,6 +191,7 @@ fn question_of<'a>(name: &'a [u8], words: Words<'a>) -> Result<Question, Misfit<
 }
 
 /// What a question asks for: a cell, a place or the history.
+#[inline(always)]
 #[tactic(auto, unfolding(crate::specs::Table::fact_of))]
 fn fact_of<'a>(name: &'a [u8], mut words: Words<'a>) -> Result<Question, Misfit<'a>>
     ensures { result ≡ fact_of name.now words.entry }
