@@ -1,6 +1,6 @@
-"""What rots unseen: lemmas and definitions that nobody cites, lemmas that are stated twice, word for word, functions
-with many arms, lines of more than 120 characters, hosts of package registries, words that the house avoids, and proofs
-that grow. tests/docs/pages.py looks for paths.
+"""What rots unseen: lemmas and definitions that nobody cites, names imported for nothing, lemmas that are stated
+twice, word for word, functions with many arms, lines of more than 120 characters, hosts of package registries, words
+that the house avoids, and proofs that grow. tests/docs/pages.py looks for paths.
 
 UNCITED, DOUBLES, MANY_ARMS, WORDS and PROOFS are the most that may stand: what stood there when this check came, and
 less from time to time. The last line is 'N passed, M failed', where N counts the declarations, the files, the words and
@@ -20,6 +20,7 @@ SIGNATURE = re.compile(rf"(?:(?:{'|'.join(KEYWORDS)}) |[^\s]+ :(?: |$))")
 TOKEN = re.compile(r"[^\s(){}\[\],.;:`]+")
 QUALIFIED = re.compile(rf"{TOKEN.pattern}\.{TOKEN.pattern}")
 USE = re.compile(r"^\s*(?:ghost |pub )*use (Rattle\.[^\s;{]+?)(?:\.\{(.*)\})?(?: as ([^\s;]+))?;?\s*$", re.M)
+IMPORT = re.compile(r"^(?:ghost )?use Rattle\.[^\s;{]+\.\{(.*)\};?$", re.M)
 PATH = re.compile(r"\b(\w+)::((?:specs|proofs)(?:::[\w-]+)+)")
 BOUND = re.compile(r"\blet ([^\s(){}:=]+)|λ ([^.]*)\.|[({]([^\s(){}:]+(?: [^\s(){}:]+)*) : ")
 HOSTS = re.compile(r"\b(?:(?:static\.)?crates[.]io|pypi[.]org|pythonhosted[.]org|npmjs[.](?:com|org)|"
@@ -166,6 +167,25 @@ def uncited():
                         if (module, name) not in live and "◌" not in name]
 
 
+def is_used(name, text):
+    """Whether a text has a name, or each part of an operator."""
+    if "◌" in name:
+        return all(part in text for part in name.split("◌"))
+    return re.search(rf"(?<![\w-]){re.escape(name)}(?![\w-])", text) is not None
+
+
+def unused():
+    """The number of sources and modules of proofs, and what one imports for nothing, as 'file: name'."""
+    files = [name for name in tracked() if re.match(r"crates/.*\.(?:antt|rt)$", name)]
+    found = []
+    for file in files:
+        text = text_of(file)
+        rest = IMPORT.sub("", text)
+        names = [name.split(" as ")[-1].strip() for some in IMPORT.findall(text) for name in some.split(",")]
+        found += [f"{file}: {name}" for name in names if not is_used(name, rest)]
+    return len(files), found
+
+
 def doubles():
     """The number of lemmas with a statement, and those that are stated before, as 'file: name, as file: name'."""
     first, found, count = {}, [], 0
@@ -262,7 +282,7 @@ def main():
     dead = dead if len(dead) > UNCITED else []
     matches, large = many_arms()
     large = large if len(large) > MANY_ARMS else []
-    asked = {"nobody cites it": (declared, dead), "stated before": (counts, double),
+    asked = {"nobody cites it": (declared, dead), "imported for nothing": unused(), "stated before": (counts, double),
              "more arms than seven": (matches, large), "too long": long_lines(),
              "names the host of a registry": hosts(), "avoided": avoided(), "lines of proof": proofs()}
     for what, (count, wrong) in asked.items():

@@ -1,6 +1,5 @@
 //! A region of its own, as a crate above `s2cover` may have one.
-ghost use Rattle.std.specs.Prelude.{◌≡◌, ◌↔◌, ◌%◌, ◌==◌, ℕ, true, false};
-ghost use Rattle.s2cell.specs.Cell.{covers};
+ghost use Rattle.std.specs.Prelude.{◌%◌, ◌==◌};
 
 use s2cell::CellId;
 use s2cover::{Part, Region};

@@ -1,6 +1,5 @@
 //! Lists of numbers to and from lists of cells.
-ghost use Rattle.std.specs.Prelude.{◌≡◌, ◌≤◌, ◌↔◌, IsTrue, All, length, take, IfSome};
-ghost use Rattle.s2cell.specs.Cell.{IsCell};
+ghost use Rattle.std.specs.Prelude.{◌≡◌, ◌≤◌, ◌↔◌, IsTrue, length, take, IfSome};
 ghost use Rattle.s2list.specs.Union.{IsLocal};
 
 use s2cell::CellId;

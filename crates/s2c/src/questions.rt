@@ -1,5 +1,5 @@
 //! Questions about unions.
-ghost use Rattle.std.specs.Prelude.{◌≡◌, ◌<◌, ◌≤◌, ◌↔◌, IsTrue, ℕ, length, slice_index, slice_index_or, false};
+ghost use Rattle.std.specs.Prelude.{◌≡◌, ◌<◌, ◌↔◌, IsTrue, ℕ, length, slice_index, slice_index_or, false};
 ghost use Rattle.s2cell.specs.Cell.{covers};
 ghost use Rattle.s2list.specs.Union.{IsLocal, has_leaf, IsWithin, ShareSome};
 

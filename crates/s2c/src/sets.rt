@@ -1,5 +1,5 @@
 //! The operations on two unions.
-ghost use Rattle.std.specs.Prelude.{◌≡◌, ◌≤◌, IsTrue, length, take, ◌↔◌};
+ghost use Rattle.std.specs.Prelude.{◌≤◌, IsTrue, length, take};
 ghost use Rattle.s2list.specs.Union.{IsLocal, IsNormalForm, has_leaf};
 ghost use Rattle.s2list.specs.Sets.{either, shared, without};
 

@@ -1,5 +1,5 @@
 //! The few cells around a rectangle.
-ghost use Rattle.std.specs.Prelude.{◌≡◌, ◌-◌, ◌^◌, ◌<◌, ◌≤◌, ℕ, max};
+ghost use Rattle.std.specs.Prelude.{◌-◌, ◌^◌, ◌<◌, ◌≤◌, max};
 ghost use Rattle.s2list.specs.Union.{IsWithin, has_leaf};
 ghost use Rattle.s2cover.specs.Rectangles.{rect_set};
 ghost use Rattle.s2cover.specs.Working.Around.{CoversSquare};

@@ -1,9 +1,8 @@
 //! The descent through the cells, for any region.
-ghost use Rattle.std.specs.Prelude.{◌≡◌, ◌+◌, ◌-◌, ◌*◌, ◌<◌, ◌≤◌, ℕ, Bool, true, false, ◌↔◌};
+ghost use Rattle.std.specs.Prelude.{◌≡◌, ◌+◌, ◌-◌, ◌*◌, ◌<◌, ◌≤◌, true, false};
 ghost use Rattle.std.specs.Prelude.{◌++◌, ◌∷◌, [], length, vec_len, IfOk, IfErr};
 ghost use Rattle.s2cell.specs.Cell.{level_of, place_of};
 ghost use Rattle.s2cell.specs.Square.{IsPlacedCell};
-ghost use Rattle.s2cover.specs.Coverings.{filled};
 ghost use Rattle.s2cover.specs.Working.Descent.{blocks, depth_of, filled_in, form_in, is_outer};
 
 use crate::MOST_CELLS;

@@ -1,6 +1,6 @@
 //! The coverings of a rectangle in time proportional to the answer.
 ghost use Rattle.std.specs.Prelude.{◌≡◌, ◌+◌, ◌-◌, ◌*◌, ◌<◌, ◌≤◌, length, IfOk, IfErr, OnErr};
-ghost use Rattle.s2list.specs.Union.{has_leaf, IsLocal, IsNormalForm};
+ghost use Rattle.s2list.specs.Union.{IsLocal, IsNormalForm};
 ghost use Rattle.s2cover.specs.Coverings.{HasLeavesOf, TooManyMeans, inner_set, outer_set};
 ghost use Rattle.s2cover.specs.Working.Descent.{IsAligned};
 ghost use Rattle.s2cover.specs.Rectangles.{rect_set};

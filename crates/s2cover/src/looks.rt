@@ -1,6 +1,6 @@
 //! The search for the greatest cells of a rectangle on the grid of a level.
 ghost use Rattle.std.specs.Prelude.{◌≡◌, ◌+◌, ◌-◌, ◌*◌, ◌^◌, ◌<◌, ◌≤◌, ◌↔◌, ◌++◌, ◌∷◌};
-ghost use Rattle.std.specs.Prelude.{[], ℕ, true, false, length, vec_len, OnOk, OnErr, IfErr};
+ghost use Rattle.std.specs.Prelude.{[], ℕ, length, vec_len, OnOk, OnErr, IfErr};
 ghost use Rattle.s2cell.specs.Cell.{level_of};
 ghost use Rattle.s2list.specs.Union.{LiesIn};
 ghost use Rattle.s2cell.specs.Square.{IsPlacedCell, IsSquareOf};

@@ -1,5 +1,5 @@
 //! A union as a region, and a union clipped by a rectangle.
-ghost use Rattle.std.specs.Prelude.{◌≡◌, ◌↔◌, ◌&&◌, ℕ, All, Bool, true, false, IsTrue};
+ghost use Rattle.std.specs.Prelude.{◌≡◌, ◌↔◌, ◌&&◌, ℕ, true, false, IsTrue};
 ghost use Rattle.s2list.specs.Union.{has_leaf, LiesIn};
 ghost use Rattle.s2cover.specs.Coverings.{LiesOutside};
 ghost use Rattle.s2cover.specs.Rectangles.{clipped, rect_set};

@@ -1,5 +1,5 @@
 //! The picture of several lists of cells.
-ghost use Rattle.std.specs.Prelude.{◌≡◌, ◌≤◌, ◌++◌, ◌^◌, ℕ, All, IfOk, codes, flat_map};
+ghost use Rattle.std.specs.Prelude.{◌≡◌, ◌≤◌, ◌++◌, ◌^◌, ℕ, All, IfOk, flat_map};
 ghost use Rattle.s2cell.specs.Cell.{level_of, IsCell};
 ghost use Rattle.s2draw.specs.Rectangles.{seen, IsDrawnExactly};
 ghost use Rattle.s2draw.specs.Overlay.{escaped_byte, outline, outlines, legend, layer, overlay_head, overlay_foot};

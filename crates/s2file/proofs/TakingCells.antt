@@ -2,7 +2,7 @@
 use Rattle.std.proofs.Common.{◌≡◌, ℕ, ◌+◌, ◌*◌, ◌<◌, ◌≤◌, List, [], ◌++◌, length, take, drop, get_or, All}
 use Rattle.std.proofs.Common.{flat_map, refl, sym, ap, ◌∙◌, subst, arith, append_assoc}
 use Rattle.std.proofs.lemmas.List.{length-append, length-take, take-append-drop}
-use Rattle.std.proofs.lemmas.List.Elements.{All-nil, All-append, recursion_from_All}
+use Rattle.std.proofs.lemmas.List.Elements.{All-append, recursion_from_All}
 use Rattle.std.proofs.lemmas.Grind.{flat_map-append}
 use Rattle.s2cell.specs.Cell.{IsCell}
 use Rattle.s2cell.proofs.Calls.{fits_u64}

@@ -1,4 +1,4 @@
--- The parts of a session file while they are read.
+-- A session of one change, for examples.
 use Rattle.std.specs.Prelude.{◌-◌, [], ◌∷◌, replicate}
 use Rattle.s2file.specs.Session.{Content}
 use Rattle.s2file.specs.declared.TheConstants.{SESSION_REGISTERS}

@@ -1,6 +1,6 @@
 //! The bytes of a file, a piece at a time.
 ghost use Rattle.std.specs.Prelude.{◌≡◌, ◌≢◌, ℕ, ◌+◌, ◌<◌, ◌≤◌, List, [], ◌++◌, length, drop, vec_len};
-ghost use Rattle.std.specs.Prelude.{◌↔◌, true, MatchBool, MatchResult, IfOk, OnErr, OnOk};
+ghost use Rattle.std.specs.Prelude.{◌↔◌, true, MatchBool, MatchResult, IfOk, OnErr};
 ghost use Rattle.std.specs.IoError.{error_kind};
 ghost use Rattle.s2shelf.specs.OpenedFile.{Left, has_ended};
 ghost use Rattle.s2file.specs.declared.session.ReadFault.{ReadFault};

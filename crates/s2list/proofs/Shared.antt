@@ -20,7 +20,7 @@ use Rattle.s2list.proofs.Tiling.{or_false}
 use Rattle.s2list.proofs.Walking.{Walk, walk_done, walk_more, walk_on, walk_below, ended_more, ended_later, gap}
 use Rattle.s2list.proofs.Walking.{leaf_there}
 use Rattle.s2list.proofs.Picking.{Picked, picked_push, greatest_below}
-use Rattle.s2list.proofs.Finding.{starts_later, ended_to}
+use Rattle.s2list.proofs.Finding.{starts_later}
 
 abbrev pub both : List ℕ → List ℕ → ℕ → Bool
 both xs ys x = has_leaf xs x && has_leaf ys x

@@ -6,7 +6,7 @@ use Rattle.std.specs.Io.KnownBytes.{Appends}
 use Rattle.std.specs.List.{FoldsTo, concat}
 use Rattle.s2calc.specs.Output.{AppendsPart}
 use Rattle.s2calc.specs.Calls as calls
-use Rattle.s2calc.specs.Calls.{Call, AllWell}
+use Rattle.s2calc.specs.Calls.{Call}
 use Rattle.s2calc.proofs.CallLemmas.{all_well_may, all_well_more}
 use Rattle.s2process.specs.declared.errors.TextInMemory.{TextInMemory}
 use Rattle.s2process.specs.declared.writer.ListedWriter.{ListedWriter}

@@ -12,7 +12,7 @@ use Rattle.s2calc.specs.World.{World}
 use Rattle.s2calc.specs.Replies.{Reply, texts}
 use Rattle.s2calc.specs.Notes.{Noted}
 use Rattle.s2calc.specs.Run as run
-use Rattle.s2calc.specs.Run.{Steps, Known, known, Ran, Runs, WereReadWhole}
+use Rattle.s2calc.specs.Run.{Known, known, Ran, Runs, WereReadWhole}
 use Rattle.s2calc.specs.Calls as calls
 use Rattle.s2calc.specs.Calls.{Call, Gains, AllWell}
 use Rattle.s2calc.specs.Reads as reads
@@ -21,7 +21,7 @@ use Rattle.s2calc.specs.Buffered.{Buffered, written_to}
 use Rattle.s2calc.specs.Moments.{Event, Came, NotCame, LineBegins, LineEnds, Moment, bytes_read, begun_in, ended_in}
 use Rattle.s2calc.specs.Moments.{Adds}
 use Rattle.s2calc.specs.Order as order
-use Rattle.s2calc.specs.Order.{InOrder, Ordered, HasEnded}
+use Rattle.s2calc.specs.Order.{Ordered}
 use Rattle.s2calc.proofs.CallLemmas.{none_failed_may, last_failed_may}
 use Rattle.s2process.specs.Ends.{NoneFailed, LastFlushed, LastFailed, ReadsLast, ReadsStop, ReadsWell}
 use Rattle.s2process.specs.Order.{AllOut, GoneOut, ReadsWhen, LineWhen, MayCome, EachMay}

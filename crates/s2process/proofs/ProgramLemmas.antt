@@ -6,7 +6,6 @@ use Rattle.s2shelf.specs.Shelf.{Files}
 use Rattle.s2calc.specs.declared.fault.RunFault.{RunFault}
 use Rattle.s2calc.specs.Buffered.{Buffered}
 use Rattle.s2calc.specs.Calls as calls
-use Rattle.s2calc.specs.Calls.{Call}
 use Rattle.s2calc.specs.Moments.{Moment}
 use Rattle.s2calc.specs.Program.{ShowsReply, status_of_answer}
 use Rattle.s2calc.specs.Replies.{Reply}

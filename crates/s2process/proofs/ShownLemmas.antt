@@ -7,7 +7,6 @@ use Rattle.s2calc.specs.declared.fault.RunFault.{RunFault}
 use Rattle.s2calc.specs.declared.fault.RunFault.TheVariants.{Output}
 use Rattle.s2calc.specs.Output.{AppendsUnflushed}
 use Rattle.s2calc.specs.Calls as calls
-use Rattle.s2calc.specs.Calls.{Call}
 use Rattle.s2calc.specs.Replies.{Reply, text_of, is_refusal}
 use Rattle.s2calc.specs.Program.{ShowsReply}
 use Rattle.s2calc.proofs.CallLemmas.{last_flushed_may, last_failed_may}

@@ -1,5 +1,5 @@
 //! How the program ends: what standard error gets, and the exit status.
-ghost use Rattle.std.specs.Prelude.{◌≡◌, [], List, ℕ, string_bytes, map};
+ghost use Rattle.std.specs.Prelude.{◌≡◌, List, ℕ, string_bytes, map};
 ghost use Rattle.s2calc.specs.Program.{status_of, status_of_answer};
 ghost use Rattle.s2process.specs.Working.Errors.{TellsMore};
 ghost use Rattle.s2process.specs.Errors.{IsSaidAfter, fault_line_of, misnamed_lines};

@@ -1,7 +1,7 @@
 //! Union files, which S2's `S2CellUnion::Encode` writes too: the byte 1, the number of cells in eight bytes, and eight
 //! bytes for each cell, the lowest byte first. Questions are answered from a file's bytes where they lie, at any
 //! address.
-ghost use Rattle.std.specs.Prelude.{◌≡◌, ◌+◌, ◌*◌, ◌<◌, ◌≤◌, ◌⊎◌, All, MatchResult, length, slice_index, drop};
+ghost use Rattle.std.specs.Prelude.{◌≡◌, ◌+◌, ◌*◌, ◌<◌, ◌≤◌, All, MatchResult, length, slice_index, drop};
 ghost use Rattle.s2cell.specs.Cell.{IsCell, covers};
 ghost use Rattle.s2list.specs.Union.{IsLocal, IsNormalForm, IsWithin, ShareSome, has_leaf};
 ghost use Rattle.s2list.specs.Count.{count_below};

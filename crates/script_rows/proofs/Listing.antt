@@ -1,5 +1,5 @@
 -- Lemmas on lists of calls.
-use Rattle.std.proofs.Common.{◌≡◌, List, [], ◌∷◌, ◌++◌, Option, None, Some, map, option_map, refl, ap, ◌∙◌}
+use Rattle.std.proofs.Common.{◌≡◌, List, [], ◌∷◌, Option, None, Some, map, option_map, refl, ap, ◌∙◌}
 use Rattle.std.proofs.lemmas.List.{map-append}
 use Rattle.s2calc.specs.Calls.{Call, Gains}
 use Rattle.s2calc.specs.Moments.{Moment, Adds}

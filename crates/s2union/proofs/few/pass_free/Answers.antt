@@ -1,4 +1,4 @@
-use Rattle.std.proofs.Common.{◌≡◌, ◌-◌, length, get_or, arith, sym, ap}
+use Rattle.std.proofs.Common.{◌≡◌, ◌-◌, get_or, arith, sym, ap}
 use Rattle.s2cell.specs.Cell.{first_leaf, size_of}
 use Rattle.s2union.proofs.AskingFew.{sought_near}
 use Rattle.s2list.proofs.Finding.{ended_to, ends_later}
