@@ -18,7 +18,7 @@ need_library
 need_arm python3 python3-numpy libsqlite3-0
 python_on_arm() {
   local numpy=/usr/lib/aarch64-linux-gnu
-  PYTHONDONTWRITEBYTECODE=1 S2UNION_LIBRARY=$arm/lib/libs2union.so.1 timeout 1800 qemu-aarch64-static -L "$system" \
+  PYTHONDONTWRITEBYTECODE=1 S2UNION_LIBRARY=$arm/lib/libs2union.so.1 timeout 7200 qemu-aarch64-static -L "$system" \
     -E LD_LIBRARY_PATH="$numpy/blas:$numpy/lapack" "$system/usr/bin/python3.11" "$@"
 }
 
