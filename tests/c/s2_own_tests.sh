@@ -21,7 +21,7 @@ then
   "${as_root[@]}" apt-get install -y --no-install-recommends g++ dpkg-dev libs2-dev libgtest-dev
 fi
 mkdir -p "$out"
-bash "$top/bench/s2_sources" "$sources"
+"$top/bench/s2_sources" "$sources"
 "$top/tools/library" "$out/usr" --target "$processor" "$@"
 source=$sources/source/src
 compiler="${cross}g++ -std=c++17 -w"
