@@ -5,9 +5,10 @@ the link's text is names of the sources, the file has them, as it has those that
 backticks is there; the files that docs/ARCHITECTURE.md walks through have the functions that it names, and one calls
 another where it says so; each language has what docs/FROM_S2.md says it has; what can't read the file VERSION has the
 version that it gives; CHANGELOG.md says nothing twice; a contract has a limit as a number only where docs/EXTENDING.md
-says so; and each command of tools/ and bench/ prints its usage with --help, and does nothing else. The last line is 'N
-passed, M failed', where N counts the definitions, the links, the paths, the names, the calls, the places of the
-version, the changes, the limits and the commands.
+says so; each command of tools/ and bench/ prints its usage with --help, and does nothing else; and what is a command,
+a file whose name has no ending and which names its interpreter, is executable, and no other file is. The last line is
+'N passed, M failed', where N counts the definitions, the links, the paths, the names, the calls, the places of the
+version, the changes, the limits, the commands and the files. A check that has nothing to look at fails.
 """
 import functools
 import re
@@ -63,9 +64,13 @@ VERSIONS = [
 ]
 
 
+def tracked(*patterns):
+    listed = subprocess.run(["git", "ls-files", *patterns], cwd=ROOT, capture_output=True, text=True, check=True)
+    return listed.stdout.splitlines()
+
+
 def pages():
-    listed = subprocess.run(["git", "ls-files", "*.md"], cwd=ROOT, capture_output=True, text=True, check=True)
-    return [ROOT / name for name in listed.stdout.splitlines()]
+    return [ROOT / name for name in tracked("*.md")]
 
 
 def broken_links():
@@ -94,8 +99,7 @@ def headings(page):
 def paths():
     """Each path in backticks, as (page, path, whether it is there): one that begins with a folder of the top or a
     crate, or has the name of a file. A crate and a name may also be a mutant."""
-    files = subprocess.run(["git", "ls-files"], cwd=ROOT, capture_output=True, text=True, check=True).stdout.split("\n")
-    names = {name.rpartition("/")[2] for name in files} | EXAMPLES
+    names = {name.rpartition("/")[2] for name in tracked()} | EXAMPLES
     folders = {path.name for path in [*ROOT.iterdir(), *(ROOT / "crates").iterdir()] if path.is_dir()} | GONE
     for page in pages():
         for code in CODE.findall(page.read_text()):
@@ -123,8 +127,7 @@ def names_in_links():
 
 def names_in_files():
     """Each name that a page says is in a file, with whether that file, or one that ends so, has the word."""
-    listed = subprocess.run(["git", "ls-files"], cwd=ROOT, capture_output=True, text=True, check=True)
-    files = listed.stdout.splitlines()
+    files = tracked()
     for page in pages():
         for *names, path in PLACED.findall(page.read_text()):
             texts = [(ROOT / file).read_text() for file in files if f"/{file}".endswith(f"/{path}")]
@@ -180,13 +183,17 @@ def lost_names():
 
 
 def calls_on_the_walk():
-    """Each call that docs/ARCHITECTURE.md names on the way of a line, as (who, whom, whether it is made)."""
+    """The number of calls that docs/ARCHITECTURE.md names on the way of a line, and those that aren't made."""
+    count, unmade = 0, []
     for folder, first, text in STEP.findall((ROOT / "docs" / "ARCHITECTURE.md").read_text()):
         source = (ROOT / "crates" / folder / first).read_text()
         for one, other, called in CALL.findall(text):
             for name in filter(None, (one, other)):
+                count += 1
                 body = re.search(rf"\bfn {name}\b.*?(?=\bfn |\Z)", source, re.S)
-                yield name, called, bool(body and re.search(rf"\b{called}\b[^;]*?\(", body[0]))
+                if not body or not re.search(rf"\b{called}\b[^;]*?\(", body[0]):
+                    unmade.append(f"{name} doesn't call {called}")
+    return count, unmade
 
 
 def said_twice():
@@ -216,13 +223,15 @@ def limits_as_numbers():
 
 
 def other_versions():
-    """The places of the version that have another one than the file VERSION, as 'file: what it has'."""
-    numbers = [int(word) for word in (ROOT / "VERSION").read_text().split(".")]
+    """The number of places of the version, and those that have another one than the file VERSION, as 'file: what it
+    has'."""
+    numbers, others = [int(word) for word in (ROOT / "VERSION").read_text().split(".")], []
     for name, before, after, form in VERSIONS:
         wanted = form.format(*numbers, 10000 * numbers[0] + 100 * numbers[1] + numbers[2])
         found = re.findall(f"{before}(.*?){after}", (ROOT / name).read_text(), re.M)
         if found != [wanted]:
-            yield f"{name}: {', '.join(found) or 'none'}, not {wanted}"
+            others.append(f"{name}: {', '.join(found) or 'none'}, not {wanted}")
+    return len(VERSIONS), others
 
 
 def without_usage():
@@ -238,41 +247,50 @@ def prints_usage(command):
     is_python = shell.endswith("python3")
     usage = head.split('"""')[1] if is_python else re.match("(?:#.*\n)*", head)[0].replace("# ", "").replace("#", "")
     try:
-        done = subprocess.run(["python3" if is_python else "bash", command, "--help"], stdin=subprocess.DEVNULL,
-                              capture_output=True, text=True, check=False, timeout=100)
-    except subprocess.TimeoutExpired:
+        done = subprocess.run([command, "--help"], stdin=subprocess.DEVNULL, capture_output=True, text=True,
+                              check=False, timeout=100)
+    except (OSError, subprocess.TimeoutExpired):  # it isn't executable, say
         return False
     return done.returncode == 0 and done.stdout.strip() == usage.strip() and command.name in usage
+
+
+def wrong_modes():
+    """The number of files, and the commands that aren't executable, with the files that are and are no commands."""
+    files = [ROOT / name for name in tracked() if (ROOT / name).is_file()]
+    return len(files), [str(file.relative_to(ROOT)) for file in files
+                        if is_command(file) != bool(file.stat().st_mode & 0o100)]
+
+
+def is_command(file):
+    """Whether a file has no ending and names its interpreter."""
+    with file.open("rb") as it:
+        return "." not in file.name and it.read(2) == b"#!"
+
+
+CHECKS = {
+    "leads nowhere": broken_links,
+    "not defined in the file that is linked or named": lost_names,
+    "another version": other_versions,
+    "docs/ARCHITECTURE.md": calls_on_the_walk,
+    "CHANGELOG.md says twice": said_twice,
+    "a limit as a number": limits_as_numbers,
+    "--help is not answered by its usage": without_usage,
+    "executable, or else a command": wrong_modes,
+}
 
 
 def main():
     statement = subprocess.run([ROOT / "tools" / "statement", "--check"], capture_output=True, text=True, check=False)
     sys.stdout.write(statement.stdout + statement.stderr)
     passed, failed = map(int, re.findall(r"(\d+) passed, (\d+) failed$", statement.stdout)[0])
-    count, broken = broken_links()
-    for link in broken:
-        print(f"leads nowhere: {link}")
-    names, lost = lost_names()
-    for name in lost:
-        print(f"not defined in the file that is linked or named: {name}")
-    others = list(other_versions())
-    for other in others:
-        print(f"another version: {other}")
-    calls = list(calls_on_the_walk())
-    unmade = [f"{name} doesn't call {called}" for name, called, is_made in calls if not is_made]
-    changes, twice = said_twice()
-    limits, as_numbers = limits_as_numbers()
-    commands, silent = without_usage()
-    for what, places in (("docs/ARCHITECTURE.md", unmade), ("CHANGELOG.md says twice", twice),
-                         ("a limit as a number", as_numbers), ("--help is not answered by its usage", silent)):
-        for place in places:
+    for what, check in CHECKS.items():
+        count, wrong = check()
+        wrong = wrong if count else ["there is nothing to look at"]
+        for place in wrong:
             print(f"{what}: {place}")
-    wrong = len(broken) + len(lost) + len(others) + len(unmade) + len(twice) + len(as_numbers)
-    wrong += len(silent)
-    passed += count + names + len(VERSIONS) + len(calls) + changes + limits + commands - wrong
-    failed += wrong
+        passed, failed = passed + max(count - len(wrong), 0), failed + len(wrong)
     print(f"{passed} passed, {failed} failed")
-    return 0 if failed == 0 else 1
+    return failed > 0
 
 
 if __name__ == "__main__":
