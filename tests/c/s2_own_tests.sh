@@ -5,21 +5,20 @@
 # ARM that are unpacked in SYSTEM. It takes S2's source from the package sources that this machine has, and installs
 # the Debian packages that it needs. It takes some minutes, nearly all to compile. Its last line is
 # 'N passed, M failed', where N counts the names, the program and S2's tests; the status is 1 if any failed.
-set -euo pipefail
-top=$(CDPATH= cd "$(dirname "$0")/../.." && pwd)
+. "$(dirname "$0")/../steps.sh"
 out=$top/tests/c/out sources=$top/tests/c/out/s2 processor=x86_64 system= cross= by=()
 if [ "${1:-}" = --arm ]; then
   system=$2 processor=aarch64 cross=aarch64-linux-gnu- by=(qemu-aarch64-static -L "$2") out=$out/aarch64
   shift 2
 fi
 includes=$system/usr/include libraries=$system/usr/lib/$processor-linux-gnu
-as_root=()
-[ "$(id -u)" -eq 0 ] || as_root=(sudo -n)
-if [ ! -e "$includes/s2/s2cell_union.h" ] || [ ! -e "$includes/gtest/gtest.h" ] || ! command -v dpkg-source >/dev/null
-then
-  "${as_root[@]}" apt-get update
-  "${as_root[@]}" apt-get install -y --no-install-recommends g++ dpkg-dev libs2-dev libgtest-dev
+if [ -z "$system" ]; then
+  need g++ g++
+  need_file "$includes/s2/s2cell_union.h" libs2-dev
+  need_file "$includes/gtest/gtest.h" libgtest-dev
+  need_packages
 fi
+set -e
 mkdir -p "$out"
 "$top/bench/s2_sources" "$sources"
 "$top/tools/library" "$out/usr" --target "$processor" "$@"
@@ -44,7 +43,6 @@ $compiler -O1 -I"$out/usr/include" -I"$source" -c "$top/tests/c/s2_operations.cc
 
 objects=("$out/s2_operations.o" "$out/s2_union_weak.o")
 for name in "${users[@]}"; do objects+=("$out/$name.o"); done
-passed=0 failed=0
 headers=("$source"/s2/s2{cell_union,cell_id,cell_index,region_coverer,region_term_indexer}.h)
 named=$(sed -n 's/^| \(`[^|]*`\) |.*/\1/p' "$top/docs/FROM_S2.md" | grep -o '`[A-Za-z0-9_=]*' | tr -d '`' | sort -u)
 for name in $named; do
@@ -55,14 +53,13 @@ for name in $named; do
     failed=$((failed + 1))
   fi
 done
-echo "$passed names of S2 in docs/FROM_S2.md"
+echo "$(wc -w <<<"$named") names of S2 in docs/FROM_S2.md"
 
-block() { sed -n "/^\`\`\`$1\$/,/^\`\`\`\$/p" "$top/docs/FROM_S2.md" | grep -v '^```'; }
 linked=("$out/usr/lib/libs2union.a" "$libraries/libs2.so" -Wl,--as-needed,-rpath-link,"$libraries"
   "$libraries"/libabsl_*.so "$libraries/libcrypto.so")
-block cpp >"$out/example.cc"
+block FROM_S2.md cpp >"$out/example.cc"
 if $compiler -I"$out/usr/include" "$out/example.cc" "${linked[@]}" -o "$out/example" \
-  && diff <(block text) <("${by[@]}" "$out/example"); then
+  && diff <(block FROM_S2.md text) <("${by[@]}" "$out/example"); then
   passed=$((passed + 1))
 else
   echo "FAILED docs/FROM_S2.md: the program in C++"
@@ -80,5 +77,4 @@ for name in "${tests[@]}"; do
   failed=$((failed + ${ran:-1} - ${good:-0}))
   grep -q '^calls: [1-9]' "$out/$name.log" || failed=$((failed + 1))
 done
-echo "$passed passed, $failed failed"
-[ "$failed" -eq 0 ]
+finish
