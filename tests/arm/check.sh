@@ -9,7 +9,7 @@ rounds=${1:-20000} scripts=${2:-2000}
 
 # ---- what is needed
 
-need gcc gcc
+need gcc gcc libc6-dev
 need musl-gcc musl-tools
 need go golang-go
 need_file /usr/include/sqlite3ext.h libsqlite3-dev
@@ -93,8 +93,8 @@ step "the shared library: pages, symbols, stack" wants "$arm/lib/libs2union.so.1
 
 in_python() { (cd "$top/tests/python" && PYTHONPATH=$arm/lib/python python_on_arm "$tests/unittests.py" "$@"); }
 step "Python: against the model, and the module" in_python "$top/tests/python" test_library
-step "Python: docs/PYTHON.md" env -C "$top/tests/python" bash -c "$(declare -f python_on_arm)
-  system=$system arm=$arm PYTHONPATH=$arm/lib/python python_on_arm -m doctest $top/docs/PYTHON.md"
+page() { (cd "$top/tests/python" && PYTHONPATH=$arm/lib/python python_on_arm -m doctest "$top/docs/$1"); }
+step "Python: docs/PYTHON.md" page PYTHON.md
 
 extension() { # FOLDER FLAGS..
   cp -r "$top/databases/sqlite" "$work/$1" && # all anew: what lies there may be for x86-64
@@ -131,7 +131,7 @@ step "Go: against the model, what is refused, and the examples" in_go
 
 step "s2calc for ARM" "$top/tools/archive" --program --target aarch64
 calculator=$top/crates/calculator/out/aarch64/calculator
-printf '#!/bin/sh\nexec qemu-aarch64-static -L /usr/aarch64-linux-gnu %s "$@"\n' "$calculator" >"$work/s2calc"
+printf '#!/bin/sh\nexec qemu-aarch64-static -L /usr/aarch64-linux-gnu %q "$@"\n' "$calculator" >"$work/s2calc"
 chmod 755 "$work/s2calc"
 export S2CALC=$work/s2calc
 rows() {

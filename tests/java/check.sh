@@ -6,7 +6,7 @@ tests=$top/tests/java
 
 need javac openjdk-17-jdk-headless
 need gcc gcc libc6-dev
-need aarch64-linux-gnu-gcc gcc-aarch64-linux-gnu
+need aarch64-linux-gnu-gcc gcc-aarch64-linux-gnu libc6-dev-arm64-cross
 need_packages
 
 step "no arithmetic on cells" no_arithmetic "$top/bindings/java/s2union.c"
