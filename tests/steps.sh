@@ -7,19 +7,25 @@ trap 'rm -rf "$work"' EXIT
 passed=0 failed=0
 
 step() { # NAME COMMAND..: its output is shown if it fails
-  local name=$1
+  local name=$1 checks
   shift
-  if "$@" >"$work/log" 2>&1; then
+  if "$@" >"$work/log" 2>&1 && ! counts_nothing; then
     passed=$((passed + 1))
-    local checks
-    checks=$(sed -n '/^[0-9]* passed, 0 failed$/s/ passed, 0 failed/ checks/;T;s/^/: /p' "$work/log" | tail -1)
-    echo "ok     $name$checks"
+    checks=$(sed -nE 's/^([0-9]+) passed, 0 failed$/: \1 checks/p; s/^Ran ([0-9]+) tests? .*/: \1 tests/p' "$work/log")
+    echo "ok     $name${checks##*$'\n'}"
     grep -E ' us a row$| ms$|lines of code$| branches$' "$work/log" | sed 's/^/         /'
   else
     failed=$((failed + 1))
     echo "FAILED $name"
     tail -40 "$work/log"
   fi
+}
+
+counts_nothing() { # whether what a step ran counts its checks, and none was made: all were left out, say
+  grep -qE '^0 passed, 0 failed$' "$work/log" ||
+    awk '/^Ran [0-9]+ tests? / { ran = $2 } /^OK/ && ran != "" { left = $2; gsub(/[^0-9]/, "", left)
+      if (ran == left + 0) none = 1 } END { exit !none }' "$work/log" || return
+  echo "no check was made" >>"$work/log"
 }
 
 finish() {
@@ -78,6 +84,12 @@ need_library() {
   need_packages
   step "tools/library" "$top/tools/library" "$work/usr"
   [ "$failed" -eq 0 ] || finish
+}
+
+has_all_calls() { # HEADER BUT: whether the lines read have each call of a header but those of this pattern
+  local calls
+  calls=$(grep -o '\bs2u_[a-z_]*(' "$1" | tr -d '(' | grep -vxE "$2" | sort -u) && [ -n "$calls" ] &&
+    ! sort -u | comm -23 <(printf '%s\n' "$calls") - | grep .
 }
 
 no_arithmetic() { # FILE

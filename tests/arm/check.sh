@@ -56,8 +56,7 @@ by_musl() { # the shared library, linked again without versions of symbols, and 
     LD_LIBRARY_PATH=$work/musl-lib answers by-musl "$work/by-musl" && same by-musl
 }
 all_asked() { # each call of the header but those of a heap and the text of a status
-  ! comm -23 <(grep -o '\bs2u_[a-z_]*(' "$arm/include/s2union.h" | tr -d '(' | grep -v 's2u_heap_\|s2u_status_text' |
-    sort -u) <(grep -o '\bs2u_[a-z_]*' "$tests/answers.c" | sort -u) | grep .
+  grep -o '\bs2u_[a-z_]*' "$tests/answers.c" | has_all_calls "$arm/include/s2union.h" 's2u_heap_.*|s2u_status_text'
 }
 step "each call of the header is asked" all_asked
 step "$rounds rounds of all calls, three times" here
@@ -83,9 +82,11 @@ unions() { # with a heap of its own
 }
 step "C++: s2union.hpp" unions
 wants() { # FILE: for any page size up to 64 KiB, with nothing of a C library after 2.17, and no executable stack
-  aarch64-linux-gnu-readelf -lW "$1" | awk '$1 == "LOAD" && $NF != "0x10000" { exit 1 }
-    $1 == "GNU_STACK" && /RWE/ { exit 1 }' &&
-    ! aarch64-linux-gnu-nm -D --undefined-only "$1" | grep -o '@GLIBC_.*' | grep -v '@GLIBC_2\.17$'
+  local versions
+  aarch64-linux-gnu-readelf -lW "$1" | awk '$1 == "LOAD" { loads++; if ($NF != "0x10000") wrong = 1 }
+    $1 == "GNU_STACK" && /RWE/ { wrong = 1 } END { exit wrong || !loads }' &&
+    versions=$(aarch64-linux-gnu-nm -D --undefined-only "$1" | grep -o '@GLIBC_.*' | sort -u) && echo "$versions" &&
+    [ "$versions" = @GLIBC_2.17 ]
 }
 step "the shared library: pages, symbols, stack" wants "$arm/lib/libs2union.so.1"
 

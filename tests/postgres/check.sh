@@ -86,9 +86,9 @@ step "what these tests execute" covered
 in_one_session() { S2UNION_ONE_SESSION=yes again "$@"; }
 sanitized() { stopped data && put_in sanitized && with_sanitizers data && in_one_session Planner; }
 step "the same under the sanitizers" sanitized
-valgrind_finds_nothing() {
+valgrind_finds_nothing() { # in files of its own, one for each process
   stopped data && put_in guarded && with_valgrind data && S2UNION_ROUNDS=30 in_one_session && stopped data &&
-    ! cat "$work"/valgrind/* | grep .
+    [ -n "$(ls "$work/valgrind")" ] && ! cat "$work"/valgrind/* | grep .
 }
 step "the same under valgrind" valgrind_finds_nothing
 step "no server has fallen" whole
