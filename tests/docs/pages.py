@@ -5,10 +5,11 @@ the link's text is names of the sources, the file has them, as it has those that
 backticks is there; the files that docs/ARCHITECTURE.md walks through have the functions that it names, and one calls
 another where it says so; each language has what docs/FROM_S2.md says it has; what can't read the file VERSION has the
 version that it gives; CHANGELOG.md says nothing twice; a contract has a limit as a number only where docs/EXTENDING.md
-says so; each command of tools/ and bench/ prints its usage with --help, and does nothing else; and what is a command,
-a file whose name has no ending and which names its interpreter, is executable, and no other file is. The last line is
-'N passed, M failed', where N counts the definitions, the links, the paths, the names, the calls, the places of the
-version, the changes, the limits, the commands and the files. A check that has nothing to look at fails.
+says so; each part that a text names after `tests/run` is one; each command of tools/ and bench/ prints its usage
+with --help, and does nothing else; and what is a command, a file whose name has no ending and which names its
+interpreter, is executable, and no other file is. The last line is 'N passed, M failed', where N counts the definitions,
+the links, the paths, the names, the calls, the places of the version, the changes, the limits, the parts, the commands
+and the files. A check that has nothing to look at fails.
 """
 import functools
 import re
@@ -29,6 +30,8 @@ EXAMPLES = {"NAME.edit", "s2union--OLD--NEW.sql", "s2union--NEW.sql", "s2cell_id
 GONE = {"peer", "faults", "examples"}
 STEP = re.compile(r"^\d+\. `(\w+/src)/(\w+\.rt)`: (.*)$", re.M)
 CALL = re.compile(r"`(\w+)`(?: and `(\w+)`)? calls? `(\w+)`")
+PART = re.compile(r"^    Part\(\"([\w-]+)\"", re.M)
+RUNS = re.compile(r"tests/run((?: --tier)?(?: [a-z][\w-]*)+)")
 LIMIT = re.compile(r"^pub(?:\(crate\))? const \w+: \w+ = ([\d_]{3,});", re.M)
 CLAUSE = re.compile(r"^ +(?:ensures|requires|ghost)\b[^{\n]*\{(.*?)\}[;,]?$", re.M | re.S)
 AS_NUMBERS = re.compile(r"([\d]+), in ((?:`[\w/.]+`(?: and )?)+)")
@@ -234,6 +237,14 @@ def other_versions():
     return len(VERSIONS), others
 
 
+def unknown_parts():
+    """The number of parts that texts name after tests/run, and those that it doesn't have, as 'file: part'."""
+    parts = {"--tier", "gate", "full", "bench", *PART.findall((ROOT / "tests" / "run").read_text())}
+    texts = {name: (ROOT / name).read_text(errors="replace") for name in tracked() if (ROOT / name).is_file()}
+    named = [(name, word) for name, text in texts.items() for words in RUNS.findall(text) for word in words.split()]
+    return len(named), [f"{name}: {word}" for name, word in named if word not in parts]
+
+
 def without_usage():
     """The number of commands of tools/ and bench/, and those that don't answer --help by the text at their head."""
     commands = [path for folder in ("tools", "bench") for path in sorted((ROOT / folder).iterdir())
@@ -274,6 +285,7 @@ CHECKS = {
     "docs/ARCHITECTURE.md": calls_on_the_walk,
     "CHANGELOG.md says twice": said_twice,
     "a limit as a number": limits_as_numbers,
+    "no part of tests/run": unknown_parts,
     "--help is not answered by its usage": without_usage,
     "executable, or else a command": wrong_modes,
 }

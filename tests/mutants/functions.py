@@ -240,7 +240,7 @@ def tried(chosen, is_proved=False):
         else:
             crates[mutant.crate].append(mutant)
     words = words_of(crates)
-    checks = int(os.environ.get("RT_JOBS", 1))  # at once, by memory: tests/run sets it
+    checks = int(os.environ.get("RT_JOBS", 1))  # at once, by memory: set by tests/run
     with tempfile.TemporaryDirectory() as room, concurrent.futures.ThreadPoolExecutor(checks) as pool:
         try:
             return collections.Counter(sum(pool.map(
