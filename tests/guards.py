@@ -1,0 +1,219 @@
+#!/usr/bin/env python3
+"""That the tests refuse what they look for, where nothing else would tell: tests/run guards.
+
+Each end of a part that is no good one has to count as a failure in tests/run, and each step in tests/steps.sh that
+fails or checks nothing. Then each mistake below is made in a copy of the repository, and the check beside it, of
+tests/docs or tests/mutants, has to find more than it does without it. tests/c/table.py does the same for tools/calls.
+The last line is 'N passed, M failed'.
+"""
+import contextlib
+import importlib.machinery
+import importlib.util
+import io
+import re
+import shutil
+import subprocess
+import sys
+import tempfile
+from pathlib import Path
+from typing import Callable, NamedTuple
+
+TOP = Path(__file__).resolve().parents[1]
+sys.path += [str(TOP / "tests" / "docs"), str(TOP / "tests" / "mutants")]
+import pages  # noqa: E402
+import rot  # noqa: E402
+import texts  # noqa: E402
+
+
+class Mistake(NamedTuple):
+    """A mistake: its name, the check that has to find it, a file, and what the mistake makes of the file's text."""
+
+    name: str
+    check: Callable
+    file: str
+    made: Callable
+
+
+def swapped(old, new):
+    """One text in place of another, which stands there once."""
+    def made(text):
+        if text.count(old) != 1:
+            raise ValueError(f"its text is there {text.count(old)} times")
+        return text.replace(old, new)
+    return made
+
+
+def ended_by(more):
+    return lambda text: text + more
+
+
+ARMS = "".join(f"        {number} => {number},\n" for number in range(8))
+HOST = "crates" + ".io"  # in two words, since no file may name it
+WHOLE = "int32_t s2u_is_cell(uint64_t id);"
+MISTAKES = [
+    Mistake("a link that leads nowhere", pages.broken_links, "README.md",
+            swapped("[all tables](docs/PERFORMANCE.md)", "[all tables](docs/PERFORMANCES.md)")),
+    Mistake("a link to a heading that isn't there", pages.broken_links, "docs/INSTALL.md",
+            swapped("[built there](#any-postgresql-and-any-sqlite)", "[built there](#any-postgresql)")),
+    Mistake("a path that isn't there", pages.broken_links, "README.md", ended_by("\n`tests/docs/pictures.py`\n")),
+    Mistake("a name that its file lacks", pages.lost_names, "README.md", ended_by("\n`renamed` in `docs/rot.py`\n")),
+    Mistake("a call of S2 that a language lacks", pages.lost_names, "crates/s2union_c/include/s2union.h",
+            swapped(WHOLE, WHOLE.replace("is_cell", "is_a_cell"))),
+    Mistake("another version in the header", pages.other_versions, "crates/s2union_c/include/s2union.h",
+            swapped("#define S2U_VERSION_MAJOR ", "#define S2U_VERSION_MAJOR 9")),
+    Mistake("a call that isn't made on the way of a line", pages.calls_on_the_walk, "docs/ARCHITECTURE.md",
+            swapped("`run_observed` call `run_with`", "`run_observed` call `run_without`")),
+    Mistake("a change that is said twice", pages.said_twice, "CHANGELOG.md",
+            lambda text: re.sub(r"^- .*\n", r"\g<0>\g<0>", text, count=1, flags=re.M)),
+    Mistake("a limit as a number", pages.limits_as_numbers, "crates/s2file/src/union_file.rt",
+            ended_by("\nfn planted() -> u64\n    ensures few { result < 1_000_000 }\n{\n    0\n}\n")),
+    Mistake("a part of the tests that isn't there", pages.unknown_parts, "README.md",
+            ended_by(f"\n`tests/run {'docks'}`\n")),
+    Mistake("a command that doesn't know --help", pages.without_usage, "tools/java",
+            swapped('. "$(dirname "$0")/usage.sh"\n', "")),
+    Mistake("a command that can't be run", pages.wrong_modes, "bench/build", None),
+    Mistake("a lemma that nobody cites", rot.uncited, "crates/s2cell/proofs/Ancestors.antt",
+            ended_by("\nnobody_cites_it : 0 ≡ 0\nnobody_cites_it = refl\n")),
+    Mistake("a name that is imported for nothing", rot.unused, "crates/s2cell/proofs/Ancestors.antt",
+            ended_by("use Rattle.std.proofs.Common.{nobody_uses_it}\n")),
+    Mistake("a lemma that is stated twice", rot.doubles, "crates/s2cell/proofs/Ancestors.antt",
+            ended_by("\nonce_more : (a b : ℕ) → bit_xor a b ≡ 0 → a ≡ b\nonce_more a b e = same_of_xor a b e\n")),
+    Mistake("a match with eight arms", rot.many_arms, "crates/s2cell/src/lib.rt",
+            ended_by(f"\nfn planted(x: u8) -> u8 {{\n    match x {{\n{ARMS}    }}\n}}\n")),
+    Mistake("a line that is too long", rot.long_lines, "tests/steps.sh", ended_by(f"#{'=' * 120}\n")),
+    Mistake("the host of a registry", rot.hosts, "README.md", ended_by(f"\n{HOST}\n")),
+    Mistake("a word that the house avoids", rot.avoided, "README.md", ended_by("\nWhat was asked\nabout.\n")),
+    Mistake("proofs that grow", rot.proofs, "crates/s2cell/proofs/Ancestors.antt", ended_by("-- more\n" * 100_000)),
+    Mistake("a mutant whose text is gone", texts.misfits, "crates/s2cell/mutants/a_cell_for_its_last_leaf.edit",
+            swapped("old: ", "old: once ")),
+    Mistake("a mutant of a function that is gone", texts.misfits,
+            "crates/s2cell/mutants/a_cell_for_its_last_leaf.edit", ended_by("function: nowhere\n")),
+]
+
+# What a part of the tests does, with what has to be counted: how many passed, and whether it has failed.
+ENDS = [
+    ("it prints nothing", "", 0, True),
+    ("it counts nothing", "echo 0 passed, 0 failed", 0, True),
+    ("it ends well", "echo 3 passed, 0 failed", 3, False),
+    ("it ends with a blank line", "echo 3 passed, 0 failed; echo", 3, False),
+    ("it counts a failure, and ends with 0", "echo 3 passed, 1 failed", 3, True),
+    ("it counts no failure, and ends with 1", "echo 3 passed, 0 failed; exit 1", 3, True),
+    ("it is killed after it has counted", "echo 3 passed, 0 failed; kill -9 $$", 3, True),
+    ("it goes on after it has counted", "echo 3 passed, 0 failed; echo another", 0, True),
+]
+
+# What steps of a part in bash do, with the last line that it prints.
+STEPS = [
+    ("step a true; step b false", "1 passed, 1 failed"),
+    ("step a echo 0 passed, 0 failed", "0 passed, 1 failed"),
+    ("step a echo 7 passed, 0 failed", "1 passed, 0 failed"),
+    ("step a printf 'Ran 0 tests in 0.0s\\n\\nOK\\n'", "0 passed, 1 failed"),
+    ("step a printf 'Ran 2 tests in 0.0s\\n\\nOK (skipped=2)\\n'", "0 passed, 1 failed"),
+    ("step a printf 'Ran 2 tests in 0.0s\\n\\nOK (skipped=1)\\n'", "1 passed, 0 failed"),
+    ("need no-such-command a-package; step a test \"${packages[*]}\" = a-package", "1 passed, 0 failed"),
+    ("install_packages() { false; }; packages=(none); need_packages; step a true", "0 passed, 1 failed"),
+    ("step a refuse 0", "0 passed, 1 failed"),
+    ("calls() { echo s2u_a | has_all_calls \"$work/h\" none; }; echo 's2u_a(' >\"$work/h\"; step a calls",
+     "1 passed, 0 failed"),
+    ("calls() { echo s2u_a | has_all_calls \"$work/h\" none; }; echo 's2u_a(s2u_b(' >\"$work/h\"; step a calls",
+     "0 passed, 1 failed"),
+    ("calls() { echo s2u_a | has_all_calls /dev/null none; }; step a calls", "0 passed, 1 failed"),
+]
+
+
+class Counts:
+    """What passed and what failed."""
+
+    def __init__(self):
+        self.passed = self.failed = 0
+
+    def tell(self, what, is_well, said=""):
+        self.passed, self.failed = self.passed + is_well, self.failed + (not is_well)
+        if not is_well:
+            print(f"NOT REFUSED: {what}\n{said}", flush=True)
+
+
+def ends_of_parts(counts, room):
+    """Runs each of these parts by tests/run, and one that isn't there, and measurements."""
+    loader = importlib.machinery.SourceFileLoader("run", str(TOP / "tests" / "run"))
+    module = importlib.util.module_from_spec(importlib.util.spec_from_loader("run", loader))
+    loader.exec_module(module)
+    module.TOP = str(room)
+
+    def ended(name, tier, text):
+        (room / "part.sh").write_text(text)
+        part = module.Part(name, name, {tier: "part.sh" if text else "no-such-command"}, 0)
+        with contextlib.redirect_stdout(io.StringIO()) as said:
+            return module.run(part, tier, []), said
+
+    for name, text, passed, has_failed in ENDS:
+        done, said = ended(name, "gate", text or "\n")
+        counts.tell(name, (done.passed, done.failed > 0) == (passed, has_failed), said.getvalue())
+    for name, tier, text, has_failed in (("its command is missing", "gate", "", True),
+                                         ("a measurement without counts", "bench", "echo 7 us", False),
+                                         ("a measurement that ends with 1", "bench", "echo 7 us; exit 1", True)):
+        done, said = ended(name, tier, text)
+        counts.tell(name, (done.failed > 0) == has_failed, said.getvalue())
+    done = subprocess.run([TOP / "tests" / "run", "no-such-part"], capture_output=True, text=True, check=False)
+    counts.tell("a part that isn't there", done.returncode == 1 and "no part has the name" in done.stderr, done.stderr)
+
+
+def ends_of_steps(counts):
+    for text, wanted in STEPS:
+        script = f'. "{TOP}/tests/steps.sh"\n{text}\nfinish\n'
+        done = subprocess.run(["bash", "-c", script], capture_output=True, text=True, check=False)
+        is_well = done.stdout.splitlines()[-1:] == [wanted] and (done.returncode == 0) == wanted.endswith(" 0 failed")
+        counts.tell(text, is_well, done.stdout + done.stderr)
+
+
+def copy_of_the_files(room):
+    """A copy of all files that git knows, as a repository."""
+    for name in pages.tracked():
+        if (TOP / name).is_file():
+            (room / name).parent.mkdir(parents=True, exist_ok=True)
+            shutil.copy(TOP / name, room / name)
+    for words in (["init", "-q"], ["add", "-A"]):
+        subprocess.run(["git", *words], cwd=room, check=True)
+
+
+def make(mistake, file):
+    """Makes a mistake in a file; one of no text takes its mode."""
+    if mistake.made:
+        file.write_text(mistake.made(file.read_text(encoding="utf-8")), encoding="utf-8")
+    else:
+        file.chmod(0o644)
+
+
+def mistakes(counts, room):
+    copy_of_the_files(room)
+    for module in (pages, rot, texts):
+        module.ROOT = room
+    without = {}
+    for mistake in MISTAKES:
+        check, file = mistake.check, room / mistake.file
+        if check not in without:
+            without[check] = check()[1]
+        text, mode = file.read_text(encoding="utf-8"), file.stat().st_mode
+        try:
+            make(mistake, file)
+            found = check()[1]
+            counts.tell(mistake.name, len(found) > len(without[check]), f"{check.__name__}: {found}")
+        except ValueError as why:
+            counts.tell(f"{mistake.name}: can't be made: {why}", False)
+        file.write_text(text, encoding="utf-8")
+        file.chmod(mode)
+
+
+def main():
+    counts = Counts()
+    with tempfile.TemporaryDirectory() as room:
+        ends_of_parts(counts, Path(room))
+    ends_of_steps(counts)
+    with tempfile.TemporaryDirectory() as room:
+        mistakes(counts, Path(room).resolve())
+    print(f"{counts.passed} passed, {counts.failed} failed")
+    return counts.failed > 0
+
+
+if __name__ == "__main__":
+    sys.exit(main())
