@@ -13,17 +13,14 @@ enum Way { PEER, ALONE, CALL, LIMIT, WAYS };
 // Stands for `more` of a side: its work is repeated until that takes several times as long as what is done once.
 const uint32_t REPEATED = UINT32_MAX;
 
-class Lanes {
+class Lanes : public Rows {
  public:
-  Lanes(const char* only, int rounds) : only_(only), rounds_(rounds) {
+  Lanes(const char* only, int rounds) : Rows(only), rounds_(rounds) {
     std::ifstream sums("real.sums");
     for (std::string name; sums >> name;) sums >> std::hex >> known_[name];
     printf("%-34s %10s %10s %10s %10s %9s %9s %9s %6s  %s\n", "", "S2", "CellUnion", "C call", "limit", "S2/union",
            "S2/call", "call/lim", "noise", "checksum");
   }
-
-  bool wants(const char* name) const { return strstr(name, only_) != nullptr; }
-  bool all_equal() const { return all_equal_; }
 
   // A way that has no such call has no work. `row.units` may be 0; then it is what `units` says after the work.
   void row(Row row, std::array<Side, WAYS> sides, const std::function<size_t()>& units = nullptr) {
@@ -70,14 +67,12 @@ class Lanes {
 
   void compare(const char* name, const std::array<Side, WAYS>& sides) {
     u64 sum = sides[PEER].sum();
-    bool is_equal = known_.empty() || known_[name] == sum;
+    bool is_equal = known_[name] == sum;
     for (const Side& side : sides) is_equal = is_equal && (!side.work || side.sum() == sum);
     printf("  %016llx%s\n", static_cast<unsigned long long>(sum), is_equal ? "" : "  DIFFERS");
-    all_equal_ = all_equal_ && is_equal;
+    judge(is_equal);
   }
 
   std::map<std::string, u64> known_;
-  const char* only_;
   int rounds_;
-  bool all_equal_ = true;
 };

@@ -179,5 +179,5 @@ int main(int argc, char** argv) {
   ancestors(table, x);
   texts(table, x);
   if (table.wants("operation_alone")) own_times(x, y, rounds);
-  return table.all_equal() ? 0 : 1;
+  return table.status();
 }

@@ -490,5 +490,5 @@ int main(int argc, char** argv) {
   normalising(lanes, "land_10000_shuffled", shuffled(Chain(land).ids));
   one_list(lanes, "land", all);
   one_list(lanes, "Eurasia", land[0]);
-  return lanes.all_equal() ? 0 : 1;
+  return lanes.status();
 }

@@ -85,17 +85,38 @@ class Best {
   std::vector<double> once_, all_;
 };
 
-class Table {
+// Which rows a word asks for, and whether the sides of each agreed.
+class Rows {
  public:
-  Table(const char* only, int rounds) : only_(only), rounds_(rounds) {
-    printf("%-30s %10s %10s %8s  %s\n", "", "S2", "proved", "S2/it", "checksum");
-  }
+  explicit Rows(const char* only) : only_(only) {}
 
   // A word with a minus sign before it: the rows whose names don't contain it.
-  bool wants(const char* name) const {
-    return *only_ == '-' ? strstr(name, only_ + 1) == nullptr : strstr(name, only_) != nullptr;
+  bool wants(const char* name) {
+    bool is = *only_ == '-' ? strstr(name, only_ + 1) == nullptr : strstr(name, only_) != nullptr;
+    some_ = some_ || is;
+    return is;
   }
-  bool all_equal() const { return all_equal_; }
+
+  // The status of the program: 1 if sides differ, or if nothing was asked for.
+  int status() const {
+    if (!some_) fprintf(stderr, "no row's name contains %s\n", only_);
+    if (!all_equal_) fprintf(stderr, "some checksums differ\n");
+    return some_ && all_equal_ ? 0 : 1;
+  }
+
+ protected:
+  void judge(bool is_equal) { all_equal_ = all_equal_ && is_equal; }
+
+ private:
+  const char* only_;
+  bool some_ = false, all_equal_ = true;
+};
+
+class Table : public Rows {
+ public:
+  Table(const char* only, int rounds) : Rows(only), rounds_(rounds) {
+    printf("%-30s %10s %10s %8s  %s\n", "", "S2", "proved", "S2/it", "checksum");
+  }
 
   // `units` of the row may be 0; then it is what `units` says after the work is done.
   void row(Row row, const Side& peer, const Side& proved, const std::function<size_t()>& units = nullptr) {
@@ -109,7 +130,7 @@ class Table {
     double peer_ns = peer_best.of(peer) / row.units, proved_ns = proved_best.of(proved) / row.units;
     u64 peer_sum = peer.sum(), proved_sum = proved.sum();
     bool is_equal = peer_sum == proved_sum && (row.sum == 0 || row.sum == proved_sum);
-    all_equal_ = all_equal_ && is_equal;
+    judge(is_equal);
     printf("%-30s %10.2f %10.2f %8.2f  ", row.name, peer_ns, proved_ns, peer_ns / proved_ns);
     printf("%016llx", static_cast<unsigned long long>(proved_sum));
     if (proved_ns > peer_ns) printf("  S2 is ahead");
@@ -121,7 +142,5 @@ class Table {
   }
 
  private:
-  const char* only_;
   int rounds_;
-  bool all_equal_ = true;
 };
