@@ -120,7 +120,7 @@ step "SQLite: a union that is asked for each row is looked at once" in_sqlite co
 
 in_go() (
   export PYTHONDONTWRITEBYTECODE=1
-  for asked in vectors edges; do python3 "$top/tests/python/$asked.py" || exit 1; done >"$work/vectors"
+  for asked in vectors edges; do /usr/bin/python3 "$top/tests/python/$asked.py" || exit 1; done >"$work/vectors"
   cd "$top/bindings/go" &&
     export GOPATH=$work/go GOCACHE=$work/go-cache GOFLAGS=-mod=mod GOPROXY=off GOTOOLCHAIN=local &&
     GOARCH=arm64 CGO_ENABLED=1 CC=aarch64-linux-gnu-gcc PKG_CONFIG_PATH=$arm/lib/pkgconfig \
@@ -140,10 +140,10 @@ rows() {
 }
 step "s2calc: its own row" rows
 as_a_process() {
-  PYTHONDONTWRITEBYTECODE=1 PYTHONPATH=$top/tests/peer:$top/tests/python python3 "$tests/unittests.py" \
+  PYTHONDONTWRITEBYTECODE=1 PYTHONPATH=$top/tests/peer:$top/tests/python /usr/bin/python3 "$tests/unittests.py" \
     "$top/tests/program"
 }
 step "s2calc: as a process" as_a_process
-step "s2calc: $scripts random scripts, and a plain model" python3 "$top/tests/peer/scripts.py" "$scripts"
+step "s2calc: $scripts random scripts, and a plain model" /usr/bin/python3 "$top/tests/peer/scripts.py" "$scripts"
 grep -v '^#' "$tests/left_out.txt" | sed 's/^/       left out: /'
 finish

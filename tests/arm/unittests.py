@@ -7,15 +7,10 @@ import os
 import sys
 import unittest
 
-LEFT_OUT = os.path.join(os.path.dirname(os.path.realpath(__file__)), "left_out.txt")
-
-
-class Result(unittest.TextTestResult):
-    passed = 0
-
-    def addSuccess(self, test):
-        super().addSuccess(test)
-        self.passed += 1
+HERE = os.path.dirname(os.path.realpath(__file__))
+LEFT_OUT = os.path.join(HERE, "left_out.txt")
+sys.path.append(os.path.dirname(HERE))
+from counting import has_failed  # noqa: E402
 
 
 def left_out():
@@ -42,11 +37,8 @@ def main(folder, *names):
     reasons = {name: why for name, why in left_out().items() if name.split(".")[0] in modules}
     for name, why in reasons.items():
         print(f"left out: {name}: {why}" if tests.pop(name, None) else f"FAILED: there is no test {name}", flush=True)
-    lost = [name for name in reasons if name not in {test.id() for test in tests_in(found)}]
-    result = unittest.TextTestRunner(stream=sys.stdout, resultclass=Result).run(unittest.TestSuite(tests.values()))
-    failed = len(result.failures) + len(result.errors) + len(lost)
-    print(f"{result.passed} passed, {failed} failed")
-    return failed > 0 or not result.passed
+    lost = reasons.keys() - {test.id() for test in tests_in(found)}
+    return has_failed(unittest.TestSuite(tests.values()), len(lost))
 
 
 if __name__ == "__main__":

@@ -11,29 +11,19 @@ import os
 import sys
 import unittest
 
-TOP = os.path.dirname(os.path.dirname(os.path.dirname(os.path.realpath(__file__))))
-FOLDER = os.path.join(TOP, "tests", "program")
-
-
-class Result(unittest.TextTestResult):
-    passed = 0
-
-    def addSuccess(self, test):
-        super().addSuccess(test)
-        self.passed += 1
+TESTS = os.path.dirname(os.path.dirname(os.path.realpath(__file__)))
+FOLDER = os.path.join(TESTS, "program")
+sys.path += [TESTS, FOLDER, os.path.join(TESTS, "peer"), os.path.join(TESTS, "python")]
+from counting import has_failed  # noqa: E402
 
 
 def main():
     faulthandler.dump_traceback_later(1800, exit=True)  # a test may wait for an answer that never comes
     if len(sys.argv) > 1:
         os.environ["S2CALC"] = os.path.realpath(sys.argv[1])
-    sys.path += [FOLDER, os.path.join(TOP, "tests", "peer"), os.path.join(TOP, "tests", "python")]
     loader = unittest.TestLoader()
     loader.testNamePatterns = [f"*{name}*" for name in sys.argv[2:]] or None
-    tests = loader.discover(FOLDER, "[a-z]*.py")
-    result = unittest.TextTestRunner(stream=sys.stdout, resultclass=Result).run(tests)
-    print(f"{result.passed} passed, {len(result.failures) + len(result.errors)} failed", flush=True)
-    return not result.wasSuccessful() or not result.passed
+    return has_failed(loader.discover(FOLDER, "[a-z]*.py"))
 
 
 if __name__ == "__main__":
