@@ -18,12 +18,14 @@ HEADER = "crates/s2union_c/include/s2union.h"
 
 
 class Mistake(NamedTuple):
-    """A mistake: its name, a file, a text that stands there once, and what stands there instead."""
+    """A mistake: its name, a file, a text that stands there once, what stands there instead, and what has to be said of
+    it, if it is not only that what is made of the file differs."""
 
     name: str
     file: str
     old: str
     new: str
+    fault: str = ""
 
 
 MISTAKES = [
@@ -39,6 +41,12 @@ MISTAKES = [
     Mistake("two fields of a structure in the wrong order", HEADER,
             "uint32_t face, i0, i1, j0, j1;", "uint32_t face, i0, j0, i1, j1;"),
     Mistake("another number of a status", HEADER, "S2U_MEMORY = -2,", "S2U_MEMORY = -7,"),
+    Mistake("a refusal without a text", HEADER, 'case S2U_MEMORY: return "out of memory";', "",
+            "S2U_MEMORY: it has no text"),
+    Mistake("a status that the header lacks", "crates/s2union_c/src/status.rt", "const NO_ROOM: i32 = -1;",
+            "const NO_ROOM: i32 = -1;\nconst NO_NAME: i32 = -99;", "status -99: it has no name"),
+    Mistake("another most of a covering", "crates/s2cover/src/lib.rt", "const MOST_CELLS: usize = 1_000_000;",
+            "const MOST_CELLS: usize = 1_000_001;", "S2U_MOST_COVERING: it is"),
     Mistake("two lengths of Rust in the wrong order", "bindings/rust/src/calls.rs",
             "fn s2u_is_union(ids: *const u64, n: usize)", "fn s2u_is_union(n: usize, ids: *const u64)"),
     Mistake("two lengths that Rust passes in the wrong order", "bindings/rust/src/calls.rs",
@@ -52,7 +60,7 @@ MISTAKES = [
     Mistake("two lists that Python passes in the wrong order", "bindings/python/s2union/calls.h",
             "LIBRARY(difference)(xs.at, xs.n, ys.at, ys.n,", "LIBRARY(difference)(ys.at, ys.n, xs.at, xs.n,"),
     Mistake("a call that Python lacks", "bindings/python/s2union/_library.c",
-            "static PyObject* py_square_of(", "static PyObject* py_square("),
+            "static PyObject* py_square_of(", "static PyObject* py_square(", "_library.c has to have it"),
     Mistake("a text of another refusal in JavaScript", "bindings/page/core.js", '[-2]: "out of memory"',
             '[-2]: "not a cell"'),
     Mistake("another number of a status in Java", "bindings/java/s2union/Calls.java", "NO_CELL = -3", "NO_CELL = -4"),
@@ -62,6 +70,8 @@ MISTAKES = [
             'case -6: return "too many cells"', 'case -6: return "not a cell"'),
     Mistake("another limit in JavaScript", "bindings/page/core.js", "const MOST_TOKEN = 16;",
             "const MOST_TOKEN = 17;"),
+    Mistake("a call of JavaScript that the library lacks", "bindings/page/core.js", '"s2u_union", [xs, ys]',
+            '"s2u_unite", [xs, ys]', "s2u_unite: no such export"),
     Mistake("a call of JavaScript that takes memory", "bindings/page/core.js", '"s2u_union", [xs, ys]',
             '"s2u_range", [xs, ys]'),
     Mistake("a list that JavaScript leaves out", "bindings/page/core.js", '"s2u_union", [xs, ys]', '"s2u_union", [xs]'),
@@ -89,7 +99,7 @@ def is_refused(mistake, room):
         return False
     file.write_text(text.replace(mistake.old, mistake.new), encoding="utf-8")
     said, is_fine = checked(folder)
-    if is_fine or " passed, " not in said:
+    if is_fine or " passed, " not in said or mistake.fault not in said:
         print(f"NOT REFUSED: {mistake.name}\n{said}")
         return False
     return True
