@@ -1,10 +1,11 @@
 #!/usr/bin/env python3
 """That the tests refuse what they look for, where nothing else would tell: tests/run guards.
 
-Each end of a part that is no good one has to count as a failure in tests/run, and each step in tests/steps.sh that
-fails or checks nothing. Then each mistake below is made in a copy of the repository, and the check beside it, of
-tests/docs or tests/mutants, has to find more than it does without it. tests/c/table.py does the same for tools/calls.
-The last line is 'N passed, M failed'.
+Each end of a part that is no good one has to count as a failure in tests/run, each step in tests/steps.sh that fails or
+checks nothing, each page of SQL with an answer that isn't said, and each line of C that computes. Then each mistake
+below is made in a copy of the repository, and the check beside it, of tests/docs, tests/mutants or tools/statement, has
+to find more than it does without it. tests/c/table.py does the same for tools/calls. The last line is 'N passed, M
+failed'.
 """
 import contextlib
 import importlib.machinery
@@ -47,6 +48,12 @@ def ended_by(more):
     return lambda text: text + more
 
 
+def statement():
+    """What tools/statement --check says of the copy, as the other checks do."""
+    done = subprocess.run([pages.ROOT / "tools" / "statement", "--check"], capture_output=True, text=True, check=False)
+    return 1, (done.stdout + done.stderr).splitlines()[:-1]
+
+
 ARMS = "".join(f"        {number} => {number},\n" for number in range(8))
 HOST = "crates" + ".io"  # in two words, since no file may name it
 WHOLE = "int32_t s2u_is_cell(uint64_t id);"
@@ -72,6 +79,11 @@ MISTAKES = [
     Mistake("a command that doesn't know --help", pages.without_usage, "tools/java",
             swapped('. "$(dirname "$0")/usage.sh"\n', "")),
     Mistake("a command that can't be run", pages.wrong_modes, "bench/build", None),
+    Mistake("a statement that isn't current", statement, "docs/STATEMENT.md", ended_by("\nMore.\n")),
+    Mistake("a definition that no public contract needs", statement, "crates/s2cell/specs/Cell.antt",
+            ended_by("\n-- One that was planted.\nabbrev pub planted : ℕ\nplanted = 0\n")),
+    Mistake("a definition without its sentence", statement, "crates/s2cell/specs/Working/Entries.antt",
+            ended_by("\nabbrev pub planted : ℕ\nplanted = 0\n")),
     Mistake("a lemma that nobody cites", rot.uncited, "crates/s2cell/proofs/Ancestors.antt",
             ended_by("\nnobody_cites_it : 0 ≡ 0\nnobody_cites_it = refl\n")),
     Mistake("a name that is imported for nothing", rot.unused, "crates/s2cell/proofs/Ancestors.antt",
@@ -120,6 +132,22 @@ STEPS = [
     ("calls() { echo s2u_a | has_all_calls /dev/null none; }; step a calls", "0 passed, 1 failed"),
 ]
 
+# Pages of examples for a command that answers each line by itself, and ends at one that says so, with whether they are
+# right.
+EXAMPLE = "```sql\n{}\n```\n\n```text\n{}\n```\n"
+PAGES = [
+    (EXAMPLE.format("SELECT 1;", "SELECT 1;"), True),
+    (EXAMPLE.format("SELECT 1;", "SELECT 1;") + EXAMPLE.format("SELECT 2;", "2"), False),
+    (EXAMPLE.format("SELECT 1;", "SELECT 1;") + "```sql\nends\n```\n", False),
+    ("No example.\n", False),
+]
+
+# Lines of C, with whether they may stand where only the library knows about cells.
+LINES = [("int x = y << 3;", False), ("x = y & 1;", False), ("x |= y;", False), ("x = ~y;", False),
+         ("x = y | z;", False), ("x = aB | CD;", False), ("x = y % 3;", False), ("x = y ^ z;", False),
+         ("if (y & ~(z - 1)) return;", False), ("x = READ | WRITE; /* y << 3 */", True),
+         ('f(&x, "y << 3"); // y % 3', True), ("if (y && z) f(x * 2);", True)]
+
 
 class Counts:
     """What passed and what failed."""
@@ -166,6 +194,21 @@ def ends_of_steps(counts):
         counts.tell(text, is_well, done.stdout + done.stderr)
 
 
+def said_by(script, *words):
+    return subprocess.run([sys.executable, TOP / "tests" / script, *words], capture_output=True, text=True, check=False)
+
+
+def ends_of_pages(counts, room):
+    for text, is_right in PAGES:
+        (room / "page.md").write_text(text)
+        done = said_by("docs/documented.py", room / "page.md", "sed", r"s/^\\echo //; /ends/Q")
+        counts.tell(f"the page {text}", (done.returncode == 0) == is_right, done.stdout + done.stderr)
+    for line, is_right in LINES:
+        (room / "line.c").write_text(line + "\n")
+        done = said_by("c/no_arithmetic.py", room / "line.c")
+        counts.tell(f"the line {line}", (done.returncode == 0) == is_right, done.stdout + done.stderr)
+
+
 def copy_of_the_files(room):
     """A copy of all files that git knows, as a repository."""
     for name in pages.tracked():
@@ -208,6 +251,7 @@ def main():
     counts = Counts()
     with tempfile.TemporaryDirectory() as room:
         ends_of_parts(counts, Path(room))
+        ends_of_pages(counts, Path(room))
     ends_of_steps(counts)
     with tempfile.TemporaryDirectory() as room:
         mistakes(counts, Path(room).resolve())
