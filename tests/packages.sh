@@ -1,7 +1,37 @@
 #!/usr/bin/env bash
-# The packages: tests/run packages. They are made twice, and installed, used and removed in a new system. The last line
-# is 'N passed, M failed'; the status is 1 if any failed.
+# The packages: tests/run packages. They are made twice, and installed, used and removed in a new system. What would do
+# harm in one is planted in a library of one call, and has to be refused. The last line is 'N passed, M failed'; the
+# status is 1 if any failed.
 . "$(dirname "$0")/steps.sh"
+
+need gcc gcc libc6-dev
+need_packages
+looked_at() { # SOURCE FLAG..: what is said of a library that is made of this
+  rm -rf "$work/planted" && mkdir "$work/planted" &&
+    gcc -O2 -g0 -fPIC -shared -Wl,-z,relro,-z,now -x c - "${@:2}" -o "$work/planted/mod_s2union.so" <<<"$1" &&
+    "$top/tools/packaging/hostile" "$work/planted" /where/it/was/made
+}
+refused() { # FAULT SOURCE FLAG..
+  local said
+  said=$(looked_at "${@:2}") && return 1
+  echo "$said" && [[ $said == "FAILED mod_s2union.so"*"$1"* ]]
+}
+nothing() { mkdir "$work/empty" && ! "$top/tools/packaging/hostile" "$work/empty" >/dev/null; }
+entry='int sqlite3_extension_init(void) { return 0; }'
+step "a library without fault" looked_at "$entry"
+step "refused: no file" nothing
+step "refused: a path" refused "no path" "$entry const char *at(void) { return \"/where/it/was/made/x\"; }"
+step "refused: an executable stack" refused "stack is not executable" "$entry" -Wl,-z,execstack
+step "refused: a folder for libraries" refused "in a folder of its own" "$entry" -Wl,-rpath,/x
+step "refused: code that is written" refused "its code is not written" \
+  "long x; $entry long sqlite3_sunion_init(void) { return (long)&x; }" -fno-pic -mcmodel=large -Wl,-z,notext
+step "refused: links that stay writable" refused "what is linked is read only" "$entry" -Wl,-z,norelro
+step "refused: another library" refused "needs the C library alone" "$entry" -Wl,--no-as-needed -l:libgcc_s.so.1
+step "refused: a name that nothing defines" refused "nothing but C's calls" \
+  "int nobody(void); $entry int sqlite3_sunion_init(void) { return nobody(); }"
+step "refused: another entry point" refused "exports its entry points" "$entry int other(void) { return 0; }"
+step "refused: no entry point" refused "has an entry point" "int sqlite3_sunion_init(void) { return 0; }"
+[ "$failed" -eq 0 ] || finish
 
 # What another has put there, and what an earlier call has.
 mkdir "$work/packages" && touch "$work"/packages/{mine_1.deb,mine.tar.gz,mine.whl,s2calc_0.1.0_amd64.deb}
