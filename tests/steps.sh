@@ -52,12 +52,14 @@ need_file() { # PATH PACKAGE..
 need_modules() { # NAME[,NAME..] PACKAGE..: of Debian's Python
   /usr/bin/python3 -c "import $1" 2>/dev/null || packages+=("${@:2}")
 }
-need_headers() { # [PACKAGE..]: of Python
-  [ -n "$(python_headers)" ] || packages+=(libpython3-dev "$@")
+need_headers() { # of Python
+  [ -n "$(python_headers)" ] || packages+=(libpython3-dev)
 }
 need_installed() { # PACKAGE..
   local package
-  for package; do dpkg-query -s "$package" >/dev/null 2>&1 || packages+=("$package"); done
+  for package; do # one that was removed is known too
+    [ "$(dpkg-query -W -f '${db:Status-Status}' "$package" 2>/dev/null)" = installed ] || packages+=("$package")
+  done
 }
 need_packages() {
   [ ${#packages[@]} -eq 0 ] && return
@@ -73,6 +75,11 @@ python_headers() {
   [ ! -e "${folder:-.}/Python.h" ] || echo "$folder"
 }
 
+need_linker() { # what tools/library links with
+  need gcc gcc libc6-dev
+  [ ! -x /usr/bin/python3 ] || need_headers
+}
+
 # libs2union and its module for Python, installed as a package would be, in $work/usr: what is in S2UNION_PREFIX, if
 # that is set.
 need_library() {
@@ -80,7 +87,7 @@ need_library() {
     cp -a "$S2UNION_PREFIX" "$work/usr"
     return
   fi
-  [ ! -x /usr/bin/python3 ] || need_headers
+  need_linker
   need_packages
   step "tools/library" "$top/tools/library" "$work/usr"
   [ "$failed" -eq 0 ] || finish

@@ -2,6 +2,7 @@
 in front of the C library, makes them fail. The same run over a shelf in memory is a row of crates/script_rows."""
 import collections
 import os
+import shutil
 import subprocess
 import sys
 import tempfile
@@ -33,6 +34,8 @@ class Refusing:
     def __init__(self, room):
         self.room, self.library = room, os.path.join(room, "refuse.so")
         source = os.path.join(TOP, "tests/refuse.c")
+        if not shutil.which("cc"):
+            raise SystemExit("tests/faults: there is no C compiler: Debian's package gcc has one")
         subprocess.run(["cc", "-O2", "-shared", "-fPIC", "-o", self.library, source], check=True)
 
     def run(self, refused="", piece=0, options=(), before=None, has_calls=True, script=SCRIPT, swapped=""):

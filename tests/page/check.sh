@@ -2,8 +2,8 @@
 # The page in Chromium without a screen, beside the library: tests/run --tier full page. With -- --figures it prints the
 # figures of docs/PAGE.md too, with -- --pictures it makes the stored pictures anew, and with -- --screenshot that of
 # docs/PAGE.md. It installs the Debian packages that it needs.
-# With --short, as the gate has it, nothing is installed or proved: the page is driven over a plain stand-in for its
-# module, and if Chromium or its driver isn't there, a line says that it isn't tested.
+# With --short, as the gate has it, nothing is installed, and no module proved: the page is driven over a plain stand-in
+# for it, and if Chromium, its driver or what links the library isn't there, a line says that it isn't tested.
 # Its last line is 'N passed, M failed'; the status is 1 if any failed.
 . "$(dirname "$0")/../steps.sh"
 
@@ -11,6 +11,7 @@ need chromium chromium
 need chromedriver chromium-driver
 need_modules selenium python3-selenium
 need_modules numpy python3-numpy
+need_linker
 [ "${1:-}" = --short ] || need wasm-opt binaryen
 
 lacking_calls() { # what is left out of the module, from the copy of the sources that it is made of

@@ -6,7 +6,6 @@
 need /usr/bin/python3 python3
 need_modules numpy python3-numpy
 need_modules setuptools python3-setuptools
-need_headers gcc libc6-dev
 need_packages
 need_library
 
