@@ -4,7 +4,7 @@ that the house avoids, and proofs that grow. tests/docs/pages.py looks for paths
 
 UNCITED, DOUBLES, MANY_ARMS, WORDS and PROOFS are the most that may stand: what stood there when this check came, and
 less from time to time. The last line is 'N passed, M failed', where N counts the declarations, the files, the words and
-the crates.
+the crates. A check that has nothing to look at fails.
 """
 import collections
 import re
@@ -260,7 +260,8 @@ def lines_of_bodies(text):
 
 
 def proofs():
-    """The number of crates, and if their lines of proof are more than in the table, those that have more."""
+    """The number of crates, and if their lines of proof are more than in the table, those that have more; with those of
+    the table that aren't there, whose lines others could have."""
     lines, bodies = collections.Counter(), collections.Counter()
     for name in tracked():
         crate = name.split("/")[1] if name.startswith("crates/") else ""
@@ -268,10 +269,11 @@ def proofs():
             lines[crate] += len(text_of(name).splitlines())
         elif re.match(r"crates/[^/]+/src/.*\.rt$", name):
             bodies[crate] += lines_of_bodies(text_of(name))
-    if sum(lines.values()) <= sum(PROOFS.values()):
-        return len(bodies), []
-    return len(bodies), [f"{crate}, {lines[crate]} for {bodies[crate]} of code, where {PROOFS.get(crate, 0)} stood"
-                         for crate in sorted(bodies) if lines[crate] > PROOFS.get(crate, 0)]
+    wrong = [f"{crate} is no crate" for crate in PROOFS if crate not in bodies]
+    if sum(lines.values()) > sum(PROOFS.values()):
+        wrong += [f"{crate}, {lines[crate]} for {bodies[crate]} of code, where {PROOFS.get(crate, 0)} stood"
+                  for crate in sorted(bodies) if lines[crate] > PROOFS.get(crate, 0)]
+    return len(bodies), wrong
 
 
 def main():
@@ -286,6 +288,7 @@ def main():
              "more arms than seven": (matches, large), "too long": long_lines(),
              "names the host of a registry": hosts(), "avoided": avoided(), "lines of proof": proofs()}
     for what, (count, wrong) in asked.items():
+        wrong = wrong if count else ["there is nothing to look at"]
         for it in wrong:
             print(f"{what}: {it}")
         passed, failed = passed + max(count - len(wrong), 0), failed + len(wrong)
