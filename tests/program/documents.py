@@ -50,8 +50,9 @@ class Launcher(unittest.TestCase):
             shutil.copy(os.path.join(TOP, name), copy)
 
     def test_a_source_that_changes_while_it_is_proved(self):
-        """Then the program is older than its sources, and not the one that is run; until all is proved again."""
-        self.copy("s2calc", "tools/prove", "crates.txt", "crates/s2cell/src/lib.rt")
+        """Then the program is older than its sources, and not the one that is run; until all is proved again. A program
+        that isn't older stays, also where no kit is, if that is enough."""
+        self.copy("s2calc", "tools/prove", "tools/usage.sh", "crates.txt", "crates/s2cell/src/lib.rt")
         with open(os.path.join(TOP, "crates.txt"), encoding="utf-8") as it:
             for line in it:
                 os.makedirs(os.path.join(self.room, "crates", re.match(r"\w+", line)[0]), exist_ok=True)
@@ -65,6 +66,11 @@ class Launcher(unittest.TestCase):
             how["env"] = {"PATH": os.path.dirname(kit) + ":/usr/bin:/bin", "CHANGE": change}
             subprocess.run(["tools/prove"], check=True, **how)
             self.assertEqual(subprocess.run(["./s2calc", "cell", "1"], check=True, **how).stdout, answer)
+        how["env"] = {"PATH": "/usr/bin:/bin"}
+        for source, status in ((None, 0), ("crates/s2cell/src/lib.rt", 2)):
+            if source:
+                os.utime(os.path.join(self.room, source))
+            self.assertEqual(subprocess.run(["tools/prove", "--if-older"], check=False, **how).returncode, status)
 
     def test_where_no_program_and_no_kit_are(self):
         self.copy("s2calc", "README.md", "crates/s2calc/src/command_line.rt")
