@@ -4,6 +4,7 @@
 # and then every answer by an index has to be that of a scan. It is killed TIMES times, 10 if none are given. The last
 # line is 'N passed, M failed'.
 . "$(dirname "$0")/../steps.sh"
+need pgrep procps
 . "$top/tests/postgres/server.sh"
 RANDOM=1
 
