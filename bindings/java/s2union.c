@@ -166,6 +166,15 @@ static int32_t normalise(const passed* given, size_t* len) {
   return s2u_normalise(to, (size_t)lists.length[0], len);
 }
 
+/* The union of lists that lie one after another, each of which ends at the next of `ends`. Of what is written, a third
+ * is for the union, and the rest is where the call works. */
+static int32_t union_of_many(const passed* given, size_t* len) {
+  passed lists = *given;
+  uint64_t* out = lists.at[2];
+  size_t n = (size_t)lists.length[0];
+  return s2u_union_of_many(LIST(0), lists.at[1], (size_t)lists.length[1], out + n, 2 * n, out, n, len);
+}
+
 /* The calls that make a list of lists and numbers: n[0] and n[1], and a rectangle after them. */
 static int32_t made(jint call, const passed* given, const uint32_t* n, size_t* len) {
   passed lists = *given;
@@ -190,6 +199,7 @@ static int32_t made(jint call, const passed* given, const uint32_t* n, size_t* l
     case 15: return s2u_range_maxes(LIST(0), LIST(2), len);
     case 16: return s2u_symmetric_difference(LIST(0), LIST(1), LIST(2), len);
     case 17: return s2u_complement(LIST(0), LIST(2), len);
+    case 18: return union_of_many(given, len);
     default: return S2U_ARGUMENT;
   }
 }

@@ -10,6 +10,7 @@ import java.util.Set;
 import java.util.function.Function;
 import java.util.stream.Collectors;
 import java.util.stream.LongStream;
+import java.util.stream.Stream;
 import s2union.CellId;
 import s2union.CellUnion;
 import s2union.Refusal;
@@ -169,7 +170,7 @@ final class Vectors {
   }
 
   private static void unions() {
-    QUESTIONS.put("union", g -> shown(g.union(0).union(g.union(1))));
+    QUESTIONS.put("union", g -> same(shown(g.union(0).union(g.union(1))), shown(united(g))));
     QUESTIONS.put("intersection", g -> shown(g.union(0).intersection(g.union(1))));
     QUESTIONS.put("difference", g -> shown(g.union(0).difference(g.union(1))));
     QUESTIONS.put("symmetric_difference", g -> shown(g.union(0).symmetricDifference(g.union(1))));
@@ -194,6 +195,12 @@ final class Vectors {
       long[] cut = g.union(0).denormalized(n[0], n[1], 100_000);
       return cut.length == g.union(0).denormalizedSize(n[0], n[1]) ? shown(cut) : "another length";
     });
+  }
+
+  /** The union of the first and of each cell of the second, in one call. */
+  private static CellUnion united(Given g) {
+    Stream<CellUnion> cells = LongStream.of(g.cells(1)).mapToObj(CellUnion::of);
+    return CellUnion.unionOf(Stream.concat(cells, Stream.of(g.union(0))).toList());
   }
 
   /** All leaves from one to another, without the other; the end may be one after the last leaf. */

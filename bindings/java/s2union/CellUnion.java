@@ -1,7 +1,9 @@
 package s2union;
 
 import java.nio.charset.StandardCharsets;
+import java.util.ArrayList;
 import java.util.Arrays;
+import java.util.List;
 import java.util.stream.LongStream;
 
 /**
@@ -33,6 +35,16 @@ public final class CellUnion implements Comparable<CellUnion> {
   /** Whether a list is that of a union: ascending cells, no two that share a leaf, no four that make one. */
   public static boolean isNormalized(long... cells) {
     return Calls.asks(Calls.IS_UNION, cells, Calls.NONE, 0);
+  }
+
+  /** The leaves of any of many unions, in one call, which merges them in pairs. */
+  public static CellUnion unionOf(Iterable<CellUnion> unions) {
+    List<long[]> lists = new ArrayList<>();
+    unions.forEach(union -> lists.add(union.ids));
+    long[] ids = lists.stream().flatMapToLong(Arrays::stream).toArray();
+    long[] ends = lists.stream().mapToLong(list -> list.length).toArray();
+    Arrays.parallelPrefix(ends, Long::sum);
+    return new CellUnion(Calls.made(Calls.UNION_OF_MANY, ids, ends, 3L * ids.length));
   }
 
   /** All leaves from the first of one cell to the last of another, also across faces. */
