@@ -124,8 +124,9 @@ export class CellUnion implements Iterable<Cell> {
   toJSON(): string;
 }
 
-/** The bytes of a union file, which answer in place. Its frame is checked, and not its cells: `check` does that. */
+/** The bytes of a union file, which answer in place. */
 export class UnionFile {
+  /** Checks the bytes once: they must be the file that `encode` makes of some union. They must not be changed. */
   constructor(bytes: ArrayBuffer | ArrayBufferView);
   /** Whether it is the file that `encode` makes. One that only `decode` takes answers false, and others are refused. */
   static check(bytes: ArrayBuffer | ArrayBufferView): boolean;

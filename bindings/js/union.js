@@ -344,13 +344,14 @@ function bytesGiven(bytes) {
   throw new TypeError("a file is an ArrayBuffer or a view of one");
 }
 
-/** The bytes of a union file, which answer in place. Its frame is checked, and not its cells: `check` does that. */
+/** The bytes of a union file, which answer in place. */
 export class UnionFile {
   #bytes;
 
+  /** Checks the bytes once: they must be the file that `encode` makes of some union. They must not be changed. */
   constructor(bytes) {
+    if (!UnionFile.check(bytes)) throw new Refusal(NO_UNION, 0);
     this.#bytes = bytesGiven(bytes);
-    calls().fileCount(this.#bytes);
   }
 
   /** Whether it is the file that `encode` makes. One that only `decode` takes answers false, and others are refused. */

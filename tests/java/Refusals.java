@@ -113,6 +113,12 @@ final class Refusals {
     refused(-11, 0, "union file: unknown version", () -> UnionFile.check(version));
     refused(-12, 0, "union file: bytes after the last cell", () -> new UnionFile(Arrays.copyOf(good, 18)));
     refused(-13, 0, "union file: a number that is not a cell", () -> CellUnion.decode(damaged));
+    refused(-13, 0, "union file: a number that is not a cell", () -> new UnionFile(damaged));
+    byte[] twice = Arrays.copyOf(good, 25);
+    twice[1] = 2;
+    System.arraycopy(good, 9, twice, 17, 8);
+    check(CellUnion.decode(twice).equals(CellUnion.of(FACE)) && !UnionFile.check(twice), "a file of one cell twice");
+    refused(-4, 0, "not a normalized list of cells", () -> new UnionFile(twice));
     outOfRange(0, () -> new UnionFile(good).cellId(1));
     outOfRange(0, () -> new UnionFile(good).cellId(-1));
     check(new UnionFile(good).toUnion().equals(CellUnion.of(FACE)), "a file's union");
@@ -127,6 +133,7 @@ final class Refusals {
     check(union.hashCode() == CellUnion.of(FACE).hashCode() && !union.equals(null), "equal unions");
     CellUnion other = CellUnion.of(3 * FACE);
     check(!union.equals(other) && !other.equals(union) && union.hashCode() != other.hashCode(), "unions of one length");
+    check(CellUnion.unionOf(List.of()).isEmpty(), "the union of none");
     check(CellUnion.of().isEmpty() && CellUnion.of().toString().isEmpty(), "the empty union");
     check(CellUnion.fromTokens("04, 0c 14\n1c").toString().equals("1"), "texts");
   }
@@ -149,6 +156,7 @@ final class Refusals {
     CellUnion rest = whole.difference(half);
     check(whole.size() > 1_000_000 && half.size() < 1_000_000, "sizes");
     check(rest.union(half).equals(whole) && !rest.intersects(half), "a union in two parts");
+    check(CellUnion.unionOf(List.of(rest, half, rest)).equals(whole), "a union in three parts");
     check(CellUnion.decode(whole.encode()).equals(whole), "a long file");
     check(CellUnion.fromTokens(whole.toString()).equals(whole), "a long text");
     boolean[] found = whole.containsEach(cells);

@@ -93,6 +93,11 @@ const TESTS = {
     }
     const damaged = Uint8Array.of(...good.slice(0, 9), 2, ...good.slice(10, 16), 0);
     refused(-13, 0, "union file: a number that is not a cell", () => CellUnion.decode(damaged));
+    refused(-13, 0, "union file: a number that is not a cell", () => new UnionFile(damaged));
+    const twice = Uint8Array.of(1, 2, ...good.slice(2), ...good.slice(9));
+    assert.equal(CellUnion.decode(twice).size, 1);
+    assert.equal(UnionFile.check(twice), false);
+    refused(-4, 0, "not a normalized list of cells", () => new UnionFile(twice));
     for (const wrong of [1, -1, 0.5, 2 ** 64, NaN]) outOfRange(() => new UnionFile(good).at(wrong));
     assert.equal(new UnionFile(good.buffer).at(0), FACE);
     assert.equal(new UnionFile(Buffer.from(good)).toUnion().equals(new CellUnion([FACE])), true);

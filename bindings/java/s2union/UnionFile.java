@@ -1,13 +1,16 @@
 package s2union;
 
-/** The bytes of a union file, which answer in place. Its frame is checked, and not its cells: `check` does that. */
+/** The bytes of a union file, which answer in place, as those in a row of a table. */
 public final class UnionFile {
   private final byte[] bytes;
 
-  /** The bytes are not copied: they must not be changed. */
+  /**
+   * Checks the bytes once: they must be the file that `encode` makes of some union. They are not copied: they must not
+   * be changed.
+   */
   public UnionFile(byte[] bytes) {
+    if (!check(bytes)) throw new Refusal(Calls.NO_UNION, 0);
     this.bytes = bytes;
-    number(Calls.FILE_COUNT, 0);
   }
 
   /** Whether it is the file that `encode` makes. One that only `decode` takes answers false, and others are refused. */
