@@ -21,6 +21,9 @@
  *     for the call may still throw: a list in braces, and the union of another class, which becomes a CellUnion first.
  *     Make it one before, with a status of its own. So may S2's Encoder, which takes its memory itself.
  * Copies of a union, its texts, and S2's unions that are made of it have no status: they take memory as std's do.
+ *
+ * THREADS. As with std::vector: any number of threads may call what is const of one union, or of one file, while none
+ * changes it. Nothing is kept between calls.
  */
 #ifndef S2UNION_HPP
 #define S2UNION_HPP
@@ -134,6 +137,8 @@ template <class Id>
 class CellUnionOf {
   static_assert(sizeof(Id) == sizeof(uint64_t) && std::is_trivially_copyable_v<Id> && std::is_standard_layout_v<Id>,
                 "a cell is 64 bits, and nothing else");
+  template <class>
+  friend class UnionFileOf;
 
  public:
   using value_type = Id;
@@ -703,6 +708,13 @@ class UnionFileOf {
     uint64_t leaves = 0;
     s2u_file_leaf_count(bytes_, n_, &leaves);
     return leaves;
+  }
+
+  /// The cells and all their ancestors, as those of the union. S2U_MEMORY.
+  std::vector<Id> Ancestors(int32_t* status = nullptr) const {
+    return CellUnionOf<Id>::Made(2 * size() + 30, status, [&](uint64_t* out, size_t room, size_t* len) {
+      return s2u_file_ancestors(bytes_, n_, out, room, len);
+    }).Release();
   }
 
   /// The union itself, copied. S2U_MEMORY.

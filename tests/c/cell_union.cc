@@ -262,6 +262,7 @@ static void unions() {
   REFUSES(S2U_MEMORY, two.Tokens(status));
   REFUSES(S2U_MEMORY, Union::FromTokens("04", status));
   REFUSES(S2U_MEMORY, s2union::UnionFileOf<Id>(bytes.data(), bytes.size()).Union(status));
+  REFUSES(S2U_MEMORY, s2union::UnionFileOf<Id>(bytes.data(), bytes.size()).Ancestors(status));
   REFUSES(S2U_MEMORY, Union::UnionOf(three, status));
   REFUSES(S2U_MEMORY, face.Denormalize(3, 1, &list, status));
   REFUSES(S2U_MEMORY, x.Decode(bytes.data(), bytes.size(), status));
@@ -441,6 +442,7 @@ static void collections() {
   CHECK(file.cell_id(2) == Id(0) && file.LeafCellsCovered() == two.LeafCellsCovered() && file.Union() == two);
   CHECK(file.Contains(Id(first)) && !file.Contains(Id(kFace)) && file.Intersects(Id(kFace)));
   CHECK(!file.Intersects(Id(s2u_child(kFace, 3))));
+  CHECK(file.Ancestors() == cells<Id>({first, second, kFace}));
   CHECK(whole.Contains(file) && !file.Contains(whole) && file.Intersects(whole));
   REFUSES(S2U_NO_CELL, file.Contains(Id(2), status));
   REFUSES(S2U_NO_CELL, file.Intersects(Id(2), status));
@@ -450,10 +452,31 @@ static void collections() {
   CHECK(File(bytes.data(), bytes.size(), &found).empty() && found == S2U_NO_UNION);
 }
 
+/// Leaves far apart have more ancestors than there is first room for.
+template <class Id>
+static void ancestors() {
+  std::vector<Id> leaves;
+  std::set<uint64_t> wanted;
+  for (uint32_t place = 0; place < 60; place++) {
+    const uint64_t leaf = s2u_from_face_ij(place % 6, place << 24, place << 23);
+    leaves.push_back(Id(leaf));
+    for (uint32_t level = 0; level <= 30; level++) wanted.insert(s2u_parent(leaf, level));
+  }
+  const s2union::CellUnionOf<Id> far(leaves);
+  std::string bytes;
+  far.Encode(&bytes);
+  const std::vector<Id> found = far.Ancestors();
+  CHECK(far.size() == 60 && found.size() == wanted.size() && found.size() > 2 * far.size() + 30);
+  CHECK(std::equal(found.begin(), found.end(), wanted.begin(), [](Id x, uint64_t y) { return x == Id(y); }));
+  CHECK((s2union::UnionFileOf<Id>(bytes.data(), bytes.size()).Ancestors() == found));
+}
+
 int main() {
   unions<uint64_t>();
   collections<uint64_t>();
   collections<Cell>();
+  ancestors<uint64_t>();
+  ancestors<Cell>();
   unions<Cell>();
   room_that_is_kept<uint64_t>();
   room_that_is_kept<Cell>();
