@@ -22,6 +22,18 @@ CREATE CAST (text[] AS s2union) WITH FUNCTION s2union(text[]);
 
 -- Cells: a bigint, or a text that is a token or a debug text
 
+CREATE FUNCTION s2_is_cell(bigint)
+RETURNS boolean
+AS 'MODULE_PATHNAME'
+LANGUAGE C IMMUTABLE STRICT PARALLEL SAFE;
+COMMENT ON FUNCTION s2_is_cell(bigint) IS 'whether a value is a cell';
+
+CREATE FUNCTION s2_is_cell(text)
+RETURNS boolean
+AS 'MODULE_PATHNAME', 's2_is_cell_of_text'
+LANGUAGE C IMMUTABLE STRICT PARALLEL SAFE;
+COMMENT ON FUNCTION s2_is_cell(text) IS 'whether a value is a cell';
+
 CREATE FUNCTION s2_cell(bigint)
 RETURNS bigint
 AS 'MODULE_PATHNAME', 's2_cell_of_number'

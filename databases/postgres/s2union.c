@@ -788,6 +788,14 @@ PG_FUNCTION_INFO_V1(s2_version);
 Datum s2_version(PG_FUNCTION_ARGS) { PG_RETURN_TEXT_P(cstring_to_text(S2U_VERSION_TEXT)); }
 
 #define CELL cell_argument(fcinfo, 0)
+/* Whether a text names a cell. */
+static bool names_cell(const text* word) {
+  uint64_t cell;
+  return cell_of_text(VARDATA_ANY(word), VARSIZE_ANY_EXHDR(word), &cell) == S2U_OK;
+}
+
+FUNCTION(s2_is_cell, BoolGetDatum(s2u_is_cell((uint64_t)PG_GETARG_INT64(0)) == 1))
+FUNCTION(s2_is_cell_of_text, BoolGetDatum(names_cell(PG_GETARG_TEXT_PP(0))))
 FUNCTION(s2_cell, Int64GetDatum((int64)cell_named(PG_GETARG_TEXT_PP(0))))
 FUNCTION(s2_cell_of_number, Int64GetDatum((int64)CELL))
 

@@ -250,7 +250,8 @@ static int32_t file_argument(sqlite3_context* c, sqlite3_value** v, int k, argum
   return status;
 }
 
-/* The letters of arguments: a list, a file to be asked, a cell or a file to be asked, a cell, a number, or bytes. */
+/* The letters of arguments: a list, a file to be asked, a cell or a file to be asked, a cell, what may be a cell, a
+ * number, or bytes. */
 static int32_t read_argument(sqlite3_context* c, char letter, sqlite3_value** v, int k, argument* a) {
   int type = sqlite3_value_type(v[k]);
   switch (letter) {
@@ -258,6 +259,7 @@ static int32_t read_argument(sqlite3_context* c, char letter, sqlite3_value** v,
     case 'f': return file_argument(c, v, k, a);
     case 'q': return type == SQLITE_INTEGER ? cell_of(v[k], &a->cell) : file_argument(c, v, k, a);
     case 'c': return cell_of(v[k], &a->cell);
+    case 'm': return a->number = (type = cell_of(v[k], &a->cell)) == S2U_OK, type == S2U_MEMORY ? type : S2U_OK;
     case 'n': return number_of(v[k], &a->number);
     default: return type == SQLITE_BLOB ? bytes_of(v[k], &a->bytes, &a->n) : S2U_OK;
   }
@@ -355,6 +357,7 @@ CALL(count) { return answer_count(c, a, s2u_file_count); }
 CALL(leaves) { return answer_count(c, a, s2u_file_leaf_count); }
 CALL(normalise) { return answer_list(c, a->held); }
 CALL(is_union) { return answer_number(c, s2u_file_check(a->bytes, a->n) == 1); }
+CALL(is_cell) { return answer_number(c, (int32_t)a->number); }
 CALL(cell) { return answer_cell(c, a->cell); }
 CALL(parent) { return answer_cell(c, s2u_parent(a->cell, a[1].number)); }
 CALL(child) { return answer_cell(c, s2u_child(a->cell, a[1].number)); }
@@ -370,7 +373,7 @@ static const function functions[] = {
   {"s2_union", "ll", makes, .make = make_union}, {"s2_intersection", "ll", makes, .make = make_intersection},
   {"s2_difference", "ll", makes, .make = make_difference}, {"s2_range", "cc", makes, .make = make_range},
   {"s2_symmetric_difference", "ll", makes, .make = make_symmetric_difference}, {"s2_within", "qf", within},
-  COVERINGS("nnnnnn", ), COVERINGS("ln", _of), COVERINGS("lnnnnnn", _in),
+  COVERINGS("nnnnnn", ), COVERINGS("ln", _of), COVERINGS("lnnnnnn", _in), {"s2_is_cell", "m", is_cell},
   {"s2_normalise", "l", normalise}, {"s2_is_union", "b", is_union}, {"s2_contains", "fq", contains},
   {"s2_intersects", "fq", intersects}, {"s2_count", "f", count}, {"s2_leaves", "f", leaves}, {"s2_tokens", "l", tokens},
   {"s2_cell", "c", cell}, {"s2_token", "c", text, .text = s2u_token}, {"s2_debug", "c", text, .text = s2u_debug},

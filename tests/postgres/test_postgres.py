@@ -257,6 +257,7 @@ class AgainstTheModel(Tests):
             f"error: s2union: argument out of range: {signed(number)} to {signed(other)}")
         return [
             (f"s2_cell({one})", str(signed(number))), (f"s2_token({one})", model.token(number)),
+            (f"s2_is_cell({one})", "true"),
             (f"s2_debug({one})", model.debug(number)),
             (f"s2_level({one})", str(level)), (f"s2_face({one})", str(place // 4**level)),
             (f"s2_range_min({one})", str(signed(2 * first + 1))),
@@ -278,6 +279,16 @@ class AgainstTheModel(Tests):
                           for cell in (number, other))
             for one, two in ((1, 1), (2, 2), (1, 2), (2, 1), (1, 0), (0, 1), (2, 0), (0, 2)):
                 pairs += self.about_cells(number, other, ones[one], twos[two])
+        self.all_are(pairs)
+
+    def test_numbers_and_texts_that_may_be_cells(self):
+        pairs = [(f"s2_is_cell('{text}')", "false") for text in ("", "0", "2", "x", "0c 14", "0/4", "6/", "é")]
+        for _ in range(ROUNDS // 3):
+            cell = self.random.cell()
+            for number in (self.random.getrandbits(64), cell ^ 1 << self.random.randrange(64)):
+                is_cell = boolean(model.cell(number) is not None)
+                pairs += [(f"s2_is_cell(({signed(number)})::bigint)", is_cell),
+                          (f"s2_is_cell('{number:016x}')", is_cell)]
         self.all_are(pairs)
 
     def test_questions_about_what_texts_name(self):

@@ -14,6 +14,7 @@ static const char* const queries[] = {
   "SELECT s2_contains(x'010200000000000000000000000000001c0000000000000014', part) FROM parts",
   "SELECT hex(s2_union(part, '3')), s2_inner(part, 5), s2_outer(0, 5, 9000, 7, 9000, 24) FROM parts",
   "SELECT s2_debug('04'), s2_token('1/0'), s2_parent('04', 0), s2_cell('04'), s2_leaf(1, 2, 3)",
+  "SELECT s2_is_cell(CAST(x'3034' AS TEXT)), s2_is_cell(CAST(x'3035' AS TEXT) || 'x')",
   "SELECT id % 2, s2_tokens(s2_union_agg(part)) FROM parts GROUP BY 1",
   "SELECT s2_tokens(s2_symmetric_difference(part, '04 0c')), s2_complement(part) FROM parts WHERE id < 4",
   "SELECT id % 2, s2_tokens(s2_intersection_agg(part)) FROM parts WHERE id > 1 GROUP BY 1",

@@ -22,7 +22,7 @@ FUNCTIONS = {
     "s2_union": "ll", "s2_intersection": "ll", "s2_difference": "ll", "s2_symmetric_difference": "ll", "s2_range": "cc",
     "s2_complement": "l",
     "s2_normalise": "l", "s2_is_union": "b", "s2_contains": "lq", "s2_within": "ql", "s2_intersects": "lq",
-    "s2_count": "l", "s2_leaves": "l", "s2_tokens": "l",
+    "s2_count": "l", "s2_leaves": "l", "s2_tokens": "l", "s2_is_cell": "b",
     "s2_cell": "c", "s2_token": "c", "s2_debug": "c", "s2_level": "c", "s2_face": "c", "s2_parent": "cn",
     "s2_child": "cn", "s2_range_min": "c", "s2_range_max": "c", "s2_common_ancestor": "cc", "s2_leaf": "nnn",
     "s2_union_agg": "l", "s2_intersection_agg": "l", "s2_version": "",
@@ -181,6 +181,11 @@ class AgainstTheModel(Tests):
                 ).fetchone()
                 wanted = (signed(number), model.token(number), model.debug(number), level, place // 4**level)
                 self.assertEqual(said, wanted + (signed(2 * first + 1), signed(2 * end - 1)))
+            for value in (number, self.random.getrandbits(64), number ^ 1 << self.random.randrange(64)):
+                is_cell = int(model.cell(value) is not None)
+                self.assertEqual(self.ask("s2_is_cell(?)", signed(value)), is_cell)
+                self.assertEqual(self.ask("s2_is_cell(?)", f"{value:016x}"), is_cell)
+            self.assertEqual(self.ask("s2_is_cell(?)", model.debug(number)), 1)
             for k in range(32):
                 parent = signed(model.identifier(k, place // 4 ** (level - k))) if k <= level else None
                 self.assertEqual(self.ask("s2_parent(?, ?)", signed(number), k), parent)
@@ -575,6 +580,8 @@ class WhatIsRefused(Tests):
                     self.refused(f"s2: {what}", f"{name}({marks})", *values[:k], wrong, *values[k + 1 :])
         for wrong in (1, 1.5, "1", b"", b"\1", EMPTY.decode()):
             self.assertEqual(self.ask("s2_is_union(?)", wrong), 0)
+        for wrong in (0, 2, -1, 1.0, "", "0", "2", "x", "0c 14", "0/4", "6/", b"", b"1", EMPTY):
+            self.assertEqual(self.ask("s2_is_cell(?)", wrong), 0)
         for table in ("s2_cells", "s2_ancestors", "s2_prepared"):
             self.refused("s2: a union is", f"* FROM {table}(1.5)")
         self.refused("s2: a union is", "* FROM s2_tiles(1.5, 1)")
