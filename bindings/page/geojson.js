@@ -28,25 +28,37 @@ function leafOf(core, longitude, latitude) {
 
 /** The shapes of GeoJSON: lists of positions, and whether what they enclose belongs to the shape. */
 function shapesOf(it) {
-  const all = (parts) => parts.flatMap(shapesOf);
+  const all = (parts) => listed(parts).flatMap(shapesOf);
+  const areaOf = (rings) => ({lines: listed(rings).map(closed), isArea: true});
   switch (it?.type) {
     case "FeatureCollection": return all(it.features);
     case "GeometryCollection": return all(it.geometries);
     case "Feature": return it.geometry ? shapesOf(it.geometry) : [];
-    case "Polygon": return [{lines: it.coordinates.map(closed), isArea: true}];
-    case "MultiPolygon": return it.coordinates.map((rings) => ({lines: rings.map(closed), isArea: true}));
+    case "Polygon": return [areaOf(it.coordinates)];
+    case "MultiPolygon": return listed(it.coordinates).map(areaOf);
     case "LineString": return [{lines: [it.coordinates], isArea: false}];
-    case "MultiLineString": return [{lines: it.coordinates, isArea: false}];
+    case "MultiLineString": return [{lines: listed(it.coordinates), isArea: false}];
     case "Point": return [{lines: [[it.coordinates]], isArea: false}];
-    case "MultiPoint": return [{lines: it.coordinates.map((position) => [position]), isArea: false}];
+    case "MultiPoint": return [{lines: listed(it.coordinates).map((position) => [position]), isArea: false}];
     default: throw new Error("it is no GeoJSON");
   }
 }
 
-const closed = (ring) => (ring.length && String(ring[0]) !== String(ring[ring.length - 1]) ? [...ring, ring[0]] : ring);
+/** What has to be a list: JSON may have anything in its place. */
+function listed(it) {
+  if (!Array.isArray(it)) throw new Error("it is no GeoJSON");
+  return it;
+}
 
-function checked([longitude, latitude]) {
-  if (!(Math.abs(longitude) <= 540 && Math.abs(latitude) <= 90)) throw new Error("a position is out of range");
+function closed(ring) {
+  const [first, last] = [listed(ring)[0], ring[ring.length - 1]];
+  return String(first) === String(last) ? ring : [...ring, first];
+}
+
+function checked(position) {
+  const isWithin = (degrees, most) => typeof degrees === "number" && Math.abs(degrees) <= most;
+  const [longitude, latitude] = listed(position);
+  if (!isWithin(longitude, 540) || !isWithin(latitude, 90)) throw new Error("a position is out of range");
 }
 
 /**
@@ -117,7 +129,7 @@ function squareAt(face, level, i, j) {
  */
 function coveringOf(core, geojson) {
   const shapes = shapesOf(geojson);
-  shapes.forEach(({lines}) => lines.forEach((line) => line.forEach(checked)));
+  shapes.forEach(({lines}) => lines.forEach((line) => listed(line).forEach(checked)));
   const points = shapes.flatMap(({lines}) => lines.filter((line) => line.length === 1).flat());
   const ids = points.map(([longitude, latitude]) => leafOf(core, longitude, latitude));
   const idOf = ({face, level, i, j}) =>

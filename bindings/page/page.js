@@ -186,7 +186,8 @@ class Page {
 
   /** The union of the cells that a text names, or the covering of its GeoJSON. */
   cellsNamed(text) {
-    const ids = /^\s*\{\s*"/.test(text) ? coveringOf(this.core, JSON.parse(text)) : this.core.read(inTokens(text));
+    const isNamed = /^\s*\{\s*"[^"]*"\s*(:|$)/.test(text); // a list of PostgreSQL begins with a brace and a quote too
+    const ids = isNamed ? coveringOf(this.core, JSON.parse(text)) : this.core.read(inTokens(text));
     if (!ids.length) throw new Error("there is no cell");
     return ids;
   }

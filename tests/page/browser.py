@@ -515,11 +515,12 @@ class Trial:
         self.open()
         ids = [*self.a][::9]
         for text in (str(ids), json.dumps([token(id) for id in ids]), str(tuple(map(debug, ids))),
-                     "{" + ",".join(str(to_signed(id)) for id in ids) + "}", repr({token(id) for id in ids})):
+                     "{" + ",".join(str(to_signed(id)) for id in ids) + "}", repr({token(id) for id in ids}),
+                     "{" + ",".join(f'"{token(one)} {token(other)}"' for one, other in zip(ids, ids[1:])) + "}"):
             self.drop("list", text.encode())
             assert self.last() == Union(ids).to_bytes(), (text, self.status())
         self.drop("list", b'["89c25", "x"]')
-        assert self.status() == "list: refused: not a cell at place 11" and self.count() == 5, self.status()
+        assert self.status() == "list: refused: not a cell at place 11" and self.count() == 6, self.status()
 
     def test_pastes_and_drops_of_texts(self):
         self.open()
@@ -580,7 +581,13 @@ class Trial:
                            ('{"type"', "JSON"), ("{}", "there is no cell"), ("[]", "there is no cell"),
                            ('{"type": "Feature", "geometry": null}', "there is no cell"),
                            ('{"type": "Point", "coordinates": [0, 91]}', "a position is out of range"),
-                           ('{"type": "Point", "coordinates": ["x", 0]}', "a position is out of range")):
+                           ('{"type": "Point", "coordinates": ["x", 0]}', "a position is out of range"),
+                           ('{"type": "Point", "coordinates": ["1", "2"]}', "a position is out of range"),
+                           ('{"type": "Point", "coordinates": [null, null]}', "a position is out of range"),
+                           ('{"type": "Point"}', "it is no GeoJSON"), ('{"type": "Polygon"}', "it is no GeoJSON"),
+                           ('{"type": "LineString", "coordinates": [1, 2]}', "it is no GeoJSON"),
+                           ('{"type": "Polygon", "coordinates": [7]}', "it is no GeoJSON"),
+                           ('{"type": "FeatureCollection", "features": 1}', "it is no GeoJSON")):
             self.set("texts", text)
             self.click("add")
             assert self.status().startswith("texts: refused: ") and said in self.status(), self.status()
