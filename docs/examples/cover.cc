@@ -10,13 +10,21 @@
 #include <s2/s2polygon.h>
 #include <s2/s2projections.h>
 #include <s2/s2region_coverer.h>
+#include <cmath>
 #include <cstdlib>
 #include <fstream>
 #include <iostream>
 #include <memory>
 #include <nlohmann/json.hpp>
+#include <stdexcept>
 
 using nlohmann::json;
+
+R2Point PointOf(const json& position) {
+  const double longitude = position.at(0), latitude = position.at(1);
+  if (!(std::abs(longitude) <= 540 && std::abs(latitude) <= 90)) throw std::runtime_error("a position is out of range");
+  return R2Point(longitude, latitude);
+}
 
 // Adds the edges of all lists of points below. An edge that is straight on the map is bent on the sphere: it is cut
 // until that is less than 10 m.
@@ -30,9 +38,8 @@ void AddEdges(const json& coordinates, S2Builder* builder) {
     return;
   }
   for (size_t k = 1; k < coordinates.size(); k++) {
-    const json &a = coordinates.at(k - 1), &b = coordinates.at(k);
     std::vector<S2Point> points;
-    cut.AppendUnprojected(R2Point(a.at(0), a.at(1)), R2Point(b.at(0), b.at(1)), &points);
+    cut.AppendUnprojected(PointOf(coordinates.at(k - 1)), PointOf(coordinates.at(k)), &points);
     for (size_t i = 1; i < points.size(); i++) builder->AddEdge(points[i - 1], points[i]);
   }
 }
@@ -41,6 +48,15 @@ void AddEdges(const json& coordinates, S2Builder* builder) {
 [[noreturn]] void Refuse(const std::string& name, const std::string& why) {
   std::cerr << name << ": " << why << "\n";
   std::exit(1);
+}
+
+int NumberIn(const std::string& word, int least, int most) {
+  char* end = nullptr;
+  const long number = std::strtol(word.c_str(), &end, 10);
+  if (end == word.c_str() || *end != '\0' || number < least || number > most) {
+    Refuse(word, "it is no number from " + std::to_string(least) + " to " + std::to_string(most));
+  }
+  return static_cast<int>(number);
 }
 
 json Features(const std::string& name) {
@@ -69,8 +85,8 @@ void Write(const S2CellUnion& cells, const std::string& name) {
 int main(int argc, char** argv) try {
   if (argc != 5) return std::cerr << "usage: cover FILE.geojson FOLDER MAX_CELLS MAX_LEVEL\n", 2;
   S2RegionCoverer coverer;
-  coverer.mutable_options()->set_max_cells(std::stoi(argv[3]));
-  coverer.mutable_options()->set_max_level(std::stoi(argv[4]));
+  coverer.mutable_options()->set_max_cells(NumberIn(argv[3], 1, 1000000));
+  coverer.mutable_options()->set_max_level(NumberIn(argv[4], 0, 30));
   size_t outer_cells = 0, inner_cells = 0;
   const json features = Features(argv[1]);
   for (const json& feature : features) {
@@ -92,6 +108,6 @@ int main(int argc, char** argv) try {
     inner_cells += inner.size();
   }
   std::cout << features.size() << " features, " << outer_cells << " and " << inner_cells << " cells\n";
-} catch (const json::exception& error) {
+} catch (const std::exception& error) {
   Refuse(argv[1], error.what());
 }

@@ -98,24 +98,31 @@ SQL
         self.assertTrue(0 < numpy.count_nonzero(tested) < 2000)
 
     def test_files_that_are_not_there(self):
-        """cover.cc names the file that it can't read, that is no GeoJSON, or that it can't write."""
+        """cover.cc names the file that it can't read, that is no GeoJSON, or that it can't write, and a word that is
+        no number."""
         countries, other, folder = self.file("countries.geojson"), self.file("other"), self.file("countries")
         ring = [[[0, 0], [1, 0], [1, 1], [0, 0]]]
-        away, nothing, point = ({"features": [it]} for it in (
+        away, nothing, point, beyond = ({"features": [it]} for it in (
             {"properties": {"file": "../x"}, "geometry": {"coordinates": ring}}, {"properties": {}},
-            {"properties": {"file": "x"}, "geometry": {"coordinates": [0, 0]}}))
+            {"properties": {"file": "x"}, "geometry": {"coordinates": [0, 0]}},
+            {"properties": {"file": "x"}, "geometry": {"coordinates": [[[0, 0], [10, 91], [20, 0], [0, 0]]]}}))
         for file, there, text, said in (
                 ("none.geojson", folder, None, "none.geojson: it can't be read"),
                 (other, folder, "{", f"{other}: it is no collection of features in GeoJSON"),
                 (other, folder, json.dumps(away), f"{other}: ../x would lie in another folder"),
                 (other, folder, json.dumps(nothing), f"{other}: .*'file' not found"),
                 (other, folder, json.dumps(point), f"{other}: .*number"),
+                (other, folder, json.dumps(beyond), f"{other}: a position is out of range"),
                 (countries, "none", None, "none/.*: it can't be written")):
             if text:
                 Path(file).write_text(text)
             done = subprocess.run([self.file("cover"), file, there, "200", "30"], capture_output=True, text=True)
             self.assertEqual((done.returncode, done.stdout), (1, ""))
             self.assertRegex(done.stderr, f"^{said}\n$")
+        for words, said in ((("many", "30"), "many: it is no number from 1 to 1000000"),
+                            (("200", "31"), "31: it is no number from 0 to 30")):
+            done = subprocess.run([self.file("cover"), countries, folder, *words], capture_output=True, text=True)
+            self.assertEqual((done.returncode, done.stderr), (1, f"{said}\n"))
 
     def test_both_programs_cover_the_same_polygons(self):
         """Coverings by S2 in C++ and by s2union_geo: what is surely in a polygon by one is covered by the other, and
