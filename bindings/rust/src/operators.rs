@@ -143,3 +143,10 @@ impl<'a> Extend<&'a CellUnion> for CellUnion {
         *self |= unions.into_iter().collect::<CellUnion>();
     }
 }
+
+/// Adds the leaves of unions, all at once. Panics if there is no memory.
+impl Extend<CellUnion> for CellUnion {
+    fn extend<I: IntoIterator<Item = CellUnion>>(&mut self, unions: I) {
+        *self |= unions.into_iter().collect::<CellUnion>();
+    }
+}

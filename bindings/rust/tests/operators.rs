@@ -41,6 +41,9 @@ fn what_a_union_is_extended_by() {
     assert_eq!(park, union("04 0c 14"));
     park.extend([&union("1c 24"), &union("3")]);
     assert_eq!(park, union("1 3"));
+    park.extend(vec![union("64 6c"), union("9"), union("74 7c")]);
+    park.extend(Vec::<CellUnion>::new());
+    assert_eq!(park, union("1 3 7 9"));
 }
 
 #[test]
