@@ -1,6 +1,9 @@
-"""Streams that are closed, full or gone, answers that come before the next read, and a terminal."""
+"""Streams that are closed, full, gone or don't block, a file that grows too large, answers that come before the next
+read, and a terminal."""
 import os
 import pty
+import resource
+import signal
 import socket
 import subprocess
 import tempfile
@@ -54,6 +57,27 @@ class Streams(unittest.TestCase):
         folder = os.open("/", os.O_RDONLY)
         self.addCleanup(os.close, folder)
         self.failed_input(ran("run", input=None, stdin=folder))
+
+    def test_a_stream_that_would_have_to_wait_has_failed(self):
+        reader, writer = os.pipe()
+        os.set_blocking(reader, False)
+        with os.fdopen(reader, "rb") as empty, os.fdopen(writer, "wb"):
+            self.failed_input(ran("run", input=None, stdin=empty))
+        reader, writer = os.pipe()
+        os.set_blocking(writer, False)
+        with os.fdopen(reader, "rb"), os.fdopen(writer, "wb") as full:
+            self.failed_output(ran("run", script=b"count a\n" * 20000, stdout=full))
+
+    def test_a_file_that_grows_too_large_ends_the_process_after_the_answers_before_it(self):
+        def small_files():
+            resource.setrlimit(resource.RLIMIT_FSIZE, (9, 9))
+
+        with tempfile.TemporaryDirectory() as folder:
+            script = b"save a f\nadd a 1\nsave a f\nadd a 2\n"
+            status, out, error = ran("run", "--dir", folder, script=script, preexec_fn=small_files)
+            self.assertEqual((status, out, error), (-signal.SIGXFSZ, b"ok\nok 0 1\n", b""))
+            with open(os.path.join(folder, "f"), "rb") as file:
+                self.assertEqual(file.read(), bytes([1, 1] + 7 * [0]))
 
     def test_answers_of_whole_lines_are_out_after_a_read_that_failed(self):
         note = b"line 1: error cell: 'X' is not a cell (a token or a debug text)\n"
