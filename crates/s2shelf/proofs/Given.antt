@@ -3,7 +3,7 @@ use Rattle.std.proofs.Common.{◌≡◌, ◌↔◌, ℕ, ◌<◌, Bool, true, fa
 use Rattle.std.proofs.Common.{Result, Ok, inl, inr, refl, sym, ap, ◌∙◌, subst, append_assoc}
 use Rattle.std.proofs.lemmas.Bool.{cases_Bool, false_from_ne_true, true≢false, false≢true}
 use Rattle.std.specs.Io.KnownBytes.{Consumes, IsAtEnd, Keeps}
-use Rattle.s2shelf.specs.OpenedFile.{Claim, coming, MayCome, Left, name_of, given, has_ended, below}
+use Rattle.s2shelf.specs.OpenedFile.{Claim, known_left, MayCome, Left, name_of, given, has_ended, below}
 use Rattle.s2shelf.specs.declared.opened_file.OpenedFile.{OpenedFile}
 
 -- nothing is left of a file whose end was reached
@@ -27,19 +27,19 @@ come_before false true (Some xs) (Some ys) more rest c end more_left comes =
 come_before false false (Some xs) (Some ys) more rest c end more_left comes =
     ap (λ (l : List ℕ). more ++ l) comes ∙ sym c
 
-coming_consumed : (knows : Bool) (before after : Option (List ℕ)) (more : List ℕ) → Consumes before after more →
-    Consumes (coming knows before) (coming knows after) more
-coming_consumed true before after more c = c
-coming_consumed false before after more c = tt
+known_consumed : (knows : Bool) (before after : Option (List ℕ)) (more : List ℕ) → Consumes before after more →
+    Consumes (known_left knows before) (known_left knows after) more
+known_consumed true before after more c = c
+known_consumed false before after more c = tt
 
-coming_ended : (knows : Bool) (ahead : Option (List ℕ)) → IsAtEnd ahead → IsAtEnd (coming knows ahead)
-coming_ended true ahead end = end
-coming_ended false ahead end = tt
+known_ended : (knows : Bool) (ahead : Option (List ℕ)) → IsAtEnd ahead → IsAtEnd (known_left knows ahead)
+known_ended true ahead end = end
+known_ended false ahead end = tt
 
-coming_kept : (knows : Bool) (before after : Option (List ℕ)) → Keeps before after →
-    Keeps (coming knows before) (coming knows after)
-coming_kept true before after k = k
-coming_kept false before after k = tt
+known_kept : (knows : Bool) (before after : Option (List ℕ)) → Keeps before after →
+    Keeps (known_left knows before) (known_left knows after)
+known_kept true before after k = k
+known_kept false before after k = tt
 
 kept_comes : (ended : Bool) (before after : Option (List ℕ)) (rest : List ℕ) → Keeps before after →
     MayCome ended after rest → MayCome ended before rest
@@ -59,8 +59,8 @@ module _ {F : Type 0} (remaining : F → Option (List ℕ)) (old new : OpenedFil
     named = sym named ∙ left.named;
     whole = left.whole ∙ ap (λ (l : List ℕ). l ++ rest) gives ∙ append_assoc (given old) more rest;
     comes = come_before (has_ended old) (has_ended new) _ _ more rest
-        (coming_consumed claim.knows (remaining (below old)) (remaining (below new)) more c)
-        (λ e. coming_ended claim.knows (remaining (below new)) (end e)) begun left.comes;
+        (known_consumed claim.knows (remaining (below old)) (remaining (below new)) more c)
+        (λ e. known_ended claim.knows (remaining (below new)) (end e)) begun left.comes;
   }
 
   -- it gave the first bytes of a buffer
@@ -91,7 +91,7 @@ module _ {F : Type 0} (remaining : F → Option (List ℕ)) (old new : OpenedFil
   gave_none gives same kept open_still claim rest left = record {
     named = sym named ∙ left.named;
     whole = left.whole ∙ ap (λ (l : List ℕ). l ++ rest) gives;
-    comes = kept_comes (has_ended old) _ _ rest (coming_kept claim.knows (remaining (below old)) (remaining (below new))
+    comes = kept_comes (has_ended old) _ _ rest (known_kept claim.knows (remaining (below old)) (remaining (below new))
         (kept (false_from_ne_true (has_ended old) open_still)))
-        (subst (λ ended. MayCome ended (coming claim.knows (remaining (below new))) rest) same left.comes);
+        (subst (λ ended. MayCome ended (known_left claim.knows (remaining (below new))) rest) same left.comes);
   }

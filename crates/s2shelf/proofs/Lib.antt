@@ -1,4 +1,5 @@
 pub mod Begun
 pub mod Given
+mod Handed
 pub mod Named
 pub mod Opened

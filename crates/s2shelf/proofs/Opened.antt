@@ -4,7 +4,7 @@ use Rattle.std.proofs.Common.{ap, ◌∙◌, subst}
 use Rattle.std.proofs.lemmas.List.{append-nil}
 use Rattle.std.proofs.lemmas.Option.{same_Some}
 use Rattle.std.specs.Prelude.{option_map}
-use Rattle.s2shelf.specs.OpenedFile.{name_of, given, has_ended, below, Claim, coming, MayCome, Left, MayBe}
+use Rattle.s2shelf.specs.OpenedFile.{name_of, given, has_ended, below, Claim, known_left, MayCome, Left, MayBe}
 use Rattle.s2shelf.specs.Shelf.{Files, one_more, KeepsFiles, SameFiles, Allows, finding_read, finding_of_file}
 use Rattle.s2shelf.specs.Shelf.{Holding, Finds, MayFind, Asks, Opens, Closes, Fails, FailsToGet}
 use Rattle.s2shelf.specs.declared.opened_file.OpenedFile.{OpenedFile}
@@ -27,7 +27,7 @@ ends false ahead e = absurd cc
 -- anything may follow what a finding has read, if what is known of the reader doesn't have to agree
 follows : (ended : Bool) (ahead : Option (List ℕ)) (bytes all : List ℕ) →
     Allows (finding_read ended bytes) (Some all)
-    → (rest : List ℕ) × (all ≡ bytes ++ rest) × MayCome ended (coming false ahead) rest
+    → (rest : List ℕ) × (all ≡ bytes ++ rest) × MayCome ended (known_left false ahead) rest
 follows true ahead bytes all is = ([], same_Some all bytes is ∙ sym (append-nil bytes), refl)
 follows false ahead bytes all (rest, is) = (rest, same_Some all (bytes ++ rest) is, tt)
 
@@ -71,7 +71,7 @@ module _ {F : Type 0} (remaining : F → Option (List ℕ)) (file : OpenedFile F
   allowed : (claim : Claim) (rest : List ℕ) → Left remaining file claim rest →
       Allows (finding_of_file file) (Some claim.content)
   allowed claim rest left = subst (λ (c : List ℕ). Allows (finding_of_file file) (Some c)) (sym left.whole)
-      (agrees (has_ended file) (coming claim.knows (remaining (below file))) (given file) rest left.comes)
+      (agrees (has_ended file) (known_left claim.knows (remaining (below file))) (given file) rest left.comes)
 
 -- ---- a file that was opened, as `start`, and closed, as `end`
 

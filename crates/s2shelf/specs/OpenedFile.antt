@@ -35,9 +35,9 @@ pub record Claim : Type 0 where
   pub knows : Bool
 
 -- what a reader has left, if that is known and has to agree
-abbrev pub coming : Bool → Option (List ℕ) → Option (List ℕ)
-coming true ahead = ahead
-coming false ahead = None
+abbrev pub known_left : Bool → Option (List ℕ) → Option (List ℕ)
+known_left true ahead = ahead
+known_left false ahead = None
 
 -- these bytes may still come: none if the end was reached, and else what the reader below has left, if that is known
 abbrev pub MayCome : (ended : Bool) → Option (List ℕ) → List ℕ → Type 0
@@ -50,7 +50,7 @@ pub record Left {F : Type 0} (remaining : F → Option (List ℕ)) (file : Opene
     Type 0 where
   pub named : name_of file ≡ claim.name
   pub whole : claim.content ≡ given file ++ rest
-  pub comes : MayCome (has_ended file) (coming claim.knows (remaining (below file))) rest
+  pub comes : MayCome (has_ended file) (known_left claim.knows (remaining (below file))) rest
 
 -- the file may have this content, by what reads gave and by what is known of the reader below
 abbrev pub MayBe : {F : Type 0} → (F → Option (List ℕ)) → OpenedFile F → List ℕ → Type 0

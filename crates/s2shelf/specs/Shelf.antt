@@ -111,8 +111,8 @@ finding_read false bytes = Beginning bytes
 abbrev pub finding_of_file : {F : Type 0} → OpenedFile F → Finding
 finding_of_file file = finding_read (has_ended file) (given file)
 
--- the file was opened under that name, and nothing of it was read; the shelf holds a content that it may have, and
--- nothing changes: what is found is added when the file is closed
+-- the file was opened under that name, and nothing of it was read; each content that it may have is what the shelf
+-- holds there, and nothing changes: what is found is added when the file is closed
 pub record IsOpened {F : Type 0} (remaining : F → Option (List ℕ)) (old : Files) (name : List ℕ) (file : OpenedFile F)
     (new : Files) : Type 0 where
   pub same : SameShelf old new

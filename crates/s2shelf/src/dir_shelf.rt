@@ -1,18 +1,20 @@
 //! A folder as a shelf.
-ghost use Rattle.std.specs.Prelude.{◌≡◌, ◌≢◌, ◌⊎◌, ◌↔◌, IfErr, IfOk, IfSome, IsOk, IsErrOf, MatchResult};
+ghost use Rattle.std.specs.Prelude.{◌≡◌, ◌≢◌, ◌⊎◌, ◌↔◌, IfErr, IfOk, IfSome, IsOk, IsErrOf, MatchResult, OnOk};
 ghost use Rattle.std.specs.Prelude.{Some, None, Ok, Err, true, option_map, take};
+ghost use Rattle.std.specs.Fs.{IsFile, file_type};
+ghost use Rattle.std.specs.Io.KnownBytes.{Appends};
 ghost use Rattle.std.specs.IoError.{error_kind};
 ghost use Rattle.s2shelf.specs.OpenedFile.{has_failed};
-ghost use Rattle.s2shelf.specs.Shelf.{Closes, Fails, one_more};
+ghost use Rattle.s2shelf.specs.Shelf.{Closes, Fails, FailsToGet, FailsToPut, FindsBeginning, PutsFile, one_more};
 ghost use Rattle.std.specs.String.{string_bytes};
-ghost use Rattle.s2shelf.specs.DirShelf.{folder_files, folder_path};
+ghost use Rattle.s2shelf.specs.DirShelf.{folder_files, folder_path, IsRead, IsWritten};
 ghost use Rattle.s2shelf.specs.Working.DirShelf.{path_to};
 
 use crate::opened_file::OpenedFile;
 use crate::shelf::{Shelf, ShelfFault, beginning_of};
 use std::alloc::{AllocError, Global};
 use std::fs::{File, OpenFile};
-use std::io::{ErrorKind, Read};
+use std::io::{ErrorKind, Read, Write};
 use std::rt::Files;
 use std::{fs, io};
 
@@ -69,6 +71,7 @@ fn count_failure(failures: &mut u64) -> ShelfFault
 /// What the answer of the system to a call that reads means.
 fn read_answer<T: Drop>(answer: io::Result<T>, failures: &mut u64) -> Result<Option<T>, ShelfFault>
     ensures found { IfOk answer (λ found. result ≡ Ok (Some found)) }
+    ensures same { IfOk result (λ found. IfSome found (λ value. answer ≡ Ok value)) }
     ensures missing { IfErr answer (λ error. error_kind error ≡ ErrorKind.NotFound → result ≡ Ok None) }
     ensures memory { IfErr answer (λ error. error_kind error ≡ ErrorKind.OutOfMemory
         → result ≡ Err ShelfFault.Memory) }
@@ -101,7 +104,9 @@ fn write_answer(answer: io::Result<()>, failures: &mut u64) -> Result<(), ShelfF
 }
 
 /// Refuses anything but a regular file.
-fn check_regular(found: &fs::Metadata) -> io::Result<()> {
+fn check_regular(found: &fs::Metadata) -> io::Result<()>
+    ensures { IsOk result ↔ IsFile (file_type found.now) }
+{
     if found.is_file() {
         Ok(())
     } else {
@@ -129,18 +134,29 @@ fn read_beginning<F: Read + Drop>(alloc: Global, file: F, most: usize) -> io::Re
 }
 
 /// The first `most` bytes of a regular file.
-fn read_regular<R: Files + AllocGlobal>(rt: &R, path: &str, most: usize) -> io::Result<Vec<u8>> {
+fn read_regular<R: Files + AllocGlobal>(rt: &R, path: &str, most: usize) -> io::Result<Vec<u8>>
+    ensures { IfOk result (λ bytes. IsRead R.File.remaining most bytes.items) }
+{
     read_beginning(rt.alloc(), open_regular(rt, path)?, most)
 }
 
+/// Writes all bytes to an opened file. Closes it.
+fn write_all<F: Write + Drop>(mut file: F, bytes: &[u8]) -> io::Result<()>
+    ensures { OnOk result ((after : F) × Appends (F.contents file) (F.contents after) bytes.now) }
+{
+    file.write_all(bytes)
+}
+
 /// Overwrites a regular file, or creates one.
-fn write_whole<R: Files>(rt: &R, path: &str, bytes: &[u8]) -> io::Result<()> {
+fn write_whole<R: Files>(rt: &R, path: &str, bytes: &[u8]) -> io::Result<()>
+    ensures { OnOk result (IsWritten R.File.contents bytes.now) }
+{
     match fs::metadata(rt, path) {
         Ok(found) => check_regular(&found)?,
         Err(error) if error.kind() == ErrorKind::NotFound => {}
         Err(error) => return Err(error),
     }
-    fs::write(rt, path, bytes)
+    write_all(File::create(rt, path)?, bytes)
 }
 
 impl<R: Files + AllocGlobal> Shelf for DirShelf<R> {
@@ -169,14 +185,27 @@ impl<R: Files + AllocGlobal> Shelf for DirShelf<R> {
         Ok(())
     }
 
-    fn get_beginning(&mut self, name: &str, most: usize) -> Result<Option<Vec<u8>>, ShelfFault> {
+    /// What is handed over was read from a file of the system; which one isn't known.
+    fn get_beginning(&mut self, name: &str, most: usize) -> Result<Option<Vec<u8>>, ShelfFault>
+        ensures answer { MatchResult result
+            (λ beginning. FindsBeginning (folder_files self.old) name.now most (option_map (λ v. v.items) beginning)
+            (folder_files self.new))
+            (λ fault. FailsToGet (folder_files self.old) name.now (folder_files self.new) fault) }
+        ensures read { IfOk result (λ beginning. IfSome beginning (λ v. IsRead R.File.remaining most v.items)) }
+    {
         let path = self.path_of(name)?;
         let answer = read_regular(&self.rt, path.as_str(), most);
         let found = read_answer(answer, &mut self.failures)?;
         Ok(beginning_of(found, most))
     }
 
-    fn put(&mut self, name: &str, bytes: &[u8]) -> Result<(), ShelfFault> {
+    /// After Ok all bytes were written to a file of the system; which one isn't known.
+    fn put(&mut self, name: &str, bytes: &[u8]) -> Result<(), ShelfFault>
+        ensures answer { MatchResult result
+            (λ _. PutsFile (folder_files self.old) (folder_files self.new) name.now bytes.now)
+            (λ fault. FailsToPut (folder_files self.old) name.now (folder_files self.new) fault) }
+        ensures written { OnOk result (IsWritten R.File.contents bytes.now) }
+    {
         let path = self.path_of(name)?;
         let answer = write_whole(&self.rt, path.as_str(), bytes);
         write_answer(answer, &mut self.failures)
