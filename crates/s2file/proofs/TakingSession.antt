@@ -14,7 +14,7 @@ use Rattle.s2file.specs.Session.{IsContent, IsSessionFile, IsUnionFile, Spells}
 use Rattle.s2file.specs.Working.Source.{Ahead, Passes, held}
 use Rattle.s2file.specs.Working.SessionParts.{Refuses, Takes, Lacks, AreMoves, AreRegisters, registers_text}
 use Rattle.s2file.specs.Working.SessionParts.{IsByte, byte_text}
-use Rattle.s2file.specs.Working.Reading.{Finds}
+use Rattle.s2file.specs.Working.Reading.{Judges}
 use Rattle.s2file.specs.Reading.{RefusesToRead, WasLeft}
 use Rattle.s2file.specs.declared.TheConstants.{SESSION_CHANGES}
 use Rattle.s2file.specs.declared.union_file.TheConstants.{MOST_SIZE}
@@ -138,7 +138,7 @@ module _ {old m1 : Claim → List ℕ → Type 0} (h : Passes old m1 (0x73 ∷ 1
 -- the bytes that were taken are all
 pub union_found : {old new : Claim → List ℕ → Type 0} (bytes : List ℕ) (answer : Result Session ReadFault) →
     WasLeft old new (λ all. all ≡ bytes) → MatchResult answer (λ session. IsUnionFile bytes (content_of session))
-    (λ fault. Refuses fault ((s : Content) → IsUnionFile bytes s → ⊥)) → Finds IsUnionFile old new answer
+    (λ fault. Refuses fault ((s : Content) → IsUnionFile bytes s → ⊥)) → Judges IsUnionFile old new answer
 union_found bytes (Ok session) all h = (
   union_content h,
   weaker (λ (l : List ℕ) e. subst (λ (l : List ℕ). IsUnionFile l (content_of session)) (sym e) h) all,
@@ -173,7 +173,7 @@ module _ {start coming : Claim → List ℕ → Type 0} (b : Buffer) (p : Passes
   }
 
   pub spells_union : (new : Claim → List ℕ → Type 0) (answer : Result Session ReadFault) → slice_index (held b) 0 ≡ 1 →
-      Finds IsUnionFile (Ahead b coming) new answer → Finds Spells start new answer
+      Judges IsUnionFile (Ahead b coming) new answer → Judges Spells start new answer
   spells_union new (Ok session) one h = (h.0, held_known (λ bytes rest e u. inr u) h.1)
   spells_union new (Err fault) one h =
       held_known (λ bytes rest e. refuses fault _ ((s : Content) → Spells bytes s → ⊥)
@@ -186,7 +186,7 @@ module _ {start coming : Claim → List ℕ → Type 0} (b : Buffer) (p : Passes
 
   -- whatever the form of a session file, a first byte other than 1 is of no union file
   pub spells_file : (new : Claim → List ℕ → Type 0) (answer : Result Session ReadFault) → slice_index (held b) 0 ≢ 1 →
-      Finds IsSessionFile (Ahead b coming) new answer → Finds Spells start new answer
+      Judges IsSessionFile (Ahead b coming) new answer → Judges Spells start new answer
   spells_file new (Ok session) other h = (h.0, held_known (λ bytes rest e f. inl f) h.1)
   spells_file new (Err fault) other h =
       held_known (λ bytes rest e. refuses fault _ ((s : Content) → Spells bytes s → ⊥)
@@ -202,7 +202,7 @@ module _ {start coming : Claim → List ℕ → Type 0} (b : Buffer) (p : Passes
 -- no byte is no session
 pub nothing_found : {start coming : Claim → List ℕ → Type 0} (b : Buffer) → Passes start (Ahead b coming) [] →
     ((claim : Claim) (rest : List ℕ) → coming claim rest → rest ≡ []) → length (held b) < 1 →
-    Finds Spells start (Ahead b coming) (Err Form)
+    Judges Spells start (Ahead b coming) (Err Form)
 nothing_found b p none few = held_all b p none (λ s spells. nothing (held b) few s spells)
   where
     nothing : (bytes : List ℕ) → length bytes < 1 → (s : Content) → Spells bytes s → ⊥
@@ -210,9 +210,9 @@ nothing_found b p none few = held_all b p none (λ s spells. nothing (held b) fe
     nothing bytes few s (inr u) = absurd (omega (arith, u.file.is.length_is, few))
 
 -- what is held at the end is left behind
-pub answers : {start new : Claim → List ℕ → Type 0} (answer : Result Session ReadFault) → Finds Spells start new answer
-    → WasLeft start new (λ bytes. MatchResult answer (λ session. Spells bytes (content_of session))
-    (λ fault. RefusesToRead fault bytes))
+pub answers : {start new : Claim → List ℕ → Type 0} (answer : Result Session ReadFault) →
+    Judges Spells start new answer → WasLeft start new (λ bytes. MatchResult answer
+    (λ session. Spells bytes (content_of session)) (λ fault. RefusesToRead fault bytes))
 answers (Ok session) h = h.1
 answers (Err fault) h = weaker (refused fault) h
   where

@@ -1,5 +1,4 @@
 pub mod File
 pub mod Session
-pub mod SessionParts
 pub mod Reading
 pub mod Working

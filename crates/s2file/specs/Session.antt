@@ -86,6 +86,14 @@ pub record IsContent (s : Content) : Type 0 where
 abbrev pub content_of_list : List ℕ → Content
 content_of_list cells = record { registers = cells ∷ replicate (SESSION_REGISTERS - 1) []; past = []; future = [] }
 
+-- a session of one change, which put the face 0 into register a
+abbrev pub one_change : Content
+one_change = record {
+  registers = (0x1000_0000_0000_0000 ∷ []) ∷ replicate (SESSION_REGISTERS - 1) [];
+  past = record { register = 0; out = []; put = 0x1000_0000_0000_0000 ∷ [] } ∷ [];
+  future = [];
+}
+
 -- the bytes are a session file that says `s`
 pub record IsSessionFile (bytes : List ℕ) (s : Content) : Type 0 where
   pub content : IsContent s

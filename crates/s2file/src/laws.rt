@@ -4,8 +4,7 @@ ghost use Rattle.std.specs.Prelude.{drop, replicate, MatchResult};
 ghost use Rattle.s2list.specs.Union.{has_leaf};
 ghost use Rattle.s2file.specs.declared.union_file.TheConstants.{MOST_CELLS, MOST_SIZE};
 ghost use Rattle.s2file.specs.File.{File, HasFault, file_text, Bytes};
-ghost use Rattle.s2file.specs.Session.{Content, Spells, session_text, content_of_list};
-ghost use Rattle.s2file.specs.SessionParts.{one_change};
+ghost use Rattle.s2file.specs.Session.{Content, Spells, session_text, content_of_list, one_change};
 
 use crate::fault::FileFault;
 use crate::union_file::{decode, encode};

@@ -21,7 +21,6 @@ mod union_file;
 
 pub use crate::changes::{BorrowedMove, Changes};
 pub use crate::fault::FileFault;
-pub use crate::parts::are_apart;
 pub use crate::session::{Move, ReadFault, Session, SessionFault};
 pub use crate::session_file::{decode_session, encode_parts, encode_session, read_session};
 pub use crate::union_file::{HEAD_SIZE, MOST_CELLS, MOST_SIZE, VERSION, decode, encode};

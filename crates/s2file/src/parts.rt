@@ -262,9 +262,8 @@ fn ascend(cells: &[CellId]) -> bool
     true
 }
 
-/// Whether no cell is in both lists, which ascend, as the lists of a change have to. One walk along them, so it takes
-/// time in proportion to their lengths, and no memory. S2 has no such call.
-pub fn are_apart(out: &[CellId], put: &[CellId]) -> bool
+/// Whether no cell is in both lists, which ascend. One walk along them.
+fn are_apart(out: &[CellId], put: &[CellId]) -> bool
     requires out_ascends { IsStrictlyIncreasing out.now }
     requires put_ascends { IsStrictlyIncreasing put.now }
     ensures { MatchBool result (AreApart out.now put.now) (AreApart out.now put.now → ⊥) }

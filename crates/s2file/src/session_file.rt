@@ -7,7 +7,7 @@ ghost use Rattle.s2file.specs.Session.{moves_text, session_text, IsContent, IsSe
 ghost use Rattle.s2file.specs.Session.{Spells};
 ghost use Rattle.s2file.specs.Working.SessionParts.{Refuses, registers_text};
 ghost use Rattle.s2file.specs.Working.Source.{Ahead, Passes};
-ghost use Rattle.s2file.specs.Working.Reading.{Finds};
+ghost use Rattle.s2file.specs.Working.Reading.{Judges};
 ghost use Rattle.s2file.specs.Reading.{RefusesToRead, WasLeft};
 ghost use Rattle.s2shelf.specs.OpenedFile.{Left, has_ended};
 
@@ -58,7 +58,7 @@ pub fn decode_session(alloc: Global, bytes: &[u8]) -> Result<Session, SessionFau
 /// Reads a session: a session file or a union file, as `decode_session` describes them.
 ///
 /// Answers `Form` if what was read is neither, `Memory` if an allocation failed or a read found no memory, and `Device`
-/// if a read failed otherwise. After a fault some bytes have been read. A read that was interrupted is tried again.
+/// if a read failed otherwise. After a fault some bytes may have been read. A read that was interrupted is tried again.
 /// Reads pieces of 64 KiB: a session file to its end and one piece more at most, and of a union file at most one piece
 /// more than the longest has (`MOST_SIZE`). Never asks for more memory than a piece and about twice what the bytes that
 /// were read can fill.
@@ -85,7 +85,7 @@ fn session_of_union<F: Read>(
     buffer: &mut Buffer,
     file: &mut OpenedFile<F>,
 ) -> Result<Session, ReadFault>
-    ensures finds { Finds IsUnionFile (Ahead buffer.old (Left F.remaining file.old))
+    ensures judges { Judges IsUnionFile (Ahead buffer.old (Left F.remaining file.old))
         (Ahead buffer.new (Left F.remaining file.new)) result }
     ensures ended { OnOk result (has_ended file.new ≡ true) }
 {
@@ -154,7 +154,7 @@ fn session_of_parts<F: Read>(
     buffer: &mut Buffer,
     file: &mut OpenedFile<F>,
 ) -> Result<Session, ReadFault>
-    ensures finds { Finds IsSessionFile (Ahead buffer.old (Left F.remaining file.old))
+    ensures judges { Judges IsSessionFile (Ahead buffer.old (Left F.remaining file.old))
         (Ahead buffer.new (Left F.remaining file.new)) result }
     ensures ended { OnOk result (has_ended file.new ≡ true) }
 {

@@ -9,8 +9,8 @@ use Rattle.s2file.specs.declared.session.Session.{Session}
 use Rattle.s2file.specs.declared.session.ReadFault.{ReadFault}
 
 -- the session is one that a file may hold, and the bytes that were left are of it; `Form` says that they are of none
-abbrev pub Finds : (List ℕ → Content → Type 0) → (Claim → List ℕ → Type 0) → (Claim → List ℕ → Type 0) →
+abbrev pub Judges : (List ℕ → Content → Type 0) → (Claim → List ℕ → Type 0) → (Claim → List ℕ → Type 0) →
     Result Session ReadFault → Type 0
-Finds IsOf old new answer = MatchResult answer
+Judges IsOf old new answer = MatchResult answer
     (λ session. IsContent (content_of session) × WasLeft old new (λ bytes. IsOf bytes (content_of session)))
     (λ fault. WasLeft old new (λ bytes. Refuses fault ((s : Content) → IsOf bytes s → ⊥)))

@@ -1,4 +1,4 @@
--- What only private contracts need, beside SessionParts.antt, which has what public contracts need.
+-- The parts of a session file, and what is said of reading them.
 use Rattle.std.specs.Prelude.{◌≡◌, ℕ, ◌≤◌, ◌<◌, ◌^◌, List, [], ◌∷◌, ◌++◌, length, All, flat_map, MatchResult}
 use Rattle.std.specs.declared.result.Result.{Result}
 use Rattle.std.specs.List.{AllByRecursion}

@@ -27,7 +27,7 @@ returns-then-as_slice-eq-VERSION-clause-answer g c =
     behind c.session_of_union.new.buffer (answers c.session_of_union.result (spells_union c.has.new.self
     (joined (fresh c.in_ok-buffer.buffer c.in_ok-buffer.ensures) c.in_ok-has.ensures.kept) some _
     c.session_of_union.result (ap (λ (l : List ℕ). slice_index l 0) (sym c.as_slice.ensures)
-    ∙ c.if-as_slice-eq-VERSION.true) c.session_of_union.ensures.finds))
+    ∙ c.if-as_slice-eq-VERSION.true) c.session_of_union.ensures.judges))
 
 pub returns-clause-answer : goal.returns-clause-answer
 returns-clause-answer g c =
@@ -35,4 +35,4 @@ returns-clause-answer g c =
     behind c.session_of_parts.new.buffer (answers c.session_of_parts.result (spells_file c.has.new.self
     (joined (fresh c.in_ok-buffer.buffer c.in_ok-buffer.ensures) c.in_ok-has.ensures.kept) some _
     c.session_of_parts.result (λ one. c.if-as_slice-eq-VERSION.false
-    (ap (λ (l : List ℕ). slice_index l 0) c.as_slice.ensures ∙ one)) c.session_of_parts.ensures.finds))
+    (ap (λ (l : List ℕ). slice_index l 0) c.as_slice.ensures ∙ one)) c.session_of_parts.ensures.judges))

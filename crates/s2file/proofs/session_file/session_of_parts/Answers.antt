@@ -10,50 +10,50 @@ use Rattle.s2file.proofs.TakingSession.{NoFile, no_head, no_registers, no_past, 
 use Rattle.s2file.proofs.TakingSession.{too_many_changes, session_found}
 use Rattle.s2file.proofs.session_file.session_of_parts.Goals as goal
 
-pub returns-in_err-take_head-clause-finds : goal.returns-in_err-take_head-clause-finds
-returns-in_err-take_head-clause-finds g c =
+pub returns-in_err-take_head-clause-judges : goal.returns-in_err-take_head-clause-judges
+returns-in_err-take_head-clause-judges g c =
     let p = err_from_is_err_and c.from_residual.result c.from_residual.ensures.1 in
     rw (p.1, p.2) (no_head c.in_err-take_head.field-0.0 c.in_err-take_head.ensures)
 
-pub returns-in_err-registers-clause-finds : goal.returns-in_err-registers-clause-finds
-returns-in_err-registers-clause-finds g c =
+pub returns-in_err-registers-clause-judges : goal.returns-in_err-registers-clause-judges
+returns-in_err-registers-clause-judges g c =
     let p = err_from_is_err_and c.from_residual-in_err-registers.result c.from_residual-in_err-registers.ensures.1 in
     rw (p.1, p.2) (no_registers c.in_ok-take_head.ensures c.in_err-registers.field-0.0 c.in_err-registers.ensures)
 
-pub returns-in_err-past-clause-finds : goal.returns-in_err-past-clause-finds
-returns-in_err-past-clause-finds g c =
+pub returns-in_err-past-clause-judges : goal.returns-in_err-past-clause-judges
+returns-in_err-past-clause-judges g c =
     let p = err_from_is_err_and c.from_residual-in_err-past.result c.from_residual-in_err-past.ensures.1 in
     rw (p.1, p.2) (no_past c.in_ok-take_head.ensures c.in_ok-registers.ensures c.in_err-past.field-0.0
     c.in_err-past.ensures)
 
-pub returns-in_err-future-clause-finds : goal.returns-in_err-future-clause-finds
-returns-in_err-future-clause-finds g c =
+pub returns-in_err-future-clause-judges : goal.returns-in_err-future-clause-judges
+returns-in_err-future-clause-judges g c =
     let p = err_from_is_err_and c.from_residual-in_err-future.result c.from_residual-in_err-future.ensures.1 in
     rw (p.1, p.2) (no_future c.in_ok-take_head.ensures c.in_ok-registers.ensures c.in_ok-past.ensures
     c.in_err-future.field-0.0 c.in_err-future.ensures)
 
-pub returns-in_err-has-clause-finds : goal.returns-in_err-has-clause-finds
-returns-in_err-has-clause-finds g c =
+pub returns-in_err-has-clause-judges : goal.returns-in_err-has-clause-judges
+returns-in_err-has-clause-judges g c =
     let p = err_from_is_err_and c.from_residual-in_err-has.result c.from_residual-in_err-has.ensures.1 in
     rw (p.1, p.2) (failed c.in_err-has.field-0.0 NoFile c.in_err-has.ensures.has (joined (all_taken
     c.in_ok-take_head.ensures
     c.in_ok-registers.ensures c.in_ok-past.ensures c.in_ok-future.ensures) c.in_err-has.ensures.kept))
 
-pub returns-then-branch-clause-finds : goal.returns-then-branch-clause-finds
-returns-then-branch-clause-finds g c =
+pub returns-then-branch-clause-judges : goal.returns-then-branch-clause-judges
+returns-then-branch-clause-judges g c =
     let some = MatchBool-at_true _ _ c.if-branch.true c.in_ok-has.ensures.has in
     more_than_parts c.in_ok-take_head.ensures c.in_ok-registers.ensures c.in_ok-past.ensures c.in_ok-future.ensures
     (held_front c.has.new.self {Q = λ rest. rest ≢ []} c.in_ok-has.ensures.kept
     (λ rest e. absurd (omega (arith, ap length e, length-append (held c.has.new.self) rest, some))))
 
-pub returns-then-len-gt-SESSION_CHANGES-clause-finds : goal.returns-then-len-gt-SESSION_CHANGES-clause-finds
-returns-then-len-gt-SESSION_CHANGES-clause-finds g c =
+pub returns-then-len-gt-SESSION_CHANGES-clause-judges : goal.returns-then-len-gt-SESSION_CHANGES-clause-judges
+returns-then-len-gt-SESSION_CHANGES-clause-judges g c =
     too_many_changes c.in_ok-take_head.ensures c.in_ok-registers.ensures c.in_ok-past.ensures c.in_ok-future.ensures
     (omega (arith, length-map c.in_ok-past.past.items diff_of, length-map c.in_ok-future.future.items diff_of))
     c.in_ok-has.ensures.kept
 
-pub returns-clause-finds : goal.returns-clause-finds
-returns-clause-finds g c =
+pub returns-clause-judges : goal.returns-clause-judges
+returns-clause-judges g c =
     let past = c.in_ok-past.past.items in
     let future = c.in_ok-future.future.items in
     let none = MatchBool-at_false _ _ c.if-branch.false c.in_ok-has.ensures.has in

@@ -6,27 +6,27 @@ use Rattle.s2file.proofs.Taking.{failed, joined, of_front, weaker}
 use Rattle.s2file.proofs.TakingSession.{all_of, union_found, union_too_long}
 use Rattle.s2file.proofs.session_file.session_of_union.Goals as goal
 
-pub returns-in_err-has-clause-finds : goal.returns-in_err-has-clause-finds
-returns-in_err-has-clause-finds g c =
+pub returns-in_err-has-clause-judges : goal.returns-in_err-has-clause-judges
+returns-in_err-has-clause-judges g c =
     let p = err_from_is_err_and c.from_residual.result c.from_residual.ensures.1 in
     rw (p.1, p.2) (failed c.in_err-has.field-0.0 _ c.in_err-has.ensures.has
     (joined c.pieces.invariant c.in_err-has.ensures.kept))
 
-pub returns-then-not-branch-clause-finds : goal.returns-then-not-branch-clause-finds
-returns-then-not-branch-clause-finds g c =
+pub returns-then-not-branch-clause-judges : goal.returns-then-not-branch-clause-judges
+returns-then-not-branch-clause-judges g c =
     let few = MatchBool-at_false _ _ c.if-not-branch.true c.in_ok-has.ensures.has in
     let all = all_of c.pieces.invariant c.has.new.self c.in_ok-has.ensures.kept
     (none_left g.F.Read.remaining c.has.new.file few.1) few.0 in
     union_found c.deref.result.now c.session_of_bytes.result
     (weaker (λ bytes is. is ∙ sym c.deref.ensures.value) all) c.session_of_bytes.ensures
 
-pub returns-in_err-extend_from_slice-clause-finds : goal.returns-in_err-extend_from_slice-clause-finds
-returns-in_err-extend_from_slice-clause-finds g c =
+pub returns-in_err-extend_from_slice-clause-judges : goal.returns-in_err-extend_from_slice-clause-judges
+returns-in_err-extend_from_slice-clause-judges g c =
     let p = err_from_is_err_and c.from_residual-in_err-extend_from_slice.result
     c.from_residual-in_err-extend_from_slice.ensures.1 in
     rw (p.1, p.2) (of_front (joined c.pieces.invariant c.in_ok-has.ensures.kept) (λ rest. tt))
 
-pub returns-clause-finds : goal.returns-clause-finds
-returns-clause-finds g c =
+pub returns-clause-judges : goal.returns-clause-judges
+returns-clause-judges g c =
     union_too_long c.pieces.bytes.items c.pieces.invariant
     (omega (arith, c.pieces-test.false, c.len.ensures, c.pieces.bytes.ok.0))
