@@ -26,7 +26,6 @@ use Rattle.s2calc.specs.Sessions.{refusal_of, FetchesNoState}
 use Rattle.s2calc.specs.Step.{Loads, WritesFile, Restores, Acts, StepBy}
 use Rattle.s2calc.specs.Run.{Steps}
 use Rattle.s2calc.specs.Laws.{is_of_shelf, is_failure, RoseBy}
-use Rattle.s2calc.proofs.FetchLemmas.{union_keeps}
 
 tells_no_failure : (P : Type 0) (x : Reply) → AnswersYesIf P x → is_failure x ≡ false
 tells_no_failure P x (inl a) = ap is_failure a.1
@@ -85,8 +84,7 @@ count_refused name a c refusal x (inr (bytes, fetched, inr l)) e =
     stays a c x (ap is_failure e ∙ ap is_of_shelf l) fetched.same.1
 
 count_load : (r : ℕ) (name : List ℕ) (a c : World) (x : Reply) → Loads r name a x c → IsCounted a c x
-count_load r name a c x (inl l) = stays a c x (get_no_failure l.0 r a.state c.state x l.2)
-    (union_keeps a.files c.files name l.0 l.1).1
+count_load r name a c x (inl l) = stays a c x (get_no_failure l.0 r a.state c.state x l.2) l.1.1.same.1
 count_load r name a c x (inr l) = count_refused name a c l.0 x l.1 l.2
 
 count_write : (P : List ℕ → Type 0) (name : List ℕ) (a c : World) (x : Reply) → WritesFile P name a x c →

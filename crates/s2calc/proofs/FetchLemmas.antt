@@ -1,30 +1,40 @@
--- What is fetched from shelves that tell the same.
-use Rattle.std.proofs.Common.{◌≡◌, ◌≢◌, ℕ, ◌<◌, inl, inr, Bool, true, List, take, Option, None, Some, Ok, Err}
-use Rattle.std.proofs.Common.{sym, ◌∙◌, subst}
+-- What is fetched from two shelves, where some content is allowed by what both found.
+use Rattle.std.proofs.Common.{◌≡◌, ◌≢◌, ℕ, ◌<◌, inl, inr, Bool, List, ◌++◌, take, Option, None, Some, Ok, Err}
+use Rattle.std.proofs.Common.{refl, sym, ◌∙◌, subst}
 use Rattle.std.proofs.lemmas.Option.{same_Some, none-some}
 use Rattle.s2file.specs.declared.union_file.TheConstants.{MOST_SIZE}
 use Rattle.s2file.specs.File.{File, HasFault}
 use Rattle.s2file.proofs.Beginnings.{file_begins, fault_begins}
 use Rattle.s2file.proofs.Files.{same_leaves, no_fault}
-use Rattle.s2shelf.specs.Shelf.{Files, SameFiles, Finding, Asks, Finds, FindsBeginning}
+use Rattle.s2shelf.specs.Shelf.{Files, Finding, NoFile, Holding, Beginning, Written, Allows, MayFind, Finds}
+use Rattle.s2shelf.specs.Shelf.{FindsBeginning}
 use Rattle.s2shelf.proofs.Begun.{some_begun}
-use Rattle.s2shelf.proofs.Opened.{get_fails_for_device, get_fails_for_memory}
 use Rattle.s2calc.specs.declared.refusal.Refusal.{Refusal}
-use Rattle.s2calc.specs.declared.refusal.Refusal.TheVariants.{File as NoFile, Memory}
+use Rattle.s2calc.specs.declared.refusal.Refusal.TheVariants.{File as FileFailed, Memory}
 use Rattle.s2calc.specs.Fetch.{Fetches, Reads, FetchesUnion}
 
--- both shelves tell, and the same
-pub record TellSame (a b : Files) : Type 0 where
-  pub one : a.tells ≡ true
-  pub other : b.tells ≡ true
-  pub at : (name : List ℕ) → a.at name ≡ b.at name
+-- some content is allowed by both findings, whatever two shelves found under a name
+abbrev pub OneContent : Files → Files → Files → Files → List ℕ → Type 0
+OneContent a b c d name = (x y : Option (List ℕ)) (f : MayFind a name x c) (g : MayFind b name y d)
+    → (content : Option (List ℕ)) × Allows f.finding content × Allows g.finding content
 
-pub turned : (a b : Files) → TellSame a b → TellSame b a
-turned a b s = record { one = s.other; other = s.one; at = λ name. sym (s.at name) }
+pub turned : (a b c d : Files) (name : List ℕ) → OneContent a b c d name → OneContent b a d c name
+turned a b c d name one x y f g = let (content, p, q) = one y x g f in (content, q, p)
+
+-- a shelf was asked for that name, once; no file changes
+abbrev pub AskedFor : Files → List ℕ → Files → Type 0
+AskedFor old name new = (content : Option (List ℕ)) × MayFind old name content new
+
+abbrev pub found_bytes : (a c : Files) (name bytes : List ℕ) → Finds a name (Some bytes) c →
+    MayFind a name (Some bytes) c
+found_bytes a c name bytes f = record { finding = Holding bytes; allows = refl; asks = f }
+
+abbrev found_nothing : (a c : Files) (name : List ℕ) → Finds a name None c → MayFind a name None c
+found_nothing a c name f = record { finding = NoFile; allows = refl; asks = f }
 
 -- neither out of memory nor a failed shelf
 abbrev pub IsSettled : Refusal → Type 0
-IsSettled refusal = (refusal ≢ Memory) × (refusal ≢ NoFile)
+IsSettled refusal = (refusal ≢ Memory) × (refusal ≢ FileFailed)
 
 -- ---- beginnings
 
@@ -48,20 +58,31 @@ refuses_whole content bytes n refusal h e (inr r) = inr r
 
 -- ---- the content
 
-one_content : {f g : Finding} (a b c d : Files) (name : List ℕ) (x y : Option (List ℕ)) → TellSame a b →
-    Asks a name x f c → Asks b name y g d → x ≡ y
-one_content a b c d name x y s l m = l.holds s.one ∙ s.at name ∙ sym (m.holds s.other)
+not_none : (f : Finding) (xs : List ℕ) → Allows f (Some xs) → Allows f None → ⊥
+not_none NoFile xs p q = none-some xs (sym p)
+not_none (Holding bytes) xs p q = none-some bytes q
+not_none (Beginning bytes) xs p q = none-some (bytes ++ q.0) q.1
+not_none (Written bytes) xs p q = p
 
-pub same_bytes : {f g : Finding} (a b c d : Files) (name xs ys : List ℕ) → TellSame a b → Asks a name (Some xs) f c →
-    Asks b name (Some ys) g d → xs ≡ ys
-same_bytes a b c d name xs ys s l m = same_Some xs ys (one_content a b c d name (Some xs) (Some ys) s l m)
+pub some_allowed : (f : Finding) (xs : List ℕ) (content : Option (List ℕ)) → Allows f (Some xs) → Allows f content →
+    (all : List ℕ) × (content ≡ Some all)
+some_allowed f xs None p q = absurd (not_none f xs p q)
+some_allowed f xs (Some all) p q = (all, refl)
+
+pub same_bytes : (a b c d : Files) (name xs ys : List ℕ) → OneContent a b c d name → Finds a name (Some xs) c →
+    Finds b name (Some ys) d → xs ≡ ys
+same_bytes a b c d name xs ys one l m =
+    let (content, p, q) = one (Some xs) (Some ys) (found_bytes a c name xs l) (found_bytes b d name ys m) in
+    same_Some xs ys (sym p ∙ q)
 
 -- a file that one shelf has the other hands over
-pub bytes_or_none : {f : Finding} (a b c d : Files) (name xs : List ℕ) (y : Refusal) → TellSame a b →
-    Asks a name (Some xs) f c → Fetches name b (Err y) d → IsSettled y → ⊥
-bytes_or_none a b c d name xs y s l (inl m) q = none-some xs (sym (one_content a b c d name (Some xs) None s l m.1))
-bytes_or_none a b c d name xs y s l (inr (inl m)) q = q.1 m.0
-bytes_or_none a b c d name xs y s l (inr (inr m)) q = q.0 m.0
+pub bytes_or_none : (a b c d : Files) (name xs : List ℕ) (y : Refusal) → OneContent a b c d name →
+    MayFind a name (Some xs) c → Fetches name b (Err y) d → IsSettled y → ⊥
+bytes_or_none a b c d name xs y one l (inl m) q =
+    let (content, p, none) = one (Some xs) None l (found_nothing b d name m.1) in
+    not_none l.finding xs l.allows (subst (λ h. Allows l.finding h) none p)
+bytes_or_none a b c d name xs y one l (inr (inl m)) q = q.1 m.0
+bytes_or_none a b c d name xs y one l (inr (inr m)) q = q.0 m.0
 
 pub same_fetch_refusal : (a b c d : Files) (name : List ℕ) (x y : Refusal) → Fetches name a (Err x) c →
     Fetches name b (Err y) d → IsSettled x → IsSettled y → x ≡ y
@@ -84,48 +105,43 @@ same_read_refusal bytes x y (inl l) (inl m) p q = l.3 ∙ sym m.3
 same_read_refusal bytes x y (inl l) (inr m) p q = absurd (q.0 m)
 same_read_refusal bytes x y (inr l) m p q = absurd (p.0 l)
 
-pub same_union : (a b c d : Files) (name : List ℕ) (S T : ℕ → Bool) → TellSame a b → FetchesUnion name a (Ok S) c →
-    FetchesUnion name b (Ok T) d → (n : ℕ) → S n ≡ T n
+pub same_union : (a b c d : Files) (name : List ℕ) (S T : ℕ → Bool) → OneContent a b c d name →
+    FetchesUnion name a (Ok S) c → FetchesUnion name b (Ok T) d → (n : ℕ) → S n ≡ T n
 same_union a b c d name S T s l m n =
     let bytes : m.0 ≡ l.0 = sym (same_bytes a b c d name l.0 m.0 s l.1 m.1) in
     same_leaves l.0 S T l.2 (subst (λ xs. File xs T) bytes m.2) n
 
-pub union_or_none : (a b c d : Files) (name : List ℕ) (S : ℕ → Bool) (y : Refusal) → TellSame a b →
+pub union_or_none : (a b c d : Files) (name : List ℕ) (S : ℕ → Bool) (y : Refusal) → OneContent a b c d name →
     FetchesUnion name a (Ok S) c → FetchesUnion name b (Err y) d → IsSettled y → ⊥
-union_or_none a b c d name S y s l (inl m) q = bytes_or_none a b c d name l.0 y s l.1 m q
+union_or_none a b c d name S y s l (inl m) q =
+    bytes_or_none a b c d name l.0 y s (found_bytes a c name l.0 l.1) m q
 union_or_none a b c d name S y s l (inr m) q =
     let bytes : m.0 ≡ l.0 = sym (same_bytes a b c d name l.0 m.0 s l.1 m.1) in
     read_or_none l.0 S y l.2 (subst (λ xs. Reads xs (Err y)) bytes m.2) q
 
-pub none_or_union : (a b c d : Files) (name : List ℕ) (x : Refusal) (T : ℕ → Bool) → TellSame a b →
-    FetchesUnion name a (Err x) c → FetchesUnion name b (Ok T) d → IsSettled x → ⊥
-none_or_union a b c d name x T s l m p = union_or_none b a d c name T x (turned a b s) m l p
-
-pub same_refusal : (a b c d : Files) (name : List ℕ) (x y : Refusal) → TellSame a b →
+pub same_refusal : (a b c d : Files) (name : List ℕ) (x y : Refusal) → OneContent a b c d name →
     FetchesUnion name a (Err x) c → FetchesUnion name b (Err y) d → IsSettled x → IsSettled y → x ≡ y
 same_refusal a b c d name x y s (inl l) (inl m) p q = same_fetch_refusal a b c d name x y l m p q
-same_refusal a b c d name x y s (inl l) (inr m) p q = absurd (bytes_or_none b a d c name m.0 x (turned a b s) m.1 l p)
-same_refusal a b c d name x y s (inr l) (inl m) p q = absurd (bytes_or_none a b c d name l.0 y s l.1 m q)
+same_refusal a b c d name x y s (inl l) (inr m) p q =
+    absurd (bytes_or_none b a d c name m.0 x (turned a b c d name s) (found_bytes b d name m.0 m.1) l p)
+same_refusal a b c d name x y s (inr l) (inl m) p q =
+    absurd (bytes_or_none a b c d name l.0 y s (found_bytes a c name l.0 l.1) m q)
 same_refusal a b c d name x y s (inr l) (inr m) p q =
     let bytes : m.0 ≡ l.0 = sym (same_bytes a b c d name l.0 m.0 s l.1 m.1) in
     same_read_refusal l.0 x y l.2 (subst (λ xs. Reads xs (Err y)) bytes m.2) p q
 
--- ---- what a fetch leaves
+-- ---- what a fetch asks for
 
--- the files stay, unless the shelf failed
-pub union_keeps : (a c : Files) (name : List ℕ) (S : ℕ → Bool) → FetchesUnion name a (Ok S) c → SameFiles a c
-union_keeps a c name S l = l.1.same
+pub fetch_asks : (a c : Files) (name : List ℕ) (x : Refusal) → Fetches name a (Err x) c → IsSettled x →
+    AskedFor a name c
+fetch_asks a c name x (inl l) p = (None, found_nothing a c name l.1)
+fetch_asks a c name x (inr (inl l)) p = absurd (p.1 l.0)
+fetch_asks a c name x (inr (inr l)) p = absurd (p.0 l.0)
 
-pub refusal_keeps : (a c : Files) (name : List ℕ) (x : Refusal) → FetchesUnion name a (Err x) c → x ≢ NoFile →
-    SameFiles a c
-refusal_keeps a c name x (inl (inl l)) n = l.1.same
-refusal_keeps a c name x (inl (inr (inl l))) n = absurd (n l.0)
-refusal_keeps a c name x (inl (inr (inr l))) n = get_fails_for_memory a c name l.1
-refusal_keeps a c name x (inr l) n = l.1.same
+pub union_asks : (a c : Files) (name : List ℕ) (S : ℕ → Bool) → FetchesUnion name a (Ok S) c → AskedFor a name c
+union_asks a c name S l = (Some l.0, found_bytes a c name l.0 l.1)
 
--- a shelf that exposes its contents goes on doing so
-pub refusal_tells : (a c : Files) (name : List ℕ) (x : Refusal) → FetchesUnion name a (Err x) c → c.tells ≡ a.tells
-refusal_tells a c name x (inl (inl l)) = l.1.same.0.tells
-refusal_tells a c name x (inl (inr (inl l))) = (get_fails_for_device a c name l.1).0.tells
-refusal_tells a c name x (inl (inr (inr l))) = (get_fails_for_memory a c name l.1).0.tells
-refusal_tells a c name x (inr l) = l.1.same.0.tells
+pub refusal_asks : (a c : Files) (name : List ℕ) (x : Refusal) → FetchesUnion name a (Err x) c → IsSettled x →
+    AskedFor a name c
+refusal_asks a c name x (inl l) p = fetch_asks a c name x l p
+refusal_asks a c name x (inr l) p = (Some l.0, found_bytes a c name l.0 l.1)

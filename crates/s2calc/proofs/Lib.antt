@@ -9,6 +9,7 @@ pub mod Failures
 pub mod LineLemmas
 pub mod ListingLemmas
 pub mod FetchLemmas
+pub mod FoundLemmas
 pub mod NoteLemmas
 pub mod OneRun
 pub mod OrderLemmas

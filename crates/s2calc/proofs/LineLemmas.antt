@@ -1,6 +1,7 @@
 -- Lemmas on the lines of a script.
 use Rattle.std.proofs.Common.{◌≡◌, ℕ, suc, ◌+◌, ◌-◌, ◌≤◌, min, zero, List, [], ◌∷◌, ◌++◌, length, take}
-use Rattle.std.proofs.Common.{eqb, refl, sym, ap, ◌∙◌, append_assoc, append-nil, arith}
+use Rattle.std.proofs.Common.{Bool, true, false, eqb, refl, sym, ap, ◌∙◌, append_assoc, append-nil, arith}
+use Rattle.std.proofs.lemmas.Bool.{eqb-true}
 use Rattle.std.proofs.lemmas.Grind.{common_steps}
 use Rattle.std.proofs.lemmas.List.{take_min}
 use Rattle.std.proofs.Math.Seq.{take-append-add}
@@ -87,3 +88,24 @@ pub kept_more : (rest more : List ℕ) (n : ℕ) → take n (take n rest ++ more
 kept_more rest more zero = refl
 kept_more [] more (suc n) = refl
 kept_more (b ∷ rest) more (suc n) = ap (λ s. b ∷ s) (kept_more rest more n)
+
+-- each script begins with some whole lines
+abbrev pub Cut : List ℕ → Type 0
+Cut script = (done : List (List ℕ)) × (rest : List ℕ) × BeginsWith script done rest × IsUnbroken rest
+
+cut_after : (b : ℕ) (bs : List ℕ) → Cut bs → (is : Bool) → eqb b 10 ≡ is → Cut (b ∷ bs)
+cut_after b bs (done, rest, begins, u) true e =
+    let is = ap (λ n. n ∷ bs) (eqb-true b 10 e) ∙ ap (λ s. 10 ∷ s) begins.bytes_are in
+    ([] ∷ done, rest, record { bytes_are = is; each = (tt, begins.each) }, u)
+cut_after b bs ([], rest, begins, u) false e =
+    ([], b ∷ rest, record { bytes_are = ap (λ s. b ∷ s) begins.bytes_are; each = tt }, (e, u))
+cut_after b bs (line ∷ done, rest, begins, u) false e = (
+  (b ∷ line) ∷ done,
+  rest,
+  record { bytes_are = ap (λ s. b ∷ s) begins.bytes_are; each = ((e, begins.each.0), begins.each.1) },
+  u,
+)
+
+pub cut : (script : List ℕ) → Cut script
+cut [] = ([], [], record { bytes_are = refl; each = tt }, tt)
+cut (b ∷ bs) = cut_after b bs (cut bs) (eqb b 10) refl

@@ -1,6 +1,7 @@
 -- If no line runs out of memory or meets a failed shelf, a script has one run.
 use Rattle.std.proofs.Common.{◌≡◌, ◌≢◌, ℕ, ◌-◌, ◌^◌, ◌≤◌, ◌⊎◌, inl, inr, Bool, true, false, List, []}
-use Rattle.std.proofs.Common.{◌∷◌, length, refl, sym, ap, ◌∙◌, subst, arith, Some}
+use Rattle.std.proofs.Common.{◌∷◌, ◌++◌, length, refl, sym, ap, ◌∙◌, subst, arith, Some, append-nil, length-append}
+use Rattle.std.proofs.lemmas.List.{nil_from_length}
 use Rattle.std.proofs.Math.Logic.{⊎_elim}
 use Rattle.std.proofs.lemmas.Bool.{false≢true}
 use Rattle.std.proofs.lemmas.Option.{same_Some, none-some}
@@ -16,7 +17,7 @@ use Rattle.s2edit.specs.History.{History, Assigned, numbers, undone, redone, set
 use Rattle.s2edit.specs.Session.{Text, Stored, IsKept, Restored}
 use Rattle.s2edit.proofs.OneEnd.{is_there}
 use Rattle.s2edit.proofs.Spelling.{text_is_stored}
-use Rattle.s2shelf.specs.Shelf.{Files, SameFiles, PutsFile}
+use Rattle.s2shelf.specs.Shelf.{Files, Allows, PutsFile}
 use Rattle.s2file.specs.File.{Bytes, file_text}
 use Rattle.s2script.specs.declared.command.Question.{Question}
 use Rattle.s2script.specs.declared.command.Question.TheVariants.{Cell, At, Square, Show, Count, Has, Touches, Compares}
@@ -33,14 +34,14 @@ use Rattle.s2calc.specs.Texts.{cell_line, square_line, ok_line, done_line}
 use Rattle.s2calc.specs.Questions.{AnswersYesIf, ListsSome, Answers}
 use Rattle.s2calc.specs.Edits.{new_set, leaves_of, IsTooLong, Gets, Moves}
 use Rattle.s2calc.specs.Sessions.{RefusesBytes, FetchesNoState}
-use Rattle.s2calc.specs.Step.{Loads, WritesFile, Saves, Dumps, Restores, Acts, Step, StepBy}
+use Rattle.s2calc.specs.Step.{Loads, WritesFile, Dumps, Restores, Acts, Step, StepBy}
 use Rattle.s2calc.specs.Run.{Steps}
 use Rattle.s2calc.specs.Laws.{SameWorld, IsPlain, AllPlain}
 use Rattle.s2calc.proofs.TextLemmas.{one_text_of}
-use Rattle.s2calc.proofs.SessionLemmas.{one_taken, taken_or_refused, fetched_or_not, one_failure, failure_keeps}
-use Rattle.s2calc.proofs.SessionLemmas.{failure_tells}
-use Rattle.s2calc.proofs.FetchLemmas.{TellSame, IsSettled, turned, same_bytes, same_union, union_or_none, none_or_union}
-use Rattle.s2calc.proofs.FetchLemmas.{same_refusal, union_keeps, refusal_keeps, refusal_tells}
+use Rattle.s2calc.proofs.RunLemmas.{Steps-lengths}
+use Rattle.s2calc.proofs.SessionLemmas.{one_taken, taken_or_refused, fetched_or_not, one_failure, failure_asks}
+use Rattle.s2calc.proofs.FetchLemmas.{OneContent, turned, AskedFor, found_bytes, IsSettled, same_bytes, same_union}
+use Rattle.s2calc.proofs.FetchLemmas.{union_or_none, same_refusal, union_asks, refusal_asks}
 
 -- ---- questions
 
@@ -135,58 +136,253 @@ one_move side old moved new other ms x y (inr a) (inr b) = (a.2 ∙ sym b.2, a.1
 
 -- ---- files
 
--- worlds whose files stay
-files_stay : (a b c d : World) → SameWorld a b → c.state ≡ d.state → c.files ≡ a.files → d.files ≡ b.files →
-    SameWorld c d
-files_stay a b c d s e f g = record {
-  state = e;
-  tells = ap (λ (h : Files). h.tells) f ∙ s.tells ∙ sym (ap (λ (h : Files). h.tells) g);
-  at = λ name. ap (λ (h : Files). h.at name) f ∙ s.at name ∙ sym (ap (λ (h : Files). h.at name) g);
-  failures = ap (λ (h : Files). h.failures) f ∙ s.failures ∙ sym (ap (λ (h : Files). h.failures) g);
-}
+-- two lines did the same with files: nothing; or both asked for one name; or both stored the same bytes under one name
+abbrev pub SameUse : Files → Files → Files → Files → Type 0
+SameUse a b c d = ((c ≡ a) × (d ≡ b))
+    ⊎ ((name : List ℕ) × AskedFor a name c × AskedFor b name d)
+    ⊎ ((name : List ℕ) × (bytes : List ℕ) × PutsFile a c name bytes × PutsFile b d name bytes)
 
-files_kept : (a b c d : World) → SameWorld a b → a.files.tells ≡ true → c.state ≡ d.state →
-    SameFiles a.files c.files → SameFiles b.files d.files → SameWorld c d
-files_kept a b c d s t e f g = record {
-  state = e;
-  tells = f.0.tells ∙ s.tells ∙ sym g.0.tells;
-  at = λ name. f.0.at t name ∙ s.at name ∙ sym (g.0.at (sym s.tells ∙ t) name);
-  failures = f.1 ∙ s.failures ∙ sym g.1;
-}
+-- two lines had the same reply, left the same state, and did the same with files
+pub record OneLine (a b c d : World) (x y : Reply) : Type 0 where
+  pub reply : x ≡ y
+  pub state : c.state ≡ d.state
+  pub files : SameUse a.files b.files c.files d.files
 
 -- a refusal that a plain reply gives
 settled : (refusal : Refusal) (x : Reply) → x ≡ Refuses refusal → IsPlain x → IsSettled refusal
 settled refusal x told p = (λ e. p.0 (told ∙ ap (λ r. Refuses r) e), λ e. p.1 (told ∙ ap (λ r. Refuses r) e))
 
-one_loaded : (r : ℕ) (name : List ℕ) (a b c d : World) (x y : Reply) → SameWorld a b → TellSame a.files b.files →
-    Loads r name a x c → Loads r name b y d → IsPlain x → IsPlain y → (x ≡ y) × SameWorld c d
-one_loaded r name a b c d x y s t (inl l) (inl m) p q =
-    let gets : Gets m.0 r a.state y d.state = subst (λ st. Gets m.0 r st y d.state) (sym s.state) m.2 in
-    let same = one_get l.0 m.0 r a.state c.state d.state x y
-    (same_union a.files b.files c.files d.files name l.0 m.0 t l.1 m.1) l.2 gets p q in
-    (same.0, files_kept a b c d s t.one same.1 (union_keeps _ _ name l.0 l.1) (union_keeps _ _ name m.0 m.1))
-one_loaded r name a b c d x y s t (inl l) (inr m) p q =
-    absurd (union_or_none a.files b.files c.files d.files name l.0 m.0 t l.1 m.1 (settled m.0 y m.2 q))
-one_loaded r name a b c d x y s t (inr l) (inl m) p q =
-    absurd (none_or_union a.files b.files c.files d.files name l.0 m.0 t l.1 m.1 (settled l.0 x l.2 p))
-one_loaded r name a b c d x y s t (inr l) (inr m) p q =
-    let one = settled l.0 x l.2 p in
-    let other = settled m.0 y m.2 q in
-    let refusal : l.0 ≡ m.0 = same_refusal a.files b.files c.files d.files name l.0 m.0 t l.1 m.1 one other in
-    let state : c.state ≡ d.state = l.3 ∙ s.state ∙ sym m.3 in (
-      l.2 ∙ ap (λ r. Refuses r) refusal ∙ sym m.2,
-      files_kept a b c d s t.one state
-          (refusal_keeps _ _ name l.0 l.1 one.1) (refusal_keeps _ _ name m.0 m.1 other.1),
-    )
-
-one_load : (r : ℕ) (name : List ℕ) (a b c d : World) (x y : Reply) → SameWorld a b → a.files.tells ≡ true →
-    Loads r name a x c → Loads r name b y d → IsPlain x → IsPlain y → (x ≡ y) × SameWorld c d
-one_load r name a b c d x y s t l m p q =
-    let same : TellSame a.files b.files = record { one = t; other = sym s.tells ∙ t; at = s.at } in
-    one_loaded r name a b c d x y s same l m p q
-
 one_text : (S : ℕ → Bool) (bytes others : List ℕ) → Bytes S bytes → Bytes S others → bytes ≡ others
 one_text S bytes others a b = a.is ∙ ap file_text (one_normal_form S a.ids b.ids a.normal b.normal) ∙ sym b.is
+
+module _ (a b c d : World) (x y : Reply) (s : a.state ≡ b.state)
+    (t : (name : List ℕ) → OneContent a.files b.files c.files d.files name) (p : IsPlain x) (q : IsPlain y) where
+  one_load : (r : ℕ) (name : List ℕ) → Loads r name a x c → Loads r name b y d → OneLine a b c d x y
+  one_load r name (inl l) (inl m) =
+      let gets : Gets m.0 r a.state y d.state = subst (λ st. Gets m.0 r st y d.state) (sym s) m.2 in
+      let same = one_get l.0 m.0 r a.state c.state d.state x y
+      (same_union a.files b.files c.files d.files name l.0 m.0 (t name) l.1 m.1) l.2 gets p q in
+      record {
+        reply = same.0;
+        state = same.1;
+        files = inr (inl (name, union_asks _ _ name l.0 l.1, union_asks _ _ name m.0 m.1));
+      }
+  one_load r name (inl l) (inr m) =
+      absurd (union_or_none a.files b.files c.files d.files name l.0 m.0 (t name) l.1 m.1 (settled m.0 y m.2 q))
+  one_load r name (inr l) (inl m) =
+      absurd (union_or_none b.files a.files d.files c.files name m.0 l.0
+      (turned a.files b.files c.files d.files name (t name)) m.1 l.1 (settled l.0 x l.2 p))
+  one_load r name (inr l) (inr m) =
+      let one = settled l.0 x l.2 p in
+      let other = settled m.0 y m.2 q in
+      let refusal : l.0 ≡ m.0 = same_refusal a.files b.files c.files d.files name l.0 m.0 (t name) l.1 m.1 one other in
+      record {
+        reply = l.2 ∙ ap (λ r. Refuses r) refusal ∙ sym m.2;
+        state = l.3 ∙ s ∙ sym m.3;
+        files = inr (inl (name, refusal_asks _ _ name l.0 l.1 one, refusal_asks _ _ name m.0 m.1 other));
+      }
+
+  one_write : (P Q : List ℕ → Type 0) (name : List ℕ) →
+      ((bytes others : List ℕ) → P bytes → Q others → bytes ≡ others)
+      → WritesFile P name a x c → WritesFile Q name b y d → OneLine a b c d x y
+  one_write P Q name one (inl l) (inl m) =
+      let bytes : m.2.0 ≡ l.2.0 = sym (one l.2.0 m.2.0 l.2.1 m.2.1) in
+      let put : PutsFile b.files d.files name l.2.0 = subst (λ h. PutsFile b.files d.files name h) bytes m.2.2 in
+      record {
+        reply = l.0 ∙ sym m.0;
+        state = l.1 ∙ s ∙ sym m.1;
+        files = inr (inr (name, l.2.0, l.2.2, put));
+      }
+  one_write P Q name one (inl l) (inr (inl m)) = absurd (q.1 m.0)
+  one_write P Q name one (inl l) (inr (inr m)) = absurd (q.0 m.0)
+  one_write P Q name one (inr (inl l)) m = absurd (p.1 l.0)
+  one_write P Q name one (inr (inr l)) m = absurd (p.0 l.0)
+
+  one_restore : (name : List ℕ) → Restores name a x c → Restores name b y d → OneLine a b c d x y
+  one_restore name (inl l) (inl m) =
+      let bytes : m.0 ≡ l.0 = sym (same_bytes a.files b.files c.files d.files name l.0 m.0 (t name) l.1 m.1) in
+      let other : Restored (Stored l.0) a.state d.state = subst (λ (st : History (List ℕ)). Restored (Stored l.0) st
+      d.state) (sym s) (subst (λ (xs : List ℕ). Restored (Stored xs) b.state d.state) bytes m.2) in
+      record {
+        reply = l.3 ∙ sym m.3;
+        state = one_taken l.0 a.state c.state d.state l.2 other;
+        files = inr (inl (
+          name,
+          (Some l.0, found_bytes a.files c.files name l.0 l.1),
+          (Some m.0, found_bytes b.files d.files name m.0 m.1),
+        ));
+      }
+  one_restore name (inl l) (inr m) =
+      let fails : FetchesNoState name b.files a.state m.0 d.files =
+      subst (λ (st : History (List ℕ)). FetchesNoState name b.files st m.0 d.files) (sym s) m.1 in
+      absurd (fetched_or_not a.files b.files c.files d.files name l.0 a.state c.state m.0 (t name) l.1 l.2 fails
+      (settled m.0 y m.2 q))
+  one_restore name (inr l) (inl m) =
+      let fails : FetchesNoState name a.files b.state l.0 c.files =
+      subst (λ (st : History (List ℕ)). FetchesNoState name a.files st l.0 c.files) s l.1 in
+      absurd (fetched_or_not b.files a.files d.files c.files name m.0 b.state d.state l.0
+      (turned a.files b.files c.files d.files name (t name)) m.1 m.2 fails (settled l.0 x l.2 p))
+  one_restore name (inr l) (inr m) =
+      let one = settled l.0 x l.2 p in
+      let other = settled m.0 y m.2 q in
+      let fails : FetchesNoState name b.files a.state m.0 d.files =
+      subst (λ (st : History (List ℕ)). FetchesNoState name b.files st m.0 d.files) (sym s) m.1 in
+      let refusal : l.0 ≡ m.0 = one_failure a.files b.files c.files d.files name a.state l.0 m.0 (t name) l.1 fails
+      one other in
+      record {
+        reply = l.2 ∙ ap (λ r. Refuses r) refusal ∙ sym m.2;
+        state = l.3 ∙ s ∙ sym m.3;
+        files = inr (inl (
+          name,
+          failure_asks _ _ name a.state l.0 l.1 one,
+          failure_asks _ _ name a.state m.0 fails other,
+        ));
+      }
+
+  -- ---- lines
+
+  unmoved : x ≡ y → c ≡ a → d ≡ b → OneLine a b c d x y
+  unmoved e l m = record {
+    reply = e;
+    state = ap (λ (w : World). w.state) l ∙ s ∙ sym (ap (λ (w : World). w.state) m);
+    files = inl (ap (λ (w : World). w.files) l, ap (λ (w : World). w.files) m);
+  }
+
+  one_act : (command : Command) → Acts command a x c → Acts command b y d → OneLine a b c d x y
+  one_act (Edit r edit) l m =
+      let gets : Gets (new_set a.state.now r edit) r a.state y d.state =
+      subst (λ (st : History (List ℕ)). Gets (new_set st.now r edit) r st y d.state) (sym s) m.0 in
+      let same = one_get _ _ r a.state c.state d.state x y (λ n. refl) l.0 gets p q in
+      record { reply = same.0; state = same.1; files = inl (l.1, m.1) }
+  one_act (Load r name) l m = one_load r name l m
+  one_act (Save r name) l m =
+      one_write (Bytes (leaves_of a.state.now r)) (Bytes (leaves_of b.state.now r)) name
+      (λ bytes others f g. one_text (leaves_of a.state.now r) bytes others f
+      (subst (λ (st : History (List ℕ)). Bytes (leaves_of st.now r) others) (sym s) g)) l m
+  one_act (Dump name) l m =
+      one_write (Text a.state) (Text b.state) name
+      (λ bytes others f g. one_text_of a.state bytes others f
+      (subst (λ (st : History (List ℕ)). Text st others) (sym s) g)) l m
+  one_act (Restore name) l m = one_restore name l m
+  one_act Undo l m =
+      let moves : Moves a.state.past a.state (undone a.state) (undone (sets a.state)) y d.state =
+      subst (λ (st : History (List ℕ)). Moves st.past st (undone st) (undone (sets st)) y d.state) (sym s) m.0 in
+      let same = one_move a.state.past a.state (undone a.state) c.state d.state (undone (sets a.state)) x y l.0
+      moves in
+      record { reply = same.0; state = same.1; files = inl (l.1, m.1) }
+  one_act Redo l m =
+      let moves : Moves a.state.future a.state (redone a.state) (redone (sets a.state)) y d.state =
+      subst (λ (st : History (List ℕ)). Moves st.future st (redone st) (redone (sets st)) y d.state) (sym s) m.0 in
+      let same = one_move a.state.future a.state (redone a.state) c.state d.state (redone (sets a.state)) x y l.0
+      moves in
+      record { reply = same.0; state = same.1; files = inl (l.1, m.1) }
+  one_act (Ask question) l m =
+      let answers : Answers question a.state y = subst (λ st. Answers question st y) (sym s) m.0 in
+      unmoved (one_answer question a.state x y l.0 answers) l.1 m.1
+
+  pub one_line : (parsed : Parsed) → StepBy parsed a x c → StepBy parsed b y d → OneLine a b c d x y
+  one_line Nothing l m = unmoved (l.0 ∙ sym m.0) l.1 m.1
+  one_line (Fails refusal) l m = unmoved (l.0 ∙ sym m.0) l.1 m.1
+  one_line (Does command) l m = one_act command l m
+
+-- ---- beginnings of one script
+
+no_steps : (a c : World) (ls : List (List ℕ)) → Steps a ls [] c → c ≡ a
+no_steps a c [] s = s
+no_steps a c (l ∷ ls) s = absurd s
+
+-- what holds after a plain line held before it
+abbrev pub GoesBack : (World → Type 0) → Type 0
+GoesBack Holds = (parsed : Parsed) (a c : World) (x : Reply) → StepBy parsed a x c → IsPlain x → Holds c → Holds a
+
+pub all_back : (Holds : World → Type 0) → GoesBack Holds → (a c : World) (ls : List (List ℕ)) (rs : List Reply) →
+    Steps a ls rs c → AllPlain rs → Holds c → Holds a
+all_back Holds back a c [] [] s p h = subst Holds s h
+all_back Holds back a c [] (x ∷ rs) s p h = absurd s
+all_back Holds back a c (l ∷ ls) [] s p h = absurd s
+all_back Holds back a c (l ∷ ls) (x ∷ rs) s p h =
+    back (line_of l) a s.0 x s.1.by p.0 (all_back Holds back s.0 c ls rs s.2 p.1 h)
+
+-- a run had these replies first, in a world of which this holds, and went on from there to its end
+pub record Begun (Holds : World → Type 0) (end : World) (first all : List Reply) : Type 0 where
+  pub mid : World
+  pub holds : Holds mid
+  pub lines : List (List ℕ)
+  pub later : List Reply
+  pub are : all ≡ first ++ later
+  pub goes_on : Steps mid lines later end
+
+begun_more : (Holds : World → Type 0) (end : World) (x y : Reply) (rs ss : List Reply) → x ≡ y →
+    Begun Holds end rs ss → Begun Holds end (x ∷ rs) (y ∷ ss)
+begun_more Holds end x y rs ss e b = record {
+  mid = b.mid;
+  holds = b.holds;
+  lines = b.lines;
+  later = b.later;
+  are = ap (λ r. r ∷ ss) (sym e) ∙ ap (λ r. x ∷ r) b.are;
+  goes_on = b.goes_on;
+}
+
+-- with no more replies, that was its end
+pub begun_all : (Holds : World → Type 0) (end : World) (rs ss : List Reply) (b : Begun Holds end rs ss) →
+    b.later ≡ [] → (rs ≡ ss) × Holds end
+begun_all Holds end rs ss b none = (
+  sym (b.are ∙ ap (λ more. rs ++ more) none ∙ append-nil rs),
+  subst Holds (sym (no_steps b.mid end b.lines (subst (λ more. Steps b.mid b.lines more end) none b.goes_on))) b.holds,
+)
+
+pub same_heads : {A : Type 0} (x y : A) (xs ys : List A) → x ∷ xs ≡ y ∷ ys → (x ≡ y) × (xs ≡ ys)
+same_heads x y xs ys e = (cc, cc)
+
+-- `Like` relates the worlds of two runs, and goes on where both carry out a line and are to come to such ends
+module _ (Like : World → World → Type 0) (End Other : World → Type 0) (back : GoesBack End) (back' : GoesBack Other)
+    (goes_on : (parsed : Parsed) (a b c d : World) (x y : Reply) → Like a b → End c → Other d
+    → StepBy parsed a x c → StepBy parsed b y d → IsPlain x → IsPlain y → (x ≡ y) × Like c d) where
+  -- of two runs that begin alike and carry out lines of one script, one is the beginning of the other
+  pub one_begins : (a b c d : World) (ls ms xs ys : List (List ℕ)) (rs ss : List Reply) → Like a b → End c → Other d
+      → ls ++ xs ≡ ms ++ ys → Steps a ls rs c → Steps b ms ss d → AllPlain rs → AllPlain ss
+      → Begun (λ mid. Like c mid) d rs ss ⊎ Begun (λ mid. Like mid d) c ss rs
+  one_begins a b c d [] ms xs ys [] ss k h i e l m p q = inl (record {
+    mid = b;
+    holds = subst (λ w. Like w b) (sym l) k;
+    lines = ms;
+    later = ss;
+    are = refl;
+    goes_on = m;
+  })
+  one_begins a b c d [] ms xs ys (x ∷ rs) ss k h i e l m p q = absurd l
+  one_begins a b c d (line ∷ ls) ms xs ys [] ss k h i e l m p q = absurd l
+  one_begins a b c d (line ∷ ls) [] xs ys (x ∷ rs) [] k h i e l m p q = inr (record {
+    mid = a;
+    holds = subst (λ w. Like a w) (sym m) k;
+    lines = line ∷ ls;
+    later = x ∷ rs;
+    are = refl;
+    goes_on = l;
+  })
+  one_begins a b c d (line ∷ ls) [] xs ys (x ∷ rs) (y ∷ ss) k h i e l m p q = absurd m
+  one_begins a b c d (line ∷ ls) (other ∷ ms) xs ys (x ∷ rs) [] k h i e l m p q = absurd m
+  one_begins a b c d (line ∷ ls) (other ∷ ms) xs ys (x ∷ rs) (y ∷ ss) k h i e l m p q =
+      let same = same_heads line other (ls ++ xs) (ms ++ ys) e in
+      let by : StepBy (line_of line) b y m.0 = subst (λ o. StepBy (line_of o) b y m.0) (sym same.0) m.1.by in
+      let one = goes_on (line_of line) a b l.0 m.0 x y k (all_back End back l.0 c ls rs l.2 p.1 h)
+      (all_back Other back' m.0 d ms ss m.2 q.1 i) l.1.by by p.0 q.0 in
+      elim (one_begins l.0 m.0 c d ls ms xs ys rs ss one.1 h i same.1 l.2 m.2 p.1 q.1) [
+        | inl b ↦ inl (begun_more (λ mid. Like c mid) d x y rs ss one.0 b)
+        | inr b ↦ inr (begun_more (λ mid. Like mid d) c y x ss rs (sym one.0) b)
+      ]
+
+-- ---- shelves that expose their contents
+
+-- two worlds with the same state and files, over shelves that expose their contents
+abbrev Exposed : World → World → Type 0
+Exposed a b = SameWorld a b × (a.files.tells ≡ true)
+
+-- what both find under a name is what both hold there
+exposed_content : (a b c d : World) → Exposed a b → (name : List ℕ) → OneContent a.files b.files c.files d.files name
+exposed_content a b c d (s, t) name x y f g =
+    let same : x ≡ y = f.asks.holds t ∙ s.at name ∙ sym (g.asks.holds (sym s.tells ∙ t)) in
+    (y, subst (λ z. Allows f.finding z) same f.allows, g.allows)
 
 -- what a file holds after it was put, and what the others hold
 put_at : (a b : Files) (name bytes other : List ℕ) → PutsFile a b name bytes → a.tells ≡ true → (same : Bool) →
@@ -208,161 +404,67 @@ both_put a b c d name bytes other s (inl l) (inr m) = absurd (m.0 l.0)
 both_put a b c d name bytes other s (inr l) (inl m) = absurd (l.0 m.0)
 both_put a b c d name bytes other s (inr l) (inr m) = l.1 ∙ s other ∙ sym m.1
 
-one_write : (P Q : List ℕ → Type 0) (name : List ℕ) (a b c d : World) (x y : Reply) →
-    ((bytes others : List ℕ) → P bytes → Q others → bytes ≡ others) → SameWorld a b → a.files.tells ≡ true
-    → WritesFile P name a x c → WritesFile Q name b y d → IsPlain x → IsPlain y → (x ≡ y) × SameWorld c d
-one_write P Q name a b c d x y one s t (inl l) (inl m) p q =
-    let bytes : m.2.0 ≡ l.2.0 = sym (one l.2.0 m.2.0 l.2.1 m.2.1) in
-    let told : b.files.tells ≡ true = sym s.tells ∙ t in
-    let put : PutsFile b.files d.files name l.2.0 = subst (λ h. PutsFile b.files d.files name h) bytes m.2.2 in (
-      l.0 ∙ sym m.0,
+-- the files stay the same
+exposed_after : (a b c d : World) → Exposed a b → c.state ≡ d.state → SameUse a.files b.files c.files d.files →
+    Exposed c d
+exposed_after a b c d (s, t) e (inl (f, g)) = (
+  record {
+    state = e;
+    tells = ap (λ (h : Files). h.tells) f ∙ s.tells ∙ sym (ap (λ (h : Files). h.tells) g);
+    at = λ name. ap (λ (h : Files). h.at name) f ∙ s.at name ∙ sym (ap (λ (h : Files). h.at name) g);
+    failures = ap (λ (h : Files). h.failures) f ∙ s.failures ∙ sym (ap (λ (h : Files). h.failures) g);
+  },
+  ap (λ (h : Files). h.tells) f ∙ t,
+)
+exposed_after a b c d (s, t) e (inr (inl (name, f, g))) =
+    let one = f.1.asks.same in
+    let other = g.1.asks.same in (
       record {
-        state = l.1 ∙ s.state ∙ sym m.1;
-        tells = l.2.2.tells ∙ s.tells ∙ sym m.2.2.tells;
-        at = λ other. both_put a.files b.files c.files d.files name l.2.0 other s.at
-            (put_at a.files c.files name l.2.0 other l.2.2 t (bytes_eq other name) refl)
-            (put_at b.files d.files name l.2.0 other put told (bytes_eq other name) refl);
-        failures = l.2.2.failures ∙ s.failures ∙ sym m.2.2.failures;
+        state = e;
+        tells = one.0.tells ∙ s.tells ∙ sym other.0.tells;
+        at = λ name. one.0.at t name ∙ s.at name ∙ sym (other.0.at (sym s.tells ∙ t) name);
+        failures = one.1 ∙ s.failures ∙ sym other.1;
       },
+      one.0.tells ∙ t,
     )
-one_write P Q name a b c d x y one s t (inl l) (inr (inl m)) p q = absurd (q.1 m.0)
-one_write P Q name a b c d x y one s t (inl l) (inr (inr m)) p q = absurd (q.0 m.0)
-one_write P Q name a b c d x y one s t (inr (inl l)) m p q = absurd (p.1 l.0)
-one_write P Q name a b c d x y one s t (inr (inr l)) m p q = absurd (p.0 l.0)
+exposed_after a b c d (s, t) e (inr (inr (name, bytes, f, g))) = (
+  record {
+    state = e;
+    tells = f.tells ∙ s.tells ∙ sym g.tells;
+    at = λ other. both_put a.files b.files c.files d.files name bytes other s.at
+        (put_at a.files c.files name bytes other f t (bytes_eq other name) refl)
+        (put_at b.files d.files name bytes other g (sym s.tells ∙ t) (bytes_eq other name) refl);
+    failures = f.failures ∙ s.failures ∙ sym g.failures;
+  },
+  f.tells ∙ t,
+)
 
-one_save : (r : ℕ) (name : List ℕ) (a b c d : World) (x y : Reply) → SameWorld a b → a.files.tells ≡ true →
-    Saves r name a x c → Saves r name b y d → IsPlain x → IsPlain y → (x ≡ y) × SameWorld c d
-one_save r name a b c d x y s t l m p q =
-    one_write (Bytes (leaves_of a.state.now r)) (Bytes (leaves_of b.state.now r)) name a b c d x y
-    (λ bytes others f g. one_text (leaves_of a.state.now r) bytes others f
-    (subst (λ (st : History (List ℕ)). Bytes (leaves_of st.now r) others) (sym s.state) g)) s t l m p q
+pub exposed_begins : (a b c d : World) (ls ms xs ys : List (List ℕ)) (rs ss : List Reply) → Exposed a b →
+    ls ++ xs ≡ ms ++ ys → Steps a ls rs c → Steps b ms ss d → AllPlain rs → AllPlain ss
+    → Begun (λ mid. Exposed c mid) d rs ss ⊎ Begun (λ mid. Exposed mid d) c ss rs
+exposed_begins a b c d ls ms xs ys rs ss k e l m p q =
+    one_begins Exposed (λ _. Unit {0}) (λ _. Unit {0}) (λ parsed a c x s p h. h) (λ parsed a c x s p h. h)
+    (λ parsed a b c d x y k h i l m p q.
+    let one = one_line a b c d x y k.0.state (exposed_content a b c d k) p q parsed l m in
+    (one.reply, exposed_after a b c d k one.state one.files))
+    a b c d ls ms xs ys rs ss k tt tt e l m p q
 
-one_dump : (name : List ℕ) (a b c d : World) (x y : Reply) → SameWorld a b → a.files.tells ≡ true →
-    Dumps name a x c → Dumps name b y d → IsPlain x → IsPlain y → (x ≡ y) × SameWorld c d
-one_dump name a b c d x y s t l m p q =
-    one_write (Text a.state) (Text b.state) name a b c d x y
-    (λ bytes others f g. one_text_of a.state bytes others f
-    (subst (λ (st : History (List ℕ)). Text st others) (sym s.state) g)) s t l m p q
-
-one_restored : (name : List ℕ) (a b c d : World) (x y : Reply) → SameWorld a b → TellSame a.files b.files →
-    Restores name a x c → Restores name b y d → IsPlain x → IsPlain y → (x ≡ y) × SameWorld c d
-one_restored name a b c d x y s t (inl l) (inl m) p q =
-    let bytes : m.0 ≡ l.0 = sym (same_bytes a.files b.files c.files d.files name l.0 m.0 t l.1 m.1) in
-    let other : Restored (Stored l.0) a.state d.state = subst (λ (st : History (List ℕ)). Restored (Stored l.0) st
-    d.state) (sym s.state) (subst (λ (xs : List ℕ). Restored (Stored xs) b.state d.state) bytes m.2) in
-    let state = one_taken l.0 a.state c.state d.state l.2 other in
-    (l.3 ∙ sym m.3, files_kept a b c d s t.one state l.1.same m.1.same)
-one_restored name a b c d x y s t (inl l) (inr m) p q =
-    let fails : FetchesNoState name b.files a.state m.0 d.files =
-    subst (λ (st : History (List ℕ)). FetchesNoState name b.files st m.0 d.files) (sym s.state) m.1 in
-    absurd (fetched_or_not a.files b.files c.files d.files name l.0 a.state c.state m.0 t l.1 l.2 fails
-    (settled m.0 y m.2 q))
-one_restored name a b c d x y s t (inr l) (inl m) p q =
-    let fails : FetchesNoState name a.files b.state l.0 c.files =
-    subst (λ (st : History (List ℕ)). FetchesNoState name a.files st l.0 c.files) s.state l.1 in
-    absurd (fetched_or_not b.files a.files d.files c.files name m.0 b.state d.state l.0 (turned a.files b.files t)
-    m.1 m.2 fails (settled l.0 x l.2 p))
-one_restored name a b c d x y s t (inr l) (inr m) p q =
-    let one = settled l.0 x l.2 p in
-    let other = settled m.0 y m.2 q in
-    let fails : FetchesNoState name b.files a.state m.0 d.files =
-    subst (λ (st : History (List ℕ)). FetchesNoState name b.files st m.0 d.files) (sym s.state) m.1 in
-    let refusal : l.0 ≡ m.0 = one_failure a.files b.files c.files d.files name a.state l.0 m.0 t l.1 fails one other in
-    let state : c.state ≡ d.state = l.3 ∙ s.state ∙ sym m.3 in (
-      l.2 ∙ ap (λ r. Refuses r) refusal ∙ sym m.2,
-      files_kept a b c d s t.one state
-          (failure_keeps _ _ name a.state l.0 l.1 one.1) (failure_keeps _ _ name a.state m.0 fails other.1),
-    )
-
-one_restore : (name : List ℕ) (a b c d : World) (x y : Reply) → SameWorld a b → a.files.tells ≡ true →
-    Restores name a x c → Restores name b y d → IsPlain x → IsPlain y → (x ≡ y) × SameWorld c d
-one_restore name a b c d x y s t l m p q =
-    let same : TellSame a.files b.files = record { one = t; other = sym s.tells ∙ t; at = s.at } in
-    one_restored name a b c d x y s same l m p q
-
--- ---- lines
-
-one_act : (command : Command) (a b c d : World) (x y : Reply) → SameWorld a b → a.files.tells ≡ true →
-    Acts command a x c → Acts command b y d → IsPlain x → IsPlain y → (x ≡ y) × SameWorld c d
-one_act (Edit r edit) a b c d x y s t l m p q =
-    let gets : Gets (new_set a.state.now r edit) r a.state y d.state =
-    subst (λ (st : History (List ℕ)). Gets (new_set st.now r edit) r st y d.state) (sym s.state) m.0 in
-    let same = one_get _ _ r a.state c.state d.state x y (λ n. refl) l.0 gets p q in
-    (same.0, files_stay a b c d s same.1 l.1 m.1)
-one_act (Load r name) a b c d x y s t l m p q = one_load r name a b c d x y s t l m p q
-one_act (Save r name) a b c d x y s t l m p q = one_save r name a b c d x y s t l m p q
-one_act (Dump name) a b c d x y s t l m p q = one_dump name a b c d x y s t l m p q
-one_act (Restore name) a b c d x y s t l m p q = one_restore name a b c d x y s t l m p q
-one_act Undo a b c d x y s t l m p q =
-    let moves : Moves a.state.past a.state (undone a.state) (undone (sets a.state)) y d.state =
-    subst (λ (st : History (List ℕ)). Moves st.past st (undone st) (undone (sets st)) y d.state) (sym s.state)
-    m.0 in
-    let same = one_move a.state.past a.state (undone a.state) c.state d.state (undone (sets a.state)) x y l.0 moves in
-    (same.0, files_stay a b c d s same.1 l.1 m.1)
-one_act Redo a b c d x y s t l m p q =
-    let moves : Moves a.state.future a.state (redone a.state) (redone (sets a.state)) y d.state =
-    subst (λ (st : History (List ℕ)). Moves st.future st (redone st) (redone (sets st)) y d.state) (sym s.state)
-    m.0 in
-    let same = one_move a.state.future a.state (redone a.state) c.state d.state (redone (sets a.state)) x y l.0 moves in
-    (same.0, files_stay a b c d s same.1 l.1 m.1)
-one_act (Ask question) a b c d x y s t l m p q =
-    let answers : Answers question a.state y = subst (λ st. Answers question st y) (sym s.state) m.0 in (
-      one_answer question a.state x y l.0 answers,
-      subst (λ w. SameWorld w d) (sym l.1)
-          (subst (λ w. SameWorld a w) (sym m.1) s),
-    )
-
-pub unchanged : (a b c d : World) → SameWorld a b → c ≡ a → d ≡ b → SameWorld c d
-unchanged a b c d s e f = subst (λ w. SameWorld w d) (sym e) (subst (λ w. SameWorld a w) (sym f) s)
-
-pub one_line : (parsed : Parsed) (a b c d : World) (x y : Reply) → SameWorld a b → a.files.tells ≡ true →
-    StepBy parsed a x c → StepBy parsed b y d → IsPlain x → IsPlain y → (x ≡ y) × SameWorld c d
-one_line Nothing a b c d x y s t l m p q = (l.0 ∙ sym m.0, unchanged a b c d s l.1 m.1)
-one_line (Fails refusal) a b c d x y s t l m p q = (l.0 ∙ sym m.0, unchanged a b c d s l.1 m.1)
-one_line (Does command) a b c d x y s t l m p q = one_act command a b c d x y s t l m p q
-
--- a shelf that exposes its contents goes on doing so
-still_loads : (r : ℕ) (name : List ℕ) (a c : World) (x : Reply) → Loads r name a x c → c.files.tells ≡ a.files.tells
-still_loads r name a c x (inl l) = (union_keeps a.files c.files name l.0 l.1).0.tells
-still_loads r name a c x (inr l) = refusal_tells a.files c.files name l.0 l.1
-
-still_writes : (P : List ℕ → Type 0) (name : List ℕ) (a c : World) (x : Reply) → WritesFile P name a x c →
-    c.files.tells ≡ a.files.tells
-still_writes P name a c x (inl l) = l.2.2.tells
-still_writes P name a c x (inr (inl l)) = l.2.tells
-still_writes P name a c x (inr (inr l)) = l.2.0.0.tells
-
-still_restores : (name : List ℕ) (a c : World) (x : Reply) → Restores name a x c → c.files.tells ≡ a.files.tells
-still_restores name a c x (inl l) = l.1.same.0.tells
-still_restores name a c x (inr l) = failure_tells a.files c.files name a.state l.0 l.1
-
-still_acts : (command : Command) (a c : World) (x : Reply) → Acts command a x c → c.files.tells ≡ a.files.tells
-still_acts (Edit r edit) a c x l = ap (λ (h : Files). h.tells) l.1
-still_acts (Load r name) a c x l = still_loads r name a c x l
-still_acts (Save r name) a c x l = still_writes (Bytes (leaves_of a.state.now r)) name a c x l
-still_acts (Dump name) a c x l = still_writes (Text a.state) name a c x l
-still_acts (Restore name) a c x l = still_restores name a c x l
-still_acts Undo a c x l = ap (λ (h : Files). h.tells) l.1
-still_acts Redo a c x l = ap (λ (h : Files). h.tells) l.1
-still_acts (Ask question) a c x l = ap (λ (w : World). w.files.tells) l.1
-
-pub still_tells : (parsed : Parsed) (a c : World) (x : Reply) → StepBy parsed a x c → c.files.tells ≡ a.files.tells
-still_tells Nothing a c x l = ap (λ (w : World). w.files.tells) l.1
-still_tells (Fails refusal) a c x l = ap (λ (w : World). w.files.tells) l.1
-still_tells (Does command) a c x l = still_acts command a c x l
+-- as many lines have as many replies
+pub none_later : (Holds : World → Type 0) (end : World) (rs ss : List Reply) (b : Begun Holds end rs ss) →
+    length rs ≡ length ss → b.later ≡ []
+none_later Holds end rs ss b n =
+    let long = ap length b.are in
+    nil_from_length b.later (omega (arith, n, long, length-append rs b.later))
 
 pub one_run_of : (a b c d : World) (ls : List (List ℕ)) (rs ss : List Reply) → SameWorld a b →
     a.files.tells ≡ true → Steps a ls rs c → Steps b ls ss d → AllPlain rs → AllPlain ss → (rs ≡ ss) × SameWorld c d
-one_run_of a b c d [] [] [] s t l m p q = (refl, unchanged a b c d s l m)
-one_run_of a b c d [] [] (y ∷ ss) s t l m p q = absurd m
-one_run_of a b c d [] (x ∷ rs) ss s t l m p q = absurd l
-one_run_of a b c d (line ∷ ls) [] ss s t l m p q = absurd l
-one_run_of a b c d (line ∷ ls) (x ∷ rs) [] s t l m p q = absurd m
-one_run_of a b c d (line ∷ ls) (x ∷ rs) (y ∷ ss) s t l m p q =
-    let one = one_line (line_of line) a b l.0 m.0 x y s t l.1.by m.1.by p.0 q.0 in
-    let told : l.0.files.tells ≡ true = still_tells (line_of line) a l.0 x l.1.by ∙ t in
-    let rest = one_run_of l.0 m.0 c d ls rs ss one.1 told l.2 m.2 p.1 q.1 in
-    (ap (λ r. r ∷ rs) one.0 ∙ ap (λ r. y ∷ r) rest.0, rest.1)
+one_run_of a b c d ls rs ss s t l m p q =
+    let many : length rs ≡ length ss = sym (Steps-lengths a c ls rs l) ∙ Steps-lengths b d ls ss m in
+    elim (exposed_begins a b c d ls ls [] [] rs ss (s, t) refl l m p q) [
+      | inl h ↦ let all = begun_all (λ mid. Exposed c mid) d rs ss h (none_later _ d rs ss h many) in (all.0, all.1.0)
+      | inr h ↦ let all = begun_all (λ mid. Exposed mid d) c ss rs h (none_later _ c ss rs h (sym many)) in
+          (sym all.0, all.1.0)
+    ]
 
 -- ---- what was dumped comes back
 

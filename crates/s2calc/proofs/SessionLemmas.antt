@@ -1,5 +1,5 @@
 -- The bytes of a state, and what comes of them.
-use Rattle.std.proofs.Common.{◌≡◌, ◌≢◌, ℕ, inl, inr, true, List, Option, Some, refl}
+use Rattle.std.proofs.Common.{◌≡◌, ℕ, inl, inr, true, List, Option, Some, refl}
 use Rattle.std.proofs.Common.{Result, Ok, Err, sym, ap, ◌∙◌, subst}
 use Rattle.std.proofs.lemmas.Option.{same_Some}
 use Rattle.std.specs.Prelude.{IfOk, OnOk, MatchResult}
@@ -13,15 +13,16 @@ use Rattle.s2edit.specs.Session.{Stored, Restored}
 use Rattle.s2edit.specs.declared.session.RestoreFault.TheVariants.{Fit, Memory as NoRoom}
 use Rattle.s2edit.proofs.Spelling.{one_history, fits_editor, one_fault}
 use Rattle.s2shelf.specs.OpenedFile.{given, has_ended}
-use Rattle.s2shelf.specs.Shelf.{Files, SameFiles, Holding, Finds, Opens, Closes, Fails}
+use Rattle.s2shelf.specs.Shelf.{Files, Allows, Finds, Opens, Closes, Fails}
 use Rattle.s2shelf.specs.declared.opened_file.OpenedFile.{OpenedFile}
 use Rattle.s2shelf.specs.declared.shelf.ShelfFault.TheVariants.{Device, Memory as NotEnough}
-use Rattle.s2shelf.proofs.Opened.{ReadsOf, found_whole, found_some, get_fails_for_device, get_fails_for_memory}
+use Rattle.s2shelf.proofs.Opened.{ReadsOf, found_whole, found_some}
 use Rattle.s2calc.specs.declared.refusal.Refusal.{Refusal}
 use Rattle.s2calc.specs.declared.refusal.Refusal.TheVariants.{File as NoFile, Memory, Session}
 use Rattle.s2calc.specs.Working.Sessions.{ReadAs}
 use Rattle.s2calc.specs.Sessions.{refusal_of, RefusesBytes, FetchesNoState}
-use Rattle.s2calc.proofs.FetchLemmas.{TellSame, IsSettled, turned, same_bytes, bytes_or_none, same_fetch_refusal}
+use Rattle.s2calc.proofs.FetchLemmas.{OneContent, turned, AskedFor, found_bytes, IsSettled, some_allowed, bytes_or_none}
+use Rattle.s2calc.proofs.FetchLemmas.{same_fetch_refusal, fetch_asks}
 
 -- ---- a session that is read from an opened file, which is closed afterwards
 
@@ -87,7 +88,7 @@ found_no_state : (a c : Files) (name bytes : List ℕ) (old : History (List ℕ)
     Finds a name (Some bytes) c → RefusesBytes bytes old refusal → FetchesNoState name a old refusal c
 found_no_state a c name bytes old refusal finds refuses = inr (
   bytes,
-  record { finding = Holding bytes; allows = refl; asks = finds },
+  found_bytes a c name bytes finds,
   λ all allows. subst (λ b. RefusesBytes b old refusal) (sym (same_Some all bytes allows)) refuses,
 )
 
@@ -123,35 +124,28 @@ one_refusal bytes old x y (a, is, f) (b, are, g) p q =
 
 -- a file that one shelf has, and whose bytes are taken over, is so over the other
 pub fetched_or_not : (a b c d : Files) (name bytes : List ℕ) (old new : History (List ℕ)) (y : Refusal) →
-    TellSame a b → Finds a name (Some bytes) c → Restored (Stored bytes) old new
+    OneContent a b c d name → Finds a name (Some bytes) c → Restored (Stored bytes) old new
     → FetchesNoState name b old y d → IsSettled y → ⊥
-fetched_or_not a b c d name bytes old new y s f t (inl g) q = bytes_or_none a b c d name bytes y s f g q
+fetched_or_not a b c d name bytes old new y s f t (inl g) q =
+    bytes_or_none a b c d name bytes y s (found_bytes a c name bytes f) g q
 fetched_or_not a b c d name bytes old new y s f t (inr g) q =
-    taken_or_refused bytes old new y t (subst (λ (xs : List ℕ). RefusesBytes xs old y)
-    (sym (same_bytes a b c d name bytes g.0 s f g.1.asks)) (g.2 g.0 g.1.allows)) q
+    let (content, is, allows) = s (Some bytes) (Some g.0) (found_bytes a c name bytes f) g.1 in
+    taken_or_refused bytes old new y t (g.2 bytes (subst (λ h. Allows g.1.finding h) is allows)) q
 
-pub one_failure : (a b c d : Files) (name : List ℕ) (old : History (List ℕ)) (x y : Refusal) → TellSame a b →
+pub one_failure : (a b c d : Files) (name : List ℕ) (old : History (List ℕ)) (x y : Refusal) → OneContent a b c d name →
     FetchesNoState name a old x c → FetchesNoState name b old y d
     → IsSettled x → IsSettled y → x ≡ y
 one_failure a b c d name old x y s (inl f) (inl g) p q = same_fetch_refusal a b c d name x y f g p q
 one_failure a b c d name old x y s (inl f) (inr g) p q =
-    absurd (bytes_or_none b a d c name g.0 x (turned a b s) g.1.asks f p)
-one_failure a b c d name old x y s (inr f) (inl g) p q = absurd (bytes_or_none a b c d name f.0 y s f.1.asks g q)
+    absurd (bytes_or_none b a d c name g.0 x (turned a b c d name s) g.1 f p)
+one_failure a b c d name old x y s (inr f) (inl g) p q = absurd (bytes_or_none a b c d name f.0 y s f.1 g q)
 one_failure a b c d name old x y s (inr f) (inr g) p q =
-    one_refusal f.0 old x y (f.2 f.0 f.1.allows) (subst (λ (xs : List ℕ). RefusesBytes xs old y)
-    (sym (same_bytes a b c d name f.0 g.0 s f.1.asks g.1.asks)) (g.2 g.0 g.1.allows)) p q
+    let (content, allows, others) = s (Some f.0) (Some g.0) f.1 g.1 in
+    let (all, is) = some_allowed f.1.finding f.0 content f.1.allows allows in
+    one_refusal all old x y (f.2 all (subst (λ h. Allows f.1.finding h) is allows))
+    (g.2 all (subst (λ h. Allows g.1.finding h) is others)) p q
 
--- the files stay, unless the shelf failed
-pub failure_keeps : (a c : Files) (name : List ℕ) (old : History (List ℕ)) (x : Refusal) →
-    FetchesNoState name a old x c → x ≢ NoFile → SameFiles a c
-failure_keeps a c name old x (inl (inl l)) n = l.1.same
-failure_keeps a c name old x (inl (inr (inl l))) n = absurd (n l.0)
-failure_keeps a c name old x (inl (inr (inr l))) n = get_fails_for_memory a c name l.1
-failure_keeps a c name old x (inr l) n = l.1.asks.same
-
-pub failure_tells : (a c : Files) (name : List ℕ) (old : History (List ℕ)) (x : Refusal) →
-    FetchesNoState name a old x c → c.tells ≡ a.tells
-failure_tells a c name old x (inl (inl l)) = l.1.same.0.tells
-failure_tells a c name old x (inl (inr (inl l))) = (get_fails_for_device a c name l.1).0.tells
-failure_tells a c name old x (inl (inr (inr l))) = (get_fails_for_memory a c name l.1).0.tells
-failure_tells a c name old x (inr l) = l.1.asks.same.0.tells
+pub failure_asks : (a c : Files) (name : List ℕ) (old : History (List ℕ)) (x : Refusal) →
+    FetchesNoState name a old x c → IsSettled x → AskedFor a name c
+failure_asks a c name old x (inl l) p = fetch_asks a c name x l p
+failure_asks a c name old x (inr l) p = (Some l.0, l.1)

@@ -18,6 +18,7 @@ pub mod Moments
 pub mod Order
 pub mod Laws
 pub mod LawsScripts
+pub mod LawsFound
 pub mod Program
 pub mod Check
 pub mod Draw

@@ -1,11 +1,15 @@
 -- Laws about what the program did.
-use Rattle.std.specs.Prelude.{◌≡◌, ℕ, Bool, List, [], replicate, Option, Some, count_by}
+use Rattle.std.specs.Prelude.{◌≡◌, ℕ, ◌⊎◌, Bool, true, List, [], ◌++◌, replicate, Option, Some, Ok, Err, count_by}
 use Rattle.s2edit.specs.History.{History, untouched}
 use Rattle.s2edit.specs.declared.TheConstants.{REGISTERS}
-use Rattle.s2shelf.specs.Shelf.{Files}
+use Rattle.s2shelf.specs.Shelf.{Files, Found}
 use Rattle.s2script.specs.Lines.{lines}
+use Rattle.s2calc.specs.declared.engine.Tally.{Tally}
+use Rattle.s2calc.specs.declared.fault.RunFault.TheVariants.{Input}
 use Rattle.s2calc.specs.Buffered.{Buffered}
 use Rattle.s2calc.specs.Calls.{Call}
+use Rattle.s2calc.specs.Laws.{AllPlain}
+use Rattle.s2calc.specs.LawsFound.{Held, FoundIn, Course, Begins}
 use Rattle.s2calc.specs.Moments.{Moment}
 use Rattle.s2calc.specs.Replies.{Reply, texts, is_refusal}
 use Rattle.s2calc.specs.Run.{Steps}
@@ -14,7 +18,7 @@ use Rattle.s2process.specs.declared.ended.Ended.{Ended}
 use Rattle.s2process.specs.declared.writer.ListedWriter.{ListedWriter}
 use Rattle.s2process.specs.Ends.{LastFlushed, ReadsLast}
 use Rattle.s2process.specs.Listed.{given, reads, taken, called}
-use Rattle.s2process.specs.Program.{RunsScript}
+use Rattle.s2process.specs.Program.{RunsScript, RunsFrom}
 
 -- All lines of a script were carried out between these two worlds, and none was refused. The script is all bytes that
 -- the reads gave, of which the last found the end. Writes took all answers, and no byte more; then a flush succeeded,
@@ -28,6 +32,16 @@ pub record AnswersAll (start now : World) (script : List ℕ) (reads : List (Opt
   pub all_taken : taken ≡ texts replies
   pub flushed : LastFlushed called
 
+-- the bytes that the reads gave are a beginning of this script, and all of it if the last read gave nothing
+pub record IsReadOf (script given : List ℕ) (reads : List (Option ℕ)) : Type 0 where
+  pub more : List ℕ
+  pub is : script ≡ given ++ more
+  pub whole : ReadsLast (Some 0) reads → more ≡ []
+
+-- one of the two is a beginning of the other, or they are the same
+abbrev pub OneBegins : List ℕ → List ℕ → Type 0
+OneBegins bytes others = ((more : List ℕ) × (others ≡ bytes ++ more)) ⊎ ((more : List ℕ) × (bytes ≡ others ++ more))
+
 -- `files` says what is known of a folder, and `opened` that it was opened at a path
 module _ (R W E : Type 0) {S : Type 0} (files : S → Files) (opened : S → List ℕ → Type 0) where
   -- a run of a script that ends with status 0, over the folder at this path, has answered all lines of the script
@@ -40,3 +54,43 @@ module _ (R W E : Type 0) {S : Type 0} (files : S → Files) (opened : S → Lis
       × AnswersAll (world (untouched limit depth (replicate REGISTERS [])) (files first)) (world now (files last))
       (given ended.streams.input) (reads ended.streams.input) (taken ended.streams.output)
       (called ended.streams.output)
+
+  -- A run of this script from this state of the editor. It read the script as far as it came, found in files what the
+  -- folder had to hand over at each time, and answered no line with `error memory` or `error file`.
+  pub record RunOf (script : List ℕ) (held : Held) (start : History (List ℕ)) (ended : Ended R W E S) : Type 0 where
+    pub moments : List (Moment (Buffered (ListedWriter W)) S)
+    pub path : List ℕ
+    pub explains : Bool
+    pub runs : RunsFrom files opened moments ended start path explains
+    pub read : IsReadOf script (given ended.streams.input) (reads ended.streams.input)
+    pub found : List Found
+    pub unasked : (files runs.first).found ≡ Some []
+    pub found_are : (files runs.last).found ≡ Some found
+    pub from_held : FoundIn held found
+    pub plain : AllPlain runs.runs.did.replies
+
+  -- what such a run came to
+  abbrev pub course_of : {script : List ℕ} {held : Held} {start : History (List ℕ)} {ended : Ended R W E S} →
+      RunOf script held start ended → Course
+  course_of run = record { replies = run.runs.runs.did.replies; found = run.found; state = run.runs.now }
+
+  -- Of two such runs one took the beginning of the other's course, and one wrote a beginning of what the other wrote,
+  -- to the output and as notes, if both explain. They wrote the same output and have the same status if both ended with
+  -- `Ok`, or if the reads of both stopped at the same byte.
+  pub record WritesAlike {script : List ℕ} {held : Held} {start : History (List ℕ)} {ended ended' : Ended R W E S}
+      (run : RunOf script held start ended) (other : RunOf script held start ended') : Type 0 where
+    pub course : Begins (course_of run) (course_of other) ⊎ Begins (course_of other) (course_of run)
+    pub written : OneBegins (taken ended.streams.output) (taken ended'.streams.output)
+    pub noted : (e : run.explains ≡ true) (e' : other.explains ≡ true)
+        → OneBegins (run.runs.tells_notes e).notes (other.runs.tells_notes e').notes
+    pub to_the_end : (tally tally' : Tally) → run.runs.result ≡ Ok tally → other.runs.result ≡ Ok tally'
+        → (taken ended.streams.output ≡ taken ended'.streams.output) × (ended.status ≡ ended'.status)
+    pub to_one_byte : run.runs.result ≡ Err Input → other.runs.result ≡ Err Input
+        → given ended.streams.input ≡ given ended'.streams.input
+        → (taken ended.streams.output ≡ taken ended'.streams.output) × (ended.status ≡ ended'.status)
+
+  -- two runs of one script, from one state, over folders that had the same to hand over, write alike
+  abbrev pub OneOutput : Type 0
+  OneOutput =
+      (script : List ℕ) (held : Held) (start : History (List ℕ)) (ended ended' : Ended R W E S)
+      (run : RunOf script held start ended) (other : RunOf script held start ended') → WritesAlike run other
