@@ -42,6 +42,27 @@ static int32_t decode(void) { return s2u_decode(file, nfile, out, ROOM, &len); }
 static int32_t decode_mixed(void) { return s2u_decode(mixed, sizeof mixed, out, N, &len); }
 static int32_t decode_in_little_room(void) { return s2u_decode(mixed, sizeof mixed, out, nlist, &len); }
 
+/* The calls that take memory, with as many cells as a union of this kind may have, and memory for them. */
+static void check_the_most_cells(void) {
+  enum { MOST = 1000000 };
+  static uint64_t leaves[MOST], made[MOST];
+  static uint8_t most[9 + 8 * MOST];
+  static const s2u_rect row = {0, 0, MOST - 1, 0, 0};
+  refuse_memory(0);
+  CHECK(s2u_outer(&row, 30, MOST, leaves, MOST, &len) == S2U_OK && len == MOST && s2u_is_union(leaves, MOST) == 1);
+  CHECK(s2u_inner(&row, 30, MOST, made, MOST, &len) == S2U_OK && len == MOST && memcmp(made, leaves, 8 * MOST) == 0);
+  memset(made, 0, sizeof made);
+  CHECK(s2u_outer_in(leaves, MOST, &row, 30, MOST, made, MOST, &len) == S2U_OK && len == MOST);
+  CHECK(memcmp(made, leaves, 8 * MOST) == 0);
+  memset(made, 0, sizeof made);
+  CHECK(s2u_inner_in(leaves, MOST, &row, 30, MOST, made, MOST, &len) == S2U_OK && len == MOST);
+  CHECK(memcmp(made, leaves, 8 * MOST) == 0);
+  leaves[0] = leaves[MOST - 1]; /* it stands there twice, and there is room for one fewer */
+  CHECK(s2u_encode(leaves, MOST, most, sizeof most, &len) == S2U_OK && len == sizeof most);
+  CHECK(s2u_decode(most, sizeof most, made, MOST - 1, &len) == S2U_OK && len == MOST - 1);
+  CHECK(memcmp(made, leaves + 1, 8 * (MOST - 1)) == 0);
+}
+
 int main(void) {
   size_t right = 0;
   static const struct {
@@ -91,5 +112,6 @@ int main(void) {
     }
     printf("%s: %ld allocations refused in turn\n", calls[k].name, allocations);
   }
+  check_the_most_cells();
   return report();
 }
