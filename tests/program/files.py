@@ -49,6 +49,14 @@ class UnionFiles(unittest.TestCase):
         for words in ([longest], [longest, longest], ["--fit", longest]):
             self.assertEqual(answered("draw", "--dir", self.folder, *words)[0], 0)
 
+    def test_a_folder_at_a_long_path(self):
+        self.folder = self.path("/".join(["d" * 250] * 15))
+        os.makedirs(self.folder)
+        name = "n" * 64
+        lines = f"add a 3\nsave a {name}\nload b {name}\ndump {name}\nrestore {name}\n"
+        self.answers(lines, "ok 0 1\nok\nok 0 1\nok\nok\n")
+        self.checks(name, "error format")
+
     def test_a_device_is_not_opened_and_a_link_is_followed(self):
         os.symlink("/dev/zero", self.path("zero"))
         os.mkfifo(self.path("fifo"))
@@ -75,6 +83,24 @@ class UnionFiles(unittest.TestCase):
         script = b"load a f\nload a g\nrestore g\n"
         answers = b"ok 0 1000000\nerror format\nerror session\n"
         self.assertEqual(ran("run", "--limit", "1000000", "--dir", self.folder, script=script), (1, answers, b""))
+
+    def test_edits_of_as_many_cells_as_a_register_may_have(self):
+        # Every second leaf, and the leaves between them. Both together are eleven cells.
+        for name, first in (("f", 1), ("g", 3)):
+            self.write(name, b"\x01" + number(1_000_000) + array.array("Q", range(first, 4_000_000, 4)).tobytes())
+        all_leaves = "30 0 0 1073741823 0 1073741823"
+        steps = (
+            ("load a f", "ok 0 1000000"), ("copy b a", "ok 0 1000000"), ("union b a", "ok 0 0"),
+            ("intersect b a", "ok 0 0"), ("keep b 1", "ok 0 0"), ("remove b 0000000000000001", "ok 1 0"),
+            ("add b 0000000000000001", "ok 0 1"), ("remove b 1", "ok 1000000 0"), ("undo", "ok 0 1000000"),
+            ("outerof c b 30", "ok 0 1000000"), (f"outerof c b {all_leaves}", "ok 0 0"),
+            ("innerof d b 30", "ok 0 1000000"), (f"innerof d b {all_leaves}", "ok 0 0"),
+            ("subtract b a", "ok 1000000 0"), ("save a h", "ok"), ("load b h", "ok 0 1000000"), ("dump s", "ok"),
+            ("restore s", "ok"), ("undo", "ok 1000000 0"), ("load e g", "ok 0 1000000"), ("union e a", "ok 1000000 11"),
+        )
+        script = "".join(f"{line}\n" for line, _ in steps).encode()
+        answers = "".join(f"{answer}\n" for _, answer in steps).encode()
+        self.assertEqual(ran("run", "--limit", "1000000", "--dir", self.folder, script=script), (0, answers, b""))
 
     def test_a_file_longer_than_any_union_is_not_read_whole(self):
         # 3 GB without a block on the disk, which begin as a union file does.

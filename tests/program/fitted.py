@@ -101,7 +101,7 @@ class Fitted(unittest.TestCase):
         self.check(corner="9ffffffffffffffd b000000000000001")
         self.check(nothing="")
         self.check(nothing="", all="1 3 5 7 9 b")
-        self.check(**{f"f{k}": "0/1 0/3" for k in range(40)})
+        self.check(**{f"f{k}": "0/1 0/3" for k in range(300)})
         self.check(france="47e7 47e1 0d50d", germany="479 47b1", far="47e66e1d8f8be23b")
 
     def test_random_pictures(self):
@@ -134,6 +134,7 @@ class Paths(unittest.TestCase):
                 with self.subTest(words=words, word=word):
                     self.assertEqual(ran(*words, word), (1, b"error name\n", note))
         self.assertEqual(ran("draw", "a/b", "c", "d/e")[2].count(b"\n"), 2)
+        self.assertEqual(ran("draw", *["a/b"] * 1000, "x" * 100_000)[2].count(b"\n"), 1001)
         self.assertEqual(ran("check", "absent"), (1, b"error missing\n", b""))
 
 

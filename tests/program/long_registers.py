@@ -75,6 +75,8 @@ class LongRegisters(unittest.TestCase):
         lines = ["load a thirds"]
         for verb in ("outerof", "innerof"):
             lines += [f"{verb} b a 5", "count b", f"{verb} b a 6 {SQUARE}", "count b"]
+        for verb in ("outer", "inner"):
+            lines += [f"{verb} b 9 {SQUARE}", "count b"]
         self.check([*lines, "denorm a 7 1"], thirds=file_of(THIRDS[:1200]))
 
     def test_leaves_of_several_faces(self):

@@ -104,7 +104,7 @@ class Pictures(unittest.TestCase):
         for name in (model.token, model.debug):
             for options in ([], ["--curve"]):
                 with self.subTest(name=name, options=options):
-                    cells = self.some_cells(500, 9)
+                    cells = self.some_cells(5000, 9)
                     self.draws([*options, "--cells", *map(name, cells)], cells)
         twice = [(1, 3), (1, 3), (0, 5), (1, 3)]
         self.draws(["--cells", *map(model.token, twice), "--curve"], twice)
@@ -163,6 +163,7 @@ class Pictures(unittest.TestCase):
             self.overlays(files[:count])
         self.overlays(files[:3], "--curve")
         self.overlays([("a", lists[0]), ("none", []), ("a", lists[0])])
+        self.overlays([(f"f{k}", [(9, k)]) for k in range(1000)])
 
     def test_refusals_of_several_files(self):
         self.write("f", [(0, 1)])
@@ -189,6 +190,12 @@ class Pictures(unittest.TestCase):
         status, out, error = ran("draw", "--dir", self.folder, "most")
         self.assertEqual((status, error, out.count(b"<rect class='l9' ") - 1), (0, b"", 10**6 // 4))
         self.assertIn(b">1000000 deeper than level 9,", out)
+        status, out, error = ran("draw", "--dir", self.folder, "most", "--curve")
+        points = re.search(rb"<polyline class='curve' points='(.*?)'", out)[1].split()
+        self.assertEqual((status, error, len(points)), (0, b"", 10**6 // 4))
+        for option in ("--curve", "--fit"):
+            status, out, error = ran("draw", "--dir", self.folder, option, "most", "most")
+            self.assertEqual((status, error, out.count(b">most: 1000000 cells<")), (0, b"", 2))
 
     def test_refusals(self):
         self.write("short", [(0, 1)])

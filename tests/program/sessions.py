@@ -225,7 +225,9 @@ class Sessions(unittest.TestCase):
         with subprocess.Popen(words, stdin=subprocess.PIPE, stdout=subprocess.PIPE) as program:
             before = size_after(program, made[0] + undone[0], made[1] + undone[1], "VmSize")
             most = size_after(program, b"dump s\n", b"ok\n", "VmPeak")
+            size_after(program, b"restore s\nhistory\ncount c\n", b"ok\nundo 3 redo 4\ncells 1000000 leaves", "VmPeak")
             program.stdin.close()
+            program.stdout.read()
         size = os.path.getsize(os.path.join(self.folder, "s"))
         self.assertGreater(size, 10 * 8_000_000)
         self.assertLess(most - before, size + 1_000_000)

@@ -9,6 +9,8 @@ from process import FACE, TOP, first_line, ran
 
 with open(os.path.join(TOP, "VERSION"), "rb") as it:
     VERSION = it.read()
+# Nearly as long as the system lets a word be.
+LONG_WORD = "x" * 100_000
 
 
 class Statuses(unittest.TestCase):
@@ -34,7 +36,7 @@ class Statuses(unittest.TestCase):
                                 "draw --dir d --cells 1"],
             b"unexpected argument": ["run --limit -5", "run --lim 5", "--limit 5 run", "run --colour", "run run",
                                      "run x", "-- run", "cell 1 2", "check f g", "check --limit f",
-                                     "draw -f", "draw --curves f"],
+                                     "draw -f", "draw --curves f", f"run {LONG_WORD}"],
             b"unrecognized subcommand": ["ru", "RUN", "walk", "", "help foo"],
             b"requires a subcommand": ["--"],
             b"required arguments": ["cell", "cell --", "check", "draw", "draw --curve"],
@@ -62,17 +64,18 @@ class Statuses(unittest.TestCase):
                 os.makedirs(os.path.join(room, folder), exist_ok=True)
                 # As many leaves in a row as a register may have, and one more; more states than are kept.
                 rows = [f"outer b 30 0 0 {length - 1} 0 0\n" for length in (limit, limit + 1)]
-                script = "".join(rows) + "add a 1\nclear a\n" * depth + "history\nsave c f\n"
+                script = "".join(rows) + "add a 1\nclear a\n" * depth + "history\nsave b f\n"
                 status, out, notes = ran(*line.split(), script=script.encode(), cwd=room)
                 lines = out.decode().split("\n")
                 self.assertEqual((status, lines[:2], lines[-3:]),
                                  (1, [f"ok 0 {limit}", "error too-many"], [f"undo {depth} redo 0", "ok", ""]))
-                self.assertEqual(os.listdir(os.path.join(room, folder)), ["f"])
+                files = {it.name: it.stat().st_size for it in os.scandir(os.path.join(room, folder))}
+                self.assertEqual(files, {"f": 9 + 8 * limit})
                 self.assertEqual(bool(notes), is_explained)
 
     def test_words_that_name_a_cell_or_a_file(self):
         refused = (1, b"error cell\n", b"")
-        for word in ("-1", "", " 3/021 ", "--x", "-hello"):
+        for word in ("-1", "", " 3/021 ", "--x", "-hello", LONG_WORD):
             self.assertEqual(ran("cell", word), refused)
         self.assertEqual(ran("cell", "--", "--help"), refused)
         self.assertEqual(ran("draw", "--cells=X"), refused)
@@ -83,7 +86,8 @@ class Statuses(unittest.TestCase):
             for words in (["check", "f", "--dir", "-d"], ["check", "--dir", "-d", "--", "f"]):
                 self.assertEqual(ran(*words, cwd=room), (0, b"cells 0 leaves 0\n", b""))
             self.assertEqual(ran("draw", "--dir", "-d", "--", "f", cwd=room)[0], 0)
-            for words in (["check", "-x"], ["check", ""], ["check", "--dir", "-d", "--", "-f"], ["draw", ""]):
+            for words in (["check", "-x"], ["check", ""], ["check", "--dir", "-d", "--", "-f"], ["draw", ""],
+                          ["check", LONG_WORD]):
                 self.assertEqual(ran(*words, cwd=room)[:2], (1, b"error name\n"))
 
     def test_greatest_options(self):
