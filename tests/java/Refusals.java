@@ -1,4 +1,8 @@
+import java.io.ByteArrayInputStream;
+import java.io.ByteArrayOutputStream;
 import java.io.IOException;
+import java.io.ObjectInputStream;
+import java.io.ObjectOutputStream;
 import java.nio.file.Files;
 import java.nio.file.Path;
 import java.util.Arrays;
@@ -177,13 +181,29 @@ final class Refusals {
     }
   }
 
-  public static void main(String[] words) {
+  /** The class of docs/JAVA.md answers after Java's own serialization, as it did before. */
+  private static void regions(CellUnion union) throws IOException, ClassNotFoundException {
+    Region before = new Region(union);
+    before.contains(FACE);
+    ByteArrayOutputStream bytes = new ByteArrayOutputStream();
+    new ObjectOutputStream(bytes).writeObject(before);
+    Region after = (Region) new ObjectInputStream(new ByteArrayInputStream(bytes.toByteArray())).readObject();
+    for (long cell : new long[] {FACE, CellId.child(FACE, 2), CellId.child(FACE, 3), 5 * FACE, 1}) {
+      boolean wanted = union.contains(cell);
+      check(before.contains(cell) == wanted && after.contains(cell) == wanted, "a region of " + union + " at " + cell);
+    }
+  }
+
+  public static void main(String[] words) throws Exception {
     check(CellId.version().equals(words[0]), "the version");
     check(Arrays.equals(CellId.toTokens(FACE, 1), new String[] {"1", "0000000000000001"}), "tokens of many");
     numbersThatAreNoCells();
     numbersOutOfRange();
     files();
     values();
+    for (CellUnion union : List.of(CellUnion.of(), CellUnion.of(CellId.child(FACE, 2)), CellUnion.of(FACE, 5 * FACE))) {
+      regions(union);
+    }
     longLists();
     System.out.println(passed + " passed, " + failed + " failed");
     System.exit(failed == 0 ? 0 : 1);

@@ -22,7 +22,10 @@ both() { # libraries, each for its processor
   done
 }
 step "the library for both processors is in it" both
-compiled() { javac -Xlint:all -Werror -cp "$jar" -d "$work/tests" "$tests"/*.java; }
+compiled() { # with the class of the page
+  block JAVA.md "java region" >"$work/Region.java" &&
+    javac -Xlint:all -Werror -cp "$jar" -d "$work/tests" "$tests"/*.java "$work/Region.java"
+}
 step "compile the tests" compiled
 questions() { PYTHONDONTWRITEBYTECODE=1 /usr/bin/python3 "$top/tests/python/vectors.py" >"$work/vectors"; }
 step "questions" questions
