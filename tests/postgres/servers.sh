@@ -33,8 +33,7 @@ step "build" built build COPT=-Werror
 [ "$failed" -eq 0 ] || finish
 step "install" make -C "$work/build" PREFIX="$work/usr" PG_CONFIG="$config" install DESTDIR="$copy"
 
-printf 'local all all trust\nhost %s all 192.0.2.0/24 trust\n' all >"$work/hba"
-printf 'host replication all 192.0.2.0/24 trust\n' >>"$work/hba"
+{ echo "local all all trust" && block SERVERS.md "text hba"; } >"$work/hba"
 settings=("listen_addresses = '*'" "hba_file = '$work/hba'" "log_lock_waits = on")
 on() { # NAME: what the functions below run as
   as_postgres=(ip netns exec "$NET-$1" runuser -u postgres --)
@@ -50,8 +49,7 @@ replicated() {
     rm -f "$folder"/{.s.PGSQL.5432.lock,log} &&
     echo "unix_socket_directories = '$folder'" >>"$folder/postgresql.conf" &&
     "${as_postgres[@]}" "$bin/pg_ctl" -D "$folder" -l "$folder/log" -w start &&
-    psql -q -h "$work/third" -c "ALTER SYSTEM SET synchronous_standby_names = '*'" \
-      -c "ALTER SYSTEM SET synchronous_commit = remote_apply" -c "SELECT pg_reload_conf()"
+    block SERVERS.md "sql replica" | psql -Xq -v ON_ERROR_STOP=1 -h "$work/third"
 }
 for name in first second third; do step "the $name server" placed "$name"; done
 step "a replica of the third" replicated
@@ -72,6 +70,7 @@ over_the_countries() {
 }
 step "100,000 points joined with the countries, beside a loop over all pairs" over_the_countries
 step "a cable is cut" tests AfterThePage.test_a_cable_is_cut
+step "the replica is down: rows for its server wait" tests AfterThePage.test_the_replica_is_down
 step "a server is down: its replica answers, and takes its place" tests AfterThePage.test_a_server_is_down
 step "no server has fallen" whole
 finish

@@ -188,6 +188,19 @@ class AfterThePage(unittest.TestCase):
             cable("second", "up")
             self.assertEqual((session.ask(ALL), once(ALL)), (count, count))
 
+    def test_the_replica_is_down(self):
+        """All is answered but a row for the third server, which waits until the replica is back."""
+        count, answers = int(once(ALL)), []
+        control("replica", "-m", "immediate", "stop")
+        waits = threading.Thread(target=lambda: answers.append(once(insert(THIRD))))
+        waits.start()
+        self.assertEqual(once(insert(SECOND)), "")
+        waits.join(3)
+        self.assertEqual((waits.is_alive(), int(once(ALL))), (True, count + 1))
+        control("replica", "start")
+        waits.join(60)
+        self.assertEqual((answers, int(once(ALL))), ([""], count + 2))
+
     def test_a_server_is_down(self):
         with Session() as session:
             count, found = session.ask(ALL), session.ask(at(SECOND))
