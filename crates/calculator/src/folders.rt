@@ -19,7 +19,7 @@ impl<'a> Folders for SystemFolders<'a> {
     ghost opened = { λ folder path. (folder_path (shelf_below folder) ≡ path)
         × ((folder_files (shelf_below folder)).failures ≡ 0) × (calls_of_shelf folder ≡ []) };
 
-    fn open(&self, path: &str) -> Result<ListedShelf<DirShelf<&'a HostRuntime>>, AllocError> {
+    fn open(self, path: &str) -> Result<ListedShelf<DirShelf<&'a HostRuntime>>, AllocError> {
         Ok(ListedShelf::new(DirShelf::at(self.rt, path)?))
     }
 }

@@ -24,7 +24,7 @@ fn main(rt: HostRuntime) -> ExitCode {
         rt.stderr(),
     );
     let folders = SystemFolders { rt: &rt };
-    let ended = program(rt.alloc(), asked, streams, &folders, &mut Witness::new());
+    let ended = program(rt.alloc(), asked, streams, folders, &mut Witness::new());
     ExitCode::from(ended.status)
 }
 

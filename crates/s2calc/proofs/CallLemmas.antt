@@ -1,6 +1,6 @@
 -- Lemmas on the calls of a reader and of a writer.
 use Rattle.std.proofs.Common.{◌≡◌, ◌∙◌, ◌<◌, ℕ, ◌+◌, List, [], ◌∷◌, ◌++◌, Option, None, Some, refl, sym, ap}
-use Rattle.std.proofs.Common.{append_assoc, append-nil, subst, arith, length-append, Result, Ok, Err}
+use Rattle.std.proofs.Common.{append_assoc, append-nil, subst, arith, length, length-append, Result, Ok, Err}
 use Rattle.s2calc.specs.Calls.{Call, Gains, NoneFailed, LastFlushed, LastFailed, AllWell, Wrote, Flushed, Failed}
 use Rattle.s2calc.specs.Reads.{AllGave, ReadsOn, ReadsLast}
 use Rattle.s2calc.specs.Working.Calls.{FailedIfErr, FlushedIfOk}
@@ -119,6 +119,11 @@ reads_on_more a b c times later n p g h e =
       gave = all_gave_more p.reads n p.gave h;
       count = omega (arith, length-append p.reads (Some n ∷ []), count, e);
     }
+
+-- what a read gave is as long as it says
+pub read_is : (a b : Option (List (Option ℕ))) (n : ℕ) (bytes : List ℕ) → n ≡ length bytes →
+    Gains a b (Some n ∷ []) → Gains a b (Some (length bytes) ∷ [])
+read_is a b n bytes e g = subst (λ (k : ℕ). Gains a b (Some k ∷ [])) e g
 
 pub reads_last : (a b c : Option (List (Option ℕ))) (times : ℕ) (last : Option ℕ) → ReadsOn a b times →
     Gains b c (last ∷ []) → ReadsLast a c last

@@ -17,16 +17,16 @@ use Rattle.s2calc.specs.Replies.{Reply, text_of, texts}
 use Rattle.s2calc.specs.Step.{asks_for_file}
 use Rattle.s2calc.specs.Run.{Steps, Known, Runs, WereReadWhole}
 use Rattle.s2calc.specs.Working.Stands.{Point}
-use Rattle.s2calc.specs.Calls.{Call, NoneFailed}
+use Rattle.s2calc.specs.Calls.{Call, Gains, NoneFailed}
 use Rattle.s2calc.specs.Reads.{Gives, ReadsLast}
 use Rattle.s2calc.specs.Working.Calls.{FlushedIfOk}
 use Rattle.s2calc.specs.Working.Stands.{point, Stands, Answered, StandsAfter, Closes}
-use Rattle.s2calc.specs.Moments.{Event, Came, NotCame, LineBegins, LineEnds, Moment, moment, bytes_of}
-use Rattle.s2calc.specs.Moments.{bytes_read, begun_in, ended_in, Adds, AddsOne}
+use Rattle.s2calc.specs.Moments.{Event, Came, NotCame, LineBegins, LineEnds, Moment, moment, bytes_of, read_of}
+use Rattle.s2calc.specs.Moments.{bytes_read, reads_seen, begun_in, ended_in, Adds, AddsOne}
 use Rattle.s2calc.specs.Order.{HasEnded, AllOut, GoneOut, ReadsWhen, LineWhen, MayCome, EachMay, InOrder, Ordered}
 use Rattle.s2calc.specs.Working.Seen.{Settled, LinesSeen, LineSeen, LineCut, ManySeen, MoreSeen, EndSeen, LastSeen}
 use Rattle.s2calc.specs.Working.Seen.{SeenSoFar}
-use Rattle.s2calc.proofs.CallLemmas.{none_failed_more, last_flushed_after, last_failed_after}
+use Rattle.s2calc.proofs.CallLemmas.{gains_nil, gains_more, none_failed_more, last_flushed_after, last_failed_after}
 use Rattle.s2calc.proofs.LineLemmas.{every-append, whole_lines_begun, BeginsWith-more}
 use Rattle.s2calc.proofs.CloseLemmas.{lines_one, lines_none}
 use Rattle.s2calc.proofs.ReadLemmas.{Appends-texts, finishes, stops_at_end}
@@ -42,6 +42,13 @@ module _ {W S : Type 0} where
   -- no byte came in these
   pub bytes_read-quiet : (ms ns : List (Moment W S)) → bytes_read ns ≡ [] → bytes_read (ms ++ ns) ≡ bytes_read ms
   bytes_read-quiet ms ns e = bytes_read-append ms ns ∙ ap (λ b. bytes_read ms ++ b) e ∙ append-nil (bytes_read ms)
+
+  pub reads_seen-append : (ms ns : List (Moment W S)) → reads_seen (ms ++ ns) ≡ reads_seen ms ++ reads_seen ns
+  reads_seen-append ms ns = flat_map-append (λ (m : Moment W S). read_of m.event) ms ns
+
+  -- no read was made in these
+  pub reads_seen-quiet : (ms ns : List (Moment W S)) → reads_seen ns ≡ [] → reads_seen (ms ++ ns) ≡ reads_seen ms
+  reads_seen-quiet ms ns e = reads_seen-append ms ns ∙ ap (λ r. reads_seen ms ++ r) e ∙ append-nil (reads_seen ms)
 
   pub begun_in-append : (ms ns : List (Moment W S)) → begun_in (ms ++ ns) ≡ begun_in ms + begun_in ns
   begun_in-append [] ns = let e : begun_in ns ≡ 0 + begun_in ns = omega arith in e
@@ -312,13 +319,22 @@ module _ {W S : Type 0} (contents : W → Option (List ℕ)) (calls : W → Opti
     pub none_came : bytes_read ms ≡ []
     none_came = ap bytes_read l.is
 
+    pub none_made : reads_seen ms ≡ []
+    none_made = ap reads_seen l.is
+
   pub MoreSeen-none : (world : World) (script : List ℕ) (replies more : List Reply) (old : W) →
       MoreSeen contents calls is_sent files may_flush world script [] replies more old []
   MoreSeen-none world script replies more old =
       let same : length (whole_lines (script ++ [])) ≡ length (whole_lines script) =
       ap (λ b. length (whole_lines b)) (append-nil script) in
       let count : length (whole_lines script) + 0 ≡ length (whole_lines (script ++ [])) = omega (arith, same) in
-      record { none_read = refl; begun = count; ended = count; each = λ first past rest e lines_seen out n. tt }
+      record {
+        none_read = refl;
+        none_made = refl;
+        begun = count;
+        ended = count;
+        each = λ first past rest e lines_seen out n. tt;
+      }
 
   -- the moments of one more line
   pub MoreSeen-line : (start : Point) (script : List ℕ) (replies : List Reply) (seen bytes : List ℕ)
@@ -339,6 +355,8 @@ module _ {W S : Type 0} (contents : W → Option (List ℕ)) (calls : W → Opti
       let held = Stands-more start (script ++ seen) (replies ++ s.more) now progress mid bytes s.stands u m mid_tally
       mid_lines in
       let none = none_came start ((script ++ seen) ++ bytes) (replies ++ s.more) now new mid after held old writer
+      old_shelf new_shelf a well files_old files_new ns l in
+      let unmade = none_made start ((script ++ seen) ++ bytes) (replies ++ s.more) now new mid after held old writer
       old_shelf new_shelf a well files_old files_new ns l in
       let begun = one_begun start ((script ++ seen) ++ bytes) (replies ++ s.more) now new mid after held old writer
       old_shelf new_shelf a well files_old files_new ns l in
@@ -364,6 +382,7 @@ module _ {W S : Type 0} (contents : W → Option (List ℕ)) (calls : W → Opti
       let first_ended = seen_before.ended in
       record {
         none_read = bytes_read-quiet ms ns none ∙ seen_before.none_read;
+        none_made = reads_seen-quiet ms ns unmade ∙ seen_before.none_made;
         begun = omega (arith, same_done, count_before, count_after, one_more, all_begun, first_begun, begun);
         ended = omega (arith, same_done, count_before, count_after, one_more, all_ended, first_ended, ended);
         each = λ first past rest e lines_seen out n.
@@ -410,6 +429,7 @@ module _ {W S : Type 0} (contents : W → Option (List ℕ)) (calls : W → Opti
     ManySeen-before =
         record {
           none_read = m.none_read;
+          none_made = m.none_made;
           begun = m.begun ∙ done_count;
           ended = m.ended ∙ done_count;
           each = λ first past rest e lines_seen out n.
@@ -436,6 +456,7 @@ module _ {W S : Type 0} (contents : W → Option (List ℕ)) (calls : W → Opti
         let one_more = length-append held.done (held.rest ∷ []) in
         record {
           none_read = bytes_read-quiet ms ns none ∙ m.none_read;
+          none_made = reads_seen-quiet ms ns (ap reads_seen l.is) ∙ m.none_made;
           begun = omega (arith, begun, all_begun, first_begun, count, one_more);
           ended = omega (arith, ended, all_ended, first_ended, count);
           each = λ first past rest e lines_seen out n.
@@ -480,6 +501,7 @@ module _ {W S : Type 0} (contents : W → Option (List ℕ)) (calls : W → Opti
       ∙ sym (whole_lines_begun (script ++ seen) s.stands.done s.stands.rest s.stands.begins s.stands.unbroken) in
       record {
         none_read = m.none_read;
+        none_made = m.none_made;
         begun = m.begun ∙ ap length (sym same);
         ended = m.ended ∙ ap length (sym same);
         each = λ first past rest e lines_seen out n. m.each first past (bytes ++ rest)
@@ -494,7 +516,13 @@ module _ {W S : Type 0} (contents : W → Option (List ℕ)) (calls : W → Opti
       ap length (whole_lines_begun script s.done s.rest s.begins s.unbroken
       ∙ sym (lines_none start script replies now progress s e)) in
       let count : length (whole_lines script) + 0 ≡ length (lines script) = omega (arith, same) in
-      record { none_read = refl; begun = count; ended = count; each = λ first past read at_end lines_seen out n. tt }
+      record {
+        none_read = refl;
+        none_made = refl;
+        begun = count;
+        ended = count;
+        each = λ first past read at_end lines_seen out n. tt;
+      }
 
   module _ (start : Point) (script : List ℕ) (replies : List Reply) (now : Point) (progress : Progress) (old : W)
       (s : Stands start script replies now progress) where
@@ -504,7 +532,13 @@ module _ {W S : Type 0} (contents : W → Option (List ℕ)) (calls : W → Opti
     EndSeen-none more =
         let whole = ap length (whole_lines_begun script s.done s.rest s.begins s.unbroken) in
         let count : length (whole_lines script) + 0 ≡ length s.done = omega (arith, whole) in
-        record { none_read = refl; begun = count; ended = count; each = λ first past read at_end lines_seen out n. tt }
+        record {
+          none_read = refl;
+          none_made = refl;
+          begun = count;
+          ended = count;
+          each = λ first past read at_end lines_seen out n. tt;
+        }
 
     -- the last line was seen to begin, and not to end
     pub EndSeen-cut : (reply : Reply) (shelf : S) (ms : List (Moment W S)) → 0 < length progress.kept →
@@ -521,6 +555,7 @@ module _ {W S : Type 0} (contents : W → Option (List ℕ)) (calls : W → Opti
         let ended : ended_in ms ≡ 0 = ap ended_in l.is in
         record {
           none_read = ap bytes_read l.is;
+          none_made = ap reads_seen l.is;
           begun = omega (arith, whole, count, one_more, begun);
           ended = omega (arith, whole, ended);
           each = λ first past read at_end lines_seen out n.
@@ -550,6 +585,8 @@ module _ {W S : Type 0} (contents : W → Option (List ℕ)) (calls : W → Opti
       record {
         none_read = none_came start script replies now new progress after s old writer old_shelf new_shelf a well
             files_old files_new ms l;
+        none_made = none_made start script replies now new progress after s old writer old_shelf new_shelf a well
+            files_old files_new ms l;
         begun = omega (arith, count_whole, count_all, one_more, begun);
         ended = omega (arith, count_whole, count_all, one_more, ended);
         each = λ first past read at_end lines_seen out n.
@@ -561,17 +598,19 @@ module _ {W S : Type 0} (contents : W → Option (List ℕ)) (calls : W → Opti
   -- ---- the moments of a run
 
   module _ (world : World) (first : W) where
-    pub SeenSoFar-start : SeenSoFar contents calls is_sent files may_flush world first [] [] []
-    SeenSoFar-start = record { each = tt; read = refl; begins = refl; ends = refl }
+    pub SeenSoFar-start : (made : Option (List (Option ℕ))) →
+        SeenSoFar contents calls is_sent files may_flush world first [] [] made made []
+    SeenSoFar-start made = record { each = tt; read = refl; made = gains_nil made; begins = refl; ends = refl }
 
   module _ (start : Point) (script : List ℕ) (replies : List Reply) (now : Point) (progress : Progress)
       (s : Stands start script replies now progress) (first old writer : W) (shelf : S)
       (out : Appends (contents first) (contents old) (texts replies))
       (n : NoneFailed may_flush (calls first) (calls old))
-      (settled : Settled contents calls is_sent may_flush true old writer) where
+      (settled : Settled contents calls is_sent may_flush true old writer)
+      (made_first made_before made_now : Option (List (Option ℕ))) where
     -- the run reads where all is out
     pub reads_when : (event : Event) (ms : List (Moment W S)) →
-        SeenSoFar contents calls is_sent files may_flush start.world first script replies ms
+        SeenSoFar contents calls is_sent files may_flush start.world first script replies made_first made_before ms
         → ReadsWhen contents calls is_sent files may_flush start.world first replies ms (moment event writer shelf)
     reads_when event ms seen =
         let whole : whole_lines (bytes_read ms) ≡ s.done = ap whole_lines seen.read
@@ -589,12 +628,24 @@ module _ {W S : Type 0} (contents : W → Option (List ℕ)) (calls : W → Opti
           gone_out = gone_out start.world first old writer true n settled refl;
         }
 
+    -- one more read was made
+    made_more : (ms ns : List (Moment W S)) (event : Event) →
+        SeenSoFar contents calls is_sent files may_flush start.world first script replies made_first made_before ms
+        → ns ≡ moment event writer shelf ∷ [] → Gains made_before made_now (read_of event)
+        → Gains made_first made_now (reads_seen (ms ++ ns))
+    made_more ms ns event seen e made =
+        let one : reads_seen ns ≡ read_of event = ap reads_seen e ∙ append-nil (read_of event) in
+        subst (Gains made_first made_now)
+        (sym (reads_seen-append ms ns ∙ ap (λ (r : List (Option ℕ)). reads_seen ms ++ r) one))
+        (gains_more made_first made_before made_now (reads_seen ms) (read_of event) seen.made made)
+
     -- a read failed
-    pub SeenSoFar-failed : (ms ns : List (Moment W S)) →
-        SeenSoFar contents calls is_sent files may_flush start.world first script replies ms
+    pub SeenSoFar-failed : (ms ns : List (Moment W S)) → Gains made_before made_now (None ∷ []) →
+        SeenSoFar contents calls is_sent files may_flush start.world first script replies made_first made_before ms
         → ns ≡ moment NotCame writer shelf ∷ []
-        → SeenSoFar contents calls is_sent files may_flush start.world first script replies (ms ++ ns)
-    SeenSoFar-failed ms ns seen e =
+        → SeenSoFar contents calls is_sent files may_flush start.world first script replies made_first made_now
+        (ms ++ ns)
+    SeenSoFar-failed ms ns made seen e =
         let none : bytes_read ns ≡ [] = ap bytes_read e in
         let begun : begun_in ns ≡ 0 = ap begun_in e in
         let ended : ended_in ns ≡ 0 = ap ended_in e in
@@ -608,13 +659,16 @@ module _ {W S : Type 0} (contents : W → Option (List ℕ)) (calls : W → Opti
               EachMay contents calls is_sent files may_flush start.world first replies ms k) (sym e)
               (reads_when NotCame ms seen, tt));
           read = bytes_read-quiet ms ns none ∙ seen.read;
+          made = made_more ms ns NotCame seen e made;
           begins = omega (arith, begun, all_begun, first_begun);
           ends = omega (arith, ended, all_ended, first_ended);
         }
 
     module _ (bytes : List ℕ) (ms ns ks : List (Moment W S))
-        (seen : SeenSoFar contents calls is_sent files may_flush start.world first script replies ms)
-        (e : ns ≡ moment (Came bytes) writer shelf ∷ []) where
+        (seen : SeenSoFar contents calls is_sent files may_flush start.world first script replies made_first
+        made_before ms)
+        (e : ns ≡ moment (Came bytes) writer shelf ∷ [])
+        (made : Gains made_before made_now (Some (length bytes) ∷ [])) where
       came_bytes : bytes_read ns ≡ bytes
       came_bytes = ap bytes_read e ∙ append-nil bytes
 
@@ -626,6 +680,9 @@ module _ {W S : Type 0} (contents : W → Option (List ℕ)) (calls : W → Opti
 
       came_read : bytes_read (ms ++ ns) ≡ script ++ bytes
       came_read = bytes_read-append ms ns ∙ ap (λ b. b ++ bytes_read ns) seen.read ∙ ap (λ b. script ++ b) came_bytes
+
+      came_made : Gains made_first made_now (reads_seen (ms ++ ns))
+      came_made = made_more ms ns (Came bytes) seen e made
 
       came_begun : begun_in (ms ++ ns) ≡ length (whole_lines script)
       came_begun =
@@ -651,7 +708,7 @@ module _ {W S : Type 0} (contents : W → Option (List ℕ)) (calls : W → Opti
       InOrder-more : (rest : List Reply) (begins ends : ℕ) →
           ManySeen contents calls is_sent files may_flush start.world script bytes replies rest writer begins ends ks →
           InOrder contents calls is_sent files may_flush start.world first (replies ++ rest) (script ++ bytes) begins
-          ends ((ms ++ ns) ++ ks)
+          ends made_first made_now ((ms ++ ns) ++ ks)
       InOrder-more rest begins ends more =
           let begun = came_begun in
           let ended = came_ended in
@@ -665,6 +722,7 @@ module _ {W S : Type 0} (contents : W → Option (List ℕ)) (calls : W → Opti
                 (more.each first (ms ++ ns) [] (came_read ∙ sym (append-nil (script ++ bytes)))
                 (came_begun, came_ended) out_here well_here);
             read = bytes_read-quiet (ms ++ ns) ks more.none_read ∙ came_read;
+            made = subst (Gains made_first made_now) (sym (reads_seen-quiet (ms ++ ns) ks more.none_made)) came_made;
             begins = omega (arith, begun, more_begun, all_begun);
             ends = omega (arith, ended, more_ended, all_ended);
           }
@@ -673,7 +731,7 @@ module _ {W S : Type 0} (contents : W → Option (List ℕ)) (calls : W → Opti
       InOrder-last : (rest : List Reply) (begins ends : ℕ) → bytes ≡ [] →
           EndSeen contents calls is_sent files may_flush start.world script replies rest writer begins ends ks
           → InOrder contents calls is_sent files may_flush start.world first (replies ++ rest) script begins ends
-          ((ms ++ ns) ++ ks) × HasEnded ((ms ++ ns) ++ ks)
+          made_first made_now ((ms ++ ns) ++ ks) × HasEnded ((ms ++ ns) ++ ks)
       InOrder-last rest begins ends none last =
           let begun = came_begun in
           let ended = came_ended in
@@ -694,6 +752,7 @@ module _ {W S : Type 0} (contents : W → Option (List ℕ)) (calls : W → Opti
                   (EachMay-longer start.world first replies rest [] (ms ++ ns) came_each)
                   (last.each first (ms ++ ns) here at_end (came_begun, came_ended) out_here well_here);
               read = bytes_read-quiet (ms ++ ns) ks last.none_read ∙ here;
+              made = subst (Gains made_first made_now) (sym (reads_seen-quiet (ms ++ ns) ks last.none_made)) came_made;
               begins = omega (arith, begun, last_begun, all_begun);
               ends = omega (arith, ended, last_ended, all_ended);
             },
@@ -702,26 +761,30 @@ module _ {W S : Type 0} (contents : W → Option (List ℕ)) (calls : W → Opti
 
     -- bytes were read, and lines that end in them were carried out
     pub InOrder-read : (bytes : List ℕ) (a b c d : Option (List (Moment W S))) (rest : List Reply) (begins ends : ℕ) →
-        Adds a b (SeenSoFar contents calls is_sent files may_flush start.world first script replies)
+        Gains made_before made_now (Some (length bytes) ∷ [])
+        → Adds a b (SeenSoFar contents calls is_sent files may_flush start.world first script replies made_first
+        made_before)
         → AddsOne b c (Came bytes) writer shelf
         → Adds c d
         (ManySeen contents calls is_sent files may_flush start.world script bytes replies rest writer begins ends)
         → Adds a d (InOrder contents calls is_sent files may_flush start.world first (replies ++ rest)
-        (script ++ bytes) begins ends)
-    InOrder-read bytes a b c d rest begins ends p q r =
-        Adds-three a b c d _ _ _ _ (λ ms ns ks seen e more. InOrder-more bytes ms ns ks seen e rest begins ends more)
-        p q r
+        (script ++ bytes) begins ends made_first made_now)
+    InOrder-read bytes a b c d rest begins ends made p q r =
+        Adds-three a b c d _ _ _ _
+        (λ ms ns ks seen e more. InOrder-more bytes ms ns ks seen e made rest begins ends more) p q r
 
     -- the reader is at its end
     pub InOrder-end : (bytes : List ℕ) (a b c d : Option (List (Moment W S))) (rest : List Reply) (begins ends : ℕ) →
-        Adds a b (SeenSoFar contents calls is_sent files may_flush start.world first script replies)
+        Gains made_before made_now (Some (length bytes) ∷ [])
+        → Adds a b (SeenSoFar contents calls is_sent files may_flush start.world first script replies made_first
+        made_before)
         → AddsOne b c (Came bytes) writer shelf → bytes ≡ []
         → Adds c d (EndSeen contents calls is_sent files may_flush start.world script replies rest writer begins ends)
         → Adds a d (λ ks. InOrder contents calls is_sent files may_flush start.world first (replies ++ rest) script
-        begins ends ks × HasEnded ks)
-    InOrder-end bytes a b c d rest begins ends p q none last =
-        Adds-three a b c d _ _ _ _ (λ ms ns ks seen e l. InOrder-last bytes ms ns ks seen e rest begins ends none l)
-        p q last
+        begins ends made_first made_now ks × HasEnded ks)
+    InOrder-end bytes a b c d rest begins ends made p q none last =
+        Adds-three a b c d _ _ _ _
+        (λ ms ns ks seen e l. InOrder-last bytes ms ns ks seen e made rest begins ends none l) p q last
 
   -- the end of a run that has come to the end of its script
   pub Runs-end : (Here : List Reply → ℕ → ℕ → Type 0) (old new : Known) (script : List ℕ) (replies : List Reply)
@@ -732,7 +795,7 @@ module _ {W S : Type 0} (contents : W → Option (List ℕ)) (calls : W → Opti
       → Closes may_flush Here (point old.world old.noted) script replies (point new.world new.noted) output new.output
       result → FlushedIfOk may_flush mid new.calls result
       → ((more : List Reply) (begins ends : ℕ) → Here more begins ends → Adds a d (λ ks. InOrder contents calls is_sent
-      files may_flush old.world first (replies ++ more) script begins ends ks × HasEnded ks))
+      files may_flush old.world first (replies ++ more) script begins ends old.reads new.reads ks × HasEnded ks))
       → (run : Runs may_flush old new result)
       × Ordered contents calls is_sent files may_flush old.world first run.ran a d result
   Runs-end Here old new script replies first output a d mid (Ok tally) r e w reads n closes flushed order = (
@@ -744,6 +807,7 @@ module _ {W S : Type 0} (contents : W → Option (List ℕ)) (calls : W → Opti
       subst (λ (f : RunFault). (run : Runs may_flush old new (Err f))
       × Ordered contents calls is_sent files may_flush old.world first run.ran a d (Err f)) (sym closes.0)
       (stops_at_end old new may_flush script replies Here
-      (λ rs b begins ends. Adds a d (InOrder contents calls is_sent files may_flush old.world first rs b begins ends))
+      (λ rs b begins ends. Adds a d (InOrder contents calls is_sent files may_flush old.world first rs b begins ends
+      old.reads new.reads))
       output r e w reads (last_failed_after may_flush old.calls mid new.calls n failed)
       (λ more begins ends here. Adds-weaker a d _ _ (λ ks k. k.0) (order more begins ends here)) closes.1)

@@ -1,5 +1,6 @@
 -- What is seen of a run while it goes on: its reads and its lines in one list, and the writer and the shelf at each.
-use Rattle.std.specs.Prelude.{◌≡◌, ℕ, ◌+◌, List, [], ◌∷◌, ◌++◌, take, flat_map, Option, Some, None, Result, Ok, Err}
+use Rattle.std.specs.Prelude.{◌≡◌, ℕ, ◌+◌, List, [], ◌∷◌, ◌++◌, length, take, flat_map, Option, Some, None}
+use Rattle.std.specs.Prelude.{Result, Ok, Err}
 
 -- a read and the bytes that it gave, which are none at the end; a read that failed; that a line is about to be carried
 -- out; and that it is answered
@@ -20,6 +21,13 @@ bytes_of (Came bytes) = bytes
 bytes_of NotCame = []
 bytes_of LineBegins = []
 bytes_of LineEnds = []
+
+-- what a read gave: a number of bytes, or None if it failed
+abbrev pub read_of : Event → List (Option ℕ)
+read_of (Came bytes) = Some (length bytes) ∷ []
+read_of NotCame = None ∷ []
+read_of LineBegins = []
+read_of LineEnds = []
 
 -- how many lines begin
 abbrev pub begins_of : Event → ℕ
@@ -49,6 +57,10 @@ module _ {W S : Type 0} where
   -- all bytes that the reads gave
   abbrev pub bytes_read : List (Moment W S) → List ℕ
   bytes_read moments = flat_map (λ (m : Moment W S). bytes_of m.event) moments
+
+  -- what each of the reads gave
+  abbrev pub reads_seen : List (Moment W S) → List (Option ℕ)
+  reads_seen moments = flat_map (λ (m : Moment W S). read_of m.event) moments
 
   -- how many lines began
   abbrev pub begun_in : List (Moment W S) → ℕ

@@ -11,9 +11,9 @@ use Rattle.s2calc.specs.World.{World}
 use Rattle.s2calc.specs.Replies.{Reply, texts}
 use Rattle.s2calc.specs.Step.{asks_for_file}
 use Rattle.s2calc.specs.Run.{Steps, Known, Ran, WereReadWhole}
-use Rattle.s2calc.specs.Calls.{Call, NoneFailed, LastFlushed}
+use Rattle.s2calc.specs.Calls.{Call, Gains, NoneFailed, LastFlushed}
 use Rattle.s2calc.specs.Moments.{Event, Came, NotCame, LineBegins, LineEnds, Moment, bytes_read, ends_of}
-use Rattle.s2calc.specs.Moments.{begun_in, ended_in, Adds}
+use Rattle.s2calc.specs.Moments.{reads_seen, begun_in, ended_in, Adds}
 
 -- the lines that are carried out where a line begins or ends: those before it, and then the line too
 abbrev pub done_at : Event → List (List ℕ) → List ℕ → List (List ℕ)
@@ -81,11 +81,13 @@ module _ {W S : Type 0} (contents : W → Option (List ℕ)) (calls : W → Opti
   EachMay past [] = Unit {0}
   EachMay past (now ∷ moments) = MayCome now.event past now × EachMay (past ++ now ∷ []) moments
 
-  -- Each read and each line came where it may; the reads gave the script; and this many lines were seen to begin and to
-  -- end.
-  pub record InOrder (script : List ℕ) (begun ended : ℕ) (moments : List (Moment W S)) : Type 0 where
+  -- Each read and each line came where it may; the reads gave the script, and the reader made these reads and no others
+  -- between `old` and `new`; and this many lines were seen to begin and to end.
+  pub record InOrder (script : List ℕ) (begun ended : ℕ) (old new : Option (List (Option ℕ)))
+      (moments : List (Moment W S)) : Type 0 where
     pub each : EachMay [] moments
     pub read : bytes_read moments ≡ script
+    pub made : Gains old new (reads_seen moments)
     pub begins : begun_in moments ≡ begun
     pub ends : ended_in moments ≡ ended
 
@@ -93,8 +95,9 @@ module _ {W S : Type 0} (contents : W → Option (List ℕ)) (calls : W → Opti
     (files : S → Files) (may_flush : Type 0) (start : World) (first : W) where
   -- the moments of this run are in order, each line that was carried out began, and this many ended
   abbrev pub Follows : {old new : Known} → Ran old new → ℕ → List (Moment W S) → Type 0
-  Follows ran ended moments =
-      InOrder contents calls is_sent files may_flush start first ran.replies ran.script (length ran.done) ended moments
+  Follows {old} {new} ran ended moments =
+      InOrder contents calls is_sent files may_flush start first ran.replies ran.script (length ran.done) ended
+      old.reads new.reads moments
 
   -- What an observer saw of a run, if it keeps a list. After `Output` each line that was carried out was seen to begin,
   -- and each but the last to end; the last may have ended only if its answer was written.

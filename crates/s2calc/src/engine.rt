@@ -192,7 +192,14 @@ pub fn run<R: Source, W: Sink, S: Shelf>(
     ensures before { EachList (λ u. IsNormalForm (has_leaf u) u) editor.old }
     ensures after { EachList (λ u. IsNormalForm (has_leaf u) u) editor.new }
 {
-    run_observed(alloc, editor, reader, writer, shelf, &mut Unobserved)
+    run_observed(
+        alloc,
+        editor,
+        reader,
+        writer,
+        shelf,
+        &mut Unobserved::<R>::new(),
+    )
 }
 
 /// Runs a script as [`run`] does, and an observer sees its reads and its lines in the order in which they come.
@@ -202,26 +209,26 @@ pub fn run<R: Source, W: Sink, S: Shelf>(
 /// left, so no answer is held back, and no file is touched before all earlier answers are out. Each line begins once,
 /// and ends once before the next one begins. After `Output` this holds of all reads and lines before the call that
 /// failed, and nothing comes after it.
-pub fn run_observed<R: Source, W: Sink, S: Shelf, O: Observer<W, S>>(
+pub fn run_observed<W: Sink, S: Shelf, O: Observer<W, S>>(
     alloc: Global,
     editor: &mut Editor,
-    reader: &mut R,
+    reader: &mut O::Reader,
     writer: &mut W,
     shelf: &mut S,
     observer: &mut O,
 ) -> Result<Tally, RunFault>
     ensures runs { (run : Runs ⊥
-        (known (world editor.old (S.files shelf.old)) (input_of R.remaining R.given reader.old) (R.reads reader.old)
-        (W.contents writer.old) (W.calls writer.old) no_notes)
-        (known (world editor.new (S.files shelf.new)) (input_of R.remaining R.given reader.new) (R.reads reader.new)
-        (W.contents writer.new) (W.calls writer.new) no_notes) result)
+        (known (world editor.old (S.files shelf.old)) (input_of O.Reader.remaining O.Reader.given reader.old)
+        (O.Reader.reads reader.old) (W.contents writer.old) (W.calls writer.old) no_notes)
+        (known (world editor.new (S.files shelf.new)) (input_of O.Reader.remaining O.Reader.given reader.new)
+        (O.Reader.reads reader.new) (W.contents writer.new) (W.calls writer.new) no_notes) result)
         × Ordered W.contents W.calls (λ _. Unit {0}) S.files ⊥ (world editor.old (S.files shelf.old)) writer.old
         run.ran (O.seen observer.old) (O.seen observer.new) result }
     ensures before { EachList (λ u. IsNormalForm (has_leaf u) u) editor.old }
     ensures after { EachList (λ u. IsNormalForm (has_leaf u) u) editor.new }
 {
     let _ = editor.limit();
-    let result = run_with::<R, W, S, AtTheEnd, NoNotes, O>(
+    let result = run_with::<W, S, AtTheEnd, NoNotes, O>(
         alloc,
         editor,
         reader,
@@ -263,7 +270,14 @@ pub fn run_promptly<R: Source, W: Sink, S: Shelf>(
     ensures before { EachList (λ u. IsNormalForm (has_leaf u) u) editor.old }
     ensures after { EachList (λ u. IsNormalForm (has_leaf u) u) editor.new }
 {
-    run_promptly_observed(alloc, editor, reader, writer, shelf, &mut Unobserved)
+    run_promptly_observed(
+        alloc,
+        editor,
+        reader,
+        writer,
+        shelf,
+        &mut Unobserved::<R>::new(),
+    )
 }
 
 /// Runs a script as [`run_promptly`] does, and an observer sees its reads and its lines in the order in which they
@@ -271,19 +285,19 @@ pub fn run_promptly<R: Source, W: Sink, S: Shelf>(
 ///
 /// The order is that of [`run_observed`]. Besides, nothing waits in the buffer and the last call of the writer below is
 /// a flush wherever a read comes, and before and after each line that asks for a command with a file.
-pub fn run_promptly_observed<R: Source, W: Sink, S: Shelf, O: Observer<AnswerBuffer<W>, S>>(
+pub fn run_promptly_observed<W: Sink, S: Shelf, O: Observer<AnswerBuffer<W>, S>>(
     alloc: Global,
     editor: &mut Editor,
-    reader: &mut R,
+    reader: &mut O::Reader,
     writer: &mut AnswerBuffer<W>,
     shelf: &mut S,
     observer: &mut O,
 ) -> Result<Tally, RunFault>
     ensures runs { (run : Runs (Unit {0})
-        (known (world editor.old (S.files shelf.old)) (input_of R.remaining R.given reader.old) (R.reads reader.old)
-        (written_to W.contents writer.old) (W.calls writer.old.writer) no_notes)
-        (known (world editor.new (S.files shelf.new)) (input_of R.remaining R.given reader.new) (R.reads reader.new)
-        (written_to W.contents writer.new) (W.calls writer.new.writer) no_notes) result)
+        (known (world editor.old (S.files shelf.old)) (input_of O.Reader.remaining O.Reader.given reader.old)
+        (O.Reader.reads reader.old) (written_to W.contents writer.old) (W.calls writer.old.writer) no_notes)
+        (known (world editor.new (S.files shelf.new)) (input_of O.Reader.remaining O.Reader.given reader.new)
+        (O.Reader.reads reader.new) (written_to W.contents writer.new) (W.calls writer.new.writer) no_notes) result)
         × Ordered (written_to W.contents) (λ b. W.calls b.writer) (λ b. b.waiting ≡ []) S.files (Unit {0})
         (world editor.old (S.files shelf.old)) writer.old run.ran (O.seen observer.old) (O.seen observer.new) result }
     ensures nothing_waits { MatchResult result (λ _. writer.new.waiting ≡ []) (λ fault. fault ≡ RunFault.Input →
@@ -293,7 +307,7 @@ pub fn run_promptly_observed<R: Source, W: Sink, S: Shelf, O: Observer<AnswerBuf
     ensures after { EachList (λ u. IsNormalForm (has_leaf u) u) editor.new }
 {
     let _ = (editor.limit(), writer.waiting_len());
-    let result = run_with::<R, AnswerBuffer<W>, S, Promptly, NoNotes, O>(
+    let result = run_with::<AnswerBuffer<W>, S, Promptly, NoNotes, O>(
         alloc,
         editor,
         reader,
@@ -331,31 +345,35 @@ pub fn run_explained<R: Source, W: Sink, S: Shelf, N: Sink>(
     ensures before { EachList (λ u. IsNormalForm (has_leaf u) u) editor.old }
     ensures after { EachList (λ u. IsNormalForm (has_leaf u) u) editor.new }
 {
-    run_explained_observed(alloc, editor, reader, writer, shelf, notes, &mut Unobserved)
+    run_explained_observed(
+        alloc,
+        editor,
+        reader,
+        writer,
+        shelf,
+        notes,
+        &mut Unobserved::<R>::new(),
+    )
 }
 
 /// Runs a script as [`run_explained`] does, and an observer sees its reads and its lines in the order in which they
 /// come, which is that of [`run_promptly_observed`].
-pub fn run_explained_observed<
-    R: Source,
-    W: Sink,
-    S: Shelf,
-    N: Sink,
-    O: Observer<AnswerBuffer<W>, S>,
->(
+pub fn run_explained_observed<W: Sink, S: Shelf, N: Sink, O: Observer<AnswerBuffer<W>, S>>(
     alloc: Global,
     editor: &mut Editor,
-    reader: &mut R,
+    reader: &mut O::Reader,
     writer: &mut AnswerBuffer<W>,
     shelf: &mut S,
     notes: &mut NoteWriter<N>,
     observer: &mut O,
 ) -> Result<Tally, RunFault>
     ensures runs { (run : Runs (Unit {0})
-        (known (world editor.old (S.files shelf.old)) (input_of R.remaining R.given reader.old) (R.reads reader.old)
-        (written_to W.contents writer.old) (W.calls writer.old.writer) (noted_by N.contents N.calls notes.old))
-        (known (world editor.new (S.files shelf.new)) (input_of R.remaining R.given reader.new) (R.reads reader.new)
-        (written_to W.contents writer.new) (W.calls writer.new.writer) (noted_by N.contents N.calls notes.new)) result)
+        (known (world editor.old (S.files shelf.old)) (input_of O.Reader.remaining O.Reader.given reader.old)
+        (O.Reader.reads reader.old) (written_to W.contents writer.old) (W.calls writer.old.writer)
+        (noted_by N.contents N.calls notes.old))
+        (known (world editor.new (S.files shelf.new)) (input_of O.Reader.remaining O.Reader.given reader.new)
+        (O.Reader.reads reader.new) (written_to W.contents writer.new) (W.calls writer.new.writer)
+        (noted_by N.contents N.calls notes.new)) result)
         × Ordered (written_to W.contents) (λ b. W.calls b.writer) (λ b. b.waiting ≡ []) S.files (Unit {0})
         (world editor.old (S.files shelf.old)) writer.old run.ran (O.seen observer.old) (O.seen observer.new) result }
     ensures nothing_waits { MatchResult result (λ _. writer.new.waiting ≡ []) (λ fault. fault ≡ RunFault.Input →
@@ -365,7 +383,7 @@ pub fn run_explained_observed<
     ensures after { EachList (λ u. IsNormalForm (has_leaf u) u) editor.new }
 {
     let _ = (editor.limit(), writer.waiting_len());
-    let result = run_with::<R, AnswerBuffer<W>, S, Promptly, NoteWriter<N>, O>(
+    let result = run_with::<AnswerBuffer<W>, S, Promptly, NoteWriter<N>, O>(
         alloc, editor, reader, writer, shelf, notes, observer,
     );
     let _ = (editor.limit(), writer.waiting_len());
@@ -373,27 +391,27 @@ pub fn run_explained_observed<
 }
 
 /// The run. Takes room for what is read, and lays on a desk what it works with.
-fn run_with<R: Source, W: Sink, S: Shelf, F: Flushing<W>, N: Notes, O: Observer<W, S>>(
+fn run_with<W: Sink, S: Shelf, F: Flushing<W>, N: Notes, O: Observer<W, S>>(
     alloc: Global,
     editor: &mut Editor,
-    reader: &mut R,
+    reader: &mut O::Reader,
     writer: &mut W,
     shelf: &mut S,
     notes: &mut N,
     observer: &mut O,
 ) -> Result<Tally, RunFault>
     ensures runs { (run : Runs F.may_fail
-        (known (world editor.old (S.files shelf.old)) (input_of R.remaining R.given reader.old) (R.reads reader.old)
-        (W.contents writer.old) (W.calls writer.old) (N.noted notes.old))
-        (known (world editor.new (S.files shelf.new)) (input_of R.remaining R.given reader.new) (R.reads reader.new)
-        (W.contents writer.new) (W.calls writer.new) (N.noted notes.new)) result)
+        (known (world editor.old (S.files shelf.old)) (input_of O.Reader.remaining O.Reader.given reader.old)
+        (O.Reader.reads reader.old) (W.contents writer.old) (W.calls writer.old) (N.noted notes.old))
+        (known (world editor.new (S.files shelf.new)) (input_of O.Reader.remaining O.Reader.given reader.new)
+        (O.Reader.reads reader.new) (W.contents writer.new) (W.calls writer.new) (N.noted notes.new)) result)
         × Ordered W.contents W.calls F.is_sent S.files F.may_fail (world editor.old (S.files shelf.old)) writer.old
         run.ran (O.seen observer.old) (O.seen observer.new) result }
     ensures sent { MatchResult result (λ _. F.is_sent writer.new) (λ fault. fault ≡ RunFault.Input →
         F.is_sent writer.new) }
 {
     let mut input = input_buffer(alloc)?;
-    run_over::<R, W, S, F, N, O>(
+    run_over::<W, S, F, N, O>(
         &mut input,
         reader,
         &mut Desk {
@@ -416,16 +434,16 @@ fn input_buffer(alloc: Global) -> Result<Vec<u8>, RunFault>
 }
 
 /// The run, over a buffer for the reader.
-fn run_over<R: Source, W: Sink, S: Shelf, F: Flushing<W>, N: Notes, O: Observer<W, S>>(
+fn run_over<W: Sink, S: Shelf, F: Flushing<W>, N: Notes, O: Observer<W, S>>(
     input: &mut [u8],
-    reader: &mut R,
+    reader: &mut O::Reader,
     desk: &mut Desk<'_, '_, '_, '_, '_, W, S, N, O>,
 ) -> Result<Tally, RunFault>
     requires { 0 < length input.old }
     ensures same { SameReferences desk.old desk.new }
     ensures runs { RunsOver W.contents W.calls F.is_sent F.may_fail S.files N.noted O.seen desk.old
-        (input_of R.remaining R.given reader.old) (R.reads reader.old) desk.new
-        (input_of R.remaining R.given reader.new) (R.reads reader.new) result }
+        (input_of O.Reader.remaining O.Reader.given reader.old) (O.Reader.reads reader.old) desk.new
+        (input_of O.Reader.remaining O.Reader.given reader.new) (O.Reader.reads reader.new) result }
     ensures sent { MatchResult result (λ _. F.is_sent desk.new.writer.now) (λ fault. fault ≡ RunFault.Input →
         F.is_sent desk.new.writer.now) }
 {

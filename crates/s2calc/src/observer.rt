@@ -12,25 +12,34 @@ use crate::flushing::{Flushing, around_file_command};
 use crate::streams::{Sink, Source};
 use s2shelf::Shelf;
 use std::io;
+use std::marker::PhantomData;
 
 /// An observer of a run. It makes the reads, and sees where each line begins and ends, with the writer and the shelf as
 /// they are then. So it may keep one list of the run's reads, its lines, and what was written and stored by then.
+///
+/// It reads from readers of one type alone, that of the run's own. So a run can't show it, in place of its reader, one
+/// that gives it what was read before.
 pub trait Observer<W: Sink, S: Shelf> {
+    /// The reader of the run.
+    type Reader: Source;
+
     // what it has seen so far, if it keeps a list
     ghost seen: { Self → Option (List (Moment W S)) } = { λ _. None };
 
     /// Reads from the reader of the run.
-    fn read<R: Source>(
+    fn read(
         &mut self,
-        reader: &mut R,
+        reader: &mut Self::Reader,
         writer: &W,
         shelf: &S,
         buf: &mut [u8],
     ) -> io::Result<usize>
         ensures bound { ReadsAtMost result buf.new }
-        ensures bytes { ReadConsumes (R.remaining reader.old) (R.remaining reader.new) result buf.new }
-        ensures given { Gains (R.given reader.old) (R.given reader.new) (bytes_given result buf.new) }
-        ensures call { Gains (R.reads reader.old) (R.reads reader.new) (what_came result ∷ []) }
+        ensures bytes { ReadConsumes (Self.Reader.remaining reader.old) (Self.Reader.remaining reader.new) result
+            buf.new }
+        ensures given { Gains (Self.Reader.given reader.old) (Self.Reader.given reader.new)
+            (bytes_given result buf.new) }
+        ensures call { Gains (Self.Reader.reads reader.old) (Self.Reader.reads reader.new) (what_came result ∷ []) }
         ensures moment { AddsOne (seen self.old) (seen self.new) (read_event result buf.new) writer.now shelf.now };
 
     /// A line is about to be carried out.
@@ -44,10 +53,21 @@ pub trait Observer<W: Sink, S: Shelf> {
 
 /// No one observes the run.
 #[derive(Drop)]
-pub(crate) struct Unobserved;
+pub(crate) struct Unobserved<R> {
+    of: PhantomData<R>,
+}
 
-impl<W: Sink, S: Shelf> Observer<W, S> for Unobserved {
-    fn read<R: Source>(
+impl<R> Unobserved<R> {
+    /// No one.
+    pub(crate) fn new() -> Unobserved<R> {
+        Unobserved { of: PhantomData }
+    }
+}
+
+impl<R: Source, W: Sink, S: Shelf> Observer<W, S> for Unobserved<R> {
+    type Reader = R;
+
+    fn read(
         &mut self,
         reader: &mut R,
         _writer: &W,

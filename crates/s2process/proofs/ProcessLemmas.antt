@@ -18,8 +18,8 @@ use Rattle.s2calc.specs.Calls.{Call, Gains, AllWell}
 use Rattle.s2calc.specs.Reads as reads
 use Rattle.s2calc.specs.Reads.{ReadsOn}
 use Rattle.s2calc.specs.Buffered.{Buffered, written_to}
-use Rattle.s2calc.specs.Moments.{Event, Came, NotCame, LineBegins, LineEnds, Moment, bytes_read, begun_in, ended_in}
-use Rattle.s2calc.specs.Moments.{Adds}
+use Rattle.s2calc.specs.Moments.{Event, Came, NotCame, LineBegins, LineEnds, Moment, bytes_read, reads_seen}
+use Rattle.s2calc.specs.Moments.{begun_in, ended_in, Adds}
 use Rattle.s2calc.specs.Order as order
 use Rattle.s2calc.specs.Order.{Ordered}
 use Rattle.s2calc.proofs.CallLemmas.{none_failed_may, last_failed_may}
@@ -250,6 +250,7 @@ module _ {V S : Type 0} (taken : V → List ℕ) (called : V → List Call) (fil
         record {
           did = did r.ran;
           read = s.0.read ∙ sym (script_is r.ran);
+          made = sym (gained reads_old reads_new (reads_seen seen_new) not_read s.0.made);
           ends = (
             all_lines r.ran e.0 e.2,
             e.1,
@@ -267,6 +268,7 @@ module _ {V S : Type 0} (taken : V → List ℕ) (called : V → List Call) (fil
         record {
           did = did r.ran;
           read = s.read ∙ sym (script_is r.ran);
+          made = sym (gained reads_old reads_new (reads_seen seen_new) not_read s.made);
           ends = (
             whole r.ran e.0,
             waits refl,
@@ -283,6 +285,7 @@ module _ {V S : Type 0} (taken : V → List ℕ) (called : V → List Call) (fil
         record {
           did = did r.ran;
           read = s.read ∙ sym (script_is r.ran);
+          made = sym (gained reads_old reads_new (reads_seen seen_new) not_read s.made);
           ends = (
             stops r.ran e.0,
             reads_well reads_old reads_new not_read e.1,
@@ -299,6 +302,8 @@ module _ {V S : Type 0} (taken : V → List ℕ) (called : V → List Call) (fil
           did = did r.ran;
           read = ap (λ (ms : List (Moment (Buffered V) S)). bytes_read ms) s
               ∙ sym (ap (λ (k : Known). inside [] k.input.given) e.1 ∙ not_given);
+          made = ap (λ (ms : List (Moment (Buffered V) S)). reads_seen ms) s
+              ∙ sym (ap (λ (k : Known). inside [] k.reads) e.1 ∙ not_read);
           ends = (
             e.0,
             s,

@@ -52,5 +52,5 @@ listed_files files s = record {
 }
 
 -- the moments that a witness has seen, in order
-abbrev pub moments_of : {W S : Type 0} → Witness W S → List (Moment W S)
+abbrev pub moments_of : {R W S : Type 0} → Witness R W S → List (Moment W S)
 moments_of w = w.list.entries

@@ -14,7 +14,7 @@ use Rattle.s2calc.specs.Step.{asks_for_file}
 use Rattle.s2calc.specs.Run.{Steps, came_out, WereReadWhole}
 use Rattle.s2calc.specs.Calls.{Call}
 use Rattle.s2calc.specs.Buffered.{Buffered}
-use Rattle.s2calc.specs.Moments.{Moment, bytes_read, begun_in, ended_in}
+use Rattle.s2calc.specs.Moments.{Moment, bytes_read, reads_seen, begun_in, ended_in}
 use Rattle.s2calc.specs.Order.{HasEnded}
 use Rattle.s2process.specs.Ends.{NoneFailed, LastFlushed, LastFailed, ReadsLast, ReadsStop, ReadsWell}
 use Rattle.s2process.specs.Order.{EachMay}
@@ -76,14 +76,15 @@ module _ {start now : World} {written waiting : List ℕ} (did : Did start now w
       × (((ended_in moments ≡ length did.done) × (did.left ≡ [])) ⊎ (ended_in moments + 1 ≡ length did.done))
   Counts result = (begun_in moments ≡ length did.done) × (ended_in moments ≡ length did.done)
 
--- What a run did over a reader and a writer that had not been called: `script` is all bytes that the reads gave, which
--- are those that were seen, `reads` says how each ended, `waiting` are the bytes that wait in the buffer above the
--- writer, at most `MOST_WAITING`, each moment came where it may, and the run ended as its result says.
+-- What a run did over a reader and a writer that had not been called: `script` is all bytes that the reads gave, and
+-- `reads` says how each ended; each of them was seen, and no other; `waiting` are the bytes that wait in the buffer
+-- above the writer, at most `MOST_WAITING`; each moment came where it may, and the run ended as its result says.
 pub record RunsListed {V S : Type 0} (taken : V → List ℕ) (called : V → List Call) (files : S → Files)
     (script : List ℕ) (reads : List (Option ℕ)) (start now : World) (moments : List (Moment (Buffered V) S))
     (below : V) (waiting : List ℕ) (result : Result Tally RunFault) : Type 0 where
   pub did : Did start now (taken below) waiting
   pub read : bytes_read moments ≡ script
+  pub made : reads_seen moments ≡ reads
   pub ends : Ends did moments script reads (called below) result
   pub each : EachMay taken called files start did.replies [] moments
   pub counts : Counts did moments result

@@ -81,7 +81,7 @@ pub(crate) fn answer_check<R: Drop, W: Sink + Drop, E: Sink + Drop, F: Folders>(
     dir: &str,
     name: &String,
     mut streams: Streams<R, W, E>,
-    folders: &F,
+    folders: F,
 ) -> Ended<R, W, E, F::Folder>
     requires { AreNew streams }
     ensures { Asks F.Folder.files F.opened result dir.now (Checks (string_bytes name.now))
@@ -106,7 +106,7 @@ pub(crate) fn answer_draw<R: Drop, W: Sink + Drop, E: Sink + Drop, F: Folders>(
     name: &String,
     curve: bool,
     mut streams: Streams<R, W, E>,
-    folders: &F,
+    folders: F,
 ) -> Ended<R, W, E, F::Folder>
     requires { AreNew streams }
     ensures { Asks F.Folder.files F.opened result dir.now (Draws (string_bytes name.now) curve)
@@ -137,7 +137,7 @@ pub(crate) fn answer_overlay<R: Drop, W: Sink + Drop, E: Sink + Drop, F: Folders
     names: &[String],
     curve: bool,
     mut streams: Streams<R, W, E>,
-    folders: &F,
+    folders: F,
 ) -> Ended<R, W, E, F::Folder>
     requires { AreNew streams }
     ensures { Asks F.Folder.files F.opened result dir.now (Overlays (map string_bytes names.now) curve)
@@ -161,7 +161,7 @@ pub(crate) fn answer_fit<R: Drop, W: Sink + Drop, E: Sink + Drop, F: Folders>(
     dir: &str,
     names: &[String],
     mut streams: Streams<R, W, E>,
-    folders: &F,
+    folders: F,
 ) -> Ended<R, W, E, F::Folder>
     requires { AreNew streams }
     ensures { Asks F.Folder.files F.opened result dir.now (Fits (map string_bytes names.now))

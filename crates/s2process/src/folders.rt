@@ -4,7 +4,7 @@ ghost use Rattle.std.specs.Prelude.{List, ℕ, IfOk};
 use s2shelf::Shelf;
 use std::alloc::AllocError;
 
-/// Opens folders of files by their paths.
+/// Opens a folder of files by its path. It is used up by that, so who is given it opens no second one.
 pub trait Folders {
     /// A folder.
     type Folder: Shelf + Drop;
@@ -13,6 +13,6 @@ pub trait Folders {
     ghost opened: { Self.Folder → List ℕ → Type 0 };
 
     /// Opens the folder at this path.
-    fn open(&self, path: &str) -> Result<Self::Folder, AllocError>
+    fn open(self, path: &str) -> Result<Self::Folder, AllocError>
         ensures { IfOk result (λ folder. opened folder path.now) };
 }

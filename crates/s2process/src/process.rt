@@ -11,6 +11,7 @@ use crate::answers::{
 };
 use crate::ended::{Ended, end_usage, not_begun};
 use crate::folders::Folders;
+use crate::reader::ListedReader;
 use crate::scripts::run_script;
 use crate::streams::Streams;
 use crate::witness::Witness;
@@ -23,12 +24,12 @@ use std::alloc::Global;
 ///
 /// Whatever the streams and the folders are, the contract says which bytes the reads gave and the writes took, in which
 /// order reads, lines and writes came, how all this ended, what standard error got, and the status.
-pub fn program<R: Source + Drop, W: Sink + Drop, E: Sink + Drop, F: Folders>(
+pub fn program<R: Source + Drop, W: Sink + Drop, E: Sink + Drop, F: Folders + Drop>(
     alloc: Global,
     asked: Result<Job, Stop>,
     streams: Streams<R, W, E>,
-    folders: &F,
-    witness: &mut Witness<AnswerBuffer<ListedWriter<W>>, F::Folder>,
+    folders: F,
+    witness: &mut Witness<ListedReader<R>, AnswerBuffer<ListedWriter<W>>, F::Folder>,
 ) -> Ended<R, W, E, F::Folder>
     requires range { IfOk asked IsInRange }
     requires nothing_called { AreNew streams }
@@ -42,12 +43,12 @@ pub fn program<R: Source + Drop, W: Sink + Drop, E: Sink + Drop, F: Folders>(
 }
 
 /// Does a job.
-fn answer<R: Source + Drop, W: Sink + Drop, E: Sink + Drop, F: Folders>(
+fn answer<R: Source + Drop, W: Sink + Drop, E: Sink + Drop, F: Folders + Drop>(
     alloc: Global,
     job: Job,
     streams: Streams<R, W, E>,
-    folders: &F,
-    witness: &mut Witness<AnswerBuffer<ListedWriter<W>>, F::Folder>,
+    folders: F,
+    witness: &mut Witness<ListedReader<R>, AnswerBuffer<ListedWriter<W>>, F::Folder>,
 ) -> Ended<R, W, E, F::Folder>
     requires range { IsInRange job }
     requires nothing_called { AreNew streams }

@@ -27,7 +27,7 @@ pub fn run_listed<R: Source, W: Sink, S: Shelf>(
     reader: &mut ListedReader<R>,
     writer: &mut AnswerBuffer<ListedWriter<W>>,
     shelf: &mut S,
-    witness: &mut Witness<AnswerBuffer<ListedWriter<W>>, S>,
+    witness: &mut Witness<ListedReader<R>, AnswerBuffer<ListedWriter<W>>, S>,
 ) -> Result<Tally, RunFault>
     requires nothing_read { calls_of_reader reader.old ≡ [] }
     requires nothing_written { calls_of writer.old.writer ≡ [] }
@@ -48,7 +48,7 @@ pub fn run_explained_listed<R: Source, W: Sink, S: Shelf, N: Sink>(
     writer: &mut AnswerBuffer<ListedWriter<W>>,
     shelf: &mut S,
     notes: &mut NoteWriter<ListedWriter<N>>,
-    witness: &mut Witness<AnswerBuffer<ListedWriter<W>>, S>,
+    witness: &mut Witness<ListedReader<R>, AnswerBuffer<ListedWriter<W>>, S>,
 ) -> Result<Tally, RunFault>
     requires nothing_read { calls_of_reader reader.old ≡ [] }
     requires nothing_written { calls_of writer.old.writer ≡ [] }

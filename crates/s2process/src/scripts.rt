@@ -24,8 +24,8 @@ pub(crate) fn run_script<R: Source + Drop, W: Sink + Drop, E: Sink + Drop, F: Fo
     dir: &str,
     explain: bool,
     streams: Streams<R, W, E>,
-    folders: &F,
-    witness: &mut Witness<AnswerBuffer<ListedWriter<W>>, F::Folder>,
+    folders: F,
+    witness: &mut Witness<ListedReader<R>, AnswerBuffer<ListedWriter<W>>, F::Folder>,
 ) -> Ended<R, W, E, F::Folder>
     requires nothing_called { AreNew streams }
     requires nothing_seen { moments_of witness.old ≡ [] }
@@ -48,7 +48,7 @@ fn run_over<R: Source + Drop, W: Sink + Drop, E: Sink + Drop, S: Shelf + Drop>(
     editor: Editor,
     folder: S,
     streams: Streams<R, W, E>,
-    witness: &mut Witness<AnswerBuffer<ListedWriter<W>>, S>,
+    witness: &mut Witness<ListedReader<R>, AnswerBuffer<ListedWriter<W>>, S>,
 ) -> Ended<R, W, E, S>
     requires nothing_called { AreNew streams }
     requires nothing_seen { moments_of witness.old ≡ [] }
@@ -76,7 +76,7 @@ fn explain_over<R: Source + Drop, W: Sink + Drop, E: Sink + Drop, S: Shelf + Dro
     editor: Editor,
     folder: S,
     streams: Streams<R, W, E>,
-    witness: &mut Witness<AnswerBuffer<ListedWriter<W>>, S>,
+    witness: &mut Witness<ListedReader<R>, AnswerBuffer<ListedWriter<W>>, S>,
 ) -> Ended<R, W, E, S>
     requires nothing_called { AreNew streams }
     requires nothing_seen { moments_of witness.old ≡ [] }
@@ -113,7 +113,7 @@ fn run_buffered<R: Source + Drop, W: Sink + Drop, E: Sink + Drop, S: Shelf + Dro
     mut input: ListedReader<R>,
     mut answers: AnswerBuffer<ListedWriter<W>>,
     mut errors: ListedWriter<E>,
-    witness: &mut Witness<AnswerBuffer<ListedWriter<W>>, S>,
+    witness: &mut Witness<ListedReader<R>, AnswerBuffer<ListedWriter<W>>, S>,
 ) -> Ended<R, W, E, S>
     requires nothing_read { calls_of_reader input ≡ [] }
     requires nothing_written { calls_of answers.writer ≡ [] }
@@ -150,7 +150,7 @@ fn explain_buffered<R: Source + Drop, W: Sink + Drop, E: Sink + Drop, S: Shelf +
     mut input: ListedReader<R>,
     mut answers: AnswerBuffer<ListedWriter<W>>,
     mut notes: NoteWriter<ListedWriter<E>>,
-    witness: &mut Witness<AnswerBuffer<ListedWriter<W>>, S>,
+    witness: &mut Witness<ListedReader<R>, AnswerBuffer<ListedWriter<W>>, S>,
 ) -> Ended<R, W, E, S>
     requires nothing_read { calls_of_reader input ≡ [] }
     requires nothing_written { calls_of answers.writer ≡ [] }

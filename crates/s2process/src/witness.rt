@@ -6,35 +6,35 @@ use crate::moments::{MomentList, Sight};
 use s2calc::{Observer, Sink, Source};
 use s2shelf::Shelf;
 use std::io;
+use std::marker::PhantomData;
 
 /// Sees the reads and the lines of a run. They stand in a list that only proofs read, each with the writer and the
-/// shelf as they were then. It takes no memory, and does nothing at run time but the reads.
+/// shelf as they were then. It takes no memory, and does nothing at run time but the reads, which are of readers of one
+/// type.
 #[derive(Drop)]
-pub struct Witness<W, S> {
+pub struct Witness<R, W, S> {
+    reads_from: PhantomData<R>,
     list: MomentList<W, S>,
 }
 
-impl<W, S> Witness<W, S> {
+impl<R, W, S> Witness<R, W, S> {
     /// It has seen nothing yet.
-    pub fn new() -> Witness<W, S>
+    pub fn new() -> Witness<R, W, S>
         ensures { moments_of result ≡ [] }
     {
         Witness {
+            reads_from: PhantomData,
             list: MomentList::new(),
         }
     }
 }
 
-impl<W: Sink, S: Shelf> Observer<W, S> for Witness<W, S> {
+impl<R: Source, W: Sink, S: Shelf> Observer<W, S> for Witness<R, W, S> {
+    type Reader = R;
+
     ghost seen = { λ w. Some (moments_of w) };
 
-    fn read<R: Source>(
-        &mut self,
-        reader: &mut R,
-        writer: &W,
-        shelf: &S,
-        buf: &mut [u8],
-    ) -> io::Result<usize> {
+    fn read(&mut self, reader: &mut R, writer: &W, shelf: &S, buf: &mut [u8]) -> io::Result<usize> {
         let result = reader.read(buf);
         match &result {
             Ok(count) => self.list = self.list.and(&(Sight::Came(&buf[..*count]), writer, shelf)),

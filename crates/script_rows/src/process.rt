@@ -67,7 +67,7 @@ impl Folders for RowFolders<'_> {
 
     ghost opened = { λ folder _. calls_of_shelf folder ≡ [] };
 
-    fn open(&self, _path: &str) -> Result<ListedShelf<MemoryShelf>, AllocError> {
+    fn open(self, _path: &str) -> Result<ListedShelf<MemoryShelf>, AllocError> {
         let mut shelf = shelf_of(self.alloc, self.lines)?;
         if self.fails_at > 0 {
             shelf.fail_at(self.fails_at);
@@ -100,7 +100,7 @@ pub fn add_process(
         fails_at: failing.among("files"),
     };
     let asked = job(alloc, words_of(alloc, words)?);
-    let ended = program(alloc, asked, streams, &folders, &mut Witness::new());
+    let ended = program(alloc, asked, streams, folders, &mut Witness::new());
     add_taken(&output, b"", found)?;
     add_taken(&errors, b"!", found)?;
     add_line(found, &format!(in alloc; "status {}", ended.status)?)

@@ -7,6 +7,7 @@ use s2calc::{Observer, Sink, Source};
 use s2shelf::Shelf;
 use std::alloc::Global;
 use std::io;
+use std::marker::PhantomData;
 
 /// What an observer of a run may see.
 #[derive(Drop)]
@@ -31,15 +32,17 @@ pub struct Sighting<W, S> {
 
 /// Lists what it sees of a run, as long as there is memory for it.
 #[derive(Drop)]
-pub struct Watcher<W, S> {
+pub struct Watcher<R, W, S> {
+    reads_from: PhantomData<R>,
     alloc: Global,
     sightings: Option<Vec<Sighting<W, S>>>,
 }
 
-impl<W: Drop, S: Drop> Watcher<W, S> {
+impl<R: Drop, W: Drop, S: Drop> Watcher<R, W, S> {
     /// An observer that has seen nothing yet.
-    pub fn new(alloc: Global) -> Watcher<W, S> {
+    pub fn new(alloc: Global) -> Watcher<R, W, S> {
         Watcher {
+            reads_from: PhantomData,
             alloc,
             sightings: Some(Vec::new(alloc)),
         }
@@ -79,16 +82,12 @@ impl<W: Drop, S: Drop> Watcher<W, S> {
     }
 }
 
-impl<W: Sink + Copy, S: Shelf + Copy> Observer<W, S> for Watcher<W, S> {
+impl<R: Source + Drop, W: Sink + Copy, S: Shelf + Copy> Observer<W, S> for Watcher<R, W, S> {
+    type Reader = R;
+
     ghost seen = { λ w. seen_by w.sightings };
 
-    fn read<R: Source>(
-        &mut self,
-        reader: &mut R,
-        writer: &W,
-        shelf: &S,
-        buf: &mut [u8],
-    ) -> io::Result<usize> {
+    fn read(&mut self, reader: &mut R, writer: &W, shelf: &S, buf: &mut [u8]) -> io::Result<usize> {
         match reader.read(buf) {
             Ok(count) => {
                 self.list_read(&buf[..count], *writer, *shelf);

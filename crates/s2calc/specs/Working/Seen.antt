@@ -9,7 +9,8 @@ use Rattle.s2calc.specs.declared.fault.RunFault.TheVariants.{Output}
 use Rattle.s2calc.specs.World.{World}
 use Rattle.s2calc.specs.Replies.{Reply, texts}
 use Rattle.s2calc.specs.Calls.{Call, NoneFailed, LastFlushed, LastFailed}
-use Rattle.s2calc.specs.Moments.{LineBegins, LineEnds, Moment, moment, bytes_read, begun_in, ended_in}
+use Rattle.s2calc.specs.Moments.{LineBegins, LineEnds, Moment, moment, bytes_read, reads_seen}
+use Rattle.s2calc.specs.Moments.{begun_in, ended_in}
 use Rattle.s2calc.specs.Order.{HasEnded, EachMay, InOrder}
 
 -- between these two writers nothing was written, and no call failed; at a command with a file the last call was a
@@ -64,6 +65,7 @@ module _ {W S : Type 0} (contents : W → Option (List ℕ)) (calls : W → Opti
   pub record ManySeen (world : World) (script chunk : List ℕ) (replies more : List Reply) (old : W) (begins ends : ℕ)
       (moments : List (Moment W S)) : Type 0 where
     pub none_read : bytes_read moments ≡ []
+    pub none_made : reads_seen moments ≡ []
     pub begun : length (whole_lines script) + begun_in moments ≡ begins
     pub ended : length (whole_lines script) + ended_in moments ≡ ends
     pub each : (first : W) (past : List (Moment W S)) (rest : List ℕ) → bytes_read past ≡ (script ++ chunk) ++ rest →
@@ -82,6 +84,7 @@ module _ {W S : Type 0} (contents : W → Option (List ℕ)) (calls : W → Opti
   pub record EndSeen (world : World) (script : List ℕ) (replies more : List Reply) (old : W) (begins ends : ℕ)
       (moments : List (Moment W S)) : Type 0 where
     pub none_read : bytes_read moments ≡ []
+    pub none_made : reads_seen moments ≡ []
     pub begun : length (whole_lines script) + begun_in moments ≡ begins
     pub ended : length (whole_lines script) + ended_in moments ≡ ends
     pub each : (first : W) (past : List (Moment W S)) → bytes_read past ≡ script → HasEnded past →
@@ -94,8 +97,9 @@ module _ {W S : Type 0} (contents : W → Option (List ℕ)) (calls : W → Opti
   LastSeen world script replies more old moments =
       let count = length (lines script) in EndSeen world script replies more old count count moments
 
-  -- the moments of a run that has read the script, and has written these replies
-  abbrev pub SeenSoFar : World → W → List ℕ → List Reply → List (Moment W S) → Type 0
-  SeenSoFar world first script replies moments =
+  -- the moments of a run that has read the script, by the reads between `made` and `now`, and has written these replies
+  abbrev pub SeenSoFar : World → W → List ℕ → List Reply → (made now : Option (List (Option ℕ))) →
+      List (Moment W S) → Type 0
+  SeenSoFar world first script replies made now moments =
       let count = length (whole_lines script) in
-      InOrder contents calls is_sent files may_flush world first replies script count count moments
+      InOrder contents calls is_sent files may_flush world first replies script count count made now moments

@@ -7,7 +7,7 @@ use Rattle.s2calc.specs.Moments.{Adds}
 use Rattle.s2calc.specs.Order.{InOrder}
 use Rattle.s2calc.specs.Working.Desk.{world_at}
 use Rattle.s2calc.proofs.CallLemmas.{none_failed_none, none_failed_more, last_failed_after}
-use Rattle.s2calc.proofs.CallLemmas.{reads_on_none, reads_on_more, reads_last, reads_end}
+use Rattle.s2calc.proofs.CallLemmas.{reads_on_none, reads_on_more, reads_last, reads_end, read_is}
 use Rattle.s2calc.proofs.DeskLemmas.{SameReferences-trans}
 use Rattle.s2calc.proofs.ReadLemmas.{Gives-nil, Gives-none, Gives-trans, Gives-kept, Appends-texts}
 use Rattle.s2calc.proofs.ReadLemmas.{stops_reading, stops_before_read, stops_in_chunk}
@@ -27,7 +27,7 @@ loop-init g c =
       none_failed_none _ _,
       reads_on_none _,
       Adds-none _ _ (SeenSoFar-start g.W.Sink.contents g.W.Sink.calls g.F.Flushing.is_sent g.S.Shelf.files
-          g.F.Flushing.may_fail _ _),
+          g.F.Flushing.may_fail _ _ _),
       (refl, refl, refl, refl, refl),
     )
 
@@ -56,8 +56,9 @@ returns-in-Ok-eq0-clause-runs g c =
     (reads_end _ _ _ _ _ i.6 c.in-Ok-eq0.ensures.call none) (none_failed_more _ _ _ _ i.5 gone_out.none_failed) ended
     c.finish.ensures.calls
     (λ more begins ends here. InOrder-end g.W.Sink.contents g.W.Sink.calls g.F.Flushing.is_sent g.S.Shelf.files
-    g.F.Flushing.may_fail _ i.0 i.1 _ _ i.3 _ _ _ _ i.4 i.5 gone_out _ _ _ _ _ more begins ends i.7
-    c.in-Ok-eq0.ensures.moment (ap (λ (k : ℕ). take k c.read.new.buf) none) here)
+    g.F.Flushing.may_fail _ i.0 i.1 _ _ i.3 _ _ _ _ i.4 i.5 gone_out _ _ _ _ _ _ _ _ more begins ends
+    (read_is _ _ _ _ c.in-Ok-eq0.ensures.bound.1 c.in-Ok-eq0.ensures.call) i.7 c.in-Ok-eq0.ensures.moment
+    (ap (λ (k : ℕ). take k c.read.new.buf) none) here)
 
 pub returns-in-Ok-eq0-clause-sent : goal.returns-in-Ok-eq0-clause-sent
 returns-in-Ok-eq0-clause-sent g c = MatchResult-weaker c.finish.result c.finish.ensures.sent (λ _ s. s)
@@ -79,13 +80,14 @@ returns-in_err-take_in-in-Ok-clause-runs g c =
     (λ rs b begins ends. Adds (g.O.Observer.seen c.args.desk.now.observer.now)
     (g.O.Observer.seen c.take_in.new.desk.observer.now)
     (InOrder g.W.Sink.contents g.W.Sink.calls g.F.Flushing.is_sent g.S.Shelf.files g.F.Flushing.may_fail
-    (world_at g.S.Shelf.files c.args.desk.now) c.args.desk.now.writer.now rs b begins ends))
+    (world_at g.S.Shelf.files c.args.desk.now) c.args.desk.now.writer.now rs b begins ends
+    (g.O.Reader.Source.reads c.args.reader.now) (g.O.Reader.Source.reads c.read.new.reader)))
     (inl (c.loop.counter + 1, reads_on_more _ _ _ _ _ _ i.6 c.in-Ok.ensures.call (omega arith) refl))
     (last_failed_after _ _ _ _ (none_failed_more _ _ _ _ i.5 gone_out.none_failed) done.calls)
     _ _ _ i.2 (c.in-Ok.ensures.bytes.0, c.in-Ok.ensures.given) (Appends-kept _ _ _ _ i.4 gone_out.kept)
     (λ more begins ends here. InOrder-read g.W.Sink.contents g.W.Sink.calls g.F.Flushing.is_sent g.S.Shelf.files
-    g.F.Flushing.may_fail _ i.0 i.1 _ _ i.3 _ _ _ _ i.4 i.5 gone_out _ _ _ _ _ more begins ends i.7
-    c.in-Ok.ensures.moment here) stopped.1)
+    g.F.Flushing.may_fail _ i.0 i.1 _ _ i.3 _ _ _ _ i.4 i.5 gone_out _ _ _ _ _ _ _ _ more begins ends
+    (read_is _ _ _ _ c.in-Ok.ensures.bound.1 c.in-Ok.ensures.call) i.7 c.in-Ok.ensures.moment here) stopped.1)
 
 pub returns-in_err-take_in-in-Ok-clause-sent : goal.returns-in_err-take_in-in-Ok-clause-sent
 returns-in_err-take_in-in-Ok-clause-sent g c =
@@ -109,8 +111,8 @@ returns-in-Err-clause-runs g c =
           (Appends-kept _ _ _ _ i.4 gone_out.kept) (inl (reads_last _ _ _ _ None i.6 c.in-Err.ensures.call))
           (none_failed_more _ _ _ _ i.5 gone_out.none_failed),
       Adds-trans _ _ _ _ _ _ (λ ms ns seen e. SeenSoFar-failed g.W.Sink.contents g.W.Sink.calls
-          g.F.Flushing.is_sent g.S.Shelf.files g.F.Flushing.may_fail _ i.0 i.1 _ _ i.3 _ _ _ _ i.4 i.5 gone_out ms ns
-          seen e) i.7 c.in-Err.ensures.moment,
+          g.F.Flushing.is_sent g.S.Shelf.files g.F.Flushing.may_fail _ i.0 i.1 _ _ i.3 _ _ _ _ i.4 i.5 gone_out _ _ _
+          ms ns c.in-Err.ensures.call seen e) i.7 c.in-Err.ensures.moment,
     )
 
 pub loop-preserved : goal.loop-preserved
@@ -127,7 +129,8 @@ loop-preserved g c =
       none_failed_more _ _ _ _ (none_failed_more _ _ _ _ i.5 gone_out.none_failed) done.calls,
       reads_on_more _ _ _ _ _ _ i.6 c.in-Ok.ensures.call (omega arith) refl,
       InOrder-read g.W.Sink.contents g.W.Sink.calls g.F.Flushing.is_sent g.S.Shelf.files g.F.Flushing.may_fail _ i.0
-          i.1 _ _ i.3 _ _ _ _ i.4 i.5 gone_out _ _ _ _ _ _ _ _ i.7 c.in-Ok.ensures.moment s.1,
+          i.1 _ _ i.3 _ _ _ _ i.4 i.5 gone_out _ _ _ _ _ _ _ _ _ _ _
+          (read_is _ _ _ _ c.in-Ok.ensures.bound.1 c.in-Ok.ensures.call) i.7 c.in-Ok.ensures.moment s.1,
       SameReferences-trans c.args.desk.now c.loop.desk c.take_in.new.desk i.8 c.take_in.ensures.same,
     )
 
@@ -148,7 +151,8 @@ returns-clause-runs g c =
     let i = c.loop.invariant in
     let gone_out = c.in_ok-in_between-2.ensures.settles in (
       stops_reading _ _ _ i.0 i.1 _ i.2 i.3 (Appends-kept _ _ _ _ i.4 gone_out.kept)
-          (inr (subst (λ (times : ℕ). ReadsOn (g.R.Source.reads c.args.reader.now) (g.R.Source.reads c.loop.reader)
-          times) (omega arith) i.6)) (none_failed_more _ _ _ _ i.5 gone_out.none_failed),
+          (inr (subst (λ (times : ℕ). ReadsOn (g.O.Reader.Source.reads c.args.reader.now)
+          (g.O.Reader.Source.reads c.loop.reader) times) (omega arith) i.6))
+          (none_failed_more _ _ _ _ i.5 gone_out.none_failed),
       i.7,
     )

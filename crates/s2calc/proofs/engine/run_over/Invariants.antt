@@ -13,14 +13,16 @@ use Rattle.s2calc.proofs.engine.run_over.Given as goal
 -- were observed
 abbrev pub invariant-loop : goal.invariant-loop
 invariant-loop g l =
-    (script : List ℕ) × (replies : List Reply) × Gives (input_of g.R.Source.remaining g.R.Source.given l.fn.reader)
-    (input_of g.R.Source.remaining g.R.Source.given l.reader) script
+    (script : List ℕ) × (replies : List Reply)
+    × Gives (input_of g.O.Reader.Source.remaining g.O.Reader.Source.given l.fn.reader)
+    (input_of g.O.Reader.Source.remaining g.O.Reader.Source.given l.reader) script
     × Stands (point_at g.S.Shelf.files g.N.Notes.noted l.fn.desk) script replies
     (point_at g.S.Shelf.files g.N.Notes.noted l.desk) l.progress
     × Appends (g.W.Sink.contents l.fn.desk.writer.now) (g.W.Sink.contents l.desk.writer.now) (texts replies)
     × NoneFailed g.F.Flushing.may_fail (g.W.Sink.calls l.fn.desk.writer.now) (g.W.Sink.calls l.desk.writer.now)
-    × ReadsOn (g.R.Source.reads l.fn.reader) (g.R.Source.reads l.reader) l.counter
+    × ReadsOn (g.O.Reader.Source.reads l.fn.reader) (g.O.Reader.Source.reads l.reader) l.counter
     × Adds (g.O.Observer.seen l.fn.desk.observer.now) (g.O.Observer.seen l.desk.observer.now)
     (SeenSoFar g.W.Sink.contents g.W.Sink.calls g.F.Flushing.is_sent g.S.Shelf.files g.F.Flushing.may_fail
-    (world_at g.S.Shelf.files l.fn.desk) l.fn.desk.writer.now script replies)
+    (world_at g.S.Shelf.files l.fn.desk) l.fn.desk.writer.now script replies (g.O.Reader.Source.reads l.fn.reader)
+    (g.O.Reader.Source.reads l.reader))
     × SameReferences l.fn.desk l.desk
