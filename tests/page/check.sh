@@ -23,6 +23,11 @@ lacking() {
     <(grep -o 'So the module lacks [^.]*' "$top/docs/PAGE.md" | grep -o 's2u_[a-z_]*' | sort)
 }
 step "docs/PAGE.md: the calls that the module lacks" lacking
+lost_crates() { # those of this repository that a crate of the copy names, and that aren't in it
+  grep -owFf <(sed 's/[ :].*//' "$top/crates.txt") "$work/copy/crates.txt" | grep -vxFf <(ls "$work/copy/crates")
+}
+nothing_lost() { [ -s "$work/copy/crates.txt" ] && ! lost_crates; }
+step "each crate that the module needs" nothing_lost
 in_browser() { # the library's module for Python answers beside the page
   PYTHONPATH=$work/usr/lib/python PYTHONDONTWRITEBYTECODE=1 \
     timeout 600 /usr/bin/python3 "$top/tests/page/browser.py" "$@"
