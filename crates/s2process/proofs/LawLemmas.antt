@@ -46,18 +46,18 @@ answers_all taken called files script reads start now moments below waiting (Ok 
       none_refused = grind (arith, refused);
       to_the_end = all.0.1;
       all_taken = all_out d all.2 all.0.2;
-      flushed = all.4;
+      flushed = all.3;
     }
 answers_all taken called files script reads start now moments below waiting (Err Input) runs e = absurd cc
 answers_all taken called files script reads start now moments below waiting (Err Output) runs e = absurd cc
 answers_all taken called files script reads start now moments below waiting (Err Memory) runs e = absurd cc
 
 -- the same of the program
-pub all_answered : (R W E : Type 0) {S : Type 0} (files : S → Files) (opened : S → List ℕ → Type 0) →
-    AllAnswered R W E files opened
-all_answered R W E files opened limit depth path explains moments ended (inl (none, unseen)) e =
-    let three = none.status_is in absurd cc
-all_answered R W E files opened limit depth path explains moments ended (inr runs) e = (
+pub all_answered : (R W E F : Type 0) {S : Type 0} (files : S → Files) (opened : S → List ℕ → Type 0) →
+    AllAnswered R W E F files opened
+all_answered R W E F files opened limit depth path explains moments ended (inl (none, unseen)) e =
+    let three = none.0.status_is in absurd cc
+all_answered R W E F files opened limit depth path explains moments ended (inr runs) e = (
   runs.first,
   runs.last,
   runs.now,

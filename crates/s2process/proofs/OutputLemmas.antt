@@ -10,7 +10,6 @@ use Rattle.s2calc.specs.declared.engine.Tally.{Tally}
 use Rattle.s2calc.specs.declared.fault.RunFault.{RunFault}
 use Rattle.s2calc.specs.declared.fault.RunFault.TheVariants.{Input, Output, Memory}
 use Rattle.s2calc.specs.Calls.{Call}
-use Rattle.s2calc.specs.Moments.{Moment}
 use Rattle.s2calc.specs.LawsFound.{Held, Course, Begins}
 use Rattle.s2calc.specs.Notes.{note_of, number_of, notes_from, notes_of}
 use Rattle.s2calc.specs.Program.{status_of}
@@ -31,37 +30,36 @@ use Rattle.s2process.proofs.LawLemmas.{all_out}
 
 -- ---- the lines that were carried out are the first of the script
 
-module _ {start now : World} {written waiting : List ℕ} (did : Did start now written waiting) {W S : Type 0}
-    (moments : List (Moment W S)) (whole script : List ℕ) (reads : List (Option ℕ)) (r : IsReadOf whole script reads)
-  where
-    abbrev AreFirst : List (List ℕ) → Type 0
-    AreFirst ls = (more : List (List ℕ)) × (ls ++ more ≡ lines whole)
+module _ {start now : World} {written waiting : List ℕ} (did : Did start now written waiting)
+    (whole script : List ℕ) (reads : List (Option ℕ)) (r : IsReadOf whole script reads) where
+  abbrev AreFirst : List (List ℕ) → Type 0
+  AreFirst ls = (more : List (List ℕ)) × (ls ++ more ≡ lines whole)
 
-    were_read : (ls : List (List ℕ)) → WereReadWhole script (ReadsLast (Some 0) reads) ls → AreFirst ls
-    were_read ls w = read_lines whole script r.more (ReadsLast (Some 0) reads) ls r.is r.whole w
+  were_read : (ls : List (List ℕ)) → WereReadWhole script (ReadsLast (Some 0) reads) ls → AreFirst ls
+  were_read ls w = read_lines whole script r.more (ReadsLast (Some 0) reads) ls r.is r.whole w
 
-    whole_first : did.done ≡ whole_lines script → AreFirst did.done
-    whole_first e =
-        let (ls, rest, begins, unbroken) = cut script in
-        let same : did.done ≡ ls = e ∙ whole_lines_begun script ls rest begins unbroken in
-        were_read did.done (inl (rest, subst (λ done. BeginsWith script done rest) (sym same) begins))
+  whole_first : did.done ≡ whole_lines script → AreFirst did.done
+  whole_first e =
+      let (ls, rest, begins, unbroken) = cut script in
+      let same : did.done ≡ ls = e ∙ whole_lines_begun script ls rest begins unbroken in
+      were_read did.done (inl (rest, subst (λ done. BeginsWith script done rest) (sym same) begins))
 
-    beside_first : (before : List (List ℕ)) (line : List ℕ) → AreFirst (before ++ line ∷ []) →
-        (did.done ≡ before) ⊎ (did.done ≡ before ++ line ∷ []) → AreFirst did.done
-    beside_first before line (more, is) (inl e) =
-        (line ∷ more, ap (λ ls. ls ++ line ∷ more) e ∙ sym (append_assoc before (line ∷ []) more) ∙ is)
-    beside_first before line (more, is) (inr e) = (more, ap (λ ls. ls ++ more) e ∙ is)
+  beside_first : (before : List (List ℕ)) (line : List ℕ) → AreFirst (before ++ line ∷ []) →
+      (did.done ≡ before) ⊎ (did.done ≡ before ++ line ∷ []) → AreFirst did.done
+  beside_first before line (more, is) (inl e) =
+      (line ∷ more, ap (λ ls. ls ++ line ∷ more) e ∙ sym (append_assoc before (line ∷ []) more) ∙ is)
+  beside_first before line (more, is) (inr e) = (more, ap (λ ls. ls ++ more) e ∙ is)
 
-    done_first : (called : List Call) (result : Result Tally RunFault) → Ends did moments script reads called result →
-        AreFirst did.done
-    done_first called (Ok tally) e = were_read did.done (inr (e.0.0, e.0.1))
-    done_first called (Err Input) e = whole_first e.0.0
-    done_first called (Err Output) (inl i, well, failed) = were_read did.done i.0
-    done_first called (Err Output) (inr (inl all), well, failed) = were_read did.done (inr (all.0, all.1))
-    done_first called (Err Output) (inr (inr (inl w)), well, failed) = whole_first w.0
-    done_first called (Err Output) (inr (inr (inr f)), well, failed) =
-        beside_first f.before f.line (were_read (f.before ++ f.line ∷ []) f.read_whole) f.done_are
-    done_first called (Err Memory) e = (lines whole, ap (λ ls. ls ++ lines whole) e.0)
+  done_first : (called : List Call) (result : Result Tally RunFault) → Ends did script reads called result →
+      AreFirst did.done
+  done_first called (Ok tally) e = were_read did.done (inr (e.0.0, e.0.1))
+  done_first called (Err Input) e = whole_first e.0.0
+  done_first called (Err Output) (inl i, well, failed) = were_read did.done i.0
+  done_first called (Err Output) (inr (inl all), well, failed) = were_read did.done (inr (all.0, all.1))
+  done_first called (Err Output) (inr (inr (inl w)), well, failed) = whole_first w.0
+  done_first called (Err Output) (inr (inr (inr f)), well, failed) =
+      beside_first f.before f.line (were_read (f.before ++ f.line ∷ []) f.read_whole) f.done_are
+  done_first called (Err Memory) e = (lines whole, ap (λ ls. ls ++ lines whole) e.0)
 
 -- ---- what was written
 
@@ -145,21 +143,21 @@ same_replies one other (inr b) n = sym (all_replies other one b (sym n))
 
 -- ---- two runs
 
-module _ (R W E : Type 0) {S : Type 0} (files : S → Files) (opened : S → List ℕ → Type 0) (script : List ℕ)
+module _ (R W E F : Type 0) {S : Type 0} (files : S → Files) (opened : S → List ℕ → Type 0) (script : List ℕ)
     (held : Held) (start : History (List ℕ)) where
-  module _ (ended : Ended R W E S) (run : RunOf R W E files opened script held start ended) where
+  module _ (ended : Ended R W E F S) (run : RunOf R W E F files opened script held start ended) where
     abbrev did_in : Did (world start (files run.runs.first)) (world run.runs.now (files run.runs.last))
         (taken ended.streams.output) run.runs.waiting
     did_in = run.runs.runs.did
 
     abbrev ends_in : (result : Result Tally RunFault) → run.runs.result ≡ result →
-        Ends did_in run.moments (given ended.streams.input) (reads ended.streams.input) (called ended.streams.output)
+        Ends did_in (given ended.streams.input) (reads ended.streams.input) (called ended.streams.output)
         result
-    ends_in result e = subst (λ r. Ends did_in run.moments (given ended.streams.input) (reads ended.streams.input)
+    ends_in result e = subst (λ r. Ends did_in (given ended.streams.input) (reads ended.streams.input)
         (called ended.streams.output) r) e run.runs.runs.ends
 
     takes : Takes held (world start (files run.runs.first)) (world run.runs.now (files run.runs.last)) did_in.done
-        (course_of R W E files opened run)
+        (course_of R W E F files opened run)
     takes = record {
       steps = did_in.steps;
       plain = run.plain;
@@ -170,7 +168,7 @@ module _ (R W E : Type 0) {S : Type 0} (files : S → Files) (opened : S → Lis
     }
 
     first_lines : (more : List (List ℕ)) × (did_in.done ++ more ≡ lines script)
-    first_lines = done_first did_in run.moments script (given ended.streams.input) (reads ended.streams.input) run.read
+    first_lines = done_first did_in script (given ended.streams.input) (reads ended.streams.input) run.read
         (called ended.streams.output) run.runs.result run.runs.runs.ends
 
     -- a run that came to the end has read the whole script
@@ -183,8 +181,8 @@ module _ (R W E : Type 0) {S : Type 0} (files : S → Files) (opened : S → Lis
     many : length did_in.done ≡ length did_in.replies
     many = Steps-lengths _ _ did_in.done did_in.replies did_in.steps
 
-  module _ (ended ended' : Ended R W E S) (run : RunOf R W E files opened script held start ended)
-      (other : RunOf R W E files opened script held start ended') where
+  module _ (ended ended' : Ended R W E F S) (run : RunOf R W E F files opened script held start ended)
+      (other : RunOf R W E F files opened script held start ended') where
     abbrev mine : Did (world start (files run.runs.first)) (world run.runs.now (files run.runs.last))
         (taken ended.streams.output) run.runs.waiting
     mine = did_in ended run
@@ -193,17 +191,17 @@ module _ (R W E : Type 0) {S : Type 0} (files : S → Files) (opened : S → Lis
         (taken ended'.streams.output) other.runs.waiting
     theirs = did_in ended' other
 
-    courses : Begins (course_of R W E files opened run) (course_of R W E files opened other)
-        ⊎ Begins (course_of R W E files opened other) (course_of R W E files opened run)
+    courses : Begins (course_of R W E F files opened run) (course_of R W E F files opened other)
+        ⊎ Begins (course_of R W E F files opened other) (course_of R W E F files opened run)
     courses =
         let first = first_lines ended run in
         let first' = first_lines ended' other in
-        one_course held _ _ _ _ mine.done theirs.done first.0 first'.0 (course_of R W E files opened run)
-        (course_of R W E files opened other) (takes ended run) (takes ended' other) refl (first.1 ∙ sym first'.1)
+        one_course held _ _ _ _ mine.done theirs.done first.0 first'.0 (course_of R W E F files opened run)
+        (course_of R W E F files opened other) (takes ended run) (takes ended' other) refl (first.1 ∙ sym first'.1)
 
     -- the same lines had the same replies
     replied : mine.done ≡ theirs.done → mine.replies ≡ theirs.replies
-    replied e = same_replies (course_of R W E files opened run) (course_of R W E files opened other) courses
+    replied e = same_replies (course_of R W E F files opened run) (course_of R W E F files opened other) courses
         (sym (many ended run) ∙ ap length e ∙ many ended' other)
 
     writes : OneBegins (taken ended.streams.output) (taken ended'.streams.output)
@@ -236,7 +234,7 @@ module _ (R W E : Type 0) {S : Type 0} (files : S → Files) (opened : S → Lis
     ends_same result result' e e' same =
         run.runs.status_is ∙ ap status_of e ∙ same ∙ sym (other.runs.status_is ∙ ap status_of e')
 
-    alike : WritesAlike R W E files opened run other
+    alike : WritesAlike R W E F files opened run other
     alike = record {
       course = courses;
       written = writes;
@@ -261,7 +259,7 @@ module _ (R W E : Type 0) {S : Type 0} (files : S → Files) (opened : S → Lis
           );
     }
 
-pub one_output : (R W E : Type 0) {S : Type 0} (files : S → Files) (opened : S → List ℕ → Type 0) →
-    OneOutput R W E files opened
-one_output R W E files opened script held start ended ended' run other =
-    alike R W E files opened script held start ended ended' run other
+pub one_output : (R W E F : Type 0) {S : Type 0} (files : S → Files) (opened : S → List ℕ → Type 0) →
+    OneOutput R W E F files opened
+one_output R W E F files opened script held start ended ended' run other =
+    alike R W E F files opened script held start ended ended' run other

@@ -255,7 +255,6 @@ module _ {V S : Type 0} (taken : V → List ℕ) (called : V → List Call) (fil
             all_lines r.ran e.0 e.2,
             e.1,
             waits,
-            s.1,
             last_flushed (called first.writer) (called last.writer) not_called e.3,
           );
           each = each r.ran.replies [] seen_new s.0.each;
@@ -306,7 +305,6 @@ module _ {V S : Type 0} (taken : V → List ℕ) (called : V → List Call) (fil
               ∙ sym (ap (λ (k : Known). inside [] k.reads) e.1 ∙ not_read);
           ends = (
             e.0,
-            s,
             ap (λ (k : Known). inside [] k.reads) e.1 ∙ not_read,
             ap (λ (k : Known). inside [] k.calls) e.1 ∙ not_called,
           );

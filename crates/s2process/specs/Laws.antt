@@ -15,6 +15,7 @@ use Rattle.s2calc.specs.Replies.{Reply, texts, is_refusal}
 use Rattle.s2calc.specs.Run.{Steps}
 use Rattle.s2calc.specs.World.{World, world}
 use Rattle.s2process.specs.declared.ended.Ended.{Ended}
+use Rattle.s2process.specs.declared.folders.Opening.TheVariants.{Opened}
 use Rattle.s2process.specs.declared.writer.ListedWriter.{ListedWriter}
 use Rattle.s2process.specs.Ends.{LastFlushed, ReadsLast}
 use Rattle.s2process.specs.Listed.{given, reads, taken, called}
@@ -43,21 +44,21 @@ abbrev pub OneBegins : List ℕ → List ℕ → Type 0
 OneBegins bytes others = ((more : List ℕ) × (others ≡ bytes ++ more)) ⊎ ((more : List ℕ) × (bytes ≡ others ++ more))
 
 -- `files` says what is known of a folder, and `opened` that it was opened at a path
-module _ (R W E : Type 0) {S : Type 0} (files : S → Files) (opened : S → List ℕ → Type 0) where
+module _ (R W E F : Type 0) {S : Type 0} (files : S → Files) (opened : S → List ℕ → Type 0) where
   -- a run of a script that ends with status 0, over the folder at this path, has answered all lines of the script
   abbrev pub AllAnswered : Type 0
   AllAnswered =
       (limit depth : ℕ) (path : List ℕ) (explains : Bool) (moments : List (Moment (Buffered (ListedWriter W)) S))
-      (ended : Ended R W E S)
+      (ended : Ended R W E F S)
       → RunsScript files opened moments ended limit depth path explains → ended.status ≡ 0
-      → (first last : S) × (now : History (List ℕ)) × opened first path × (ended.folder ≡ Some last)
+      → (first last : S) × (now : History (List ℕ)) × opened first path × (ended.folder ≡ Opened last)
       × AnswersAll (world (untouched limit depth (replicate REGISTERS [])) (files first)) (world now (files last))
       (given ended.streams.input) (reads ended.streams.input) (taken ended.streams.output)
       (called ended.streams.output)
 
   -- A run of this script from this state of the editor. It read the script as far as it came, found in files what the
   -- folder had to hand over at each time, and answered no line with `error memory` or `error file`.
-  pub record RunOf (script : List ℕ) (held : Held) (start : History (List ℕ)) (ended : Ended R W E S) : Type 0 where
+  pub record RunOf (script : List ℕ) (held : Held) (start : History (List ℕ)) (ended : Ended R W E F S) : Type 0 where
     pub moments : List (Moment (Buffered (ListedWriter W)) S)
     pub path : List ℕ
     pub explains : Bool
@@ -70,14 +71,14 @@ module _ (R W E : Type 0) {S : Type 0} (files : S → Files) (opened : S → Lis
     pub plain : AllPlain runs.runs.did.replies
 
   -- what such a run came to
-  abbrev pub course_of : {script : List ℕ} {held : Held} {start : History (List ℕ)} {ended : Ended R W E S} →
+  abbrev pub course_of : {script : List ℕ} {held : Held} {start : History (List ℕ)} {ended : Ended R W E F S} →
       RunOf script held start ended → Course
   course_of run = record { replies = run.runs.runs.did.replies; found = run.found; state = run.runs.now }
 
   -- Of two such runs one took the beginning of the other's course, and one wrote a beginning of what the other wrote,
   -- to the output and as notes, if both explain. They wrote the same output and have the same status if both ended with
   -- `Ok`, or if the reads of both stopped at the same byte.
-  pub record WritesAlike {script : List ℕ} {held : Held} {start : History (List ℕ)} {ended ended' : Ended R W E S}
+  pub record WritesAlike {script : List ℕ} {held : Held} {start : History (List ℕ)} {ended ended' : Ended R W E F S}
       (run : RunOf script held start ended) (other : RunOf script held start ended') : Type 0 where
     pub course : Begins (course_of run) (course_of other) ⊎ Begins (course_of other) (course_of run)
     pub written : OneBegins (taken ended.streams.output) (taken ended'.streams.output)
@@ -92,5 +93,5 @@ module _ (R W E : Type 0) {S : Type 0} (files : S → Files) (opened : S → Lis
   -- two runs of one script, from one state, over folders that had the same to hand over, write alike
   abbrev pub OneOutput : Type 0
   OneOutput =
-      (script : List ℕ) (held : Held) (start : History (List ℕ)) (ended ended' : Ended R W E S)
+      (script : List ℕ) (held : Held) (start : History (List ℕ)) (ended ended' : Ended R W E F S)
       (run : RunOf script held start ended) (other : RunOf script held start ended') → WritesAlike run other

@@ -15,7 +15,6 @@ use Rattle.s2calc.specs.Run.{Steps, came_out, WereReadWhole}
 use Rattle.s2calc.specs.Calls.{Call}
 use Rattle.s2calc.specs.Buffered.{Buffered}
 use Rattle.s2calc.specs.Moments.{Moment, bytes_read, reads_seen, begun_in, ended_in}
-use Rattle.s2calc.specs.Order.{HasEnded}
 use Rattle.s2process.specs.Ends.{NoneFailed, LastFlushed, LastFailed, ReadsLast, ReadsStop, ReadsWell}
 use Rattle.s2process.specs.Order.{EachMay}
 
@@ -55,20 +54,21 @@ module _ {start now : World} {written waiting : List ℕ} (script : List ℕ) (r
     pub done_are : (did.done ≡ before) ⊎ (did.done ≡ before ++ line ∷ [])
     pub none_left : did.left ≡ []
 
-module _ {start now : World} {written waiting : List ℕ} (did : Did start now written waiting) {W S : Type 0}
-    (moments : List (Moment W S)) where
+module _ {start now : World} {written waiting : List ℕ} (did : Did start now written waiting) where
   -- What a run did, by its result: which lines of the script, which is what the reads gave, were carried out, how the
   -- reads and the calls of the writer ended, and if nothing waits in the buffer. After `Memory` nothing was called.
   abbrev pub Ends : List ℕ → List (Option ℕ) → List Call → Result Tally RunFault → Type 0
   Ends script reads called (Ok tally) = AllLines script reads did × (tally ≡ tally_of did.replies) × (waiting ≡ [])
-      × HasEnded moments × LastFlushed called
+      × LastFlushed called
   Ends script reads called (Err Input) =
       WholeLines script did × (waiting ≡ []) × ReadsStop reads × NoneFailed called
   Ends script reads called (Err Output) = (InsideAnswer script reads did ⊎ AllLines script reads did
       ⊎ WholeLines script did ⊎ BesideFile script reads did)
       × ReadsWell reads × LastFailed called
-  Ends script reads called (Err Memory) = (did.done ≡ []) × (moments ≡ []) × (reads ≡ []) × (called ≡ [])
+  Ends script reads called (Err Memory) = (did.done ≡ []) × (reads ≡ []) × (called ≡ [])
 
+module _ {start now : World} {written waiting : List ℕ} (did : Did start now written waiting) {W S : Type 0}
+    (moments : List (Moment W S)) where
   -- How many lines began and ended: each that was carried out, but after `Output` the last of them may not have ended,
   -- as its answer wasn't written or a flush after it failed.
   abbrev pub Counts : Result Tally RunFault → Type 0
@@ -85,7 +85,7 @@ pub record RunsListed {V S : Type 0} (taken : V → List ℕ) (called : V → Li
   pub did : Did start now (taken below) waiting
   pub read : bytes_read moments ≡ script
   pub made : reads_seen moments ≡ reads
-  pub ends : Ends did moments script reads (called below) result
+  pub ends : Ends did script reads (called below) result
   pub each : EachMay taken called files start did.replies [] moments
   pub counts : Counts did moments result
   pub few_wait : length waiting ≤ MOST_WAITING

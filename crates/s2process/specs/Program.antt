@@ -1,6 +1,6 @@
 -- What the program did, by what it was asked for.
 use Rattle.std.specs.Prelude.{◌≡◌, ℕ, ◌⊎◌, Bool, true, false, not, List, [], ◌∷◌, ◌++◌, map}
-use Rattle.std.specs.Prelude.{replicate, string_bytes, Some, Result, Ok, Err}
+use Rattle.std.specs.Prelude.{replicate, string_bytes, Result, Ok, Err}
 use Rattle.s2edit.specs.History.{History, untouched}
 use Rattle.s2edit.specs.declared.TheConstants.{REGISTERS}
 use Rattle.s2shelf.specs.Shelf.{Files}
@@ -22,6 +22,7 @@ use Rattle.s2calc.specs.Program.{cell_reply, status_of, status_of_answer}
 use Rattle.s2calc.specs.Replies.{Reply, Says, text_of, is_refusal}
 use Rattle.s2calc.specs.World.{World, world}
 use Rattle.s2process.specs.declared.ended.Ended.{Ended}
+use Rattle.s2process.specs.declared.folders.Opening.TheVariants.{Unopened, Failed, Opened}
 use Rattle.s2process.specs.declared.writer.ListedWriter.{ListedWriter}
 use Rattle.s2process.specs.Ends.{LastFlushed, LastFailed}
 use Rattle.s2process.specs.Errors.{fault_line, fault_line_of, usage_text, misnamed_lines, Tells, IsSaidAfter}
@@ -38,7 +39,11 @@ Shows reply bytes calls (Ok passed) = (passed ≡ not (is_refusal reply)) × (by
 Shows reply bytes calls (Err fault) =
     (fault ≡ Output) × ((rest : List ℕ) × (text_of reply ≡ bytes ++ rest)) × LastFailed calls
 
-module _ {R W E S : Type 0} (ended : Ended R W E S) where
+module _ {R W E F S : Type 0} (ended : Ended R W E F S) where
+  -- no folder was opened: that would have used up these folders, which are given back
+  abbrev pub NoneOpened : Type 0
+  NoneOpened = (folders : F) × (ended.folder ≡ Unopened folders)
+
   -- standard error got this text and nothing else, or a beginning of it, and then a call of it failed
   abbrev pub GetsAlone : List ℕ → Type 0
   GetsAlone text = Tells text (taken ended.streams.errors) (called ended.streams.errors)
@@ -51,16 +56,17 @@ module _ {R W E S : Type 0} (ended : Ended R W E S) where
     pub status_is : ended.status ≡ 3
 
   -- the words of the command line made no sense, and this is what is wrong with them: nothing was read from the input
-  -- or written to the output
+  -- or written to the output, and no folder was opened
   pub record ShowsUsage (wrong : List ℕ) : Type 0 where
     pub unread : Unread ended.streams
     pub unwritten : Unwritten ended.streams
+    pub unopened : NoneOpened
     pub tells : GetsAlone (usage_text wrong)
     pub status_is : ended.status ≡ 2
 
   -- An answer was written and flushed, one that it may be; or a beginning of it was, and then a write or the flush
   -- failed. Nothing was read from the input. If the answer is a refusal, this is what standard error gets.
-  pub record Answers (MayBe : Reply → Type 0) (said : List ℕ) : Type 0 where
+  pub record ShowsAnswer (MayBe : Reply → Type 0) (said : List ℕ) : Type 0 where
     pub reply : Reply
     pub may_be : MayBe reply
     pub result : Result Bool RunFault
@@ -71,11 +77,15 @@ module _ {R W E S : Type 0} (ended : Ended R W E S) where
     pub tells : GetsAlone text
     pub status_is : ended.status ≡ status_of_answer result
 
+  -- the answer was given without a folder
+  abbrev pub AsksNoFolder : (Reply → Type 0) → Type 0
+  AsksNoFolder MayBe = NoneOpened × ShowsAnswer MayBe []
+
   -- what a program did that was asked for no job
   abbrev pub Stops : Stop → Type 0
-  Stops (Help text) = Answers (λ reply. reply ≡ Says (string_bytes text)) []
+  Stops (Help text) = AsksNoFolder (λ reply. reply ≡ Says (string_bytes text))
   Stops (Usage text) = ShowsUsage (string_bytes text)
-  Stops NoMemory = NotBegun
+  Stops NoMemory = NotBegun × NoneOpened
 
   -- standard error got the notes on what a run did, as far as it took them, and then this text, as far as it took that
   pub record TellsNotes {start now : World} {written waiting : List ℕ} (did : Did start now written waiting)
@@ -90,23 +100,31 @@ module _ {R W E S : Type 0} (ended : Ended R W E S) where
     pub called_are : called ended.streams.errors ≡ noted ++ calls
     pub tells : Tells text bytes calls
 
+-- `opened` says that a folder was opened at a path
+module _ {R W E F S : Type 0} (opened : S → List ℕ → Type 0) (ended : Ended R W E F S) where
+  -- there was no memory to begin with, and no folder was asked for a file: none was opened, or there was no memory to
+  -- open one, or the one at this path was opened, and nothing else was asked of it
+  abbrev pub NotBegunAt : List ℕ → Type 0
+  NotBegunAt path = NotBegun ended × (NoneOpened ended ⊎ (ended.folder ≡ Failed)
+      ⊎ ((folder : S) × opened folder path × (ended.folder ≡ Opened folder)))
+
 -- `files` says what is known of a folder, and `opened` that it was opened at a path
-module _ {R W E S : Type 0} (files : S → Files) (opened : S → List ℕ → Type 0) (ended : Ended R W E S) where
+module _ {R W E F S : Type 0} (files : S → Files) (opened : S → List ℕ → Type 0) (ended : Ended R W E F S) where
   -- the folder at this path was asked for the answer; or there was no memory to begin with
-  abbrev pub Asks : List ℕ → (Files → Reply → Files → Type 0) → List ℕ → Type 0
-  Asks path MayBe said = NotBegun ended
-      ⊎ ((first : S) × (last : S) × opened first path × (ended.folder ≡ Some last)
-      × Answers ended (λ reply. MayBe (files first) reply (files last)) said)
+  abbrev pub AsksFolder : List ℕ → (Files → Reply → Files → Type 0) → List ℕ → Type 0
+  AsksFolder path MayBe said = NotBegunAt opened ended path
+      ⊎ ((first : S) × (last : S) × opened first path × (ended.folder ≡ Opened last)
+      × ShowsAnswer ended (λ reply. MayBe (files first) reply (files last)) said)
 
 -- `moments` are what was seen of the run
-module _ {R W E S : Type 0} (files : S → Files) (opened : S → List ℕ → Type 0)
-    (moments : List (Moment (Buffered (ListedWriter W)) S)) (ended : Ended R W E S) where
+module _ {R W E F S : Type 0} (files : S → Files) (opened : S → List ℕ → Type 0)
+    (moments : List (Moment (Buffered (ListedWriter W)) S)) (ended : Ended R W E F S) where
   -- what was done from this state of the editor, with the folder at this path, and with notes if it explains
   pub record RunsFrom (start : History (List ℕ)) (path : List ℕ) (explains : Bool) : Type 0 where
     pub first : S
     pub last : S
     pub at_path : opened first path
-    pub folder_is : ended.folder ≡ Some last
+    pub folder_is : ended.folder ≡ Opened last
     -- the state of the editor when the run ended
     pub now : History (List ℕ)
     -- the bytes of answers that still waited when the run ended, and are lost: none but after `Output`
@@ -118,27 +136,32 @@ module _ {R W E S : Type 0} (files : S → Files) (opened : S → List ℕ → T
     pub tells_notes : explains ≡ true → TellsNotes ended runs.did (fault_line_of result)
     pub status_is : ended.status ≡ status_of result
 
+  -- the script was run from this state of the editor; or there was no memory to begin with
+  abbrev pub MayRunFrom : History (List ℕ) → List ℕ → Bool → Type 0
+  MayRunFrom start path explains =
+      (NotBegunAt opened ended path × (moments ≡ [])) ⊎ RunsFrom start path explains
+
   -- the script was run, with a new editor; or there was no memory to begin with
   abbrev pub RunsScript : ℕ → ℕ → List ℕ → Bool → Type 0
-  RunsScript limit depth path explains =
-      (NotBegun ended × (moments ≡ [])) ⊎ RunsFrom (untouched limit depth (replicate REGISTERS [])) path explains
+  RunsScript limit depth path explains = MayRunFrom (untouched limit depth (replicate REGISTERS [])) path explains
 
   -- what was done for a job
   abbrev pub DoesJob : Job → Type 0
   DoesJob (Run limit depth dir explain prompt) = RunsScript limit depth (string_bytes dir) explain
-  DoesJob (Cell word) = Answers ended (λ reply. reply ≡ cell_reply (string_bytes word)) []
+  DoesJob (Cell word) = AsksNoFolder ended (λ reply. reply ≡ cell_reply (string_bytes word))
   DoesJob (Check dir name) =
-      Asks files opened ended (string_bytes dir) (Checks (string_bytes name)) (misnamed_lines (string_bytes name ∷ []))
+      AsksFolder files opened ended (string_bytes dir) (Checks (string_bytes name))
+      (misnamed_lines (string_bytes name ∷ []))
   DoesJob (Draw dir name curve) =
-      Asks files opened ended (string_bytes dir) (Draws (string_bytes name) curve)
+      AsksFolder files opened ended (string_bytes dir) (Draws (string_bytes name) curve)
       (misnamed_lines (string_bytes name ∷ []))
   DoesJob (Overlay dir names curve) =
-      Asks files opened ended (string_bytes dir) (Overlays (map string_bytes names.items) curve)
+      AsksFolder files opened ended (string_bytes dir) (Overlays (map string_bytes names.items) curve)
       (misnamed_lines (map string_bytes names.items))
   DoesJob (Fit dir names) =
-      Asks files opened ended (string_bytes dir) (Fits (map string_bytes names.items))
+      AsksFolder files opened ended (string_bytes dir) (Fits (map string_bytes names.items))
       (misnamed_lines (map string_bytes names.items))
-  DoesJob (DrawCells words curve) = Answers ended (DrawsWords (map string_bytes words.items) curve) []
+  DoesJob (DrawCells words curve) = AsksNoFolder ended (DrawsWords (map string_bytes words.items) curve)
 
   -- what the program did: the job that it was asked for, or why it was asked for none
   abbrev pub Does : Result Job Stop → Type 0

@@ -7,6 +7,7 @@ ghost use Rattle.s2process.specs.Streams.{AreNew};
 ghost use Rattle.s2process.specs.Program.{NotBegun, ShowsUsage};
 
 use crate::errors::{tell_failure, tell_of_answer, tell_usage};
+use crate::folders::Opening;
 use crate::streams::Streams;
 use crate::writer::ListedWriter;
 use s2calc::{RunFault, Sink, Tally, answer_status, status};
@@ -14,35 +15,38 @@ use std::alloc::Global;
 
 /// How the program has ended.
 #[derive(Drop)]
-pub struct Ended<R, W, E, S> {
+pub struct Ended<R, W, E, F, S> {
     /// The exit status.
     pub status: u8,
     /// The streams, with all their calls.
     pub streams: Streams<R, W, E>,
-    /// The folder, if one was opened.
-    pub folder: Option<S>,
+    /// The folder that was opened, or who would have opened one.
+    pub folder: Opening<F, S>,
 }
 
 /// Ends a program that had no memory to begin with.
-pub(crate) fn not_begun<R: Drop, W: Drop, E: Sink + Drop, S: Drop>(
+pub(crate) fn not_begun<R: Drop, W: Drop, E: Sink + Drop, F: Drop, S: Drop>(
     mut streams: Streams<R, W, E>,
-) -> Ended<R, W, E, S>
+    folder: Opening<F, S>,
+) -> Ended<R, W, E, F, S>
     requires { AreNew streams }
-    ensures { NotBegun result }
+    ensures begun { NotBegun result }
+    ensures folder { result.folder ≡ folder }
 {
     let status = end_run(&Err(RunFault::Memory), &mut streams.errors);
     Ended {
         status,
         streams,
-        folder: None,
+        folder,
     }
 }
 
 /// Ends a program whose words made no sense.
-pub(crate) fn end_usage<R: Drop, W: Drop, E: Sink + Drop, S: Drop>(
+pub(crate) fn end_usage<R: Drop, W: Drop, E: Sink + Drop, F: Drop, S: Drop>(
     wrong: &[u8],
     mut streams: Streams<R, W, E>,
-) -> Ended<R, W, E, S>
+    folders: F,
+) -> Ended<R, W, E, F, S>
     requires { AreNew streams }
     ensures { ShowsUsage result wrong.now }
 {
@@ -50,7 +54,7 @@ pub(crate) fn end_usage<R: Drop, W: Drop, E: Sink + Drop, S: Drop>(
     Ended {
         status: 2,
         streams,
-        folder: None,
+        folder: Opening::Unopened(folders),
     }
 }
 

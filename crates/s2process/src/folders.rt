@@ -16,3 +16,14 @@ pub trait Folders {
     fn open(self, path: &str) -> Result<Self::Folder, AllocError>
         ensures { IfOk result (λ folder. opened folder path.now) };
 }
+
+/// What became of the folders that a program was given.
+#[derive(Drop)]
+pub enum Opening<F, S> {
+    /// None was opened: this is who would have opened one.
+    Unopened(F),
+    /// There was no memory to open one.
+    Failed,
+    /// This one was opened.
+    Opened(S),
+}

@@ -7,7 +7,7 @@ use crate::folders::Folders;
 /// that the input gave, up to its end; the output took all answers, and nothing else, and was flushed; no call of it
 /// failed. So nothing waits, and nothing is lost.
 pub fn all_answered<R, W, E, F: Folders>()
-    ensures { AllAnswered R W E F.Folder.files F.opened }
+    ensures { AllAnswered R W E F F.Folder.files F.opened }
 {}
 
 /// What the process writes is fixed by the bytes of its script and by what it finds in files, however the reads are
@@ -23,5 +23,5 @@ pub fn all_answered<R, W, E, F: Folders>()
 /// this content is what it gets, at most a byte more than the longest union file has. The paths of the folders and what
 /// else they hold don't matter.
 pub fn one_output<R, W, E, F: Folders>()
-    ensures { OneOutput R W E F.Folder.files F.opened }
+    ensures { OneOutput R W E F F.Folder.files F.opened }
 {}

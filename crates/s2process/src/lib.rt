@@ -24,7 +24,7 @@ mod witness;
 mod writer;
 
 pub use crate::ended::Ended;
-pub use crate::folders::Folders;
+pub use crate::folders::{Folders, Opening};
 pub use crate::process::program;
 pub use crate::reader::ListedReader;
 pub use crate::run::{run_explained_listed, run_listed};

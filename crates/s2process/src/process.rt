@@ -10,7 +10,7 @@ use crate::answers::{
     answer_overlay,
 };
 use crate::ended::{Ended, end_usage, not_begun};
-use crate::folders::Folders;
+use crate::folders::{Folders, Opening};
 use crate::reader::ListedReader;
 use crate::scripts::run_script;
 use crate::streams::Streams;
@@ -30,7 +30,7 @@ pub fn program<R: Source + Drop, W: Sink + Drop, E: Sink + Drop, F: Folders + Dr
     streams: Streams<R, W, E>,
     folders: F,
     witness: &mut Witness<ListedReader<R>, AnswerBuffer<ListedWriter<W>>, F::Folder>,
-) -> Ended<R, W, E, F::Folder>
+) -> Ended<R, W, E, F, F::Folder>
     requires range { IfOk asked IsInRange }
     requires nothing_called { AreNew streams }
     requires nothing_seen { moments_of witness.old ≡ [] }
@@ -38,7 +38,7 @@ pub fn program<R: Source + Drop, W: Sink + Drop, E: Sink + Drop, F: Folders + Dr
 {
     match asked {
         Ok(job) => answer(alloc, job, streams, folders, witness),
-        Err(stop) => answer_stop(alloc, stop, streams),
+        Err(stop) => answer_stop(alloc, stop, streams, folders),
     }
 }
 
@@ -49,7 +49,7 @@ fn answer<R: Source + Drop, W: Sink + Drop, E: Sink + Drop, F: Folders + Drop>(
     streams: Streams<R, W, E>,
     folders: F,
     witness: &mut Witness<ListedReader<R>, AnswerBuffer<ListedWriter<W>>, F::Folder>,
-) -> Ended<R, W, E, F::Folder>
+) -> Ended<R, W, E, F, F::Folder>
     requires range { IsInRange job }
     requires nothing_called { AreNew streams }
     requires nothing_seen { moments_of witness.old ≡ [] }
@@ -72,9 +72,9 @@ fn answer<R: Source + Drop, W: Sink + Drop, E: Sink + Drop, F: Folders + Drop>(
                 folders,
                 witness,
             ),
-            Err(_) => not_begun(streams),
+            Err(_) => not_begun(streams, Opening::Unopened(folders)),
         },
-        Job::Cell { word } => answer_cell(alloc, word.as_str(), streams),
+        Job::Cell { word } => answer_cell(alloc, word.as_str(), streams, folders),
         Job::Check { dir, name } => answer_check(alloc, dir.as_str(), &name, streams, folders),
         Job::Draw { dir, name, curve } => {
             answer_draw(alloc, dir.as_str(), &name, curve, streams, folders)
@@ -91,23 +91,24 @@ fn answer<R: Source + Drop, W: Sink + Drop, E: Sink + Drop, F: Folders + Drop>(
             answer_fit(alloc, dir.as_str(), names.as_slice(), streams, folders)
         }
         Job::DrawCells { words, curve } => {
-            answer_draw_cells(alloc, words.as_slice(), curve, streams)
+            answer_draw_cells(alloc, words.as_slice(), curve, streams, folders)
         }
     }
 }
 
 /// Shows the help that was asked for, or says what is wrong with the words.
-fn answer_stop<R: Drop, W: Sink + Drop, E: Sink + Drop, S: Drop>(
+fn answer_stop<R: Drop, W: Sink + Drop, E: Sink + Drop, F: Drop, S: Drop>(
     alloc: Global,
     stop: Stop,
     streams: Streams<R, W, E>,
-) -> Ended<R, W, E, S>
+    folders: F,
+) -> Ended<R, W, E, F, S>
     requires nothing_called { AreNew streams }
     ensures { Stops result stop }
 {
     match stop {
-        Stop::Help(text) => answer_help(alloc, text.as_str(), streams),
-        Stop::Usage(wrong) => end_usage(wrong.as_bytes(), streams),
-        Stop::Memory => not_begun(streams),
+        Stop::Help(text) => answer_help(alloc, text.as_str(), streams, folders),
+        Stop::Usage(wrong) => end_usage(wrong.as_bytes(), streams, folders),
+        Stop::Memory => not_begun(streams, Opening::Unopened(folders)),
     }
 }

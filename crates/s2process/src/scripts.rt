@@ -1,11 +1,11 @@
 //! The program's run of a script.
-ghost use Rattle.std.specs.Prelude.{◌≡◌, [], ◌⊎◌, false, true};
+ghost use Rattle.std.specs.Prelude.{◌≡◌, [], false, true};
 ghost use Rattle.s2process.specs.Listed.{calls_of, calls_of_reader, moments_of};
-ghost use Rattle.s2process.specs.Program.{NotBegun, RunsFrom};
+ghost use Rattle.s2process.specs.Program.{MayRunFrom, RunsFrom};
 ghost use Rattle.s2process.specs.Streams.{AreNew};
 
 use crate::ended::{Ended, end_run, not_begun};
-use crate::folders::Folders;
+use crate::folders::{Folders, Opening};
 use crate::reader::ListedReader;
 use crate::run::{run_explained_listed, run_listed};
 use crate::streams::Streams;
@@ -18,7 +18,7 @@ use std::alloc::Global;
 
 /// Runs the script on standard input, from this state of an editor, over the folder at a path; and if asked, says why
 /// lines are refused.
-pub(crate) fn run_script<R: Source + Drop, W: Sink + Drop, E: Sink + Drop, F: Folders>(
+pub(crate) fn run_script<R: Source + Drop, W: Sink + Drop, E: Sink + Drop, F: Folders + Drop>(
     alloc: Global,
     editor: Editor,
     dir: &str,
@@ -26,14 +26,13 @@ pub(crate) fn run_script<R: Source + Drop, W: Sink + Drop, E: Sink + Drop, F: Fo
     streams: Streams<R, W, E>,
     folders: F,
     witness: &mut Witness<ListedReader<R>, AnswerBuffer<ListedWriter<W>>, F::Folder>,
-) -> Ended<R, W, E, F::Folder>
+) -> Ended<R, W, E, F, F::Folder>
     requires nothing_called { AreNew streams }
     requires nothing_seen { moments_of witness.old ≡ [] }
-    ensures { (NotBegun result × (moments_of witness.new ≡ []))
-        ⊎ RunsFrom F.Folder.files F.opened (moments_of witness.new) result editor dir.now explain }
+    ensures { MayRunFrom F.Folder.files F.opened (moments_of witness.new) result editor dir.now explain }
 {
     let Ok(folder) = folders.open(dir) else {
-        return not_begun(streams);
+        return not_begun(streams, Opening::Failed);
     };
     if explain {
         explain_over(alloc, editor, folder, streams, witness)
@@ -43,17 +42,16 @@ pub(crate) fn run_script<R: Source + Drop, W: Sink + Drop, E: Sink + Drop, F: Fo
 }
 
 /// Runs the script over a folder.
-fn run_over<R: Source + Drop, W: Sink + Drop, E: Sink + Drop, S: Shelf + Drop>(
+fn run_over<R: Source + Drop, W: Sink + Drop, E: Sink + Drop, F: Drop, S: Shelf + Drop>(
     alloc: Global,
     editor: Editor,
     folder: S,
     streams: Streams<R, W, E>,
     witness: &mut Witness<ListedReader<R>, AnswerBuffer<ListedWriter<W>>, S>,
-) -> Ended<R, W, E, S>
+) -> Ended<R, W, E, F, S>
     requires nothing_called { AreNew streams }
     requires nothing_seen { moments_of witness.old ≡ [] }
-    ensures { (NotBegun result × (moments_of witness.new ≡ []))
-        ⊎ RunsFrom S.files (λ first path. first ≡ folder) (moments_of witness.new) result editor [] false }
+    ensures { MayRunFrom S.files (λ first path. first ≡ folder) (moments_of witness.new) result editor [] false }
 {
     let Streams {
         input,
@@ -62,26 +60,28 @@ fn run_over<R: Source + Drop, W: Sink + Drop, E: Sink + Drop, S: Shelf + Drop>(
     } = streams;
     match AnswerBuffer::new(alloc, output) {
         Ok(answers) => run_buffered(alloc, editor, folder, input, answers, errors, witness),
-        Err(output) => not_begun(Streams {
-            input,
-            output,
-            errors,
-        }),
+        Err(output) => not_begun(
+            Streams {
+                input,
+                output,
+                errors,
+            },
+            Opening::Opened(folder),
+        ),
     }
 }
 
 /// Runs the script over a folder, and says why lines are refused.
-fn explain_over<R: Source + Drop, W: Sink + Drop, E: Sink + Drop, S: Shelf + Drop>(
+fn explain_over<R: Source + Drop, W: Sink + Drop, E: Sink + Drop, F: Drop, S: Shelf + Drop>(
     alloc: Global,
     editor: Editor,
     folder: S,
     streams: Streams<R, W, E>,
     witness: &mut Witness<ListedReader<R>, AnswerBuffer<ListedWriter<W>>, S>,
-) -> Ended<R, W, E, S>
+) -> Ended<R, W, E, F, S>
     requires nothing_called { AreNew streams }
     requires nothing_seen { moments_of witness.old ≡ [] }
-    ensures { (NotBegun result × (moments_of witness.new ≡ []))
-        ⊎ RunsFrom S.files (λ first path. first ≡ folder) (moments_of witness.new) result editor [] true }
+    ensures { MayRunFrom S.files (λ first path. first ≡ folder) (moments_of witness.new) result editor [] true }
 {
     let Streams {
         input,
@@ -91,22 +91,28 @@ fn explain_over<R: Source + Drop, W: Sink + Drop, E: Sink + Drop, S: Shelf + Dro
     match AnswerBuffer::new(alloc, output) {
         Ok(answers) => match NoteWriter::new(alloc, errors) {
             Ok(notes) => explain_buffered(alloc, editor, folder, input, answers, notes, witness),
-            Err(errors) => not_begun(Streams {
-                input,
-                output: answers.into_writer(),
-                errors,
-            }),
+            Err(errors) => not_begun(
+                Streams {
+                    input,
+                    output: answers.into_writer(),
+                    errors,
+                },
+                Opening::Opened(folder),
+            ),
         },
-        Err(output) => not_begun(Streams {
-            input,
-            output,
-            errors,
-        }),
+        Err(output) => not_begun(
+            Streams {
+                input,
+                output,
+                errors,
+            },
+            Opening::Opened(folder),
+        ),
     }
 }
 
 /// Runs the script over a folder and a buffer in which nothing waits.
-fn run_buffered<R: Source + Drop, W: Sink + Drop, E: Sink + Drop, S: Shelf + Drop>(
+fn run_buffered<R: Source + Drop, W: Sink + Drop, E: Sink + Drop, F: Drop, S: Shelf + Drop>(
     alloc: Global,
     mut editor: Editor,
     mut folder: S,
@@ -114,7 +120,7 @@ fn run_buffered<R: Source + Drop, W: Sink + Drop, E: Sink + Drop, S: Shelf + Dro
     mut answers: AnswerBuffer<ListedWriter<W>>,
     mut errors: ListedWriter<E>,
     witness: &mut Witness<ListedReader<R>, AnswerBuffer<ListedWriter<W>>, S>,
-) -> Ended<R, W, E, S>
+) -> Ended<R, W, E, F, S>
     requires nothing_read { calls_of_reader input ≡ [] }
     requires nothing_written { calls_of answers.writer ≡ [] }
     requires nothing_waits { answers.waiting ≡ [] }
@@ -138,12 +144,12 @@ fn run_buffered<R: Source + Drop, W: Sink + Drop, E: Sink + Drop, S: Shelf + Dro
             output: answers.into_writer(),
             errors,
         },
-        folder: Some(folder),
+        folder: Opening::Opened(folder),
     }
 }
 
 /// The same, with notes.
-fn explain_buffered<R: Source + Drop, W: Sink + Drop, E: Sink + Drop, S: Shelf + Drop>(
+fn explain_buffered<R: Source + Drop, W: Sink + Drop, E: Sink + Drop, F: Drop, S: Shelf + Drop>(
     alloc: Global,
     mut editor: Editor,
     mut folder: S,
@@ -151,7 +157,7 @@ fn explain_buffered<R: Source + Drop, W: Sink + Drop, E: Sink + Drop, S: Shelf +
     mut answers: AnswerBuffer<ListedWriter<W>>,
     mut notes: NoteWriter<ListedWriter<E>>,
     witness: &mut Witness<ListedReader<R>, AnswerBuffer<ListedWriter<W>>, S>,
-) -> Ended<R, W, E, S>
+) -> Ended<R, W, E, F, S>
     requires nothing_read { calls_of_reader input ≡ [] }
     requires nothing_written { calls_of answers.writer ≡ [] }
     requires nothing_waits { answers.waiting ≡ [] }
@@ -178,6 +184,6 @@ fn explain_buffered<R: Source + Drop, W: Sink + Drop, E: Sink + Drop, S: Shelf +
             output: answers.into_writer(),
             errors,
         },
-        folder: Some(folder),
+        folder: Opening::Opened(folder),
     }
 }

@@ -7,6 +7,7 @@ pub returns : goal.returns
 returns g c = record {
   unread = c.requires.unread;
   unwritten = c.requires.unwritten;
+  unopened = (c.args.folders, refl);
   tells = given_alone c.args.streams.errors c.tell_usage.new.errors (usage_text c.args.wrong.now) c.requires.untold
       c.tell_usage.ensures;
   status_is = refl;
