@@ -6,16 +6,15 @@ text of another. There the functions that they call have a hole in place of a pr
 of these alone. A mutant that isn't refused so is checked by itself, with those that it calls; and if it names no
 function, with the whole crate. The next check of the copy begins with what this one proved.
 
-`.ci/run` always tries the gravest, which say so, and then some of the others, in an order that the commit's hash gives,
-for BUDGET seconds of processor time. --all tries all. Then, and if mutants are named, their functions have to be proved
-without them, since `rt ci` may not have judged these sources. The last line is 'N passed, M failed'. A mutant whose
-check was killed, or judged nothing, was not tried: that is another thing than one that isn't refused, and fails too.
+`.ci/run` tries the gravest, which say so. --all tries all. Then, and if mutants are named, their functions have to be
+proved without them, since `rt ci` may not have judged these sources. The last line is 'N passed, M failed'. A mutant
+whose check was killed, or judged nothing, was not tried: that is another thing than one that isn't refused, and fails
+too.
 """
 import collections
 import concurrent.futures
 import copy
 import os
-import random
 import re
 import resource
 import shutil
@@ -29,8 +28,6 @@ from mutant_texts import ALWAYS, FUNCTION, all_functions, functions_at, function
 sys.path.insert(0, str(Path(__file__).resolve().parents[2] / "tools"))
 from over_gate import TOP, crate_of, has_libraries, words_of_check  # noqa: E402
 
-BUDGET = 180
-AT_ONCE = 4
 ENDED = re.compile(r"^only=\d+ (?:proved|holes)=\d+$")
 HOLE = """use Rattle.{crate}.proofs.{path}.Statement.{{statement}}
 
@@ -255,18 +252,6 @@ def processor_time():
     return used.ru_utime + used.ru_stime
 
 
-def drawn(others):
-    """What was found of some of these mutants, in an order of the commit's own, until the time is used up."""
-    commit = subprocess.run(["git", "rev-parse", "HEAD"], cwd=TOP, capture_output=True, text=True).stdout.strip()
-    others = random.Random(commit).sample(others, len(others))
-    found, begun = collections.Counter(), processor_time()
-    while others and processor_time() - begun < BUDGET:
-        found += tried(others[:AT_ONCE], is_proved=True)
-        others = others[AT_ONCE:]
-    print(f"{sum(found.values())} drawn by the commit {commit[:12]}; {len(others)} left to --tier full", flush=True)
-    return found
-
-
 def named(names):
     """The mutants with these names."""
     chosen = [it for it in mutants() if it.name in names]
@@ -283,9 +268,7 @@ def main():
     elif sys.argv[1:]:
         found = tried(mutants())
     else:
-        waiting = mutants()
-        found = tried([it for it in waiting if it.is_grave], is_proved=True)
-        found += drawn([it for it in waiting if not it.is_grave and it.functions])
+        found = tried([it for it in mutants() if it.is_grave], is_proved=True)
     failed = found[NOT_REFUSED] + found[NOT_TRIED]
     print(f"{found[REFUSED]} refused, {found[NOT_REFUSED]} not refused, {found[NOT_TRIED]} not tried,"
           f" in {processor_time() / 60:.0f} minutes of processor time")

@@ -4,7 +4,7 @@ A mutant is a file with lines 'file: PATH', and after each such line pairs of on
 more lines 'new: TEXT'. The old text stands in that file of the folder once. Beside them it may have these lines:
 
     function: PATH    the function that the prover has to refuse, if it isn't the one in which the old text stands
-    gate: always      `.ci/run` tries it each time, and not by lot
+    gate: always      `.ci/run` tries it
     test: NAME        the test that has to refuse it, since no contract can
     crate: NAME       the test is a row of this crate's table
 
