@@ -13,7 +13,7 @@ use Rattle.s2calc.specs.Run.{Steps}
 use Rattle.s2calc.specs.Laws.{IsPlain, AllPlain}
 use Rattle.s2calc.specs.LawsFound.{Held, MayComeOf, FoundIn, Asked, stored_by, asked_of, asked_by, Course, Begins}
 use Rattle.s2calc.proofs.FetchLemmas.{OneContent}
-use Rattle.s2calc.proofs.OneRun.{SameUse, one_line, GoesBack, all_back, Begun, begun_all, one_begins}
+use Rattle.s2calc.proofs.OneRun.{SameUse, one_line, HeldBefore, all_back, Begun, begun_all, same_heads, one_begins}
 
 -- these lines were carried out over a shelf of which nothing had been asked, found what it had to hand over, and led to
 -- this; none was answered `error memory` or `error file`
@@ -54,9 +54,6 @@ use_back final a c r (inl (f, g)) = subst (λ (h : Files). Reaches final h) f r
 use_back final a c r (inr (inl (name, f, g))) = found_back final (entry name f.1.finding) a c r f.1.asks.asked
 use_back final a c r (inr (inr (name, bytes, f, g))) = found_back final (entry name (Written bytes)) a c r f.found
 
-one_finding : (f g : Found) (fs : List Found) → f ∷ fs ≡ g ∷ fs → f.finding ≡ g.finding
-one_finding f g fs e = let same : f ≡ g = cc in ap (λ (h : Found). h.finding) same
-
 -- what a shelf lists in one line is one thing
 own_content : (a c : Files) (found : List Found) → a.found ≡ Some found → (name : List ℕ) → OneContent a a c c name
 own_content a c found known name x y f g =
@@ -64,9 +61,9 @@ own_content a c found known name x y f g =
     let other = entry name g.finding in
     let same : one ∷ found ≡ other ∷ found = same_Some (one ∷ found) (other ∷ found)
     (sym (listed one a c found f.asks.asked known) ∙ listed other a c found g.asks.asked known) in
-    (x, f.allows, subst (λ (h : Finding). Allows h x) (one_finding one other found same) f.allows)
+    (x, f.allows, subst (λ (h : Found). Allows h.finding x) (same_heads one other found found same).0 f.allows)
 
-back : (final : List Found) → GoesBack (λ w. Reaches final w.files)
+back : (final : List Found) → HeldBefore (λ w. Reaches final w.files)
 back final parsed a c x s p r found known = use_back final a.files c.files r
     (one_line a a c c x x refl (own_content a.files c.files found known) p p parsed s s).files found known
 

@@ -292,10 +292,10 @@ no_steps a c [] s = s
 no_steps a c (l ∷ ls) s = absurd s
 
 -- what holds after a plain line held before it
-abbrev pub GoesBack : (World → Type 0) → Type 0
-GoesBack Holds = (parsed : Parsed) (a c : World) (x : Reply) → StepBy parsed a x c → IsPlain x → Holds c → Holds a
+abbrev pub HeldBefore : (World → Type 0) → Type 0
+HeldBefore Holds = (parsed : Parsed) (a c : World) (x : Reply) → StepBy parsed a x c → IsPlain x → Holds c → Holds a
 
-pub all_back : (Holds : World → Type 0) → GoesBack Holds → (a c : World) (ls : List (List ℕ)) (rs : List Reply) →
+pub all_back : (Holds : World → Type 0) → HeldBefore Holds → (a c : World) (ls : List (List ℕ)) (rs : List Reply) →
     Steps a ls rs c → AllPlain rs → Holds c → Holds a
 all_back Holds back a c [] [] s p h = subst Holds s h
 all_back Holds back a c [] (x ∷ rs) s p h = absurd s
@@ -335,7 +335,7 @@ pub same_heads : {A : Type 0} (x y : A) (xs ys : List A) → x ∷ xs ≡ y ∷ 
 same_heads x y xs ys e = (cc, cc)
 
 -- `Like` relates the worlds of two runs, and goes on where both carry out a line and are to come to such ends
-module _ (Like : World → World → Type 0) (End Other : World → Type 0) (back : GoesBack End) (back' : GoesBack Other)
+module _ (Like : World → World → Type 0) (End Other : World → Type 0) (back : HeldBefore End) (back' : HeldBefore Other)
     (goes_on : (parsed : Parsed) (a b c d : World) (x y : Reply) → Like a b → End c → Other d
     → StepBy parsed a x c → StepBy parsed b y d → IsPlain x → IsPlain y → (x ≡ y) × Like c d) where
   -- of two runs that begin alike and carry out lines of one script, one is the beginning of the other

@@ -18,7 +18,7 @@ use Rattle.s2shelf.specs.declared.opened_file.OpenedFile.{OpenedFile}
 use Rattle.s2shelf.specs.declared.shelf.ShelfFault.TheVariants.{Device, Memory as NotEnough}
 use Rattle.s2shelf.proofs.Opened.{ReadsOf, found_whole, found_some}
 use Rattle.s2calc.specs.declared.refusal.Refusal.{Refusal}
-use Rattle.s2calc.specs.declared.refusal.Refusal.TheVariants.{File as NoFile, Memory, Session}
+use Rattle.s2calc.specs.declared.refusal.Refusal.TheVariants.{File as FileFailed, Memory, Session}
 use Rattle.s2calc.specs.Working.Sessions.{ReadAs}
 use Rattle.s2calc.specs.Sessions.{refusal_of, RefusesBytes, FetchesNoState}
 use Rattle.s2calc.proofs.FetchLemmas.{OneContent, turned, AskedFor, found_bytes, IsSettled, some_allowed, bytes_or_none}
@@ -76,7 +76,7 @@ module _ {F : Type 0} (remaining : F → Option (List ℕ)) (old opened new : Fi
 
 -- no session was read, since the file could not be closed
 pub none_closed : (old new : Files) (name : List ℕ) (state : History (List ℕ)) → Fails old new Device →
-    FetchesNoState name old state NoFile new
+    FetchesNoState name old state FileFailed new
 none_closed old new name state fails = inl (inr (inl (refl, inl fails)))
 
 pub none_closed_for_memory : (old new : Files) (name : List ℕ) (state : History (List ℕ)) →
