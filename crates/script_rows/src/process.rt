@@ -52,7 +52,7 @@ impl Sink for Shared<'_> {
 }
 
 /// A folder with the files of a row, at each path.
-#[derive(Clone, Copy)]
+#[derive(Drop)]
 struct RowFolders<'a> {
     alloc: Global,
     lines: &'a [&'a str],
