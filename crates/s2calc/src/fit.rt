@@ -2,8 +2,7 @@
 ghost use Rattle.std.specs.Prelude.{◌≡◌, ◌<◌, ◌++◌, ◌∷◌, [], ◌^◌, MatchResult, OnOk, OnErr, IfOk, ℕ, List, length, map};
 ghost use Rattle.std.specs.Prelude.{string_bytes, Err, ◌⊎◌};
 ghost use Rattle.s2calc.specs.Calls.{LastFlushed, LastFailed};
-ghost use Rattle.s2draw.specs.Zoom.{IsOnFaces, IsPart, zoomed, nowhere, bounds_from, part_around};
-ghost use Rattle.s2draw.specs.Zoom.{zoom_layers_from};
+ghost use Rattle.s2draw.specs.Zoom.{IsOnFaces, IsPart, zoomed, nowhere, bounds_from, zoom_layers_from};
 ghost use Rattle.s2calc.specs.Fetch.{FetchesUnion};
 ghost use Rattle.s2calc.specs.Overlay.{ReadsCells, ReadsLayers, RefusesFiles};
 ghost use Rattle.s2calc.specs.Fit.{Fits, FitsFiles, FitsAndTells};

@@ -1,5 +1,5 @@
 //! The answer with the picture of several files.
-ghost use Rattle.std.specs.Prelude.{◌≡◌, ◌<◌, ◌++◌, MatchResult, OnOk, OnErr, ℕ, List, length, map, string_bytes};
+ghost use Rattle.std.specs.Prelude.{◌≡◌, ◌++◌, MatchResult, OnOk, OnErr, ℕ, List, length, map, string_bytes};
 ghost use Rattle.std.specs.Prelude.{Err, ◌⊎◌};
 ghost use Rattle.s2calc.specs.Calls.{LastFlushed, LastFailed};
 ghost use Rattle.s2draw.specs.Overlay.{layer};

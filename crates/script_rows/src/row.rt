@@ -1,5 +1,4 @@
 //! A row: its script is run, its calls are made, and what they answered is found.
-ghost use Rattle.std.specs.Prelude.{◌<◌};
 
 use crate::calls::make;
 use crate::pieces::Pieces;
