@@ -2,17 +2,16 @@
 """That the tests refuse what they look for, where nothing else would tell: tests/run guards.
 
 Each end of a part that is no good one has to count as a failure in tests/run, each step in tests/steps.sh that fails or
-checks nothing, each page of SQL with an answer that isn't said, and each line of C that computes. Then each mistake
-below is made in a copy of the repository, and the check beside it, of tests/docs, tests/mutants or tools/statement, has
-to find more than it does without it. tests/c/table.py does the same for tools/calls. The last line is 'N passed, M
-failed'.
+checks nothing, each mutant there that isn't found, each check of texts that finds something or looks at nothing, each
+page of SQL with an answer that isn't said, and each line of C that computes. Then each mistake below is made in a copy
+of the repository, and the check beside it, of tests/docs, tests/mutants or tools/statement, has to find more than it
+does without it. tests/c/table.py does the same for tools/calls. The last line is 'N passed, M failed'.
 """
 import contextlib
 import importlib.machinery
 import importlib.util
 import io
 import re
-import shutil
 import subprocess
 import sys
 import tempfile
@@ -24,6 +23,7 @@ sys.path += [str(TOP / "tests" / "docs"), str(TOP / "tests" / "mutants")]
 import pages  # noqa: E402
 import rot  # noqa: E402
 import texts  # noqa: E402
+from checks import copy_tracked, has_wrong  # noqa: E402
 
 
 class Mistake(NamedTuple):
@@ -100,6 +100,10 @@ MISTAKES = [
             swapped("old: ", "old: once ")),
     Mistake("a mutant of a function that is gone", texts.misfits,
             "crates/s2cell/mutants/a_cell_for_its_last_leaf.edit", ended_by("function: nowhere\n")),
+    Mistake("a mutant of a test that is gone", texts.misfits, "tests/faults/let-through/a_long_union_not_saved.edit",
+            swapped("test: test_options_of_a_run", "test: test_options")),
+    Mistake("a mutant of a row that is gone", texts.misfits, "tests/faults/let-through/folder_has_no_file.edit",
+            swapped("test: Union files that are read from a folder", "test: Union files")),
 ]
 
 # What a part of the tests does, with what has to be counted: how many passed, and whether it has failed.
@@ -124,13 +128,22 @@ STEPS = [
     ("step a printf 'Ran 2 tests in 0.0s\\n\\nOK (skipped=1)\\n'", "1 passed, 0 failed"),
     ("need no-such-command a-package; step a test \"${packages[*]}\" = a-package", "1 passed, 0 failed"),
     ("install_packages() { false; }; packages=(none); need_packages; step a true", "0 passed, 1 failed"),
-    ("step a refuse 0", "0 passed, 1 failed"),
+    ("tests() { return 1; }; survives() { refuse; }; step a found edit", "1 passed, 0 failed"),
+    ("tests() { return 0; }; survives() { refuse; }; step a found edit", "0 passed, 1 failed"),
+    ("tests() { return 137; }; survives() { refuse; }; step a found edit", "0 passed, 1 failed"),
+    ("tests() { return 124; }; survives() { refuse; }; step a found edit", "0 passed, 1 failed"),
+    ("survives() { [ -z \"$1\" ] || return 124; }; step a found edit", "1 passed, 0 failed"),
+    ("survives() { return 1; }; try_mutants \"$work\"", "0 passed, 1 failed"),
+    ("survives() { return 0; }; try_mutants \"$work\"", "1 passed, 1 failed"),
     ("calls() { echo s2u_a | has_all_calls \"$work/h\" none; }; echo 's2u_a(' >\"$work/h\"; step a calls",
      "1 passed, 0 failed"),
     ("calls() { echo s2u_a | has_all_calls \"$work/h\" none; }; echo 's2u_a(s2u_b(' >\"$work/h\"; step a calls",
      "0 passed, 1 failed"),
     ("calls() { echo s2u_a | has_all_calls /dev/null none; }; step a calls", "0 passed, 1 failed"),
 ]
+
+# What a check of texts has looked at and found, with whether it has failed.
+CHECKS = [(3, [], False), (3, ["a mistake"], True), (0, [], True)]
 
 # Pages of examples for a command that answers each line by itself, and ends at one that says so, with whether they are
 # right.
@@ -162,17 +175,17 @@ class Counts:
 
 
 def ends_of_parts(counts, room):
-    """Runs each of these parts by tests/run, and one that isn't there, and measurements."""
+    """Runs each of these parts by tests/run, one that is given words, one that isn't there, and measurements."""
     loader = importlib.machinery.SourceFileLoader("run", str(TOP / "tests" / "run"))
     module = importlib.util.module_from_spec(importlib.util.spec_from_loader("run", loader))
     loader.exec_module(module)
     module.TOP = str(room)
 
-    def ended(name, tier, text):
+    def ended(name, tier, text, words=()):
         (room / "part.sh").write_text(text)
-        part = module.Part(name, name, {tier: "part.sh" if text else "no-such-command"}, 0)
+        part = module.Part(name, name, {tier: "part.sh 7" if text else "no-such-command"}, 0)
         with contextlib.redirect_stdout(io.StringIO()) as said:
-            return module.run(part, tier, []), said
+            return module.run(part, tier, [*words]), said
 
     for name, text, passed, has_failed in ENDS:
         done, said = ended(name, "gate", text or "\n")
@@ -182,6 +195,9 @@ def ends_of_parts(counts, room):
                                          ("a measurement that ends with 1", "bench", "echo 7 us; exit 1", True)):
         done, said = ended(name, tier, text)
         counts.tell(name, (done.failed > 0) == has_failed, said.getvalue())
+    for words, wanted in ((), "7"), (["9"], "9"), (["x", "9"], "x 9"):
+        done, said = ended("its words", "gate", f'[ "$*" = "{wanted}" ] && echo 1 passed, 0 failed', words)
+        counts.tell(f"a part with 7 as its last word that is given {words}", done.passed == 1, said.getvalue())
     done = subprocess.run([TOP / "tests" / "run", "no-such-part"], capture_output=True, text=True, check=False)
     counts.tell("a part that isn't there", done.returncode == 1 and "no part has the name" in done.stderr, done.stderr)
 
@@ -192,6 +208,14 @@ def ends_of_steps(counts):
         done = subprocess.run(["bash", "-c", script], capture_output=True, text=True, check=False)
         is_well = done.stdout.splitlines()[-1:] == [wanted] and (done.returncode == 0) == wanted.endswith(" 0 failed")
         counts.tell(text, is_well, done.stdout + done.stderr)
+
+
+def ends_of_checks(counts):
+    for count, wrong, has_failed in CHECKS:
+        with contextlib.redirect_stdout(io.StringIO()) as said:
+            is_well = has_wrong({"it is wrong": (count, wrong)}) == has_failed
+        is_well = is_well and said.getvalue().endswith(f" {int(has_failed)} failed\n")
+        counts.tell(f"a check of {count}: {wrong}", is_well, said.getvalue())
 
 
 def said_by(script, *words):
@@ -209,16 +233,6 @@ def ends_of_pages(counts, room):
         counts.tell(f"the line {line}", (done.returncode == 0) == is_right, done.stdout + done.stderr)
 
 
-def copy_of_the_files(room):
-    """A copy of all files that git knows, as a repository."""
-    for name in pages.tracked():
-        if (TOP / name).is_file():
-            (room / name).parent.mkdir(parents=True, exist_ok=True)
-            shutil.copy(TOP / name, room / name)
-    for words in (["init", "-q"], ["add", "-A"]):
-        subprocess.run(["git", *words], cwd=room, check=True)
-
-
 def make(mistake, file):
     """Makes a mistake in a file; one of no text takes its mode."""
     if mistake.made:
@@ -228,7 +242,9 @@ def make(mistake, file):
 
 
 def mistakes(counts, room):
-    copy_of_the_files(room)
+    copy_tracked(TOP, room)
+    for words in (["init", "-q"], ["add", "-A"]):
+        subprocess.run(["git", *words], cwd=room, check=True)
     for module in (pages, rot, texts):
         module.ROOT = room
     without = {}
@@ -253,6 +269,7 @@ def main():
         ends_of_parts(counts, Path(room))
         ends_of_pages(counts, Path(room))
     ends_of_steps(counts)
+    ends_of_checks(counts)
     with tempfile.TemporaryDirectory() as room:
         mistakes(counts, Path(room).resolve())
     print(f"{counts.passed} passed, {counts.failed} failed")

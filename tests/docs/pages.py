@@ -18,6 +18,9 @@ import sys
 from pathlib import Path
 
 ROOT = Path(__file__).resolve().parents[2]
+sys.path.append(str(ROOT / "tests"))
+from checks import has_wrong, tracked  # noqa: E402
+
 LINK = re.compile(r"\]\((?!https?://)([^)#\s]*)(?:#([^)\s]+))?[^)]*\)")
 BLOCK = re.compile(r"^```.*?^```", re.S | re.M)
 PLACED = re.compile(r"`(\w+)`(?: and `(\w+)`)? (?:in|of) `([\w./-]+\.(?:rt|antt|py|rs|h|c))`")
@@ -67,13 +70,8 @@ VERSIONS = [
 ]
 
 
-def tracked(*patterns):
-    listed = subprocess.run(["git", "ls-files", *patterns], cwd=ROOT, capture_output=True, text=True, check=True)
-    return listed.stdout.splitlines()
-
-
 def pages():
-    return [ROOT / name for name in tracked("*.md")]
+    return [ROOT / name for name in tracked(ROOT, "*.md")]
 
 
 def broken_links():
@@ -102,7 +100,7 @@ def headings(page):
 def paths():
     """Each path in backticks, as (page, path, whether it is there): one that begins with a folder of the top or a
     crate, or has the name of a file. A crate and a name may also be a mutant."""
-    names = {name.rpartition("/")[2] for name in tracked()} | EXAMPLES
+    names = {name.rpartition("/")[2] for name in tracked(ROOT)} | EXAMPLES
     folders = {path.name for path in [*ROOT.iterdir(), *(ROOT / "crates").iterdir()] if path.is_dir()} | GONE
     for page in pages():
         for code in CODE.findall(page.read_text()):
@@ -130,7 +128,7 @@ def names_in_links():
 
 def names_in_files():
     """Each name that a page says is in a file, with whether that file, or one that ends so, has the word."""
-    files = tracked()
+    files = tracked(ROOT)
     for page in pages():
         for *names, path in PLACED.findall(page.read_text()):
             texts = [(ROOT / file).read_text() for file in files if f"/{file}".endswith(f"/{path}")]
@@ -240,7 +238,7 @@ def other_versions():
 def unknown_parts():
     """The number of parts that texts name after tests/run, and those that it doesn't have, as 'file: part'."""
     parts = {"--tier", "gate", "full", "bench", *PART.findall((ROOT / "tests" / "run").read_text())}
-    texts = {name: (ROOT / name).read_text(errors="replace") for name in tracked() if (ROOT / name).is_file()}
+    texts = {name: (ROOT / name).read_text(errors="replace") for name in tracked(ROOT)}
     named = [(name, word) for name, text in texts.items() for words in RUNS.findall(text) for word in words.split()]
     return len(named), [f"{name}: {word}" for name, word in named if word not in parts]
 
@@ -267,7 +265,7 @@ def prints_usage(command):
 
 def wrong_modes():
     """The number of files, and the commands that aren't executable, with the files that are and are no commands."""
-    files = [ROOT / name for name in tracked() if (ROOT / name).is_file()]
+    files = [ROOT / name for name in tracked(ROOT)]
     return len(files), [str(file.relative_to(ROOT)) for file in files
                         if is_command(file) != bool(file.stat().st_mode & 0o100)]
 
@@ -295,14 +293,7 @@ def main():
     statement = subprocess.run([ROOT / "tools" / "statement", "--check"], capture_output=True, text=True, check=False)
     sys.stdout.write(statement.stdout + statement.stderr)
     passed, failed = map(int, re.findall(r"(\d+) passed, (\d+) failed$", statement.stdout)[0])
-    for what, check in CHECKS.items():
-        count, wrong = check()
-        wrong = wrong if count else ["there is nothing to look at"]
-        for place in wrong:
-            print(f"{what}: {place}")
-        passed, failed = passed + max(count - len(wrong), 0), failed + len(wrong)
-    print(f"{passed} passed, {failed} failed")
-    return failed > 0
+    return has_wrong({what: check() for what, check in CHECKS.items()}, passed, failed)
 
 
 if __name__ == "__main__":

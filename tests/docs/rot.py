@@ -8,11 +8,13 @@ the crates. A check that has nothing to look at fails.
 """
 import collections
 import re
-import subprocess
 import sys
 from pathlib import Path
 
 ROOT = Path(__file__).resolve().parents[2]
+sys.path.append(str(ROOT / "tests"))
+from checks import has_wrong, tracked  # noqa: E402
+
 MOST = 120
 BETWEEN = ("use ", "pub use ", "--", "pub mod ", "mod ", "module ", "infix", "#")
 KEYWORDS = {"abbrev", "unfoldable", "pub", "record", "data", "opaque", "ruleset"}
@@ -20,7 +22,7 @@ SIGNATURE = re.compile(rf"(?:(?:{'|'.join(KEYWORDS)}) |[^\s]+ :(?: |$))")
 TOKEN = re.compile(r"[^\s(){}\[\],.;:`]+")
 QUALIFIED = re.compile(rf"{TOKEN.pattern}\.{TOKEN.pattern}")
 USE = re.compile(r"^\s*(?:ghost |pub )*use (Rattle\.[^\s;{]+?)(?:\.\{(.*)\})?(?: as ([^\s;]+))?;?\s*$", re.M)
-IMPORT = re.compile(r"^(?:ghost )?use Rattle\.[^\s;{]+\.\{(.*)\};?$", re.M)
+IMPORT = re.compile(r"^ *(?:ghost )?use Rattle\.[^\s;{]+\.\{(.*)\};?$", re.M)
 PATH = re.compile(r"\b(\w+)::((?:specs|proofs)(?:::[\w-]+)+)")
 BOUND = re.compile(r"\blet ([^\s(){}:=]+)|λ ([^.]*)\.|[({]([^\s(){}:]+(?: [^\s(){}:]+)*) : ")
 HOSTS = re.compile(r"\b(?:(?:static\.)?crates[.]io|pypi[.]org|pythonhosted[.]org|npmjs[.](?:com|org)|"
@@ -38,11 +40,6 @@ FUNCTION = re.compile(r"( *)(?:pub(?:\([a-z]+\))? )?(?:const |unsafe |final |ext
 CLAUSE = re.compile(r" *(?:requires|ensures)")
 # Files whose lines may be long: pages and tables of rows, which are not wrapped, texts of others, and what pins a line.
 UNWRAPPED = re.compile(r"\.(?:md|svg|png|outer|cells|sums|edit)$|^LICENSE$|/(?:stdin|stdout)$")
-
-
-def tracked():
-    listed = subprocess.run(["git", "ls-files", "-z"], cwd=ROOT, capture_output=True, text=True, check=True)
-    return [name for name in listed.stdout.split("\0")[:-1] if (ROOT / name).is_file()]
 
 
 def text_of(name):
@@ -94,7 +91,7 @@ def without_imports(text):
 
 def modules():
     """The modules of specs/, and those of proofs/ but for the files of single functions: what others may import."""
-    named = [name for name in tracked() if re.match(r"crates/[^/]+/(?:specs/.*|proofs/[^/]+)\.antt$", name)]
+    named = [name for name in tracked(ROOT) if re.match(r"crates/[^/]+/(?:specs/.*|proofs/[^/]+)\.antt$", name)]
     return [name for name in named if not name.endswith("/Lib.antt")]
 
 
@@ -155,7 +152,7 @@ def uncited():
         for name, lines in declarations[own].items():
             words = set(without_imports("\n".join(lines))) - bound(name, lines)
             cites[own, name] = {names[word] for word in words if word in names}
-    readers = [name for name in tracked() if re.match(r"crates/.*\.(?:antt|rt)$", name)]
+    readers = [name for name in tracked(ROOT) if re.match(r"crates/.*\.(?:antt|rt)$", name)]
     waiting, live = [it for file in readers for it in cited_by(file, declarations)], set()
     while waiting:
         one = waiting.pop()
@@ -176,7 +173,7 @@ def is_used(name, text):
 
 def unused():
     """The number of sources and modules of proofs, and what one imports for nothing, as 'file: name'."""
-    files = [name for name in tracked() if re.match(r"crates/.*\.(?:antt|rt)$", name)]
+    files = [name for name in tracked(ROOT) if re.match(r"crates/.*\.(?:antt|rt)$", name)]
     found = []
     for file in files:
         text = text_of(file)
@@ -205,7 +202,7 @@ def doubles():
 def many_arms():
     """The number of matches in the crates' sources, and those with more than ARMS arms, as 'file: arms of function'."""
     count, found = 0, []
-    for name in [name for name in tracked() if re.match(r"crates/[^/]+/src/.*\.rt$", name)]:
+    for name in [name for name in tracked(ROOT) if re.match(r"crates/[^/]+/src/.*\.rt$", name)]:
         text = text_of(name)
         for match in re.finditer(r"^( *).*\bmatch .*\{\n", text, re.M):
             count += 1
@@ -219,19 +216,19 @@ def many_arms():
 
 def long_lines():
     """The number of files whose lines are wrapped, and their lines that are too long, as 'file:line'."""
-    files = [name for name in tracked() if not UNWRAPPED.search(name)]
+    files = [name for name in tracked(ROOT) if not UNWRAPPED.search(name)]
     return len(files), [f"{name}:{number}" for name in files
                         for number, line in enumerate(text_of(name).splitlines(), 1) if len(line) > MOST]
 
 
 def hosts():
     """The number of files, and those that name the host of a package registry."""
-    return len(tracked()), [name for name in tracked() if HOSTS.search(text_of(name))]
+    return len(tracked(ROOT)), [name for name in tracked(ROOT) if HOSTS.search(text_of(name))]
 
 
 def avoided():
     """The number of words that the house avoids, and those that stand more often than they did, with where."""
-    files = [name for name in tracked() if not name.endswith((".edit", "/rot.py", "docs/STATEMENT.md"))]
+    files = [name for name in tracked(ROOT) if not name.endswith((".edit", "/rot.py", "docs/STATEMENT.md"))]
     texts = {name: re.sub(r"\s+", " ", text_of(name)) for name in files}
     more = []
     for word, most in WORDS.items():
@@ -263,7 +260,7 @@ def proofs():
     """The number of crates, and if their lines of proof are more than in the table, those that have more; with those of
     the table that aren't there, whose lines others could have."""
     lines, bodies = collections.Counter(), collections.Counter()
-    for name in tracked():
+    for name in tracked(ROOT):
         crate = name.split("/")[1] if name.startswith("crates/") else ""
         if re.match(r"crates/[^/]+/proofs/.*\.antt$", name):
             lines[crate] += len(text_of(name).splitlines())
@@ -277,23 +274,17 @@ def proofs():
 
 
 def main():
-    passed = failed = 0
     counts, double = doubles()
     double = double if len(double) > DOUBLES else []
     declared, dead = uncited()
     dead = dead if len(dead) > UNCITED else []
     matches, large = many_arms()
     large = large if len(large) > MANY_ARMS else []
-    asked = {"nobody cites it": (declared, dead), "imported for nothing": unused(), "stated before": (counts, double),
-             "more arms than seven": (matches, large), "too long": long_lines(),
-             "names the host of a registry": hosts(), "avoided": avoided(), "lines of proof": proofs()}
-    for what, (count, wrong) in asked.items():
-        wrong = wrong if count else ["there is nothing to look at"]
-        for it in wrong:
-            print(f"{what}: {it}")
-        passed, failed = passed + max(count - len(wrong), 0), failed + len(wrong)
-    print(f"{passed} passed, {failed} failed")
-    return failed > 0
+    return has_wrong({
+        "nobody cites it": (declared, dead), "imported for nothing": unused(), "stated before": (counts, double),
+        "more arms than seven": (matches, large), "too long": long_lines(), "names the host of a registry": hosts(),
+        "avoided": avoided(), "lines of proof": proofs(),
+    })
 
 
 if __name__ == "__main__":

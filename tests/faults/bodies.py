@@ -14,7 +14,6 @@ import glob
 import itertools
 import os
 import re
-import shutil
 import subprocess
 import sys
 import tempfile
@@ -29,16 +28,10 @@ ASKED = [
     "save_always_out_of_memory",
     "run_ends_at_once",
 ]
-sys.path += [os.path.join(TOP, "tests", "mutants"), os.path.join(TOP, "tools")]
-from mutant_texts import make  # noqa: E402
+sys.path += [os.path.join(TOP, "tests"), os.path.join(TOP, "tests", "mutants"), os.path.join(TOP, "tools")]
+from checks import copy_tracked  # noqa: E402
+from mutant_texts import CRATE, TEST, make  # noqa: E402
 from over_gate import crate_of, words_of_trial  # noqa: E402
-
-
-def copy_of_the_sources(room):
-    files = subprocess.check_output(["git", "ls-files", "-z", "crates", "crates.txt", "HANDLES"], cwd=TOP)
-    for name in files.decode().split("\0")[:-1]:
-        os.makedirs(os.path.join(room, os.path.dirname(name)), exist_ok=True)
-        shutil.copy(os.path.join(TOP, name), os.path.join(room, name))
 
 
 def built(copy):
@@ -85,13 +78,15 @@ class Mutant:
     def __init__(self, name):
         self.name, self.file = name, os.path.join(FOLDER, name + ".edit")
         with open(self.file, encoding="utf-8") as it:
-            self.lines = dict(line.rstrip("\n").split(": ", 1) for line in it if re.match("(crate|test): ", line))
-        self.crate, self.test = self.lines.get("crate"), self.lines["test"]
+            text = it.read()
+        crate = CRATE.search(text)
+        self.crate, self.test = crate and crate[1], TEST.search(text)[1]
 
     def is_refused(self, said):
         """Whether the mutant's test ran and failed."""
-        failure = rf"other answers: {re.escape(self.test)}" if self.crate else r"0 passed, [1-9]\d* failed"
-        found = re.search(rf"^{failure}$", said, re.M)
+        test = re.escape(self.test)  # whose name may be the beginning of another's
+        failure = rf"other answers: {test}$" if self.crate else rf"(?:FAIL|ERROR): {test} "
+        found = re.search(rf"^{failure}", said, re.M)
         other = "NOT TRIED: not built" if said == "not built" else "NOT REFUSED"
         print(f"{self.name}: {f'refused by {self.test}' if found else other}", flush=True)
         if not found:
@@ -142,7 +137,7 @@ def main():
     for mutant in itertools.chain(*groups):
         of_one[mutant.crate].append(mutant)
     with tempfile.TemporaryDirectory() as copy:
-        copy_of_the_sources(copy)
+        copy_tracked(TOP, copy, "crates", "crates.txt", "HANDLES")
         if not all(pass_without_a_mutant(copy, mutants) for mutants in of_one.values()):
             return 1
         refused = sum(tried(copy, group) for group in groups)

@@ -18,6 +18,8 @@ from pathlib import Path
 LINE = re.compile(r"^(file|old|new): ?(.*)$", re.M)
 FUNCTION = re.compile(r"^function: (\S+)$", re.M)
 ALWAYS = re.compile(r"^gate: always$", re.M)
+TEST = re.compile(r"^test: (.+)$", re.M)
+CRATE = re.compile(r"^crate: (\S+)$", re.M)
 FN = re.compile(r'^ *(?:pub(?:\([a-z]+\))? )?(?:const )?(?:extern "C" )?fn (\w+)')
 TYPE = re.compile(r"^(?:pub(?:\([a-z]+\))? )?(?:struct|enum) (\w+)", re.M)
 TRAIT = ("trait ", "pub trait ")
@@ -136,18 +138,29 @@ def all_functions(folder):
 
 
 def misfit(mutant, folder):
-    """Why a mutant of the folder can't be tried, or None: it can't be made, or names a function that isn't there."""
+    """Why a mutant of the folder can't be tried, or None: it can't be made, or names a function or a test that isn't
+    there."""
     try:
         texts = changed_texts(mutant, folder)
     except ValueError as why:
         return str(why)
-    named = FUNCTION.search(Path(mutant).read_text())
+    text = Path(mutant).read_text()
+    test, named = TEST.search(text), FUNCTION.search(text)
+    if test and not has_test(Path(folder), CRATE.search(text), test[1]):
+        return f"no test has the name {test[1]}"
     if not named:
         return None
     texts = {**{path: path.read_text() for path in Path(folder, "src").rglob("*.rt")}, **texts}
     ends = {name_at(path, *place) for path, text in texts.items() for place in places_of_lines(text)} - {None}
     is_there = any(f"::{end}".endswith(f"::{named[1]}") or named[1].endswith(f"::{end}") for end in ends)
     return None if is_there else f"no function has the name {named[1]}"
+
+
+def has_test(folder, crate, name):
+    """Whether a test of the program has this name, or if there is a crate, a row of its table."""
+    files = [folder / "crates" / crate[1] / "stdin"] if crate else folder.glob("tests/program/*.py")
+    form = rf"^## {re.escape(name)}$" if crate else rf"^    def {re.escape(name)}\("
+    return any(re.search(form, file.read_text(encoding="utf-8"), re.M) for file in files)
 
 
 def modules_of(path):

@@ -1,13 +1,15 @@
 #!/usr/bin/env python3
 """Checks the mutants without the prover, since the gate tries only some of them: the texts of each stand in the files
-that it names, once each, and the function that it names is there. The last line is 'N passed, M failed', where N counts
-the mutants."""
+that it names, once each, and the function and the test that it names are there. The last line is 'N passed, M failed',
+where N counts the mutants."""
 import sys
 from pathlib import Path
 
 from mutant_texts import misfit
 
 ROOT = Path(__file__).resolve().parents[2]
+sys.path.append(str(ROOT / "tests"))
+from checks import has_wrong  # noqa: E402
 
 
 def misfits():
@@ -18,13 +20,5 @@ def misfits():
     return len(found), [f"{mutant.relative_to(ROOT)}: {why}" for mutant, why in found if why]
 
 
-def main():
-    mutants, wrong = misfits()
-    for mutant in wrong:
-        print(f"can't be tried: {mutant}")
-    print(f"{mutants - len(wrong)} passed, {len(wrong)} failed")
-    return 1 if wrong else 0
-
-
 if __name__ == "__main__":
-    sys.exit(main())
+    sys.exit(has_wrong({"can't be tried": misfits()}))

@@ -13,7 +13,7 @@ pub struct Place {
 }
 
 impl Model for Place {
-    ghost use Rattle.std.specs.Prelude.{ℕ, ◌≤◌, ◌<◌};
+    ghost use Rattle.std.specs.Prelude.{◌≤◌, ◌<◌};
     ghost use Rattle.s2cell.specs.declared.TheConstants.{SIDE};
     ghost use Rattle.s2script.specs.Values.{Spot};
 

@@ -13,7 +13,7 @@ pub struct Span {
 }
 
 impl Model for Span {
-    ghost use Rattle.std.specs.Prelude.{ℕ, ◌<◌, ◌+◌};
+    ghost use Rattle.std.specs.Prelude.{◌<◌, ◌+◌};
     ghost use Rattle.s2cell.specs.Cell.{first_leaf, size_of};
     ghost use Rattle.s2script.specs.Values.{RangeEnds};
 
