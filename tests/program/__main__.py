@@ -18,7 +18,7 @@ from counting import has_failed  # noqa: E402
 
 
 def main():
-    faulthandler.dump_traceback_later(1800, exit=True)  # a test may wait for an answer that never comes
+    faulthandler.dump_traceback_later(3600, exit=True)  # a test may wait for an answer that never comes
     if len(sys.argv) > 1:
         os.environ["S2CALC"] = os.path.realpath(sys.argv[1])
     loader = unittest.TestLoader()

@@ -7,13 +7,15 @@ import threading
 TOP = os.path.dirname(os.path.dirname(os.path.dirname(os.path.realpath(__file__))))
 PROGRAM = os.environ.get("S2CALC", os.path.join(TOP, "crates/calculator/out/calculator"))
 FACE = b"ok 0 1\n"
+# The most that a call may take: some take minutes in the builds that tests/faults/bodies.py makes, which check all.
+SECONDS = 1200
 
 
 def ran(*words, script=b"", **how):
     """The status, standard output and standard error of a run of the program."""
     how.setdefault("input", script)
     how.setdefault("stdout", subprocess.PIPE)
-    done = subprocess.run([PROGRAM, *words], stderr=subprocess.PIPE, timeout=60, **how)
+    done = subprocess.run([PROGRAM, *words], stderr=subprocess.PIPE, timeout=SECONDS, **how)
     return done.returncode, done.stdout, done.stderr
 
 

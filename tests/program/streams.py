@@ -71,6 +71,7 @@ class Streams(unittest.TestCase):
     def test_a_file_that_grows_too_large_ends_the_process_after_the_answers_before_it(self):
         def small_files():
             resource.setrlimit(resource.RLIMIT_FSIZE, (9, 9))
+            resource.setrlimit(resource.RLIMIT_CORE, (0, 0))
 
         with tempfile.TemporaryDirectory() as folder:
             script = b"save a f\nadd a 1\nsave a f\nadd a 2\n"
