@@ -50,8 +50,8 @@ without_kit() ( # in that copy, which has no archive and no program: what needs 
 step ".ci/run, tests/run, tools/package: nothing is installed without the kit" without_kit
 unknown_words() { # and nothing is written for them
   local words
-  for words in "calls --chek" "statement --chek" "library $work/none --chek" "java $work/none --chek" \
-    "package $work/none --chek"; do
+  for words in "calls --chek" "statement --chek" "prove --chek" "library $work/none --chek" \
+    "java $work/none --chek" "package $work/none --chek"; do
     ! "$top/tools/"$words >"$work/refused" 2>&1 && grep -q "tools/.* has no option --chek" "$work/refused" ||
       { echo "$words" && cat "$work/refused" && return 1; }
   done

@@ -97,7 +97,7 @@ class Tools(unittest.TestCase):
 
     def test_no_folder_is_named(self):
         """Then nothing is made, and nothing installed. Who asks for help gets it."""
-        for tool in ("library", "package", "package-trial", "page"):
+        for tool in ("library", "package", "package-trial", "page", "java"):
             for words in ([], [""], ["--help"]) + ((["f", "--once"],) if tool in ("library", "package") else ()):
                 with self.subTest(tool=tool, words=words), tempfile.TemporaryDirectory() as room:
                     done = subprocess.run([os.path.join(TOP, "tools", tool), *words], cwd=room, capture_output=True,
