@@ -95,6 +95,13 @@ final class Calls {
     return checked((int) ask(call, xs, ys, cell), 0) == 1;
   }
 
+  /** The number that a question of lists answers, which is above MEMORY. */
+  static long numberOf(int call, long[] xs, long[] ys) {
+    long answer = ask(call, xs, ys, 0);
+    if (answer == MEMORY) checked(MEMORY, 0);
+    return answer;
+  }
+
   /** The list that a call makes; it is called once more if the room was too little. */
   static long[] made(int call, long[] xs, long[] ys, long room, int... numbers) {
     long[] length = new long[1];

@@ -106,7 +106,7 @@ public final class CellUnion implements Comparable<CellUnion> {
 
   /** How many leaves it has: 6 * 4^30 if it is the whole sphere. */
   public long leafCellsCovered() {
-    return Calls.ask(Calls.LEAF_COUNT, ids, Calls.NONE, 0);
+    return Calls.numberOf(Calls.LEAF_COUNT, ids, Calls.NONE);
   }
 
   /** Whether all leaves of the cell are in it. */
@@ -230,7 +230,7 @@ public final class CellUnion implements Comparable<CellUnion> {
   /** The order of lists, cell by cell as unsigned numbers, and then by length. */
   @Override
   public int compareTo(CellUnion other) {
-    return (int) Calls.ask(Calls.COMPARE, ids, other.ids, 0);
+    return (int) Calls.numberOf(Calls.COMPARE, ids, other.ids);
   }
 
   @Override
