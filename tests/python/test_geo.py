@@ -234,6 +234,14 @@ class Maps(unittest.TestCase):
                 self.assertEqual(Union.from_bytes(it.read()), outer)
             made = json.loads(said("geojson", os.path.join(folder, "good.outer")).stdout)
             self.assertEqual(made, to_geojson(outer, name="good.outer"))
+            for found, wanted in (([features[0], features[1] | {"properties": {}}], "feature 1 has no property 'file'"),
+                                  ([features[0] | {"properties": None}], "feature 0 has no property 'file'"),
+                                  (None, f"{file} is no collection of features")):
+                with open(file, "w") as it:
+                    json.dump({"type": "FeatureCollection", "features": found}, it)
+                done = said("cover", file, above, "20", "12")
+                self.assertEqual((done.returncode, done.stdout, done.stderr), (1, "", f"s2union_geo: {wanted}\n"))
+                self.assertEqual(sorted(os.listdir(above)), ["cells", "some.geojson"])
         for words, text, wanted in ((("leaves",), "x 1\n", "s2union_geo: a line begins with a longitude and a lat"),
                                     (("leaves",), "1 91\n", "a latitude is from -90 to 90 at place 0: 91.0\n"),
                                     (("geojson", "none"), "", "s2union_geo: .*'none'\n"), ((), "", "Points, polygons"),

@@ -26,11 +26,27 @@ def show_leaves():
         print(*tokens(leaves(*zip(*points))), sep="\n")
 
 
+def features_of(file):
+    shape = read_geojson(file)
+    features = shape.get("features") if isinstance(shape, dict) else None
+    if not isinstance(features, list):
+        raise ValueError(f"{file} is no collection of features")
+    return features
+
+
+def file_name(feature, place):
+    """The name of a feature's files."""
+    properties = feature.get("properties") if isinstance(feature, dict) else None
+    if not isinstance(properties, dict) or properties.get("file") is None:
+        raise ValueError(f"feature {place} has no property 'file'")
+    return str(properties["file"])
+
+
 def cover(file, folder, max_cells, max_level):
     cells, left = [0, 0], []
-    features = read_geojson(file)["features"]
-    for feature in features:
-        name = str(feature["properties"]["file"])
+    features = features_of(file)
+    names = [file_name(feature, place) for place, feature in enumerate(features)]
+    for name, feature in zip(names, features):
         try:
             if Path(name).name != name:
                 raise ValueError("its files would lie in another folder")
