@@ -21,6 +21,7 @@ from typing import Callable, NamedTuple
 TOP = Path(__file__).resolve().parents[1]
 sys.path += [str(TOP / "tests" / "docs"), str(TOP / "tests" / "mutants")]
 import pages  # noqa: E402
+import prose  # noqa: E402
 import rot  # noqa: E402
 import texts  # noqa: E402
 from checks import copy_tracked, has_wrong  # noqa: E402
@@ -95,6 +96,8 @@ MISTAKES = [
     Mistake("a line that is too long", rot.long_lines, "tests/steps.sh", ended_by(f"#{'=' * 120}\n")),
     Mistake("the host of a registry", rot.hosts, "README.md", ended_by(f"\n{HOST}\n")),
     Mistake("a word that the house avoids", rot.avoided, "README.md", ended_by("\nWhat was asked\nabout.\n")),
+    Mistake("a sentence that begins with a free what", prose.habits, "README.md",
+            ended_by("\nWhat is here has to be read twice.\n")),
     Mistake("proofs that grow", rot.proofs, "crates/s2cell/proofs/Ancestors.antt", ended_by("-- more\n" * 100_000)),
     Mistake("a mutant whose text is gone", texts.misfits, "crates/s2cell/mutants/a_cell_for_its_last_leaf.edit",
             swapped("old: ", "old: once ")),
@@ -245,7 +248,7 @@ def mistakes(counts, room):
     copy_tracked(TOP, room)
     for words in (["init", "-q"], ["add", "-A"]):
         subprocess.run(["git", *words], cwd=room, check=True)
-    for module in (pages, rot, texts):
+    for module in (pages, prose, rot, texts):
         module.ROOT = room
     without = {}
     for mistake in MISTAKES:

@@ -1,10 +1,10 @@
 """What rots unseen: lemmas and definitions that nobody cites, names imported for nothing, lemmas that are stated
 twice, word for word, functions with many arms, lines of more than 120 characters, hosts of package registries, words
-that the house avoids, and proofs that grow. tests/docs/pages.py looks for paths.
+that the house avoids, habits of tests/docs/prose.py, and proofs that grow. tests/docs/pages.py looks for paths.
 
 UNCITED, DOUBLES, MANY_ARMS, WORDS and PROOFS are the most that may stand: what stood there when this check came, and
-less from time to time. The last line is 'N passed, M failed', where N counts the declarations, the files, the words and
-the crates. A check that has nothing to look at fails.
+less from time to time. The last line is 'N passed, M failed', where N counts the declarations, the files, the words,
+the pages and the crates. A check that has nothing to look at fails.
 """
 import collections
 import re
@@ -13,6 +13,7 @@ from pathlib import Path
 
 ROOT = Path(__file__).resolve().parents[2]
 sys.path.append(str(ROOT / "tests"))
+import prose  # noqa: E402
 from checks import has_wrong, tracked  # noqa: E402
 
 MOST = 120
@@ -283,7 +284,7 @@ def main():
     return has_wrong({
         "nobody cites it": (declared, dead), "imported for nothing": unused(), "stated before": (counts, double),
         "more arms than seven": (matches, large), "too long": long_lines(), "names the host of a registry": hosts(),
-        "avoided": avoided(), "lines of proof": proofs(),
+        "avoided": avoided(), "hard to read": prose.habits(), "lines of proof": proofs(),
     })
 
 
