@@ -1,5 +1,4 @@
-#!/usr/bin/env python3
-"""Habits that make pages hard to read, counted: tests/docs/prose.py [PAGE..] lists the sentences that have one.
+"""Habits that make pages hard to read, counted: python3 tests/docs/prose.py [PAGE..] lists the sentences that have one.
 
 The pages are README.md and those of docs/, without STATEMENT.md, code, tables and headings. HABITS has the most that
 may stand of each habit, which only falls; tests/docs/rot.py asks it.
@@ -35,12 +34,12 @@ def has(form):
 
 
 HABITS = {
-    "'but for'": Habit(has(r"\b[Bb]ut for\b"), 8),
-    "'is no' and 'is none'": Habit(has(r"\b(?:is|are) (?:no|none)\b"), 27),
-    "begins with a free what, who, where or that": Habit(has(r"^(?:What|Whoever|Who|Where|That)\b(?!.*\?$)"), 80),
+    "'but for'": Habit(has(r"\b[Bb]ut for\b"), 6),
+    "'is no' and 'is none'": Habit(has(r"(?<![Tt]here )\b(?:is|are) (?:no|none)\b(?! (?:longer|more|less)\b)"), 13),
+    "begins with a free what, who, where or that": Habit(has(r"^(?:What|Whoever|Who|Where|That)\b(?!.*\?$)"), 55),
     "begins with a word that points back": Habit(
-        has(r"^(?:It|This|These|Those|They|One|Each|So|Of|The same|Such)\b"), 142),
-    f"more than {MOST_WORDS} words": Habit(lambda sentence: len(sentence.split()) > MOST_WORDS, 60),
+        has(r"^(?:It|This|These|Those|They|So|Such|The same)\b"), 72),
+    f"more than {MOST_WORDS} words": Habit(lambda sentence: len(sentence.split()) > MOST_WORDS, 37),
 }
 
 
