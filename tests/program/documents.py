@@ -52,7 +52,8 @@ class Launcher(unittest.TestCase):
     def test_a_source_that_changes_while_it_is_proved(self):
         """Then the program is older than its sources, and not the one that is run; until all is proved again. A program
         that isn't older stays, also where no kit is, if that is enough."""
-        self.copy("s2calc", "tools/prove", "tools/usage.sh", "crates.txt", "crates/s2cell/src/lib.rt")
+        self.copy("s2calc", "tools/launcher/launcher", "tools/prove", "tools/usage.sh", "crates.txt",
+                  "crates/s2cell/src/lib.rt")
         with open(os.path.join(TOP, "crates.txt"), encoding="utf-8") as it:
             for line in it:
                 os.makedirs(os.path.join(self.room, "crates", re.match(r"\w+", line)[0]), exist_ok=True)

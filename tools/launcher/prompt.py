@@ -1,0 +1,332 @@
+"""The prompt of s2calc at a terminal, and help on a script's commands; not proved. tools/launcher/launcher starts it as
+
+    prompt.py PROGRAM [OPTION..]     or     prompt.py PROGRAM help COMMAND
+
+The proved program runs as a child, in a process group of its own, as `run --prompt` with these options. It gets the
+lines by a pipe and writes its answers to standard output itself. Its own prompt on standard error says that an answer
+is whole. So registers and history are the program's alone, and no key ends it but those that end the script.
+"""
+import ctypes
+import functools
+import os
+import re
+import signal
+import stat
+import subprocess
+import sys
+
+PROMPT = "s2calc> "
+LONGEST = 4096  # bytes of a line; every longer one is answered alike
+LEAVING = "Ctrl-D or 'quit' leaves"
+OWN = {
+    "help [COMMAND]": "this list, or a command with its errors and an example; also '?'",
+    "quit": "leaves, as 'exit' and Ctrl-D do",
+}
+WORDS = ("help", "quit", "exit")
+# The errors of each kind of word in a command's form.
+OF_WORDS = {"r": "register", "s": "register", "CELL": "cell", "LEVEL": "level", "MIN": "level", "MOD": "level",
+            "FACE": "face", "I": "rectangle", "I0": "rectangle", "NAME": "name"}
+# The other errors of each command, and an example. docs/SCRIPT.md has the same table.
+COMMANDS = {
+    "add": ("too-many, memory", "add a 04 0c 14"),
+    "remove": ("too-many, memory", "remove a 0/00"),
+    "keep": ("too-many, memory", "keep a 0/1 0/2"),
+    "union": ("too-many, memory", "union a b"),
+    "subtract": ("too-many, memory", "subtract a b"),
+    "intersect": ("too-many, memory", "intersect a b"),
+    "copy": ("memory", "copy b a"),
+    "clear": ("memory", "clear a"),
+    "range": ("order, too-many, memory", "range a 0/3 1/0"),
+    "outer": ("too-many, memory", "outer a 29 0 0 2 0 0"),
+    "inner": ("too-many, memory", "inner a 29 0 0 3 0 1"),
+    "outerof": ("too-many, memory", "outerof b a 4"),
+    "innerof": ("too-many, memory", "innerof b a 4 0 0 1023 0 1023"),
+    "show": ("", "show a"),
+    "count": ("", "count a"),
+    "denorm": ("too-many", "denorm a 3 2"),
+    "has": ("", "has a 0/11"),
+    "touches": ("", "touches a 1"),
+    "covers": ("", "covers a b"),
+    "meets": ("", "meets a b"),
+    "cell": ("", "cell 64c"),
+    "at": ("", "at 0 0 536870912"),
+    "square": ("", "square 0c"),
+    "load": ("missing, file, format, too-many, memory", "load a parks"),
+    "save": ("file, memory", "save a parks"),
+    "undo": ("nothing", "undo"),
+    "redo": ("nothing", "redo"),
+    "history": ("", "history"),
+    "dump": ("file, memory", "dump session"),
+    "restore": ("missing, file, session, too-deep, too-many, memory", "restore session"),
+}
+
+
+def say(text):
+    print(f"s2calc: {text}", file=sys.stderr)
+
+
+# ---- help
+
+
+@functools.lru_cache(maxsize=None)
+def help_of(program):
+    """The program's help on scripts, and the form and the meaning of each command in it."""
+    said = subprocess.run([program, "run", "--help"], stdout=subprocess.PIPE, check=True).stdout.decode()
+    forms = {form.split()[0]: (form, does) for form, does in re.findall(r"^  ([a-z]\S*(?: \S+)*)  +(.*)$", said, re.M)}
+    return said[said.index("The script has"):].rstrip("\n"), forms
+
+
+def whole_help(program):
+    own = "".join(f"\n  {form:39}  {does}" for form, does in OWN.items())
+    return f"{help_of(program)[0]}\n\nAt the prompt there are also:\n{own}"
+
+
+def help_on(program, name):
+    """The help on a command."""
+    form, does = help_of(program)[1][name]
+    kinds = [OF_WORDS.get(word.strip("[].")) for word in form.split()[1:]]
+    errors = [*dict.fromkeys(filter(None, kinds)), *filter(None, COMMANDS[name][0].split(", "))]
+    return f"{form}\n    {does}\nerrors: {', '.join([*errors, 'syntax'])}\nexample: {COMMANDS[name][1]}"
+
+
+def is_near(word, name):
+    """Whether one begins with the other, or one edit leads from one to the other: a letter left out, put in or
+    replaced, or two neighbors exchanged."""
+    if word.startswith(name) or name.startswith(word):
+        return True
+    start = len(os.path.commonprefix([word, name]))
+    word, name = word[start:], name[start:]
+    end = len(os.path.commonprefix([word[::-1], name[::-1]]))
+    word, name = word[: len(word) - end], name[: len(name) - end]
+    return max(len(word), len(name)) == 1 or len(word) == 2 and word == name[::-1]
+
+
+def near(word, names):
+    """The question whether one of the names is meant, or nothing."""
+    word = word.strip(".:\\/;()?!").lower()
+    found = [name for name in names if word and is_near(word, name)]
+    return f"; did you mean {', '.join(map(repr, found))}?" if found else ""
+
+
+def show_help(program, words):
+    if not words:
+        print(whole_help(program))
+        return 0
+    if words[0] in COMMANDS:
+        print(help_on(program, words[0]))
+        return 0
+    print(f"'{words[0]}' is not a command{near(words[0], [*COMMANDS, *WORDS])}", file=sys.stderr)
+    return 2
+
+
+# ---- the program
+
+
+class Program:
+    """The program, which waits for a line."""
+
+    def __init__(self, program, options):
+        def of_its_own():
+            os.setpgid(0, 0)
+            signal.signal(signal.SIGTTOU, signal.SIG_IGN)  # it writes to the terminal, which isn't its own
+
+        answers = os.dup(1)
+        os.dup2(2, 1)  # lines are typed, and help is shown, where the prompt is
+        self.path, self.is_seen = program, os.isatty(answers)
+        self.child = subprocess.Popen([program, "run", "--prompt", *options], stdin=subprocess.PIPE, stdout=answers,
+                                      stderr=subprocess.PIPE, bufsize=0, preexec_fn=of_its_own)
+        os.close(answers)
+        self.notes()
+
+    def notes(self):
+        """What the program says up to its next prompt."""
+        said = b""
+        while not re.search(rb"(?:^|\n)s2calc> $", said):
+            more = os.read(self.child.stderr.fileno(), 65536)
+            if not more:  # it has ended, and said why
+                self.end(said)
+            said += more
+        return said[: -len(PROMPT)].decode(errors="replace")
+
+    def carry_out(self, line):
+        """Hands a line to the program, which answers it, and gives the reason if it was refused. The answer has the
+        error's name, if it goes to the terminal."""
+        try:
+            os.write(self.child.stdin.fileno(), line[: LONGEST + 1] + b"\n")
+        except BrokenPipeError:
+            pass  # it has ended, and has said why
+        head = r"line \d+: error [a-z-]+: " if self.is_seen else r"line \d+: "
+        return re.sub(rf"^{head}", "", self.notes())
+
+    def close(self):
+        """Ends the script, and this process as the program ends."""
+        self.child.stdin.close()
+        self.end(self.child.stderr.read()[1:])  # which begins with the newline after the last prompt
+
+    def end(self, said):
+        status = self.child.wait()
+        os.write(2, said)
+        if status < 0:
+            say(f"the program was ended by signal {-status}")
+        sys.exit(status if status >= 0 else 128 - status)
+
+
+# ---- keys
+
+
+class Keyboard:
+    """Lines with readline's keys, and a history that outlives a run."""
+
+    def __init__(self, readline, program, folder):
+        self.readline, self.program, self.folder = readline, program, folder
+        self.is_typing, self.path = False, None
+        signal.signal(signal.SIGINT, self.interrupted)
+        readline.set_auto_history(False)
+        readline.set_completer_delims(" \t")
+        readline.set_completer(self.completed)
+        readline.parse_and_bind("tab: complete")
+        sys.stdin.reconfigure(errors="surrogateescape")
+        try:  # Python's module has no calls for these; without them Ctrl-Z stops at once, and `fg` shows no prompt
+            calls = ctypes.CDLL(getattr(readline, "__file__", None))
+            self.give_back, self.take_again, self.show = (
+                calls.rl_cleanup_after_signal, calls.rl_reset_after_signal, calls.rl_forced_update_display)
+            signal.signal(signal.SIGTSTP, self.stopped)
+        except (OSError, AttributeError):
+            pass
+        try:
+            self.path = self.history()
+        except OSError as error:
+            say(f"lines are not kept for the next time: {error.filename}: {error.strerror}")
+
+    def history(self):
+        """The file of earlier lines, which are read."""
+        state = os.environ.get("XDG_STATE_HOME", "")
+        state = state if os.path.isabs(state) else os.path.expanduser("~/.local/state")
+        path = os.path.join(state, "s2calc", "history")
+        os.makedirs(os.path.dirname(path), 0o700, exist_ok=True)
+        os.close(os.open(path, os.O_RDWR | os.O_CREAT, 0o600))
+        self.readline.set_history_length(1000)
+        self.readline.read_history_file(path)
+        if self.readline.get_current_history_length() > 2000:
+            self.readline.write_history_file(path)
+        return path
+
+    def keep(self, line):
+        last = self.readline.get_current_history_length()
+        if not line.strip() or last and self.readline.get_history_item(last) == line:
+            return
+        self.readline.add_history(line)
+        if self.path:
+            try:
+                self.readline.append_history_file(1, self.path)
+            except OSError:
+                self.path = None
+
+    def interrupted(self, *_):
+        """Ctrl-C: drops the line that is typed. The program doesn't notice."""
+        if self.is_typing:
+            print("" if self.readline.get_line_buffer() else f"\n({LEAVING})", flush=True)
+            raise KeyboardInterrupt
+        print("(an answer can't be cut short)", flush=True)
+
+    def stopped(self, *_):
+        """Ctrl-Z: gives the terminal back to the shell, and shows the line again after `fg`."""
+        if self.is_typing:
+            self.give_back()
+            os.kill(os.getpid(), signal.SIGSTOP)
+            self.take_again()
+            self.show()
+        else:
+            os.killpg(self.program.child.pid, signal.SIGSTOP)
+            os.kill(os.getpid(), signal.SIGSTOP)
+            os.killpg(self.program.child.pid, signal.SIGCONT)
+
+    def lines(self):
+        """The lines that are typed, up to Ctrl-D. What is pasted may have several."""
+        while True:
+            try:
+                self.is_typing = True
+                text = input(PROMPT)
+            except KeyboardInterrupt:
+                continue
+            except EOFError:
+                print()
+                return
+            finally:
+                self.is_typing = False
+            for line in text.split("\n"):
+                self.keep(line)
+                yield line
+
+    def completed(self, text, place):
+        """The word of this place among those with which the word before the cursor can be completed, for readline."""
+        before = self.readline.get_line_buffer()[: self.readline.get_begidx()].split()
+        found = [word for word in self.candidates(before) if word.startswith(text)]
+        return found[place] + " " if place < len(found) else None
+
+    def candidates(self, before):
+        """What may be typed after these words."""
+        forms = help_of(self.program.path)[1]
+        if not before or before in (["help"], ["?"]):
+            return [*forms, *WORDS]
+        form = forms.get(before[0], ("",))[0].split()
+        kind = form[len(before)] if len(before) < len(form) else ""
+        if kind in ("r", "s"):
+            return map(chr, range(ord("a"), ord("z") + 1))
+        return self.files() if kind == "NAME" else []
+
+    def files(self):
+        """The names in the folder of files that a script can use."""
+        try:
+            with os.scandir(self.folder) as entries:
+                return sorted(entry.name for entry in entries if re.fullmatch(r"[\w][\w.-]{0,63}", entry.name, re.A)
+                              and stat.S_ISREG(entry.stat().st_mode))
+        except OSError:
+            return []
+
+
+def folder_of(options):
+    """The folder that the options name."""
+    folder = "."
+    for place, word in enumerate(options):
+        if word.startswith("--dir="):
+            folder = word[len("--dir="):]
+        elif word == "--dir":
+            folder = "".join(options[place + 1: place + 2])
+    return folder
+
+
+def answer(program, path, line):
+    """Has the program carry out a line, and shows why if it refuses it."""
+    reason = program.carry_out(os.fsencode(line)).rstrip("\n")
+    if re.search(r"is not a command(; did|$)", reason):
+        hint = near(line.split()[0], WORDS)
+        reason = reason[:-1] + hint.replace("; did you mean", ",") if reason[-1] == "?" and hint else reason + hint
+    if reason:
+        print(f"  {reason}", flush=True)
+
+
+def main(path, *options):
+    if options[:1] == ("help",):
+        return show_help(path, options[1:])
+    try:
+        import readline  # pylint: disable=import-outside-toplevel
+    except ImportError:
+        say("python3 has no readline, so there are no keys, no history and no help")
+        os.execv(path, [path, "run", "--prompt", *options])
+    program = Program(path, options)
+    version = subprocess.run([path, "--version"], stdout=subprocess.PIPE, check=True).stdout.decode().strip()
+    print(f"{version}: 'help' for help, Ctrl-D to leave", flush=True)
+    for line in Keyboard(readline, program, folder_of(options)).lines():
+        words = line.split()
+        if words in (["quit"], ["exit"]):
+            break
+        if words[:1] in (["help"], ["?"]):
+            show_help(path, words[1:])
+        else:
+            answer(program, path, line)
+    return program.close()
+
+
+if __name__ == "__main__":
+    sys.exit(main(*sys.argv[1:]))
