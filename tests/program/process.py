@@ -6,6 +6,7 @@ import threading
 
 TOP = os.path.dirname(os.path.dirname(os.path.dirname(os.path.realpath(__file__))))
 PROGRAM = os.environ.get("S2CALC", os.path.join(TOP, "crates/calculator/out/calculator"))
+LAUNCHER = os.path.join(TOP, "tools/launcher/launcher")
 FACE = b"ok 0 1\n"
 # The most that a call may take: some take minutes in the builds that tests/faults/bodies.py makes, which check all.
 SECONDS = 1200
@@ -16,6 +17,14 @@ def ran(*words, script=b"", **how):
     how.setdefault("input", script)
     how.setdefault("stdout", subprocess.PIPE)
     done = subprocess.run([PROGRAM, *words], stderr=subprocess.PIPE, timeout=SECONDS, **how)
+    return done.returncode, done.stdout, done.stderr
+
+
+def launched(*words, **how):
+    """The same of a run by the launcher, which is given the program, and Debian's Python."""
+    how.setdefault("env", {"S2CALC_PROGRAM": PROGRAM, "PATH": "/usr/bin:/bin"})
+    how.setdefault("input", b"")
+    done = subprocess.run([LAUNCHER, *words], capture_output=True, timeout=SECONDS, **how)
     return done.returncode, done.stdout, done.stderr
 
 

@@ -1,0 +1,289 @@
+"""The launcher: through pipes and files the program's bytes and no process more; scripts in files and in words, paths,
+help, and `cells`."""
+import os
+import random
+import re
+import subprocess
+import sys
+import tempfile
+import unittest
+
+import model
+from process import LAUNCHER, PROGRAM, TOP, first_line, launched, ran
+
+sys.path.append(os.path.dirname(LAUNCHER))
+import prompt  # noqa: E402  # pylint: disable=wrong-import-position
+
+SCRIPT = b"add a 04 0c\nshow a\ncuont a\n\nadd a zz\nsave a parks\nload b parks\ncount b"
+ENVIRONMENT = {"S2CALC_PROGRAM": PROGRAM, "PATH": "/usr/bin:/bin"}
+PICTURES = os.path.join(TOP, "docs/pictures")
+
+
+class TheProgram(unittest.TestCase):
+    """What the launcher adds nothing to."""
+
+    def both(self, *words, **how):
+        """The status, standard output and standard error of the program and of the launcher."""
+        for command, environment in ([PROGRAM], os.environ), ([LAUNCHER], ENVIRONMENT):
+            with tempfile.TemporaryDirectory() as room:
+                done = subprocess.run([*command, *words], cwd=room, env=environment, timeout=60, check=False,
+                                      **{"capture_output": True, **how})
+                yield done.returncode, done.stdout, done.stderr
+
+    def test_same_bytes(self):
+        for line in ("run", "run --explain", "run --prompt", "run --limit=1 --dir . --depth 2 --explain",
+                     "run --limit 0", "run --limit", "run --dir", "run --dir=", "run --colour", "run --prompt --prompt",
+                     "run --limit -5", "run --lim 5", "cell 64c", "cell X", "cell", "cell -h", "check parks", "check",
+                     "check --dir . parks", "draw --cells 1 3/021", "draw --curve --cells 1 -- f", "draw --help",
+                     "draw a b", "--version", "-V", "ru", "-- run", "help cell", "help draw", "help help", "--x"):
+            with self.subTest(line=line):
+                wanted, found = self.both(*line.split(), input=SCRIPT)
+                self.assertEqual(found, wanted)
+        for words in ([], [""], ["run", "--dir", "no such"], ["cell", " 3/021 "], ["cell", "$(x) `x` *"], ["cell", ""],
+                      ["cell", b"\xff"], ["run", "--dir", b"\xff"], ["draw", "--cells", "0/0 ", "*"]):
+            with self.subTest(words=words):
+                wanted, found = self.both(*words, input=SCRIPT)
+                self.assertEqual(found, wanted)
+
+    def test_closed_streams(self):
+        for stream in range(3):
+            for words in ["run"], ["run", "--explain"], ["cell", "1"]:
+                with self.subTest(stream=stream, words=words):
+                    wanted, found = self.both(*words, input=SCRIPT, preexec_fn=lambda closed=stream: os.close(closed))
+                    self.assertEqual(found, wanted)
+
+    def test_output_that_can_not_be_written(self):
+        with open("/dev/full", "wb") as full:
+            wanted, found = self.both("run", input=SCRIPT, capture_output=False, stdout=full, stderr=subprocess.PIPE)
+        self.assertEqual(found, wanted)
+
+    def test_no_process_stays_between(self):
+        """The process that was started is the program, which waits for the script."""
+        for words in (["run"], ["run", "--prompt"], ["run", "-"], ["run", "/dev/stdin"]):
+            with subprocess.Popen([LAUNCHER, *words], env=ENVIRONMENT, stdin=subprocess.PIPE, stdout=subprocess.PIPE,
+                                  stderr=subprocess.PIPE) as process:
+                process.stdin.write(b"count a\n")
+                process.stdin.flush()
+                self.assertEqual(process.stdout.readline(), b"cells 0 leaves 0\n")
+                self.assertTrue(os.path.samefile(f"/proc/{process.pid}/exe", os.path.realpath(PROGRAM)))
+                process.stdin.close()
+                self.assertEqual(process.wait(60), 0)
+
+    def test_where_no_program_is(self):
+        self.assertEqual(launched("run", env={"S2CALC_PROGRAM": "/dev/null/x"}), (2, b"", b"s2calc: there is no program /dev/null/x\n"))
+
+
+class Scripts(unittest.TestCase):
+    """Scripts in files and in words."""
+
+    def setUp(self):
+        room = tempfile.TemporaryDirectory()
+        self.addCleanup(room.cleanup)
+        self.room = room.name
+        self.how = {"cwd": self.room, "env": ENVIRONMENT}
+
+    def test_a_file(self):
+        wanted = ran("run", "--explain", script=SCRIPT, cwd=self.room)
+        for name in ("script", "-x", "a b$(c)"):
+            with open(os.path.join(self.room, name), "wb") as it:
+                it.write(SCRIPT)
+        path = os.path.join(self.room, "script")
+        for words in (["script"], [path], ["./-x"], ["a b$(c)"]):
+            self.assertEqual(launched("run", "--explain", *words, **self.how), wanted)
+            self.assertEqual(launched("run", *words, "--explain", **self.how), wanted)
+        self.assertEqual(launched("run", "-", "--explain", **{**self.how, "input": SCRIPT}), wanted)
+        self.assertEqual(launched("run", "--no-prompt", "--explain", **{**self.how, "input": SCRIPT}), wanted)
+
+    def test_a_file_that_is_written_meanwhile(self):
+        """It is opened once."""
+        path = os.path.join(self.room, "pipe")
+        os.mkfifo(path)
+        with subprocess.Popen([LAUNCHER, "run", path], env=ENVIRONMENT, stdout=subprocess.PIPE) as process:
+            with open(path, "wb") as it:
+                it.write(SCRIPT)
+            self.assertEqual(process.stdout.read(), ran("run", script=SCRIPT, cwd=self.room)[1])
+
+    def test_a_file_that_can_not_be_read(self):
+        for name, reason in (("absent", b"there is no file 'absent'"), (".", b"'.' is a folder"),
+                             ("", b"there is no file ''"), ("-", None)):
+            status, out, error = launched("run", name, **self.how)
+            with self.subTest(name=name):
+                self.assertEqual((status, out), (2 if reason else 0, b""))
+                self.assertEqual(error, b"s2calc: input\nerror: %s\n" % reason if reason else b"")
+
+    def test_lines(self):
+        for lines in ([b"add a 04"], [b"add a 04\nadd a 0c", b"show a"], [b""], [b"cell $HOME `x` \\ \"'", b"# \\"],
+                      [b"count a"] * 300):
+            words = [word for line in lines for word in ("-c", line)]
+            self.assertEqual(launched("run", *words, "--explain", **self.how),
+                             ran("run", "--explain", script=b"\n".join(lines) + b"\n", cwd=self.room))
+
+    def test_usage(self):
+        for words in (["-c"], ["-c", "count a", "x"], ["x", "-c", "count a"], ["x", "y"], ["-", "-"]):
+            status, out, error = launched("run", *words, **self.how)
+            self.assertEqual((status, out, first_line(error)), (2, b"", b"s2calc: usage"), words)
+        with open(os.path.join(self.room, "script"), "wb"):
+            pass
+        self.assertIn(b"s2calc run script", launched("script", **self.how)[2])
+
+    def test_paths(self):
+        """If all files are in one folder, it is that of the run."""
+        land = ran("check", "--dir", PICTURES, "land.outer")
+        for path in ("docs/pictures/land.outer", f"{PICTURES}/land.outer", "./docs//pictures/land.outer"):
+            self.assertEqual(launched("check", path, cwd=TOP, env=ENVIRONMENT), land)
+        self.assertEqual(launched("check", "./land.outer", cwd=PICTURES, env=ENVIRONMENT), land)
+        both = ran("draw", "--fit", "--dir", PICTURES, "land.outer", "lakes.outer")
+        paths = [f"docs/pictures/{name}.outer" for name in ("land", "lakes")]
+        self.assertEqual(launched("draw", "--fit", *paths, cwd=TOP, env=ENVIRONMENT), both)
+        self.assertEqual(launched("draw", *paths, "--fit", cwd=TOP, env=ENVIRONMENT), both)
+        for words in (["check", "--dir", "docs", "pictures/land.outer"], ["draw", paths[0], "README.md"],
+                      ["check", "docs/"], ["draw", "a/x", "b/x"], ["check", "docs/-x"], ["check", "/"]):
+            self.assertEqual(launched(*words, cwd=TOP, env=ENVIRONMENT), ran(*words, cwd=TOP), words)
+
+
+class Help(unittest.TestCase):
+    def test_what_is_added(self):
+        """Each line of the program's help stays, but its usage and what it says of a prompt."""
+        for words in (["--help"], ["run", "--help"]):
+            own, whole = (said(*words)[1].decode().splitlines() for said in (ran, launched))
+            gone = [line for line in own if line not in whole]
+            self.assertEqual([line.split()[0] for line in gone], ["Usage:", "--prompt"] if words[0] == "run" else [])
+        self.assertEqual(launched("help", "run"), launched("run", "--limit", "5", "-h"))
+        self.assertEqual(launched("help"), launched("-h"))
+        self.assertEqual(launched("help", "cells"), launched("cells", "--help"))
+        self.assertEqual(launched("help", "nothing")[0], 2)
+        self.assertIn(b"did you mean 'count'?", launched("help", "coumt")[2])
+
+    def test_each_command(self):
+        """It has an example that isn't refused, and each word of the example can be refused as it is said."""
+        forms = prompt.help_of(PROGRAM)[1]
+        self.assertEqual(list(forms), list(prompt.COMMANDS))
+        before = b"add a 04 0c\nadd b 04\nadd a 1c\nundo\n"
+        for name, (_, example) in prompt.COMMANDS.items():
+            with self.subTest(name=name), tempfile.TemporaryDirectory() as room:
+                form, _, errors, shown = prompt.help_on(PROGRAM, name).splitlines()
+                self.assertEqual((form.split()[0], shown, example.split()[0]), (name, f"example: {example}", name))
+                ran("run", script=b"add a 04\nsave a parks\ndump session\n", cwd=room)
+                status, out, _ = ran("run", script=before + example.encode() + b"\n", cwd=room)
+                self.assertEqual((status, b"error" in out), (0, False), out)
+                words = example.split()
+                refused = [self.refused([*words[:place], "!", *words[place + 1:]]) for place in range(1, len(words))]
+                errors = errors.removeprefix("errors: ").split(", ")
+                self.assertEqual([it for it in errors if it in refused], [*dict.fromkeys(refused)])
+                self.assertIn(self.refused([*words, *["!"] * 8]), errors)
+        self.assertEqual(launched("help", "count")[1].decode(), prompt.help_on(PROGRAM, "count") + "\n")
+
+    def refused(self, words):
+        return re.findall(rb"^error (.*)$", ran("run", script=" ".join(words).encode())[1], re.M)[0].decode()
+
+    def test_errors_that_words_do_not_tell(self):
+        """Each of them comes of some script, but for memory that runs out, and no other is said."""
+        lines = {
+            "too-many": ["add a 1 3", "add a 1\nremove a 1c", "add a 1\nkeep a 04 14", "add a 1\nadd b 3\nunion a b",
+                         "add a 1\nadd b 1c\nsubtract a b", "range a 1 3", "outer a 30 0 0 4 0 0",
+                         "inner a 30 0 0 4 0 0", "add a 1\nouterof b a 30 0 0 4 0 0", "add a 1\ndenorm a 30 1",
+                         "add a 1\ninnerof b a 30 0 0 4 0 0", "load a wide", "restore wide"],
+            "order": ["range a 3 1"], "missing": ["load a none", "restore none"],
+            "file": ["load a folder", "restore folder", "save a folder", "dump folder"], "format": ["load a bad"],
+            "session": ["restore bad"], "nothing": ["undo", "redo"], "too-deep": ["restore deep"],
+        }
+        tried = [(error, script, 1) for error, scripts in lines.items() for script in scripts]
+        tried.append(("too-many", "add a 1 24 2c\nadd b 04 0c 3\nintersect a b", 3))
+        with tempfile.TemporaryDirectory() as room:
+            os.mkdir(os.path.join(room, "folder"))
+            with open(os.path.join(room, "bad"), "wb") as it:
+                it.write(b"bad")
+            ran("run", script=b"add a 1\nadd a 3\ndump deep\n", cwd=room)
+            ran("run", script=b"add a 1 3\nsave a wide\n", cwd=room)
+            found = {name: {"memory"} for name in prompt.COMMANDS}
+            for error, script, limit in tried:
+                out = ran("run", "--limit", str(limit), "--depth", "1", script=script.encode(), cwd=room)[1]
+                self.assertEqual(out.splitlines()[-1], f"error {error}".encode(), script)
+                found[script.splitlines()[-1].split()[0]].add(error)
+        for name, (errors, _) in prompt.COMMANDS.items():
+            self.assertEqual({*errors.split(", "), "memory", ""}, {*found[name], ""}, name)
+
+
+class Identifiers(unittest.TestCase):
+    """`cells`, beside a plain answer."""
+
+    def setUp(self):
+        self.random = random.Random(5)
+        self.cells = [self.cell() for _ in range(3000)]
+
+    def cell(self):
+        """The identifier and the debug text of a random cell, digit by digit."""
+        face, path = self.random.randrange(6), [self.random.randrange(4) for _ in range(self.random.randrange(31))]
+        bits = f"{face:03b}" + "".join(f"{digit:02b}" for digit in path) + "1"
+        return int(bits.ljust(64, "0"), 2), f"{face}/" + "".join(map(str, path))
+
+    def word(self, number, debug):
+        """The cell in one of the forms that other programs have."""
+        forms = [f"{number:016x}".rstrip("0"), f"{number:016X}", debug]
+        forms.append(f"{number - (1 << 64) if number >> 63 else number:+}")
+        if number >= 10**16:
+            forms += [str(number), str(number - (1 << 64)) if number >> 63 else f"+{number}"]
+        return self.random.choice(forms)
+
+    def test_thousands_in_all_forms(self):
+        words = [self.word(*cell) for cell in self.cells]
+        text = words[0]
+        for word in words[1:]:
+            text += self.random.choice([" ", "\n", ", ", "\r\n", "\t", "][", "', '", '","', ";", "|", "}\n{", "\n\n"]) + word
+        wanted = [f"{number:016x}".rstrip("0") for number, _ in self.cells]
+        status, out, error = launched("cells", input=f"[{text}]\n".encode())
+        self.assertEqual((status, error, out.split()), (0, b"", [word.encode() for word in wanted]))
+        self.assertLess(max(map(len, out.splitlines())), 4096)
+        commands = launched("cells", "--add", "q", input=text.encode())[1]
+        self.assertEqual(b" ".join(line.removeprefix(b"add q ") for line in commands.splitlines()).split(), out.split())
+        shown = ran("run", script=commands + b"show q\n")[1].decode().split("end\n")[0].splitlines()
+        runs = model.joined(sorted(model.run_of(model.cell_in(word.encode())) for word in wanted))
+        self.assertEqual([line for line in shown if " " not in line], list(map(model.token, model.normal_form(runs))))
+
+    def test_as_json_python_and_sqlite_print_them(self):
+        numbers = [number for number, _ in self.cells if number >= 10**16][:200]
+        signed = [number - (1 << 64) if number >> 63 else number for number in numbers]
+        wanted = " ".join(f"{number:016x}".rstrip("0") for number in numbers) + "\n"
+        rows = subprocess.run(["sqlite3", "-json", ":memory:", f"VALUES {', '.join(f'({it})' for it in signed)}"],
+                              capture_output=True, check=True).stdout.replace(b'"column1":', b"")
+        for text in (str(numbers), str(signed), str(set(numbers[:1])) * 0 + str(tuple(numbers)), rows.decode(),
+                     "{" + ",".join(map(str, signed)) + "}", "\ufeff" + "\n".join(map(str, signed))):
+            self.assertEqual(b" ".join(launched("cells", input=text.encode())[1].split()).decode() + "\n", wanted)
+
+    def test_digits_alone(self):
+        """Up to 16 are a token, unless --decimal says that they are a number."""
+        self.assertEqual(launched("cells", input=b"1 +1 10\n"), (0, b"1 0000000000000001 1\n", b""))
+        self.assertEqual(launched("cells", "--decimal", input=b"1 16 3/0\n"),
+                         (0, b"0000000000000001 000000000000001 64\n", b""))
+
+    def test_what_is_no_cell(self):
+        for text, place in ((b"1 3\n5 zz", "line 2, word 2: 'zz'"), (b"0", "line 1, word 1: '0'"),
+                            (b"X", "line 1, word 1: 'X'"), (b"6/0", "line 1, word 1: '6/0'"),
+                            (b"\n0x04", "line 2, word 1: '0x04'"), (b"-1", "line 1, word 1: '-1'"),
+                            (b"5.18e18", "line 1, word 1: '5.18e18'"), (b"18446744073709551617", "line 1, word 1: '1844"),
+                            (b"0/" + b"3" * 31, "line 1, word 1: '0/3333"), (b"\xff", r"line 1, word 1: '\xff'"),
+                            (b"-9223372036854775809", "line 1, word 1: '-9223"), (b"1\nNULL\n", "line 2, word 1: 'NULL'")):
+            status, out, error = launched("cells", input=text)
+            self.assertEqual((status, out), (1, b""), text)
+            self.assertTrue(error.decode().startswith(f"s2calc: {place}"), error)
+
+    def test_files_and_usage(self):
+        with tempfile.TemporaryDirectory() as room:
+            with open(os.path.join(room, "ids"), "wb") as it:
+                it.write(b"3/021,\n")
+            self.assertEqual(launched("cells", "ids", cwd=room), (0, b"64c\n", b""))
+            self.assertEqual(launched("cells", "-", input=b"3/021"), (0, b"64c\n", b""))
+            self.assertEqual(launched("cells", "--add=b", "ids", cwd=room), (0, b"add b 64c\n", b""))
+            self.assertEqual(launched("cells"), (0, b"", b""))
+            for words, what in ((["absent"], b"input"), (["."], b"input"), (["ids", "ids"], b"usage"),
+                                (["--add"], b"usage"), (["--add", "ab"], b"usage"), (["--no"], b"usage")):
+                status, out, error = launched("cells", *words, cwd=room)
+                self.assertEqual((status, out, first_line(error)), (2, b"", b"s2calc: " + what))
+        with open("/dev/full", "wb") as full:
+            done = subprocess.run([LAUNCHER, "cells"], input=b"1", stdout=full, stderr=subprocess.PIPE, check=False,
+                                  timeout=60)
+        self.assertEqual((done.returncode, first_line(done.stderr)), (2, b"s2calc: output"))
+
+
+if __name__ == "__main__":
+    unittest.main()
