@@ -5,7 +5,7 @@ let core = null;
 
 /** Loads the proved code, once. Nothing else of this file may be called before its promise is kept. */
 export async function load() {
-  core ??= await Core.from(Uint8Array.from(atob(MODULE), (letter) => letter.charCodeAt(0)));
+  core ??= await Core.from(unpacked(MODULE));
 }
 
 function calls() {
@@ -33,8 +33,10 @@ function cellOf(value) {
 /** The numbers of a list or of any iterable. */
 function numbersOf(values) {
   if (values instanceof CellUnion) return cellsIn(values);
-  if (values instanceof BigUint64Array) return values;
-  if (values instanceof BigInt64Array) return new BigUint64Array(values.buffer, values.byteOffset, values.length);
+  if (values instanceof BigUint64Array || values instanceof BigInt64Array) {
+    values.keys(); // a TypeError if its buffer is detached
+    return new BigUint64Array(values.buffer, values.byteOffset, values.length);
+  }
   const given = [...values];
   given.forEach((value, place) => {
     if (!fits(value)) throw new Refusal(NO_CELL, place);
@@ -309,7 +311,7 @@ export class CellUnion {
 
   /** Its cells cut to the least level that is at least `min`, and `min` plus a multiple of the modulus. */
   denormalized(min, modulus = 1, most = MOST_CELLS) {
-    if (this.denormalizedSize(min, modulus) > BigInt(most)) throw new Refusal(MANY, 0);
+    if (this.denormalizedSize(min, modulus) > BigInt(within(most, Number.MAX_SAFE_INTEGER))) throw new Refusal(MANY, 0);
     return calls().denormalised(this.#ids, min, modulus);
   }
 

@@ -38,12 +38,20 @@ class Refusal extends Error {
 }
 
 const even = (size) => Math.ceil(size / 16) * 16;
+/** Bytes from base64. */
+const unpacked = (text) => Uint8Array.from(atob(text), (letter) => letter.charCodeAt(0));
 const unsigned = (number) => BigInt.asUintN(64, number);
 
 /** A whole number that is at most this; any other is refused, since a call would take it modulo 2^32. */
 function within(number, most) {
   if (!Number.isInteger(number) || number < 0 || number > most) throw new Refusal(ARGUMENT, 0);
   return number;
+}
+
+/** The bytes of a text in UTF-8. */
+function encoded(text) {
+  if (typeof text !== "string") throw new TypeError("a text is a string");
+  return new TextEncoder().encode(text);
 }
 
 class Core {
@@ -60,20 +68,20 @@ class Core {
 
   /**
    * Lays lists at the front of the memory, where calls find them without a copy. Others are forgotten. One that stays
-   * where it was isn't copied again.
+   * where it was isn't copied again. If there is no memory for them, those that lay there stay.
    */
   keep(lists) {
-    const before = this.kept;
-    this.kept = new Map();
-    this.front = this.base;
+    const kept = new Map();
+    let front = this.base;
     for (const list of lists) {
-      this.kept.set(list, this.front);
-      this.front += even(list.byteLength);
+      kept.set(list, front);
+      front += even(list.byteLength);
     }
-    this.grow(this.front);
-    for (const [list, at] of this.kept) {
-      if (before.get(list) !== at) this.bytes(at, list.byteLength).set(bytesOf(list));
+    this.grow(front);
+    for (const [list, at] of kept) {
+      if (this.kept.get(list) !== at) this.bytes(at, list.byteLength).set(bytesOf(list));
     }
+    [this.kept, this.front] = [kept, front];
   }
 
   grow(end) {
@@ -164,11 +172,11 @@ class Core {
   }
 
   fromToken(text) {
-    return this.answer("s2u_from_token", [new TextEncoder().encode(text)]);
+    return this.answer("s2u_from_token", [encoded(text)]);
   }
 
   fromDebug(text) {
-    return this.answer("s2u_from_debug", [new TextEncoder().encode(text)]);
+    return this.answer("s2u_from_debug", [encoded(text)]);
   }
 
   text(name, id) {
@@ -431,7 +439,7 @@ class Core {
   }
 
   fileAncestors(bytes) {
-    return this.make("s2u_file_ancestors", [bytes], bytes.length >> 2, BigUint64Array);
+    return this.make("s2u_file_ancestors", [bytes], Math.floor(bytes.length / 4), BigUint64Array);
   }
 
   /** The answer of a question of files, yes or no. */
@@ -447,7 +455,7 @@ class Core {
 
   /** The cells that the words of a text name; a refusal has the byte at which the first begins that names none. */
   named(text) {
-    const bytes = new TextEncoder().encode(text);
+    const bytes = encoded(text);
     return this.make("s2u_from_tokens", [bytes], Math.ceil(bytes.length / 2), BigUint64Array);
   }
 

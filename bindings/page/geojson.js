@@ -1,8 +1,11 @@
 "use strict";
 // GeoJSON in and out, in plain floating point. None of it is proved: the tests compare it with plain polygons.
 
-/** The most cells of one level at the borders of what is covered: at that level it ends. */
-const MOST_AT_BORDERS = 10_000;
+/** How many cells of one level are at the borders of what is covered, which shapes share by the lengths of these. */
+const AT_BORDERS = 10_000;
+/** How many any shape may have at its border, and so the most shapes. */
+const LEAST_AT_BORDER = 50;
+const MOST_SHAPES = 100_000;
 /** The most cells that are written as polygons. */
 const MOST_POLYGONS = 200_000;
 /** The degrees between two points of a border. What is straight on the map bends less than 10 m between them. */
@@ -61,6 +64,18 @@ function checked(position) {
   if (!isWithin(longitude, 540) || !isWithin(latitude, 90)) throw new Error("a position is out of range");
 }
 
+/** How long the lines of a shape are, in degrees, about. */
+function lengthOf({lines}) {
+  let length = 0;
+  for (const line of lines) {
+    for (let k = 1; k < line.length; k++) {
+      const [[x, y], [toX, toY]] = [line[k - 1], line[k]];
+      length += Math.hypot((toX - x) * Math.cos(radians((y + toY) / 2)), toY - y);
+    }
+  }
+  return length;
+}
+
 /**
  * The short edges of a shape on the sphere, as two points each, and how far from what is straight between them the
  * border may be.
@@ -82,7 +97,8 @@ function edgesOf({lines}) {
   return edges;
 }
 
-const distance = (a, b) => Math.hypot(a[0] - b[0], a[1] - b[1], a[2] - b[2]);
+const lengthOf3 = (x, y, z) => Math.sqrt(x * x + y * y + z * z);
+const distance = (a, b) => lengthOf3(a[0] - b[0], a[1] - b[1], a[2] - b[2]);
 
 /** How far a point is from an edge. */
 function distanceTo({from: [ax, ay, az], to: [bx, by, bz]}, [x, y, z]) {
@@ -90,7 +106,7 @@ function distanceTo({from: [ax, ay, az], to: [bx, by, bz]}, [x, y, z]) {
   const length = dx * dx + dy * dy + dz * dz;
   const along = length && ((x - ax) * dx + (y - ay) * dy + (z - az) * dz) / length;
   const part = Math.min(1, Math.max(0, along));
-  return Math.hypot(x - ax - part * dx, y - ay - part * dy, z - az - part * dz);
+  return lengthOf3(x - ax - part * dx, y - ay - part * dy, z - az - part * dz);
 }
 
 /** A test whether a place is inside of a shape: a line to the north crosses the borders an odd number of times. */
@@ -98,8 +114,9 @@ function insideOf({lines, isArea}) {
   if (!isArea) return () => false;
   const west = lines.flat().reduce((least, [x]) => Math.min(least, x), Infinity);
   const east = lines.flat().reduce((most, [x]) => Math.max(most, x), -Infinity);
-  const stripes = Array.from({length: STRIPES + 1}, () => []); // by longitude
-  const stripeOf = (x) => Math.floor(((x - west) / (east - west)) * STRIPES);
+  const count = Math.min(STRIPES, lines.flat().length);
+  const stripes = Array.from({length: count + 1}, () => []); // by longitude
+  const stripeOf = (x) => Math.floor(((x - west) / (east - west)) * count);
   for (const line of lines) {
     for (let k = 1; k < line.length; k++) {
       const [a, b] = [line[k - 1], line[k]].sort(([x], [otherX]) => x - otherX);
@@ -113,52 +130,88 @@ function insideOf({lines, isArea}) {
 
 /** A square of a face at a level, with its middle and the distance of its farthest corner from there. */
 function squareAt(face, level, i, j) {
-  const at = (a, b) => {
-    const point = pointAt(face, (i + a) / 2 ** level, (j + b) / 2 ** level);
-    const length = Math.hypot(...point);
-    return point.map((part) => part / length);
-  };
-  const middle = at(0.5, 0.5);
-  const radius = Math.max(...[[0, 0], [0, 1], [1, 0], [1, 1]].map((corner) => distance(middle, at(...corner))));
+  const side = 2 ** -level;
+  const middle = onSphere(face, (i + 0.5) * side, (j + 0.5) * side);
+  let radius = 0;
+  for (let corner = 0; corner < 4; corner++) {
+    radius = Math.max(radius, distance(middle, onSphere(face, (i + (corner >> 1)) * side, (j + (corner & 1)) * side)));
+  }
   return {face, level, i, j, middle, radius};
+}
+
+function onSphere(face, s, t) {
+  const [x, y, z] = pointAt(face, s, t);
+  const length = lengthOf3(x, y, z);
+  return [x / length, y / length, z / length];
+}
+
+/**
+ * The squares that contain a shape: those that lie in it, and those near its border, of the last level at which these
+ * are no more than `most`. `tell` takes how many are at the border, level by level.
+ */
+function squaresOf(shape, most, tell) {
+  const isInside = insideOf(shape);
+  const isIn = ({middle: [x, y, z]}) => isInside(degrees(Math.atan2(y, x)), degrees(Math.atan2(z, Math.hypot(x, y))));
+  const inside = [];
+  /** Of squares with the edges that may be near, those that have some; the others may lie in the shape. */
+  const divided = (squares) => {
+    const [near, found] = [[], []];
+    for (const {square, edges} of squares) {
+      const left = edges.filter((edge) => distanceTo(edge, square.middle) <= square.radius + edge.slack);
+      if (left.length) near.push({square, edges: left});
+      else if (isIn(square)) found.push(square);
+      if (near.length > most) return null;
+    }
+    inside.push(...found);
+    return near;
+  };
+  const edges = edgesOf(shape);
+  let border = divided([0, 1, 2, 3, 4, 5].map((face) => ({square: squareAt(face, 0, 0, 0), edges})));
+  for (let level = 1; level <= LEAST_LEVEL && border.length; level++) {
+    const next = divided(border.flatMap(({square: {face, i, j}, edges}) => [[0, 0], [0, 1], [1, 0], [1, 1]].map(
+      ([a, b]) => ({square: squareAt(face, level, 2 * i + a, 2 * j + b), edges}))));
+    if (!next) break;
+    border = next;
+    tell(border.length);
+  }
+  border = border.map(({square}) => square);
+  return {inside, border, half: border.filter(isIn)};
 }
 
 /**
  * The union of cells that contains the shapes of GeoJSON, edges being straight on the map: a point's leaf, and the
- * cells that lie in a polygon or near a border, as small as MOST_AT_BORDERS of them allow.
+ * cells that lie in a polygon or near a border. Each shape has its share of AT_BORDERS at its border, and no less than
+ * LEAST_AT_BORDER. With it come the levels at borders, and about how many times as many leaves the cells of polygons
+ * have as the polygons. `tell` takes how much is done, up to 1.
  */
-function coveringOf(core, geojson) {
+function coveringOf(core, geojson, tell = () => {}) {
   const shapes = shapesOf(geojson);
+  if (shapes.length > MOST_SHAPES) throw new Error(`there are more than ${MOST_SHAPES} shapes`);
   shapes.forEach(({lines}) => lines.forEach((line) => listed(line).forEach(checked)));
   const points = shapes.flatMap(({lines}) => lines.filter((line) => line.length === 1).flat());
-  const ids = points.map(([longitude, latitude]) => leafOf(core, longitude, latitude));
+  const lists = [BigUint64Array.from(points, ([longitude, latitude]) => leafOf(core, longitude, latitude)).sort()];
   const idOf = ({face, level, i, j}) =>
     core.parent(core.leafAt(face, i * 2 ** (30 - level), j * 2 ** (30 - level)), level);
+  const leavesOf = (squares) => squares.reduce((sum, {level}) => sum + 4 ** (LEAST_LEVEL - level), 0);
 
-  /** The square with the parts of shapes whose borders are near; null if none is. One that lies in a shape is taken. */
-  const kept = (square, parts) => {
-    const near = [];
-    for (const {shape, edges} of parts) {
-      const left = edges.filter((edge) => distanceTo(edge, square.middle) <= square.radius + edge.slack);
-      const [x, y, z] = square.middle;
-      if (left.length) near.push({shape, edges: left});
-      else if (shape(degrees(Math.atan2(y, x)), degrees(Math.atan2(z, Math.hypot(x, y))))) {
-        ids.push(idOf(square));
-        return null;
-      }
+  const lengths = shapes.map(lengthOf);
+  const length = lengths.reduce((sum, it) => sum + it, 0) || 1;
+  const shares = lengths.map((it) => Math.max(LEAST_AT_BORDER, (AT_BORDERS * it) / length));
+  const whole = shares.reduce((sum, it) => sum + it, 0);
+  const levels = new Set();
+  let [done, most, leaves, own] = [0, 0, 0, 0];
+  const isDone = (part) => tell(most = Math.max(most, part / whole));
+  shapes.forEach((shape, k) => {
+    const {inside, border, half} = squaresOf(shape, shares[k], (count) => isDone(done + count));
+    lists.push(BigUint64Array.from([...inside, ...border], idOf));
+    for (const {level} of border) levels.add(level);
+    if (shape.isArea) {
+      leaves += leavesOf(inside) + leavesOf(border);
+      own += leavesOf(inside) + leavesOf(half);
     }
-    return near.length ? {square, parts: near} : null;
-  };
-  const all = shapes.map((shape) => ({shape: insideOf(shape), edges: edgesOf(shape)}));
-  let border = [0, 1, 2, 3, 4, 5].map((face) => kept(squareAt(face, 0, 0, 0), all)).filter(Boolean);
-  for (let level = 1; level <= LEAST_LEVEL && border.length; level++) {
-    const next = border.flatMap(({square: {face, i, j}, parts}) => [[0, 0], [0, 1], [1, 0], [1, 1]].map(
-      ([a, b]) => kept(squareAt(face, level, 2 * i + a, 2 * j + b), parts))).filter(Boolean);
-    if (next.length > MOST_AT_BORDERS) break;
-    border = next;
-  }
-  ids.push(...border.map(({square}) => idOf(square)));
-  return core.normalise(BigUint64Array.from(ids));
+    isDone(done += shares[k]);
+  });
+  return {ids: core.unionOf(lists), levels: [...levels].sort((a, b) => a - b), times: leaves / own};
 }
 
 // ---- out
@@ -201,9 +254,10 @@ function inTokens(text) {
   });
 }
 
-/** The longitude and the latitude that a text has, the latitude first, or null. */
+/** The longitude and the latitude that a text has, the latitude first, or null. A minus may be that of typesetters. */
 function placeIn(text) {
-  const found = /^\s*(-?\d+(?:\.\d*)?)°?\s*[\s,;]\s*(-?\d+(?:\.\d*)?)°?\s*$/.exec(text);
+  const number = String.raw`([-+]?(?:\d+\.?\d*|\.\d+))°?`;
+  const found = new RegExp(String.raw`^\s*${number}\s*[\s,;]\s*${number}\s*$`).exec(text.replace(/[−–]/g, "-"));
   if (!found) return null;
   const [latitude, longitude] = [Number(found[1]), Number(found[2])];
   if (!(Math.abs(latitude) <= 90 && Math.abs(longitude) <= 180)) {

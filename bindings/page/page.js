@@ -29,9 +29,6 @@ function element(kind, text = "", attributes = {}) {
 /** A name in that of a result. Whole, the names of results of results would grow without end. */
 const brief = (name) => (name.length > MOST_BRIEF ? `${[...name].slice(0, MOST_BRIEF - 1).join("")}…` : name);
 
-/** Bytes from base64. */
-const unpacked = (text) => Uint8Array.from(atob(text), (letter) => letter.charCodeAt(0));
-
 class Page {
   constructor(core) {
     this.core = core;
@@ -39,6 +36,10 @@ class Page {
     this.regions = [];
     this.past = [];
     this.future = [];
+    this.coverer = new Coverer((part) => {
+      at("work").hidden = part === null;
+      at("part").value = part ?? 0;
+    });
     /** The unions that were chosen or computed with as A and B. */
     this.picked = {first: null, second: null};
     this.made = 0;
@@ -54,9 +55,9 @@ class Page {
   }
 
   /** Does something that may be refused; a refusal is said by its name, and nothing is changed. */
-  attempt(what, action) {
+  async attempt(what, action) {
     try {
-      action();
+      await action();
     } catch (error) {
       this.say(refusal(what, error));
     }
@@ -64,19 +65,22 @@ class Page {
 
   // ---- the unions and their history
 
-  /** What is shown of a list of cells under a name. One that is cut is no union; operations take the union of it. */
-  regionOf(name, ids, isCut = false) {
+  /**
+   * What is shown of a list of cells under a name, and a note that is said of it. A list that is cut is no union;
+   * operations take the union of it.
+   */
+  regionOf(name, ids, {isCut = false, note = ""} = {}) {
     if (ids.length > MOST_CELLS) throw new Error("too many cells for the page");
     const union = isCut ? this.core.normalise(ids) : ids;
     if (!this.core.isUnion(union)) throw new Refusal(-4, 0);
     return {
-      name, ids, union, color: COLORS[this.made++ % COLORS.length], isShown: true,
+      name, ids, union, note, color: COLORS[this.made++ % COLORS.length], isShown: true,
       leaves: this.core.leafCount(union), drawn: new Drawn(this.core, ids),
     };
   }
 
-  add(name, ids, isCut = false) {
-    this.addAll([this.regionOf(name, ids, isCut)]);
+  add(name, ids, more) {
+    this.addAll([this.regionOf(name, ids, more)]);
   }
 
   /** Adds regions, in one step of the history. */
@@ -87,22 +91,29 @@ class Page {
   }
 
   change(regions) {
-    this.past.push(this.regions);
-    this.future = [];
+    const before = this.regions;
     this.become(regions);
+    this.past.push(before);
+    this.future = [];
+    this.show();
   }
 
+  /** Takes other unions, if there is memory for them. */
   become(regions) {
-    this.regions = regions;
     this.core.keep([...new Set(regions.map((region) => region.union))]);
-    this.show();
+    this.regions = regions;
   }
 
   step(from, to, word) {
     if (!from.length) return this.say(`Nothing to ${word}.`);
-    to.push(this.regions);
-    this.become(from.pop());
-    this.say(`${word}: ${this.regions.length} unions.`);
+    this.attempt(word, () => {
+      const before = this.regions;
+      this.become(from.at(-1));
+      from.pop();
+      to.push(before);
+      this.show();
+      this.say(`${word}: ${this.regions.length} unions.`);
+    });
   }
 
   undo() {
@@ -124,9 +135,9 @@ class Page {
   compute(word, operation) {
     this.attempt(word, () => {
       const begun = performance.now();
-      const [name, ids, isCut] = operation();
+      const [name, ids, more] = operation();
       const took = performance.now() - begun;
-      this.add(name, ids, isCut);
+      this.add(name, ids, more);
       this.say(`${at("status").textContent} Computed in ${took.toFixed(1)} ms.`);
     });
   }
@@ -158,7 +169,7 @@ class Page {
       const count = this.core.denormalisedCount(a.union, level, modulus);
       if (count > BigInt(MOST_CELLS)) throw new Error(`${count} cells are too many for the page`);
       const name = `denormalized ${level}/${modulus} of ${brief(a.name)}`;
-      return [name, this.core.denormalised(a.union, level, modulus), true];
+      return [name, this.core.denormalised(a.union, level, modulus), {isCut: true}];
     });
   }
 
@@ -169,44 +180,52 @@ class Page {
     const [added, refusals] = [[], []];
     for (const file of [...files]) { // a copy: the browser's own list is emptied when the next files are chosen
       try {
-        added.push(this.regionOf(file.name, this.cellsIn(await bytesIn(file))));
+        added.push(this.regionOf(file.name, ...await this.readFrom(file)));
       } catch (error) {
+        if (error instanceof Stopped) return this.say(refusal(file.name, error));
         refusals.push(refusal(file.name, error));
       }
     }
-    this.addAll(added);
     if (refusals.length > MOST_SAID) refusals.push(`and ${refusals.splice(MOST_SAID).length} more refused`);
-    if (refusals.length) this.say(refusals.join("; "));
+    await this.attempt(`${added.length} files`, () => {
+      this.addAll(added);
+      if (refusals.length) this.say(refusals.join("; "));
+    });
   }
 
-  /** The union in the bytes of a file: a text with cells or GeoJSON, or else a union file. */
-  cellsIn(bytes) {
-    return isText(bytes) ? this.cellsNamed(new TextDecoder().decode(bytes)) : this.core.decode(bytes);
+  /** The union of a file, and what is said of it: a text with cells or GeoJSON, or else a union file. */
+  async readFrom(file) {
+    const bytes = await bytesIn(file);
+    return isText(bytes) ? this.readText(file.name, new TextDecoder().decode(bytes)) : [this.core.decode(bytes)];
   }
 
-  /** The union of the cells that a text names, or the covering of its GeoJSON. */
-  cellsNamed(text) {
+  /** The union of the cells that a text names, or the covering of its GeoJSON; and what is said of it. */
+  async readText(name, marked) {
+    const text = marked.replace(/^\uFEFF/, ""); // a byte order mark, which Windows puts before texts
     const isNamed = /^\s*\{\s*"[^"]*"\s*(:|$)/.test(text); // a list of PostgreSQL begins with a brace and a quote too
-    const ids = isNamed ? coveringOf(this.core, JSON.parse(text)) : this.core.read(inTokens(text));
+    if (isNamed) this.say(`${name}: GeoJSON is being covered.`);
+    const {ids, ...how} = isNamed ? await this.coverer.cover(text) : {ids: this.core.read(inTokens(text))};
     if (!ids.length) throw new Error("there is no cell");
-    return ids;
+    return [ids, isNamed ? {note: noteOf(how)} : {}];
   }
 
-  addText(text) {
-    this.add(`cells ${this.made + 1}`, this.cellsNamed(text));
+  async addText(what, text) {
+    const read = await this.readText(what, text);
+    this.add(`cells ${this.made + 1}`, ...read);
   }
 
   addTexts() {
-    this.attempt("texts", () => {
-      this.addText(at("texts").value);
-      at("texts").value = "";
+    const text = at("texts").value;
+    this.attempt("texts", async () => {
+      await this.addText("texts", text);
+      if (at("texts").value === text) at("texts").value = "";
     });
   }
 
   /** Adds what was dropped or pasted: files, or else a text. */
   take(what, transfer) {
     if (transfer.files.length) this.open(transfer.files);
-    else this.attempt(what, () => this.addText(transfer.getData("text")));
+    else this.attempt(what, () => this.addText(what, transfer.getData("text")));
   }
 
   save(region, bytes, ending) {
@@ -325,14 +344,16 @@ class Page {
     this.say(`${name}: shown.`);
   }
 
-  /** Shows the place that is written in its field, and says which cell is there. */
+  /** Shows the place that is written in its field, and says which leaf is there, and which cell in the picture. */
   goToPlace() {
     this.attempt("place", () => {
       const place = placeIn(at("place").value);
       if (!place) throw new Error("it is no latitude and longitude, such as 48.86, 2.35");
-      const {face, i, j} = this.core.square(leafOf(this.core, ...place));
+      const leaf = leafOf(this.core, ...place);
+      const {face, i, j} = this.core.square(leaf);
       this.view.center(face, (i + 0.5) / SIDE, (j + 0.5) / SIDE, 24 * 2 ** LEVEL_OF_PLACES);
       this.readMiddle();
+      this.say(`leaf ${this.core.token(leaf)}. The cell of it that the picture shows: ${at("status").textContent}`);
       this.moved();
     });
   }
@@ -391,7 +412,7 @@ class Page {
       symmetric: () => this.ofTwo("xor", "symmetricDifference"), outer: () => this.ofLevel("outer", "outer"),
       inner: () => this.ofLevel("inner", "inner"), denormalise: () => this.denormalise(),
       in: () => this.zoomBy(2), out: () => this.zoomBy(0.5), fit: () => this.showAll(), theme: () => this.turnTheme(),
-      go: () => this.goToPlace(),
+      go: () => this.goToPlace(), stop: () => this.coverer.end(),
     };
     for (const [id, action] of Object.entries(buttons)) at(id).onclick = action;
     for (const id of ["first", "second"]) at(id).onchange = () => this.chosen(id);
@@ -508,8 +529,16 @@ class Page {
   }
 }
 
-function describe(region) {
-  return `${region.ids.length} ${region.ids.length === 1 ? "cell" : "cells"}, ${region.leaves} leaves`;
+function describe({ids, leaves, note}) {
+  return `${ids.length} ${ids.length === 1 ? "cell" : "cells"}, ${leaves} leaves${note}`;
+}
+
+/** What is said of the covering of GeoJSON: the levels at borders, and how much larger it is than the polygons. */
+function noteOf({levels, times}) {
+  const range = [...new Set([levels[0], levels.at(-1)])].join(" to ");
+  const border = levels.length ? `; cells at borders are of level ${range}` : "";
+  const factor = times < 100 ? `about ${times.toPrecision(3)}` : "more than 100";
+  return border + (Number.isNaN(times) ? "" : `; ${factor} times as large as the polygons`);
 }
 
 /** Whether bytes are a text: no union file is one, since its first byte is 1. */
@@ -521,8 +550,9 @@ async function bytesIn(file) {
   return new Uint8Array(await file.arrayBuffer());
 }
 
-/** What is said of something that was refused. */
+/** What is said of something that was refused or stopped. */
 function refusal(what, error) {
+  if (error instanceof Stopped) return `${what}: stopped; nothing was added`;
   const where = error.status === -3 ? ` at place ${error.place}` : "";
   return `${what}: refused: ${error.message}${where}`;
 }

@@ -48,7 +48,14 @@ const degrees = (radians) => (radians * 180) / Math.PI;
 function pointAt(face, s, t) {
   const u = toUv(s);
   const v = toUv(t);
-  return [[1, u, v], [-u, 1, v], [-u, -v, 1], [-1, -v, -u], [v, -1, -u], [v, u, -1]][face];
+  switch (face) {
+    case 0: return [1, u, v];
+    case 1: return [-u, 1, v];
+    case 2: return [-u, -v, 1];
+    case 3: return [-1, -v, -u];
+    case 4: return [v, -1, -u];
+    default: return [v, u, -1];
+  }
 }
 
 /** The longitude and the latitude of s and t on a face, in degrees. */

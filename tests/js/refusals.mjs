@@ -1,62 +1,113 @@
-// What the package for JavaScript refuses, and what stays as it is: refusals.mjs MODULE VERSION. The last line is 'N
-// passed, M failed'.
+// What the package for JavaScript refuses, what it answers of long lists, and what stays as it is: refusals.mjs MODULE
+// VERSION COUNT, for lists of this many cells. The last line is 'N passed, M failed'.
 import assert from "node:assert/strict";
 import {inspect} from "node:util";
 import {pathToFileURL} from "node:url";
+import {CALLS, FACE, Given, namesOf} from "./calls.mjs";
 
-const s2 = await import(pathToFileURL(process.argv[2]));
+const [path, version] = process.argv.slice(2);
+const count = Number(process.argv[4]);
+const s2 = await import(pathToFileURL(path));
 const {CellUnion, UnionFile, Refusal} = s2;
-const FACE = 0x1000000000000000n;
 const LEAF = 1n;
-const OF_A_CELL = "level face size rangeMin rangeMax children next prev square token debug".split(" ");
+const NUMBERS = [0n, 2n, 2n ** 64n, 2n ** 64n + FACE, 2n ** 64n + 1n, -(2n ** 63n) - 1n, 2n ** 64n - 1n];
+const few = new Given(s2, 5);
+let loaded = 0;
 
-function refused(status, place, words, action) {
-  assert.throws(action, (error) => error instanceof Refusal && error instanceof Error && error.status === status &&
-    error.place === place && error.message === words, `${action}`);
+/** The module once more, with a memory of its own. */
+async function another() {
+  const module = await import(`${pathToFileURL(path)}?${++loaded}`);
+  await module.load();
+  return module;
 }
-const noCell = (place, action) => refused(-3, place, "not a cell", action);
-const outOfRange = (action, place = 0) => refused(-5, place, "argument out of range", action);
+
+/** For each call that takes something of a kind: a function of that, and its name. */
+function taking(...kinds) {
+  return Object.entries(CALLS).flatMap(([name, call]) => kinds.filter((kind) => call[kind]).map(
+    (kind) => [(given) => call[kind](few, given), `${name} of a ${kind}`]));
+}
+
+/** Whether an answer is that of a plain way: a list, or what of a union says all, its cells or how many leaves. */
+function same(found, wanted, name) {
+  const answer = !(found instanceof Object) || !("leafCount" in found) ? found
+    : typeof wanted === "bigint" ? found.leafCount() : found.cells();
+  if (!(answer instanceof Object)) return assert.equal(answer, wanted, name);
+  assert.ok(answer.length === wanted.length && answer.every((it, k) => it === wanted[k]), name);
+}
+
+/** Does something while the memory doesn't grow for the time that is named; answers how often it was to grow. */
+function withoutMemory(place, action) {
+  const {grow} = WebAssembly.Memory.prototype;
+  let times = 0;
+  WebAssembly.Memory.prototype.grow = function (pages) {
+    if (times++ === place) throw new RangeError("it may not grow");
+    return grow.call(this, pages);
+  };
+  try {
+    action();
+  } finally {
+    WebAssembly.Memory.prototype.grow = grow;
+  }
+  return times;
+}
+
+function refused(status, place, words, action, name = `${action}`) {
+  assert.throws(action, (error) => error instanceof Refusal && error instanceof Error && error.status === status &&
+    error.place === place && error.message === words, name);
+}
+const noCell = (place, action, name) => refused(-3, place, "not a cell", action, name);
+const outOfRange = (action, place = 0, name = undefined) => refused(-5, place, "argument out of range", action, name);
 
 const TESTS = {
+  "each call is asked": () => assert.deepEqual(namesOf(s2).sort(), Object.keys(CALLS).sort()),
   "nothing before load": async () => {
-    const fresh = await import(`${pathToFileURL(process.argv[2])}?again`);
-    assert.throws(() => fresh.level(FACE), /await load/);
+    const fresh = await import(`${pathToFileURL(path)}?again`);
+    assert.throws(() => fresh.level(FACE), {name: "Error", message: /await load/});
     await Promise.all([fresh.load(), fresh.load()]);
     assert.equal(fresh.level(FACE), 0);
   },
   "numbers that are no cells": () => {
-    for (const wrong of [0n, 2n, 2n ** 64n, 2n ** 64n + FACE, -(2n ** 63n) - 1n, 2n ** 64n - 1n]) {
+    for (const wrong of NUMBERS) {
       assert.equal(s2.isCell(wrong), false);
-      for (const call of OF_A_CELL) noCell(0, () => s2[call](wrong));
-      noCell(0, () => s2.parent(wrong, 0));
-      noCell(0, () => s2.contains(FACE, wrong));
-      noCell(1, () => new CellUnion([FACE, wrong]));
-      noCell(0, () => new CellUnion([FACE]).has(wrong));
-      noCell(0, () => new CellUnion([FACE]).intersectionWithCell(wrong));
-      noCell(1, () => new CellUnion([FACE]).hasEach([FACE, wrong]));
-      for (const call of ["levels", "rangeMins", "rangeMaxes", "tokens"]) noCell(1, () => s2[call]([FACE, wrong]));
+      for (const [ask, name] of taking("cell", "second")) noCell(0, () => ask(wrong), name);
+      for (const [ask, name] of taking("cells")) noCell(1, () => ask([FACE, wrong]), name);
     }
   },
   "values of other types": () => {
-    for (const wrong of [1, "1", null, undefined, {}, 1.5, true]) {
+    const wrongs = [1, "1", null, undefined, {}, 1.5, true, Symbol("1")];
+    for (const wrong of wrongs) {
       assert.equal(s2.isCell(wrong), false);
-      assert.throws(() => s2.level(wrong), TypeError);
-      assert.throws(() => new CellUnion([wrong]), TypeError);
-      assert.throws(() => new CellUnion([FACE]).union(wrong), TypeError);
-      assert.throws(() => CellUnion.decode(wrong), TypeError);
+      for (const [ask, name] of taking("cell", "second")) assert.throws(() => ask(wrong), TypeError, name);
+      for (const [ask, name] of taking("cells")) assert.throws(() => ask([FACE, wrong]), TypeError, name);
+      for (const [ask, name] of taking("other", "file")) assert.throws(() => ask(wrong), TypeError, name);
+      for (const call of [CellUnion.decode, UnionFile.check]) assert.throws(() => call(wrong), TypeError);
+    }
+    for (const wrong of [1, 1n, null, undefined, {}, [], ["04"], new Uint8Array(2), true]) {
+      for (const [ask, name] of taking("text")) assert.throws(() => ask(wrong), TypeError, name);
+    }
+    for (const [ask, name] of taking("other")) assert.throws(() => ask(few.file), TypeError, name);
+    for (const [ask, name] of taking("file")) assert.throws(() => ask(few.union), TypeError, name);
+  },
+  "lists whose buffer went away": () => {
+    for (const Kind of [BigUint64Array, BigInt64Array]) {
+      const list = Kind.of(FACE);
+      structuredClone(list, {transfer: [list.buffer]});
+      for (const [ask, name] of taking("cells")) assert.throws(() => ask(list), TypeError, name);
+      for (const call of [s2.isUnion, CellUnion.fromNormalized]) assert.throws(() => call(list), TypeError);
+    }
+    const bytes = few.union.encode();
+    structuredClone(bytes, {transfer: [bytes.buffer]});
+    for (const call of [CellUnion.decode, UnionFile.check, (it) => new UnionFile(it)]) {
+      assert.throws(() => call(bytes), TypeError);
     }
   },
   "levels and places out of range": () => {
     const union = new CellUnion([FACE]);
-    for (const wrong of [31, -1, 1.5, 2 ** 32, NaN, Infinity, "1", undefined, 1n]) {
-      outOfRange(() => s2.parent(FACE, wrong));
-      outOfRange(() => s2.child(FACE, wrong));
-      outOfRange(() => s2.parents([LEAF], wrong));
-      outOfRange(() => union.outer(wrong));
-      outOfRange(() => union.inner(wrong));
-      outOfRange(() => union.denormalized(wrong, 1));
-      outOfRange(() => s2.fromFaceIJ(wrong, 0, 0), 0);
+    for (const wrong of [31, -1, 1.5, 2 ** 32, NaN, Infinity, "1", null, undefined, 1n]) {
+      for (const [ask, name] of taking("level")) outOfRange(() => ask(wrong), 0, name);
+      if (wrong !== undefined) outOfRange(() => union.denormalized(2, wrong === 31 ? 4 : wrong));
     }
+    for (const wrong of [-1, 1.5, NaN, Infinity, "1", null, 1n]) outOfRange(() => union.denormalized(2, 1, wrong));
     outOfRange(() => s2.child(FACE, 4));
     for (const wrong of [0, 4, 2 ** 32 + 1]) outOfRange(() => union.denormalized(3, wrong));
     for (const wrong of [[6, 0, 0], [0, 2 ** 30, 0], [0, 0, -1], [0, 0]]) {
@@ -107,11 +158,27 @@ const TESTS = {
     for (const wrong of ["", "6/", "0/4", "0c"]) noCell(0, () => s2.fromDebug(wrong));
     noCell(3, () => CellUnion.fromTokens("04 x"));
   },
-  "a list too long for the memory is refused, and then all goes on": () => {
-    const long = {length: 2 ** 30, byteLength: 2 ** 33, byteOffset: 0, buffer: new ArrayBuffer(0)};
-    Object.setPrototypeOf(long, BigUint64Array.prototype); // 8 GiB that nobody has to have
-    refused(-2, 0, "out of memory", () => s2.isUnion(long));
-    assert.equal(new CellUnion([FACE]).has(FACE), true);
+  "long lists": () => {
+    const many = new Given(s2, count);
+    for (const [name, {asks, wanted}] of Object.entries(CALLS)) if (wanted) same(asks(many), wanted(many), name);
+  },
+  "each growth of the memory refused in turn, and then all goes on": async () => {
+    for (const [name, {asks, wanted}] of Object.entries(CALLS).filter(([, call]) => call.wanted)) {
+      for (let place = 0, times = 1; place < times; place++) {
+        const it = new Given(await another(), count);
+        const action = () => {
+          try {
+            asks(it);
+          } catch (error) {
+            if (!(error instanceof it.module.Refusal && error.status === -2 && error.message === "out of memory")) {
+              throw new Error(name, {cause: error});
+            }
+          }
+        };
+        times = withoutMemory(place, action);
+        same(asks(it), wanted(it), name);
+      }
+    }
   },
   "a union never changes": () => {
     const given = BigUint64Array.of(FACE);
@@ -143,15 +210,16 @@ const TESTS = {
     assert.equal(JSON.stringify({union}), '{"union":"1 2000000000000001"}');
     assert.equal(inspect(union), "CellUnion(2) { 1 2000000000000001 }");
     assert.equal(`${new CellUnion()}`, "");
-    assert.match(inspect(new CellUnion(Array.from({length: 101}, (_, k) => FACE + BigInt(4 * k + 1)))),
-      /^CellUnion\(101\) \{ 1152921504606846977n .. 1152921504606847377n \}$/);
-    assert.equal(s2.version(), process.argv[3]);
+    const [hundred, more] = [100, 101].map((length) => new Given(s2, length).union);
+    assert.equal(inspect(hundred), `CellUnion(100) { ${hundred} }`);
+    assert.equal(inspect(more), "CellUnion(101) { 1n .. 401n }");
+    assert.equal(s2.version(), version);
   },
   "unions of none and of many": () => {
     assert.equal(CellUnion.unionOf([]).size, 0);
     const faces = [0, 1, 2, 3, 4, 5].map((face) => new CellUnion([s2.parent(s2.fromFaceIJ(face, 0, 0), 0)]));
     assert.equal(CellUnion.unionOf(faces).leafCount(), 6n * 4n ** 30n);
-    const one = new CellUnion(Array.from({length: 50_000}, (_, k) => s2.fromFaceIJ(k % 6, 17 * k, 31 * k)));
+    const one = new CellUnion(Array.from({length: count / 4}, (_, k) => s2.fromFaceIJ(k % 6, 17 * k, 31 * k)));
     assert.equal(one.symmetricDifference(one).size, 0);
     assert.equal(CellUnion.unionOf(Array(40).fill(one)).equals(one), true);
     assert.deepEqual([...faces, one].sort((a, b) => a.compare(b)).map(String), [...faces, one].sort((a, b) =>

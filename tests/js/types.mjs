@@ -1,37 +1,46 @@
-// Compares the names that the package for JavaScript has with those in its types: types.mjs MODULE TYPES. The last line
-// is 'N passed, M failed'.
-import {readFileSync} from "node:fs";
+// Compares what the package for JavaScript has with its types: types.mjs FOLDER. Each name stands on both sides, each
+// call answers what its type says, and each path of package.json is there. The last line is 'N passed, M failed'.
+import {existsSync, readFileSync} from "node:fs";
+import {join, resolve} from "node:path";
 import {pathToFileURL} from "node:url";
+import {CALLS, Given, namesOf} from "./calls.mjs";
 
-const [path, types] = process.argv.slice(2);
-const s2 = await import(pathToFileURL(path));
-const text = readFileSync(types, "utf8");
+const folder = resolve(process.argv[2]);
+const text = readFileSync(join(folder, "s2union.d.ts"), "utf8");
+const packed = JSON.parse(readFileSync(join(folder, "package.json"), "utf8"));
+const s2 = await import(pathToFileURL(join(folder, packed.main)));
+await s2.load();
+const given = new Given(s2, 5);
 
-/** What a class has: its own methods, and those of its values. */
-function members(made) {
-  const ofAll = ["constructor", "length", "name", "prototype"];
-  const named = (object) => Object.getOwnPropertyNames(object).filter((name) => !ofAll.includes(name));
-  return [...named(made), ...named(made.prototype)];
-}
-
-/** The members that the types give a class. */
+/** The members that the types give a class, with their types. */
 function typed(name) {
   const body = text.match(new RegExp(`^export class ${name} .*\\{\\n((?:.*\\n)*?)\\}`, "m"))[1];
-  return [...body.matchAll(/^ {2}(?:static |readonly )*(\w+)[(:?]/gm)].map((found) => found[1])
-    .filter((member) => member !== "constructor");
+  return [...body.matchAll(/^ {2}(?:static |readonly )*(\w+)(?:\(.*\))?: (.*);/gm)].map(
+    ([, member, type]) => [`${name}.${member}`, type]);
 }
 
-const pairs = [
-  ["exports", Object.keys(s2), [...text.matchAll(/^export (?:function|class) (\w+)/gm)].map((found) => found[1])],
-  ...["CellUnion", "UnionFile"].map((name) => [name, members(s2[name]), typed(name)]),
+/** Whether a type, as the file of types has it, has a value. */
+const has = (type) => (value) => type.split(" | ").some((part) => {
+  if (part.endsWith("[]")) return Array.isArray(value) && value.every(has(part.slice(0, -2)));
+  if (part.startsWith("{")) return Object.keys(value).join() === [...part.matchAll(/\w+(?=:)/g)].join();
+  if (/^-?\d$/.test(part)) return value === Number(part);
+  if (!(value instanceof Object)) return part.replace("Cell", "bigint") === (value === null ? "null" : typeof value);
+  return value.constructor.name === part.replace(/<.*/, "");
+});
+
+const types = new Map([
+  ...[...text.matchAll(/^export function (\w+)\(.*\): (.*);/gm)].map(([, name, type]) => [name, type]),
+  ...["CellUnion", "UnionFile"].flatMap((name) => [[name, name], ...typed(name)]),
+]);
+const {main, types: own, exports: {".": {types: ofExports, default: made}}, files} = packed;
+const checks = [
+  ...namesOf(s2).filter((name) => !types.has(name)).map((name) => [`${name} has no type`, false]),
+  ...[...types].map(([name, type]) =>
+    [`${name} answers no ${type}`, name in CALLS && has(type)(CALLS[name].asks(given))]),
+  ...[main, own, ofExports, made, ...files].map((path) => [`${path} is not there`, existsSync(join(folder, path))]),
+  ["main and types are those of exports", main === made && own === ofExports],
 ];
-let passed = 0;
-let failed = 0;
-for (const [what, found, said] of pairs) {
-  const lost = [...found.filter((name) => !said.includes(name)), ...said.filter((name) => !found.includes(name))];
-  passed += said.length;
-  failed += lost.length;
-  if (lost.length) console.log(`${what}: ${lost} stand on one side alone`);
-}
-console.log(`${passed} passed, ${failed} failed`);
-process.exitCode = failed ? 1 : 0;
+const wrong = checks.filter(([, isSo]) => !isSo);
+for (const [what] of wrong) console.log(what);
+console.log(`${checks.length - wrong.length} passed, ${wrong.length} failed`);
+process.exitCode = wrong.length ? 1 : 0;

@@ -65,9 +65,8 @@ def random_union(choice, count, depth):
 
 def page_over_a_stand_in(folder):
     """Makes the page in a folder as tools/page does, but with a stand-in for the module."""
-    page = run_path(str(TOP / "tools/page"))["page_of"](b"", (TOP / "bindings/page/land.cells").read_bytes())
-    before, begin, after = page.rpartition("\nbegin();")
-    (folder / "index.html").write_text(before + (HERE / "standin.js").read_text() + begin + after)
+    sample, stand_in = (TOP / "bindings/page/land.cells").read_bytes(), (HERE / "standin.js").read_text()
+    (folder / "index.html").write_text(run_path(str(TOP / "tools/page"))["page_of"](b"", sample, stand_in))
 
 
 def slow(test):
@@ -128,7 +127,16 @@ class Trial:
         return self.driver.find_element(By.ID, "status").text
 
     def click(self, name):
+        """Clicks a button, and waits until no GeoJSON is covered."""
         self.driver.find_element(By.ID, name).click()
+        self.wait()
+
+    def wait(self):
+        """Waits until the page says something, and covers nothing."""
+        end = time.monotonic() + 120
+        while not self.status() or self.driver.find_element(By.ID, "work").is_displayed():
+            assert time.monotonic() < end, self.status()
+            time.sleep(0.02)
 
     def drop(self, name, data):
         """Drops a file on the page, and waits until the page says something of it."""
@@ -138,8 +146,7 @@ class Trial:
             dropped.items.add(new File([bytes], arguments[0]));
             document.body.dispatchEvent(new DragEvent('drop', {dataTransfer: dropped, cancelable: true}));
             """, name, base64.b64encode(data).decode())
-        while not self.status():
-            time.sleep(0.02)
+        self.wait()
 
     def begin(self):
         """The page anew, with two unions."""

@@ -1,18 +1,11 @@
-// A plain stand-in for the proved module, in BigInt and slow: so the page's own code is tried where nothing is proved
-// yet. Its calls are those of s2union.h that the page makes. The page's tests compare what it answers with the library.
+// A plain stand-in for the proved module, in BigInt and slow: so the code of the page and of the package is tried where
+// nothing is proved yet. Its calls are those of s2union.h that core.js makes. The tests of the page compare what it
+// answers with the library, and those of the package with the plain model.
 
 function standIn() {
-  const [ROOM, NO_CELL, ARGUMENT] = [-1, -3, -5];
   const [SHORT, VERSION, TRAILING, FILE_CELL] = [-10, -11, -12, -13];
   const FACE_SIZE = 4n ** 30n;
-  const memory = {
-    buffer: new ArrayBuffer(1 << 20),
-    grow(pages) {
-      const before = new Uint8Array(this.buffer);
-      this.buffer = new ArrayBuffer(before.length + 65536 * Number(pages));
-      new Uint8Array(this.buffer).set(before);
-    },
-  };
+  const memory = new WebAssembly.Memory({initial: 1});
 
   // ---- the memory
 
@@ -29,9 +22,16 @@ function standIn() {
     return 0;
   };
   const text = (said, ...place) => made(new TextEncoder().encode(said), Uint8Array, ...place);
-  const each = (answer) => (at, n, ...more) => {
-    const out = more.at(-3);
-    cellsAt(at, n).forEach((id, k) => put(Number(out) + 8 * k, answer(id, ...more)));
+  /** A number that a call writes, or its refusal. */
+  const answered = (number, at) => {
+    if (number < 0) return Number(number);
+    put(at, number);
+    return 0;
+  };
+  /** A call for many cells: what each answers, some elements of a kind; zeros, or what is said, if it is no cell. */
+  const each = (answer, Kind = BigUint64Array, none = 0n) => (at, n, ...more) => {
+    const entries = cellsAt(at, n).flatMap((id) => (isCell(id) ? answer(id, ...more) : none));
+    new Kind(memory.buffer, Number(more.at(-3)), entries.length).set(entries);
     return 0;
   };
 
@@ -51,6 +51,13 @@ function standIn() {
     return Array.from({length: level(id)}, (_, k) => Number((first >> BigInt(58 - 2 * k)) & 3n));
   };
   const debug = (id) => `${runOf(id)[0] >> 60n}/${digits(id).join("")}`;
+  const ancestor = (id, wanted) => (wanted > level(id) ? 0n : atLevel(wanted, runOf(id)[0]));
+  const cellOr0 = (id) => (isCell(id) ? id : 0n);
+  const leafAt = (face, i, j) => {
+    const half = new Uint32Array(2);
+    leafHalves(face, i, j, half);
+    return (BigInt(half[1]) << 32n) | BigInt(half[0]);
+  };
 
   const joined = (runs) => {
     const found = [];
@@ -71,13 +78,36 @@ function standIn() {
     }
     return cells;
   });
-  const common = (xs, ys) => xs.flatMap(([a, b]) => ys.map(([c, d]) => [a > c ? a : c, b < d ? b : d]))
-    .filter(([first, end]) => first < end);
+  /** What two lists of runs share, which ascend. */
+  const common = (xs, ys) => {
+    const found = [];
+    for (let i = 0, j = 0; i < xs.length && j < ys.length;) {
+      const [[a, b], [c, d]] = [xs[i], ys[j]];
+      const [first, end] = [a > c ? a : c, b < d ? b : d];
+      if (first < end) found.push([first, end]);
+      if (b < d) i++;
+      else j++;
+    }
+    return found;
+  };
+  /** The last run that begins before a leaf, of runs that are joined. */
+  const lastBefore = (runs, leaf) => {
+    let [low, high] = [0, runs.length];
+    while (low < high) {
+      const middle = (low + high) >> 1;
+      if (runs[middle][0] < leaf) low = middle + 1;
+      else high = middle;
+    }
+    return runs[low - 1] ?? [0n, 0n];
+  };
+  const hasAll = (runs, [first, end]) => lastBefore(runs, end)[0] <= first && end <= lastBefore(runs, end)[1];
+  const sharesOne = (runs, [first, end]) => lastBefore(runs, end)[1] > first;
   const rest = (xs) => {
     const edges = [0n, ...joined(xs).flat(), 6n * FACE_SIZE];
     return edges.flatMap((edge, k) => (k % 2 ? [] : [[edge, edges[k + 1]]]));
   };
-  const isNormal = (ids) => ids.every(isCell) && String(normalForm(ids.map(runOf))) === String(ids);
+  const isSame = (xs, ys) => xs.length === ys.length && xs.every((x, k) => x === ys[k]);
+  const isNormal = (ids) => ids.every(isCell) && isSame(normalForm(ids.map(runOf)), ids);
   const ofTwo = (operation) => (xs, nx, ys, ny, ...place) =>
     made(normalForm(operation(cellsAt(xs, nx).map(runOf), cellsAt(ys, ny).map(runOf))), BigUint64Array, ...place);
   const sizeOf = (runs) => runs.reduce((sum, [first, end]) => sum + end - first, 0n);
@@ -96,20 +126,75 @@ function standIn() {
     const place = [...word.slice(2)].reduce((at, digit) => 4n * at + BigInt(digit), BigInt(word[0]));
     return 2n * place * size + size;
   };
-  const wordsOf = (bytes) => [...String.fromCharCode(...bytes).matchAll(/[^ \t\r\n,]+/g)];
+  const wordsOf = (bytes) => [...new TextDecoder("latin1").decode(bytes).matchAll(/[^ \t\r\n,]+/g)];
+  const said = (at, n) => String.fromCharCode(...bytesAt(at, n));
+  /** The cells in the frame of a file, or its refusal. */
+  const framed = (at, n) => {
+    const bytes = bytesAt(at, n).slice();
+    if (bytes.length && bytes[0] !== 1) return VERSION;
+    const size = bytes.length < 9 ? Infinity : 9 + 8 * Number(new DataView(bytes.buffer).getBigUint64(1, true));
+    if (bytes.length !== size) return bytes.length < size ? SHORT : TRAILING;
+    return [...new BigUint64Array(bytes.buffer.slice(9))];
+  };
+  /** A question of files: of their cells, if their frames are right. */
+  const ofFiles = (count, answer) => (...words) => {
+    const files = Array.from({length: count}, (_, k) => framed(words[2 * k], words[2 * k + 1]));
+    return files.find((file) => !Array.isArray(file)) ?? answer(...files, ...words.slice(2 * count));
+  };
 
-  const exports = {
-    memory, __heap_base: {value: 1024n},
+  // ---- questions of lists
+
+  const runsOf = (ids) => joined(ids.map(runOf));
+  const ofCell = (isSo) => (ids, cell) => (isCell(cell) ? Number(isSo(runsOf(ids), runOf(cell))) : NO_CELL);
+  const contains = ofCell(hasAll);
+  const intersects = ofCell(sharesOne);
+  const ofEach = (isSo) => (at, n, cells, m, out, _, bad) => {
+    const asked = cellsAt(cells, m);
+    const wrong = asked.findIndex((id) => !isCell(id));
+    put(bad, wrong < 0 ? m : wrong);
+    if (wrong >= 0) return NO_CELL;
+    const runs = runsOf(cellsAt(at, n));
+    bytesAt(out, m).set(asked.map((cell) => Number(isSo(runs, runOf(cell)))));
+    return 0;
+  };
+  const containsUnion = (xs, ys) => Number(!common(runsOf(ys), rest(xs.map(runOf))).length);
+  const intersectsUnion = (xs, ys) => Number(common(runsOf(xs), runsOf(ys)).length > 0);
+  const ancestors = (ids) => {
+    const all = new Set(ids);
+    for (const id of ids) {
+      for (let k = level(id) - 1; k >= 0 && !all.has(ancestor(id, k)); k--) all.add(ancestor(id, k));
+    }
+    return BigUint64Array.from(all).sort();
+  };
+  const ofLists = (answer) => (xs, nx, ys, ny) => answer(cellsAt(xs, nx), cellsAt(ys, ny));
+  const normalised = (ids, len, ...place) => {
+    const wrong = ids.findIndex((id) => !isCell(id));
+    put(len, wrong);
+    return wrong < 0 ? made(normalForm(ids.map(runOf)), BigUint64Array, ...place, len) : NO_CELL;
+  };
+
+  const calls = {
+    s2u_version: () => 12345,
+    s2u_is_cell: (id) => Number(isCell(id)),
     s2u_level: level,
+    s2u_face: (id) => Number(id >> 61n),
     s2u_token: (id, ...place) => (isCell(id) ? text(token(id), ...place) : NO_CELL),
     s2u_debug: (id, ...place) => (isCell(id) ? text(debug(id), ...place) : NO_CELL),
+    s2u_from_token: (at, n, out) => answered(!said(at, n).includes("/") && cellOr0(named(said(at, n))) || NO_CELL, out),
+    s2u_from_debug: (at, n, out) => answered(said(at, n).includes("/") && cellOr0(named(said(at, n))) || NO_CELL, out),
     s2u_size: (id) => low(id),
-    s2u_parent: (id, wanted) => (wanted > level(id) ? 0n : atLevel(wanted, runOf(id)[0])),
-    s2u_from_face_ij: (face, i, j) => {
-      const half = new Uint32Array(2);
-      leafHalves(face, i, j, half);
-      return (BigInt(half[1]) << 32n) | BigInt(half[0]);
+    s2u_parent: ancestor,
+    s2u_child: (id, k) => (level(id) === 30 ? 0n : id - low(id) + (low(id) >> 2n) * BigInt(2 * k + 1)),
+    s2u_range_min: (id) => 2n * runOf(id)[0] + 1n,
+    s2u_range_max: (id) => 2n * runOf(id)[1] - 1n,
+    s2u_next: (id) => cellOr0(id + 2n * low(id)),
+    s2u_prev: (id) => cellOr0(id - 2n * low(id)),
+    s2u_common_ancestor: (a, b) => {
+      const levels = Array.from({length: Math.min(level(a), level(b)) + 1}, (_, k) => k);
+      return ancestor(a, levels.findLast((k) => ancestor(a, k) === ancestor(b, k)) ?? 31);
     },
+    s2u_cell_intersects: (a, b) => Number(sharesOne([runOf(a)], runOf(b))),
+    s2u_from_face_ij: leafAt,
     s2u_square_of: (id, at) => {
       if (!isCell(id)) return NO_CELL;
       const face = Number(runOf(id)[0] >> 60n);
@@ -122,29 +207,39 @@ function standIn() {
       new Uint32Array(memory.buffer, Number(at), 4).set([face, i * size, j * size, size]);
       return 0;
     },
-    s2u_cell_contains: (whole, part) => {
-      const [[a, b], [c, d]] = [runOf(whole), runOf(part)];
-      return Number(a <= c && d <= b);
-    },
+    s2u_cell_contains: (whole, part) => Number(hasAll([runOf(whole)], runOf(part))),
     s2u_is_union: (at, n) => Number(isNormal(cellsAt(at, n))),
     s2u_leaf_count: (at, n) => sizeOf(cellsAt(at, n).map(runOf)),
-    s2u_contains_cell: (at, n, cell) => Number(!common([runOf(cell)], rest(cellsAt(at, n).map(runOf))).length),
-    s2u_intersects_cell: (at, n, cell) => Number(common([runOf(cell)], cellsAt(at, n).map(runOf)).length > 0),
+    s2u_contains_cell: (at, n, cell) => contains(cellsAt(at, n), cell),
+    s2u_intersects_cell: (at, n, cell) => intersects(cellsAt(at, n), cell),
+    s2u_contains_cells: ofEach(hasAll),
+    s2u_intersects_cells: ofEach(sharesOne),
+    s2u_contains: ofLists(containsUnion),
+    s2u_intersects: ofLists(intersectsUnion),
+    s2u_compare: ofLists((xs, ys) => {
+      const k = xs.findIndex((x, place) => x !== ys[place]);
+      if (k < 0 || k >= ys.length) return Math.sign(xs.length - ys.length);
+      return xs[k] < ys[k] ? -1 : 1;
+    }),
     s2u_cells_at: (at, n, cell, first, count) => {
-      const shares = cellsAt(at, n).map((id) => common([runOf(cell)], [runOf(id)]).length > 0);
+      const shares = cellsAt(at, n).map((id) => sharesOne([runOf(id)], runOf(cell)));
       put(first, Math.max(0, shares.indexOf(true)));
       put(count, shares.filter(Boolean).length);
       return 0;
     },
+    s2u_levels: each(level, Uint8Array, 255),
     s2u_range_mins: each((id) => 2n * runOf(id)[0] + 1n),
     s2u_range_maxes: each((id) => 2n * runOf(id)[1] - 1n),
-    s2u_parents: each((id, wanted) => exports.s2u_parent(id, wanted)),
-    s2u_normalise: (at, n, len) => {
-      const ids = cellsAt(at, n);
-      const wrong = ids.findIndex((id) => !isCell(id));
-      put(len, wrong);
-      return wrong < 0 ? made(normalForm(ids.map(runOf)), BigUint64Array, at, n, len) : NO_CELL;
+    s2u_parents: each(ancestor),
+    s2u_token_fields: each((id) => [...new TextEncoder().encode(token(id).padEnd(16, "\0"))], Uint8Array,
+      Array(16).fill(0)),
+    s2u_from_points: (at, n, out) => {
+      const points = new Uint32Array(memory.buffer, Number(at), 3 * Number(n)).slice();
+      for (let k = 0; k < Number(n); k++) put(Number(out) + 8 * k, leafAt(...points.subarray(3 * k, 3 * k + 3)));
+      return 0;
     },
+    s2u_normalise: (at, n, len) => normalised(cellsAt(at, n), len, at, n),
+    s2u_union_of_many: (at, n, ends, lists, work, length, out, room, len) => normalised(cellsAt(at, n), len, out, room),
     s2u_union: ofTwo((xs, ys) => [...xs, ...ys]),
     s2u_intersection: ofTwo(common),
     s2u_difference: ofTwo((xs, ys) => common(xs, rest(ys))),
@@ -171,14 +266,16 @@ function standIn() {
       new DataView(head.buffer).setBigUint64(1, n, true);
       return made([...head, ...bytesAt(at, 8n * n)], Uint8Array, ...place);
     },
-    s2u_file_check: (at, n) => {
-      const bytes = bytesAt(at, n).slice();
-      if (bytes.length && bytes[0] !== 1) return VERSION;
-      const size = bytes.length < 9 ? Infinity : 9 + 8 * Number(new DataView(bytes.buffer).getBigUint64(1, true));
-      if (bytes.length !== size) return bytes.length < size ? SHORT : TRAILING;
-      const ids = [...new BigUint64Array(bytes.buffer.slice(9))];
-      return ids.every(isCell) ? Number(isNormal(ids)) : FILE_CELL;
-    },
+    s2u_file_check: ofFiles(1, (ids) => (ids.every(isCell) ? Number(isNormal(ids)) : FILE_CELL)),
+    s2u_file_count: ofFiles(1, (ids, at) => answered(ids.length, at)),
+    s2u_file_leaf_count: ofFiles(1, (ids, at) => answered(sizeOf(ids.map(runOf)), at)),
+    s2u_file_cell: ofFiles(1, (ids, k, at) => answered(ids[k] ?? ARGUMENT, at)),
+    s2u_file_contains_cell: ofFiles(1, contains),
+    s2u_file_intersects_cell: ofFiles(1, intersects),
+    s2u_file_contains: ofFiles(2, containsUnion),
+    s2u_file_intersects: ofFiles(2, intersectsUnion),
+    s2u_file_ancestors: ofFiles(1, (ids, ...place) => made(ancestors(ids), BigUint64Array, ...place)),
+    s2u_ancestors: (at, n, ...place) => made(ancestors(cellsAt(at, n)), BigUint64Array, ...place),
     s2u_tokens: (at, n, ...place) => text(cellsAt(at, n).map(token).join(" "), ...place),
     s2u_from_tokens: (at, n, out, room, len) => {
       const words = wordsOf(bytesAt(at, n));
@@ -188,10 +285,15 @@ function standIn() {
       return wrong < 0 ? made(ids, BigUint64Array, out, room, len) : NO_CELL;
     },
   };
-  return {exports};
+  // numbers as WebAssembly passes them: those of 64 bits have a sign when they come back
+  const unsignedWord = (word) => (typeof word === "bigint" ? BigInt.asUintN(64, word) : word >>> 0);
+  const signedWord = (word) => (typeof word === "bigint" ? BigInt.asIntN(64, word) : word);
+  const passing = Object.entries(calls).map(
+    ([name, call]) => [name, (...words) => signedWord(call(...words.map(unsignedWord)))]);
+  return {exports: {memory, __heap_base: {value: 1024n}, ...Object.fromEntries(passing)}};
 }
 
-Core.from = async (bytes) => {
+WebAssembly.instantiate = async (bytes) => {
   if (bytes.length) throw new Error("these bytes are no module"); // so that a page with a broken one says so
-  return new Core(standIn());
+  return {instance: standIn()};
 };
