@@ -109,7 +109,7 @@ AS 'MODULE_PATHNAME', 's2union_from_texts'
 LANGUAGE C IMMUTABLE STRICT PARALLEL SAFE;
 COMMENT ON FUNCTION s2union(text[]) IS 'the union of the cells that texts name, one each';
 
-CREATE FUNCTION s2_cells(s2union)
+CREATE FUNCTION s2_cells(region s2union)
 RETURNS bigint[]
 AS 'MODULE_PATHNAME', 's2union_cells'
 LANGUAGE C IMMUTABLE STRICT PARALLEL SAFE COST 1000 SUPPORT s2union_support;
@@ -125,159 +125,170 @@ CREATE CAST (text[] AS s2union) WITH FUNCTION s2union(text[]);
 
 -- Cells: a bigint, or a text that is a token or a debug text
 
-CREATE FUNCTION s2_is_cell(bigint)
+CREATE FUNCTION s2_is_cell(cell bigint)
 RETURNS boolean
 AS 'MODULE_PATHNAME'
 LANGUAGE C IMMUTABLE STRICT PARALLEL SAFE;
-COMMENT ON FUNCTION s2_is_cell(bigint) IS 'whether a value is a cell';
+COMMENT ON FUNCTION s2_is_cell(bigint) IS 'whether a value is a cell. Never an error';
 
-CREATE FUNCTION s2_is_cell(text)
+CREATE FUNCTION s2_is_cell(cell text)
 RETURNS boolean
 AS 'MODULE_PATHNAME', 's2_is_cell_of_text'
 LANGUAGE C IMMUTABLE STRICT PARALLEL SAFE;
-COMMENT ON FUNCTION s2_is_cell(text) IS 'whether a value is a cell';
+COMMENT ON FUNCTION s2_is_cell(text) IS 'whether a value is a cell. Never an error';
 
-CREATE FUNCTION s2_cell(text)
+CREATE FUNCTION s2_cell(cell text)
 RETURNS bigint
 AS 'MODULE_PATHNAME'
 LANGUAGE C IMMUTABLE STRICT PARALLEL SAFE;
-COMMENT ON FUNCTION s2_cell(text) IS 'a cell as a number';
+COMMENT ON FUNCTION s2_cell(text) IS 'a cell as a number. Error: an invalid cell';
 
-CREATE FUNCTION s2_cell(bigint)
+CREATE FUNCTION s2_cell(cell bigint)
 RETURNS bigint
 AS 'MODULE_PATHNAME', 's2_cell_of_number'
 LANGUAGE C IMMUTABLE STRICT PARALLEL SAFE;
-COMMENT ON FUNCTION s2_cell(bigint) IS 'a cell as a number';
+COMMENT ON FUNCTION s2_cell(bigint) IS 'a cell as a number. Error: an invalid cell';
 
-CREATE FUNCTION s2_token(bigint)
+CREATE FUNCTION s2_token(cell bigint)
 RETURNS text
 AS 'MODULE_PATHNAME'
 LANGUAGE C IMMUTABLE STRICT PARALLEL SAFE;
-COMMENT ON FUNCTION s2_token(bigint) IS 'the token of a cell';
+COMMENT ON FUNCTION s2_token(bigint) IS 'the token of a cell. Error: an invalid cell';
 
-CREATE FUNCTION s2_token(text)
+CREATE FUNCTION s2_token(cell text)
 RETURNS text
 LANGUAGE sql IMMUTABLE STRICT PARALLEL SAFE
 RETURN s2_token(s2_cell($1));
-COMMENT ON FUNCTION s2_token(text) IS 'the token of a cell';
+COMMENT ON FUNCTION s2_token(text) IS 'the token of a cell. Error: an invalid cell';
 
-CREATE FUNCTION s2_debug(bigint)
+CREATE FUNCTION s2_debug(cell bigint)
 RETURNS text
 AS 'MODULE_PATHNAME'
 LANGUAGE C IMMUTABLE STRICT PARALLEL SAFE;
-COMMENT ON FUNCTION s2_debug(bigint) IS 'the debug text of a cell';
+COMMENT ON FUNCTION s2_debug(bigint) IS 'the debug text of a cell. Error: an invalid cell';
 
-CREATE FUNCTION s2_debug(text)
+CREATE FUNCTION s2_debug(cell text)
 RETURNS text
 LANGUAGE sql IMMUTABLE STRICT PARALLEL SAFE
 RETURN s2_debug(s2_cell($1));
-COMMENT ON FUNCTION s2_debug(text) IS 'the debug text of a cell';
+COMMENT ON FUNCTION s2_debug(text) IS 'the debug text of a cell. Error: an invalid cell';
 
-CREATE FUNCTION s2_level(bigint)
+CREATE FUNCTION s2_level(cell bigint)
 RETURNS integer
 AS 'MODULE_PATHNAME'
 LANGUAGE C IMMUTABLE STRICT PARALLEL SAFE;
-COMMENT ON FUNCTION s2_level(bigint) IS 'the level of a cell: 0 (a face) to 30 (a leaf)';
+COMMENT ON FUNCTION s2_level(bigint) IS 'the level of a cell: 0 (a face) to 30 (a leaf). Error: an invalid cell';
 
-CREATE FUNCTION s2_level(text)
+CREATE FUNCTION s2_level(cell text)
 RETURNS integer
 LANGUAGE sql IMMUTABLE STRICT PARALLEL SAFE
 RETURN s2_level(s2_cell($1));
-COMMENT ON FUNCTION s2_level(text) IS 'the level of a cell: 0 (a face) to 30 (a leaf)';
+COMMENT ON FUNCTION s2_level(text) IS 'the level of a cell: 0 (a face) to 30 (a leaf). Error: an invalid cell';
 
-CREATE FUNCTION s2_face(bigint)
+CREATE FUNCTION s2_face(cell bigint)
 RETURNS integer
 AS 'MODULE_PATHNAME'
 LANGUAGE C IMMUTABLE STRICT PARALLEL SAFE;
-COMMENT ON FUNCTION s2_face(bigint) IS 'the face of a cell: 0 to 5';
+COMMENT ON FUNCTION s2_face(bigint) IS 'the face of a cell: 0 to 5. Error: an invalid cell';
 
-CREATE FUNCTION s2_face(text)
+CREATE FUNCTION s2_face(cell text)
 RETURNS integer
 LANGUAGE sql IMMUTABLE STRICT PARALLEL SAFE
 RETURN s2_face(s2_cell($1));
-COMMENT ON FUNCTION s2_face(text) IS 'the face of a cell: 0 to 5';
+COMMENT ON FUNCTION s2_face(text) IS 'the face of a cell: 0 to 5. Error: an invalid cell';
 
-CREATE FUNCTION s2_parent(bigint, level integer)
+CREATE FUNCTION s2_parent(cell bigint, level integer)
 RETURNS bigint
 AS 'MODULE_PATHNAME'
 LANGUAGE C IMMUTABLE STRICT PARALLEL SAFE;
-COMMENT ON FUNCTION s2_parent(bigint, integer) IS 'the cell of a level that contains a cell, or NULL';
+COMMENT ON FUNCTION s2_parent(bigint, integer)
+  IS 'the cell of a level that contains a cell; NULL for a level deeper than the cell''s own. Errors: a level outside '
+  '0 to 30, an invalid cell';
 
-CREATE FUNCTION s2_parent(text, level integer)
+CREATE FUNCTION s2_parent(cell text, level integer)
 RETURNS bigint
 LANGUAGE sql IMMUTABLE STRICT PARALLEL SAFE
 RETURN s2_parent(s2_cell($1), $2);
-COMMENT ON FUNCTION s2_parent(text, integer) IS 'the cell of a level that contains a cell, or NULL';
+COMMENT ON FUNCTION s2_parent(text, integer)
+  IS 'the cell of a level that contains a cell; NULL for a level deeper than the cell''s own. Errors: a level outside '
+  '0 to 30, an invalid cell';
 
-CREATE FUNCTION s2_child(bigint, child integer)
+CREATE FUNCTION s2_child(cell bigint, child integer)
 RETURNS bigint
 AS 'MODULE_PATHNAME'
 LANGUAGE C IMMUTABLE STRICT PARALLEL SAFE;
-COMMENT ON FUNCTION s2_child(bigint, integer) IS 'a child of a cell: 0 to 3 along the curve, or NULL';
+COMMENT ON FUNCTION s2_child(bigint, integer)
+  IS 'a child of a cell: 0 to 3 along the curve; NULL for a leaf. Errors: another number, an invalid cell';
 
-CREATE FUNCTION s2_child(text, child integer)
+CREATE FUNCTION s2_child(cell text, child integer)
 RETURNS bigint
 LANGUAGE sql IMMUTABLE STRICT PARALLEL SAFE
 RETURN s2_child(s2_cell($1), $2);
-COMMENT ON FUNCTION s2_child(text, integer) IS 'a child of a cell: 0 to 3 along the curve, or NULL';
+COMMENT ON FUNCTION s2_child(text, integer)
+  IS 'a child of a cell: 0 to 3 along the curve; NULL for a leaf. Errors: another number, an invalid cell';
 
-CREATE FUNCTION s2_range_min(bigint)
+CREATE FUNCTION s2_range_min(cell bigint)
 RETURNS bigint
 AS 'MODULE_PATHNAME'
 LANGUAGE C IMMUTABLE STRICT PARALLEL SAFE;
-COMMENT ON FUNCTION s2_range_min(bigint) IS 'the first leaf of a cell';
+COMMENT ON FUNCTION s2_range_min(bigint) IS 'the first leaf of a cell. Error: an invalid cell';
 
-CREATE FUNCTION s2_range_min(text)
+CREATE FUNCTION s2_range_min(cell text)
 RETURNS bigint
 LANGUAGE sql IMMUTABLE STRICT PARALLEL SAFE
 RETURN s2_range_min(s2_cell($1));
-COMMENT ON FUNCTION s2_range_min(text) IS 'the first leaf of a cell';
+COMMENT ON FUNCTION s2_range_min(text) IS 'the first leaf of a cell. Error: an invalid cell';
 
-CREATE FUNCTION s2_range_max(bigint)
+CREATE FUNCTION s2_range_max(cell bigint)
 RETURNS bigint
 AS 'MODULE_PATHNAME'
 LANGUAGE C IMMUTABLE STRICT PARALLEL SAFE;
-COMMENT ON FUNCTION s2_range_max(bigint) IS 'the last leaf of a cell';
+COMMENT ON FUNCTION s2_range_max(bigint) IS 'the last leaf of a cell. Error: an invalid cell';
 
-CREATE FUNCTION s2_range_max(text)
+CREATE FUNCTION s2_range_max(cell text)
 RETURNS bigint
 LANGUAGE sql IMMUTABLE STRICT PARALLEL SAFE
 RETURN s2_range_max(s2_cell($1));
-COMMENT ON FUNCTION s2_range_max(text) IS 'the last leaf of a cell';
+COMMENT ON FUNCTION s2_range_max(text) IS 'the last leaf of a cell. Error: an invalid cell';
 
-CREATE FUNCTION s2_common_ancestor(bigint, bigint)
+CREATE FUNCTION s2_common_ancestor(one bigint, other bigint)
 RETURNS bigint
 AS 'MODULE_PATHNAME'
 LANGUAGE C IMMUTABLE STRICT PARALLEL SAFE;
-COMMENT ON FUNCTION s2_common_ancestor(bigint, bigint) IS 'the smallest cell that contains both, or NULL';
+COMMENT ON FUNCTION s2_common_ancestor(bigint, bigint)
+  IS 'the smallest cell that contains both; NULL for cells of two faces. Error: an invalid cell';
 
-CREATE FUNCTION s2_common_ancestor(text, text)
+CREATE FUNCTION s2_common_ancestor(one text, other text)
 RETURNS bigint
 LANGUAGE sql IMMUTABLE STRICT PARALLEL SAFE
 RETURN s2_common_ancestor(s2_cell($1), s2_cell($2));
-COMMENT ON FUNCTION s2_common_ancestor(text, text) IS 'the smallest cell that contains both, or NULL';
+COMMENT ON FUNCTION s2_common_ancestor(text, text)
+  IS 'the smallest cell that contains both; NULL for cells of two faces. Error: an invalid cell';
 
-CREATE FUNCTION s2_common_ancestor(text, bigint)
+CREATE FUNCTION s2_common_ancestor(one text, other bigint)
 RETURNS bigint
 LANGUAGE sql IMMUTABLE STRICT PARALLEL SAFE
 RETURN s2_common_ancestor(s2_cell($1), $2);
-COMMENT ON FUNCTION s2_common_ancestor(text, bigint) IS 'the smallest cell that contains both, or NULL';
+COMMENT ON FUNCTION s2_common_ancestor(text, bigint)
+  IS 'the smallest cell that contains both; NULL for cells of two faces. Error: an invalid cell';
 
-CREATE FUNCTION s2_common_ancestor(bigint, text)
+CREATE FUNCTION s2_common_ancestor(one bigint, other text)
 RETURNS bigint
 LANGUAGE sql IMMUTABLE STRICT PARALLEL SAFE
 RETURN s2_common_ancestor($1, s2_cell($2));
-COMMENT ON FUNCTION s2_common_ancestor(bigint, text) IS 'the smallest cell that contains both, or NULL';
+COMMENT ON FUNCTION s2_common_ancestor(bigint, text)
+  IS 'the smallest cell that contains both; NULL for cells of two faces. Error: an invalid cell';
 
 CREATE FUNCTION s2_leaf(face integer, i integer, j integer)
 RETURNS bigint
 AS 'MODULE_PATHNAME'
 LANGUAGE C IMMUTABLE STRICT PARALLEL SAFE;
-COMMENT ON FUNCTION s2_leaf(integer, integer, integer) IS 'the leaf at a place of a face';
+COMMENT ON FUNCTION s2_leaf(integer, integer, integer)
+  IS 'the leaf at a place of a face: face 0 to 5, i and j 0 to 1073741823. Error: another number';
 
 -- Set operations
 
-CREATE FUNCTION s2_union(s2union, s2union)
+CREATE FUNCTION s2_union(one s2union, other s2union)
 RETURNS s2union
 AS 'MODULE_PATHNAME', 's2union_union'
 LANGUAGE C IMMUTABLE STRICT PARALLEL SAFE COST 1000 SUPPORT s2union_support;
@@ -291,7 +302,7 @@ CREATE OPERATOR | (
 );
 COMMENT ON OPERATOR | (s2union, s2union) IS 'the leaves of either';
 
-CREATE FUNCTION s2_intersection(s2union, s2union)
+CREATE FUNCTION s2_intersection(one s2union, other s2union)
 RETURNS s2union
 AS 'MODULE_PATHNAME', 's2union_intersection'
 LANGUAGE C IMMUTABLE STRICT PARALLEL SAFE COST 1000 SUPPORT s2union_support;
@@ -305,7 +316,7 @@ CREATE OPERATOR & (
 );
 COMMENT ON OPERATOR & (s2union, s2union) IS 'the leaves of both';
 
-CREATE FUNCTION s2_difference(s2union, s2union)
+CREATE FUNCTION s2_difference(one s2union, other s2union)
 RETURNS s2union
 AS 'MODULE_PATHNAME', 's2union_difference'
 LANGUAGE C IMMUTABLE STRICT PARALLEL SAFE COST 1000 SUPPORT s2union_support;
@@ -318,7 +329,7 @@ CREATE OPERATOR - (
 );
 COMMENT ON OPERATOR - (s2union, s2union) IS 'the leaves of the first that are not in the second';
 
-CREATE FUNCTION s2_symmetric_difference(s2union, s2union)
+CREATE FUNCTION s2_symmetric_difference(one s2union, other s2union)
 RETURNS s2union
 AS 'MODULE_PATHNAME', 's2union_symmetric_difference'
 LANGUAGE C IMMUTABLE STRICT PARALLEL SAFE COST 1000 SUPPORT s2union_support;
@@ -332,7 +343,7 @@ CREATE OPERATOR # (
 );
 COMMENT ON OPERATOR # (s2union, s2union) IS 'the leaves of exactly one';
 
-CREATE FUNCTION s2_complement(s2union)
+CREATE FUNCTION s2_complement(region s2union)
 RETURNS s2union
 AS 'MODULE_PATHNAME', 's2union_complement'
 LANGUAGE C IMMUTABLE STRICT PARALLEL SAFE COST 1000 SUPPORT s2union_support;
@@ -346,127 +357,127 @@ COMMENT ON OPERATOR ~ (NONE, s2union) IS 'the leaves of the sphere that a union 
 
 -- Questions. A text names any number of cells here
 
-CREATE FUNCTION s2_contains(s2union, s2union)
+CREATE FUNCTION s2_contains(whole s2union, part s2union)
 RETURNS boolean
 AS 'MODULE_PATHNAME', 's2union_contains'
 LANGUAGE C IMMUTABLE STRICT PARALLEL SAFE COST 1000 SUPPORT s2union_support;
 COMMENT ON FUNCTION s2_contains(s2union, s2union) IS 'whether all of the second lies in the first';
 
-CREATE FUNCTION s2_contains(s2union, bigint)
+CREATE FUNCTION s2_contains(whole s2union, part bigint)
 RETURNS boolean
 AS 'MODULE_PATHNAME', 's2union_contains_cell'
 LANGUAGE C IMMUTABLE STRICT PARALLEL SAFE COST 1000 SUPPORT s2union_support;
 COMMENT ON FUNCTION s2_contains(s2union, bigint) IS 'whether all of the second lies in the first';
 
-CREATE FUNCTION s2_contains(bigint, s2union)
+CREATE FUNCTION s2_contains(whole bigint, part s2union)
 RETURNS boolean
 LANGUAGE sql IMMUTABLE STRICT PARALLEL SAFE
 RETURN s2_contains(s2union($1), $2);
 COMMENT ON FUNCTION s2_contains(bigint, s2union) IS 'whether all of the second lies in the first';
 
-CREATE FUNCTION s2_contains(bigint, bigint)
+CREATE FUNCTION s2_contains(whole bigint, part bigint)
 RETURNS boolean
 LANGUAGE sql IMMUTABLE STRICT PARALLEL SAFE
 RETURN s2_contains(s2union($1), $2);
 COMMENT ON FUNCTION s2_contains(bigint, bigint) IS 'whether all of the second lies in the first';
 
-CREATE FUNCTION s2_contains(text, text)
+CREATE FUNCTION s2_contains(whole text, part text)
 RETURNS boolean
 LANGUAGE sql IMMUTABLE STRICT PARALLEL SAFE
 RETURN s2_contains(s2union($1), s2union($2));
 COMMENT ON FUNCTION s2_contains(text, text) IS 'whether all of the second lies in the first';
 
-CREATE FUNCTION s2_contains(text, bigint)
+CREATE FUNCTION s2_contains(whole text, part bigint)
 RETURNS boolean
 LANGUAGE sql IMMUTABLE STRICT PARALLEL SAFE
 RETURN s2_contains(s2union($1), $2);
 COMMENT ON FUNCTION s2_contains(text, bigint) IS 'whether all of the second lies in the first';
 
-CREATE FUNCTION s2_contains(bigint, text)
+CREATE FUNCTION s2_contains(whole bigint, part text)
 RETURNS boolean
 LANGUAGE sql IMMUTABLE STRICT PARALLEL SAFE
 RETURN s2_contains(s2union($1), s2union($2));
 COMMENT ON FUNCTION s2_contains(bigint, text) IS 'whether all of the second lies in the first';
 
-CREATE FUNCTION s2_within(s2union, s2union)
+CREATE FUNCTION s2_within(part s2union, whole s2union)
 RETURNS boolean
 AS 'MODULE_PATHNAME', 's2union_within'
 LANGUAGE C IMMUTABLE STRICT PARALLEL SAFE COST 1000 SUPPORT s2union_support;
 COMMENT ON FUNCTION s2_within(s2union, s2union) IS 'whether all of the first lies in the second';
 
-CREATE FUNCTION s2_within(bigint, s2union)
+CREATE FUNCTION s2_within(part bigint, whole s2union)
 RETURNS boolean
 AS 'MODULE_PATHNAME', 's2union_cell_within'
 LANGUAGE C IMMUTABLE STRICT PARALLEL SAFE COST 1000 SUPPORT s2union_support;
 COMMENT ON FUNCTION s2_within(bigint, s2union) IS 'whether all of the first lies in the second';
 
-CREATE FUNCTION s2_within(s2union, bigint)
+CREATE FUNCTION s2_within(part s2union, whole bigint)
 RETURNS boolean
 LANGUAGE sql IMMUTABLE STRICT PARALLEL SAFE
 RETURN s2_within($1, s2union($2));
 COMMENT ON FUNCTION s2_within(s2union, bigint) IS 'whether all of the first lies in the second';
 
-CREATE FUNCTION s2_within(bigint, bigint)
+CREATE FUNCTION s2_within(part bigint, whole bigint)
 RETURNS boolean
 LANGUAGE sql IMMUTABLE STRICT PARALLEL SAFE
 RETURN s2_within($1, s2union($2));
 COMMENT ON FUNCTION s2_within(bigint, bigint) IS 'whether all of the first lies in the second';
 
-CREATE FUNCTION s2_within(text, text)
+CREATE FUNCTION s2_within(part text, whole text)
 RETURNS boolean
 LANGUAGE sql IMMUTABLE STRICT PARALLEL SAFE
 RETURN s2_within(s2union($1), s2union($2));
 COMMENT ON FUNCTION s2_within(text, text) IS 'whether all of the first lies in the second';
 
-CREATE FUNCTION s2_within(text, bigint)
+CREATE FUNCTION s2_within(part text, whole bigint)
 RETURNS boolean
 LANGUAGE sql IMMUTABLE STRICT PARALLEL SAFE
 RETURN s2_within(s2union($1), s2union($2));
 COMMENT ON FUNCTION s2_within(text, bigint) IS 'whether all of the first lies in the second';
 
-CREATE FUNCTION s2_within(bigint, text)
+CREATE FUNCTION s2_within(part bigint, whole text)
 RETURNS boolean
 LANGUAGE sql IMMUTABLE STRICT PARALLEL SAFE
 RETURN s2_within($1, s2union($2));
 COMMENT ON FUNCTION s2_within(bigint, text) IS 'whether all of the first lies in the second';
 
-CREATE FUNCTION s2_intersects(s2union, s2union)
+CREATE FUNCTION s2_intersects(one s2union, other s2union)
 RETURNS boolean
 AS 'MODULE_PATHNAME', 's2union_intersects'
 LANGUAGE C IMMUTABLE STRICT PARALLEL SAFE COST 1000 SUPPORT s2union_support;
 COMMENT ON FUNCTION s2_intersects(s2union, s2union) IS 'whether they share a leaf';
 
-CREATE FUNCTION s2_intersects(s2union, bigint)
+CREATE FUNCTION s2_intersects(one s2union, other bigint)
 RETURNS boolean
 AS 'MODULE_PATHNAME', 's2union_intersects_cell'
 LANGUAGE C IMMUTABLE STRICT PARALLEL SAFE COST 1000 SUPPORT s2union_support;
 COMMENT ON FUNCTION s2_intersects(s2union, bigint) IS 'whether they share a leaf';
 
-CREATE FUNCTION s2_intersects(bigint, s2union)
+CREATE FUNCTION s2_intersects(one bigint, other s2union)
 RETURNS boolean
 AS 'MODULE_PATHNAME', 's2union_cell_intersects'
 LANGUAGE C IMMUTABLE STRICT PARALLEL SAFE COST 1000 SUPPORT s2union_support;
 COMMENT ON FUNCTION s2_intersects(bigint, s2union) IS 'whether they share a leaf';
 
-CREATE FUNCTION s2_intersects(bigint, bigint)
+CREATE FUNCTION s2_intersects(one bigint, other bigint)
 RETURNS boolean
 LANGUAGE sql IMMUTABLE STRICT PARALLEL SAFE
 RETURN s2_intersects(s2union($1), $2);
 COMMENT ON FUNCTION s2_intersects(bigint, bigint) IS 'whether they share a leaf';
 
-CREATE FUNCTION s2_intersects(text, text)
+CREATE FUNCTION s2_intersects(one text, other text)
 RETURNS boolean
 LANGUAGE sql IMMUTABLE STRICT PARALLEL SAFE
 RETURN s2_intersects(s2union($1), s2union($2));
 COMMENT ON FUNCTION s2_intersects(text, text) IS 'whether they share a leaf';
 
-CREATE FUNCTION s2_intersects(text, bigint)
+CREATE FUNCTION s2_intersects(one text, other bigint)
 RETURNS boolean
 LANGUAGE sql IMMUTABLE STRICT PARALLEL SAFE
 RETURN s2_intersects(s2union($1), $2);
 COMMENT ON FUNCTION s2_intersects(text, bigint) IS 'whether they share a leaf';
 
-CREATE FUNCTION s2_intersects(bigint, text)
+CREATE FUNCTION s2_intersects(one bigint, other text)
 RETURNS boolean
 LANGUAGE sql IMMUTABLE STRICT PARALLEL SAFE
 RETURN s2_intersects(s2union($1), s2union($2));
@@ -542,13 +553,13 @@ CREATE OPERATOR && (
 );
 COMMENT ON OPERATOR && (bigint, s2union) IS 'whether they share a leaf';
 
-CREATE FUNCTION s2_is_union(bytea)
+CREATE FUNCTION s2_is_union(bytes bytea)
 RETURNS boolean
 AS 'MODULE_PATHNAME'
 LANGUAGE C IMMUTABLE STRICT PARALLEL SAFE;
-COMMENT ON FUNCTION s2_is_union(bytea) IS 'whether bytes are the union file of a union';
+COMMENT ON FUNCTION s2_is_union(bytea) IS 'whether bytes are the union file of a union. Never an error';
 
-CREATE FUNCTION s2_is_empty(s2union)
+CREATE FUNCTION s2_is_empty(region s2union)
 RETURNS boolean
 AS 'MODULE_PATHNAME', 's2union_is_empty'
 LANGUAGE C IMMUTABLE STRICT PARALLEL SAFE COST 1000 SUPPORT s2union_support;
@@ -556,116 +567,132 @@ COMMENT ON FUNCTION s2_is_empty(s2union) IS 'whether a union has no cell';
 
 -- Counts and cells
 
-CREATE FUNCTION s2_count(s2union)
+CREATE FUNCTION s2_count(region s2union)
 RETURNS bigint
 AS 'MODULE_PATHNAME', 's2union_count'
 LANGUAGE C IMMUTABLE STRICT PARALLEL SAFE COST 1000 SUPPORT s2union_support;
 COMMENT ON FUNCTION s2_count(s2union) IS 'how many cells';
 
-CREATE FUNCTION s2_leaves(s2union)
+CREATE FUNCTION s2_leaves(region s2union)
 RETURNS bigint
 AS 'MODULE_PATHNAME', 's2union_leaves'
 LANGUAGE C IMMUTABLE STRICT PARALLEL SAFE COST 1000 SUPPORT s2union_support;
 COMMENT ON FUNCTION s2_leaves(s2union) IS 'how many leaves';
 
-CREATE FUNCTION s2_tokens(s2union)
+CREATE FUNCTION s2_tokens(region s2union)
 RETURNS text
 AS 'MODULE_PATHNAME', 's2union_tokens'
 LANGUAGE C IMMUTABLE STRICT PARALLEL SAFE COST 1000 SUPPORT s2union_support;
 COMMENT ON FUNCTION s2_tokens(s2union) IS 'the cells as tokens separated by blanks';
 
-CREATE FUNCTION s2_cells(s2union, level integer, modulus integer DEFAULT 1)
+CREATE FUNCTION s2_cells(region s2union, level integer, modulus integer DEFAULT 1)
 RETURNS bigint[]
 AS 'MODULE_PATHNAME', 's2union_cells_cut'
 LANGUAGE C IMMUTABLE STRICT PARALLEL SAFE COST 1000 SUPPORT s2union_support;
 COMMENT ON FUNCTION s2_cells(s2union, integer, integer)
-  IS 'the cells, each cut to the least level that is at least its own and this one, and this one plus a'
-  ' multiple of the modulus';
+  IS 'the cells, larger ones cut: each is of the next of the levels level, level + modulus, level + 2 modulus, .. and '
+  '30. Errors: a level outside 0 to 30, a modulus outside 1 to 3';
 
-CREATE FUNCTION s2_ancestors(s2union)
+CREATE FUNCTION s2_ancestors(region s2union)
 RETURNS bigint[]
 AS 'MODULE_PATHNAME', 's2union_ancestors'
 LANGUAGE C IMMUTABLE STRICT PARALLEL SAFE COST 1000 SUPPORT s2union_support;
 COMMENT ON FUNCTION s2_ancestors(s2union) IS 'the cells and all their ancestors, each once';
 
-CREATE FUNCTION unnest(s2union)
+CREATE FUNCTION unnest(region s2union)
 RETURNS SETOF bigint
 LANGUAGE sql IMMUTABLE PARALLEL SAFE
 BEGIN ATOMIC SELECT unnest(s2_cells($1)); END;
 COMMENT ON FUNCTION unnest(s2union) IS 'the cells as rows';
 
-CREATE FUNCTION s2_tiles(s2union, level integer, OUT tile bigint, OUT part s2union)
+CREATE FUNCTION s2_tiles(region s2union, level integer, OUT tile bigint, OUT part s2union)
 RETURNS SETOF record
 AS 'MODULE_PATHNAME'
 LANGUAGE C IMMUTABLE STRICT PARALLEL SAFE COST 1000 ROWS 20 SUPPORT s2union_support;
 COMMENT ON FUNCTION s2_tiles(s2union, integer)
-  IS 'the cells of a level that share a leaf with a union, and what the union has in each';
+  IS 'the cells of a level that share a leaf with a union, and what the union has in each. Errors: a level outside 0 '
+  'to 30, too many cells';
 
 -- Coverings and ranges
 
-CREATE FUNCTION s2_outer(s2union, level integer)
+CREATE FUNCTION s2_outer(region s2union, level integer)
 RETURNS s2union
 AS 'MODULE_PATHNAME', 's2union_outer_of'
 LANGUAGE C IMMUTABLE STRICT PARALLEL SAFE COST 1000 SUPPORT s2union_support;
-COMMENT ON FUNCTION s2_outer(s2union, integer) IS 'the cells of a level that share a leaf with a union, as a union';
+COMMENT ON FUNCTION s2_outer(s2union, integer)
+  IS 'the cells of a level that share a leaf with a union, as a union. Errors: a level outside 0 to 30, more than '
+  '1,000,000 cells';
 
 CREATE FUNCTION s2_outer(face integer, i0 integer, i1 integer, j0 integer, j1 integer, level integer)
 RETURNS s2union
 AS 'MODULE_PATHNAME', 's2union_outer'
 LANGUAGE C IMMUTABLE STRICT PARALLEL SAFE COST 100;
 COMMENT ON FUNCTION s2_outer(integer, integer, integer, integer, integer, integer)
-  IS 'the cells of a level that share a leaf with a rectangle of leaves on a face, as a union';
+  IS 'the cells of a level that share a leaf with a rectangle of leaves on a face, as a union. Errors: a level outside '
+  '0 to 30, a place outside the face, more than 1,000,000 cells';
 
-CREATE FUNCTION s2_outer(s2union, face integer, i0 integer, i1 integer, j0 integer, j1 integer, level integer)
+CREATE FUNCTION s2_outer(region s2union, face integer, i0 integer, i1 integer, j0 integer, j1 integer, level integer)
 RETURNS s2union
 AS 'MODULE_PATHNAME', 's2union_outer_in'
 LANGUAGE C IMMUTABLE STRICT PARALLEL SAFE COST 100;
 COMMENT ON FUNCTION s2_outer(s2union, integer, integer, integer, integer, integer, integer)
-  IS 'the cells of a level that share a leaf with what a union and a rectangle on a face share, as a union';
+  IS 'the cells of a level that share a leaf with what a union and a rectangle on a face share, as a union. Errors: a '
+  'level outside 0 to 30, a place outside the face, more than 1,000,000 cells';
 
-CREATE FUNCTION s2_inner(s2union, level integer)
+CREATE FUNCTION s2_inner(region s2union, level integer)
 RETURNS s2union
 AS 'MODULE_PATHNAME', 's2union_inner_of'
 LANGUAGE C IMMUTABLE STRICT PARALLEL SAFE COST 1000 SUPPORT s2union_support;
-COMMENT ON FUNCTION s2_inner(s2union, integer) IS 'the cells of a level that lie in a union, as a union';
+COMMENT ON FUNCTION s2_inner(s2union, integer)
+  IS 'the cells of a level that lie in a union, as a union. Errors: a level outside 0 to 30, more than 1,000,000 cells';
 
 CREATE FUNCTION s2_inner(face integer, i0 integer, i1 integer, j0 integer, j1 integer, level integer)
 RETURNS s2union
 AS 'MODULE_PATHNAME', 's2union_inner'
 LANGUAGE C IMMUTABLE STRICT PARALLEL SAFE COST 100;
 COMMENT ON FUNCTION s2_inner(integer, integer, integer, integer, integer, integer)
-  IS 'the cells of a level that lie in a rectangle of leaves on a face, as a union';
+  IS 'the cells of a level that lie in a rectangle of leaves on a face, as a union. Errors: a level outside 0 to 30, a '
+  'place outside the face, more than 1,000,000 cells';
 
-CREATE FUNCTION s2_inner(s2union, face integer, i0 integer, i1 integer, j0 integer, j1 integer, level integer)
+CREATE FUNCTION s2_inner(region s2union, face integer, i0 integer, i1 integer, j0 integer, j1 integer, level integer)
 RETURNS s2union
 AS 'MODULE_PATHNAME', 's2union_inner_in'
 LANGUAGE C IMMUTABLE STRICT PARALLEL SAFE COST 100;
 COMMENT ON FUNCTION s2_inner(s2union, integer, integer, integer, integer, integer, integer)
-  IS 'the cells of a level that lie in what a union and a rectangle on a face share, as a union';
+  IS 'the cells of a level that lie in what a union and a rectangle on a face share, as a union. Errors: a level '
+  'outside 0 to 30, a place outside the face, more than 1,000,000 cells';
 
 CREATE FUNCTION s2_range(first bigint, last bigint)
 RETURNS s2union
 AS 'MODULE_PATHNAME', 's2union_range'
 LANGUAGE C IMMUTABLE STRICT PARALLEL SAFE COST 20;
-COMMENT ON FUNCTION s2_range(bigint, bigint) IS 'all leaves from the first of one cell to the last of another';
+COMMENT ON FUNCTION s2_range(bigint, bigint)
+  IS 'all leaves from the first of one cell to the last of another. Errors: a last leaf before the first, an invalid '
+  'cell';
 
 CREATE FUNCTION s2_range(first text, last text)
 RETURNS s2union
 LANGUAGE sql IMMUTABLE STRICT PARALLEL SAFE
 RETURN s2_range(s2_cell($1), s2_cell($2));
-COMMENT ON FUNCTION s2_range(text, text) IS 'all leaves from the first of one cell to the last of another';
+COMMENT ON FUNCTION s2_range(text, text)
+  IS 'all leaves from the first of one cell to the last of another. Errors: a last leaf before the first, an invalid '
+  'cell';
 
 CREATE FUNCTION s2_range(first text, last bigint)
 RETURNS s2union
 LANGUAGE sql IMMUTABLE STRICT PARALLEL SAFE
 RETURN s2_range(s2_cell($1), $2);
-COMMENT ON FUNCTION s2_range(text, bigint) IS 'all leaves from the first of one cell to the last of another';
+COMMENT ON FUNCTION s2_range(text, bigint)
+  IS 'all leaves from the first of one cell to the last of another. Errors: a last leaf before the first, an invalid '
+  'cell';
 
 CREATE FUNCTION s2_range(first bigint, last text)
 RETURNS s2union
 LANGUAGE sql IMMUTABLE STRICT PARALLEL SAFE
 RETURN s2_range($1, s2_cell($2));
-COMMENT ON FUNCTION s2_range(bigint, text) IS 'all leaves from the first of one cell to the last of another';
+COMMENT ON FUNCTION s2_range(bigint, text)
+  IS 'all leaves from the first of one cell to the last of another. Errors: a last leaf before the first, an invalid '
+  'cell';
 
 -- Aggregates
 

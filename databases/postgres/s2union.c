@@ -157,16 +157,19 @@ static bool is_constant(FmgrInfo* call, int k) {
  * A large value comes in row after row, in each part of a table and on each side of an OR. The first time its bytes are
  * kept as they came, which are few if they are out of line; once they have come again, the value too. All calls of a
  * transaction share what is kept: at most work_mem, but always the two values that came last, which may be the
- * arguments of the call that runs. A value of no more bytes than WORTH_KEEPING is checked as fast as it is compared. */
+ * arguments of the call that runs. They are found by a hash of some words, which are spread over the bytes: all bytes,
+ * if these are the name of a value. A value of no more bytes than WORTH_KEEPING is checked as fast as it is
+ * compared. */
 
-enum { MOST_KEPT = 64, ALWAYS_KEPT = 2, WORTH_KEEPING = 2000, TEXT_WORTH_KEEPING = 100 };
-enum { WORDS_LOOKED_AT = 16, MOST_COMPARED = 2 };
+enum { ALWAYS_KEPT = 2, WORTH_KEEPING = 2000, TEXT_WORTH_KEEPING = 100 };
+enum { WORDS_HASHED = 16, MOST_COMPARED = 2, BUCKETS = 1024 };
 
 typedef S2Union* reader(Datum datum);
 
 typedef struct Kept {
-  dlist_node place;
+  dlist_node place, in_bucket;
   reader* read;
+  uint64 hash;
   Size size, whole;
   S2Union* value; /* NULL: not yet */
   uint64_t bytes[FLEXIBLE_ARRAY_MEMBER];
@@ -175,7 +178,7 @@ typedef struct Kept {
 static struct {
   MemoryContext context; /* NULL: nothing is kept */
   MemoryContextCallback end;
-  dlist_head latest_first;
+  dlist_head latest_first, bucket[BUCKETS];
   int n;
   Size size;
 } store;
@@ -189,50 +192,56 @@ static void begin_store(void) {
   store.end = (MemoryContextCallback){.func = end_store};
   MemoryContextRegisterResetCallback(context, &store.end);
   dlist_init(&store.latest_first);
+  for (int k = 0; k < BUCKETS; k++) dlist_init(&store.bucket[k]);
   store.n = 0;
   store.size = 0;
   store.context = context;
 }
 
-static Kept* latest(dlist_node* place) {
-  dlist_move_head(&store.latest_first, place);
-  return dlist_container(Kept, place, place);
+static Kept* latest(Kept* k) {
+  dlist_move_head(&store.latest_first, &k->place);
+  return k;
 }
 
-/* Whether some words, which are spread over the bytes, are the same: all bytes, if these are the name of a value. */
-static bool are_alike(const void* some, const void* others, Size size) {
-  for (Size k = 0; k < WORDS_LOOKED_AT; k++) {
-    Size at = (size - sizeof(uint64_t)) * k / (WORDS_LOOKED_AT - 1);
-    if (memcmp((const char*)some + at, (const char*)others + at, sizeof(uint64_t)) != 0) return false;
+static uint64 hash_of(const void* bytes, Size size) {
+  uint64_t words[WORDS_HASHED];
+  for (Size k = 0; k < WORDS_HASHED; k++) {
+    Size at = (size - sizeof *words) * k / (WORDS_HASHED - 1);
+    memcpy(&words[k], (const char*)bytes + at, sizeof *words);
   }
-  return true;
+  return DatumGetUInt64(hash_any_extended((const unsigned char*)words, sizeof words, size));
 }
 
-/* What is kept of these bytes, which becomes the latest; or NULL. Values that are made in each row may all be alike:
- * then it gives up before it has compared more bytes than it takes to read the value a few times. */
-static Kept* kept_of(const void* bytes, Size size, reader* read) {
+/* What is kept of these bytes, which becomes the latest; or NULL. Values that are made in each row may all have one
+ * hash: then it gives up before it has compared more bytes than it takes to read the value a few times. */
+static Kept* kept_of(const void* bytes, Size size, uint64 hash, reader* read) {
   dlist_iter at;
   int compared = 0;
   if (store.context == NULL) return NULL;
-  dlist_foreach(at, &store.latest_first) {
-    Kept* k = dlist_container(Kept, place, at.cur);
-    if (k->size != size || k->read != read || !are_alike(k->bytes, bytes, size)) continue;
-    if (memcmp(k->bytes, bytes, size) == 0) return latest(at.cur);
+  dlist_foreach(at, &store.bucket[hash % BUCKETS]) {
+    Kept* k = dlist_container(Kept, in_bucket, at.cur);
+    if (k->size != size || k->read != read || k->hash != hash) continue;
+    if (memcmp(k->bytes, bytes, size) == 0) return latest(k);
     if (++compared == MOST_COMPARED) return NULL;
   }
   return NULL;
 }
 
+/* Whether an argument of the call that runs is kept: it is among the values that came last. */
 static bool is_kept(const S2Union* u) {
   dlist_iter at;
+  int looked_at = 0;
   if (store.context == NULL) return false;
-  dlist_foreach(at, &store.latest_first)
+  dlist_foreach(at, &store.latest_first) {
     if (dlist_container(Kept, place, at.cur)->value == u) return true;
+    if (++looked_at == ALWAYS_KEPT) return false;
+  }
   return false;
 }
 
 static void drop(Kept* k) {
   dlist_delete(&k->place);
+  dlist_delete(&k->in_bucket);
   store.n--;
   store.size -= k->whole;
   if (k->value && k->value != (S2Union*)k->bytes) pfree(k->value);
@@ -240,16 +249,17 @@ static void drop(Kept* k) {
 }
 
 static void keep_no_more_than_the_most(void) {
-  while (store.n > ALWAYS_KEPT && (store.n > MOST_KEPT || store.size > (Size)work_mem * 1024))
+  while (store.n > ALWAYS_KEPT && store.size > (Size)work_mem * 1024)
     drop(dlist_tail_element(Kept, place, &store.latest_first));
 }
 
-static void keep_bytes(const void* bytes, Size size, reader* read) {
+static void keep_bytes(const void* bytes, Size size, uint64 hash, reader* read) {
   if (store.context == NULL) begin_store();
   Kept* k = MemoryContextAllocExtended(store.context, sizeof *k + size, MCXT_ALLOC_HUGE);
-  *k = (Kept){.read = read, .size = size, .whole = sizeof *k + size};
+  *k = (Kept){.read = read, .hash = hash, .size = size, .whole = sizeof *k + size};
   memcpy(k->bytes, bytes, size);
   dlist_push_head(&store.latest_first, &k->place);
+  dlist_push_head(&store.bucket[hash % BUCKETS], &k->in_bucket);
   store.n++;
   store.size += k->whole;
   keep_no_more_than_the_most();
@@ -278,11 +288,12 @@ static const S2Union* read_again(Datum datum, reader* read, Size worth) {
   const void* bytes = DatumGetPointer(datum);
   Size size = VARSIZE_ANY(bytes);
   if (!is_worth_keeping(bytes, size, worth)) return read(datum);
-  Kept* k = kept_of(bytes, size, read);
+  uint64 hash = hash_of(bytes, size);
+  Kept* k = kept_of(bytes, size, hash, read);
   if (k && k->value) return k->value;
   S2Union* u = read(datum);
   if (k) return keep_value(k, u, datum);
-  keep_bytes(bytes, size, read);
+  keep_bytes(bytes, size, hash, read);
   return u;
 }
 
@@ -814,14 +825,25 @@ static Datum cell_or_null(FunctionCallInfo fcinfo, uint64_t cell) {
   PG_RETURN_INT64((int64)cell);
 }
 
+typedef uint64_t relation(uint64_t cell, uint32_t number);
+
+/* The parent or the child of a cell by a number, or NULL if it has none. A number that no cell has one for is
+ * refused. */
+static Datum relative(FunctionCallInfo fcinfo, relation* of, uint32_t most) {
+  uint64_t cell = CELL;
+  uint32_t number = (uint32_t)PG_GETARG_INT32(1);
+  must_take_numbers(number <= most ? S2U_OK : S2U_ARGUMENT, fcinfo, 1);
+  return cell_or_null(fcinfo, of(cell, number));
+}
+
 FUNCTION(s2_token, written(CELL, s2u_token))
 FUNCTION(s2_debug, written(CELL, s2u_debug))
 FUNCTION(s2_level, Int32GetDatum(s2u_level(CELL)))
 FUNCTION(s2_face, Int32GetDatum(s2u_face(CELL)))
 FUNCTION(s2_range_min, Int64GetDatum((int64)s2u_range_min(CELL)))
 FUNCTION(s2_range_max, Int64GetDatum((int64)s2u_range_max(CELL)))
-FUNCTION(s2_parent, cell_or_null(fcinfo, s2u_parent(CELL, (uint32_t)PG_GETARG_INT32(1))))
-FUNCTION(s2_child, cell_or_null(fcinfo, s2u_child(CELL, (uint32_t)PG_GETARG_INT32(1))))
+FUNCTION(s2_parent, relative(fcinfo, s2u_parent, 30))
+FUNCTION(s2_child, relative(fcinfo, s2u_child, 3))
 FUNCTION(s2_common_ancestor, cell_or_null(fcinfo, s2u_common_ancestor(CELL, cell_argument(fcinfo, 1))))
 
 /* ---- tiles: the cells of a level that a union meets, and its part in each, a row for each ---- */

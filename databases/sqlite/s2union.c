@@ -359,8 +359,9 @@ CALL(normalise) { return answer_list(c, a->held); }
 CALL(is_union) { return answer_number(c, s2u_file_check(a->bytes, a->n) == 1); }
 CALL(is_cell) { return answer_number(c, (int32_t)a->number); }
 CALL(cell) { return answer_cell(c, a->cell); }
-CALL(parent) { return answer_cell(c, s2u_parent(a->cell, a[1].number)); }
-CALL(child) { return answer_cell(c, s2u_child(a->cell, a[1].number)); }
+/* NULL if the cell has no such parent or child; a number that none has one for is refused. */
+CALL(parent) { return a[1].number > 30 ? S2U_ARGUMENT : answer_cell(c, s2u_parent(a->cell, a[1].number)); }
+CALL(child) { return a[1].number > 3 ? S2U_ARGUMENT : answer_cell(c, s2u_child(a->cell, a[1].number)); }
 CALL(range_min) { return answer_cell(c, s2u_range_min(a->cell)); }
 CALL(range_max) { return answer_cell(c, s2u_range_max(a->cell)); }
 CALL(common_ancestor) { return answer_cell(c, s2u_common_ancestor(a[0].cell, a[1].cell)); }

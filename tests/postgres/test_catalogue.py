@@ -1,21 +1,19 @@
-"""What the extension for PostgreSQL makes in a database: s2union--VERSION.sql, from top to bottom, and the same by an
-update from each earlier version. The server and EXTENSIONS are those of test_postgres.py."""
+"""What the extensions for PostgreSQL make in a database: s2union--VERSION.sql and s2union_geo--VERSION.sql, from top to
+bottom, and the same by an update from each earlier version. The server and EXTENSIONS are those of test_postgres.py."""
 
 import itertools
 import os
 import re
 import unittest
-from pathlib import Path
 
 import model
-from test_postgres import TRY, Tests, ask, psql
+from test_postgres import PAGES, TRY, Tests, ask, psql
 
 VERSION = model.VERSION.rpartition(".")[0]
 EARLIER = ("0.1", "0.2", "1.0")
-PAGES = Path(__file__).resolve().parents[2] / "docs"
 MEMBERS = """
     SELECT d.classid, d.objid, pg_describe_object(d.classid, d.objid, 0) AS object FROM pg_depend d
-    JOIN pg_extension e ON e.oid = d.refobjid AND e.extname = 's2union' WHERE d.deptype = 'e'
+    JOIN pg_extension e ON e.oid = d.refobjid AND e.extname IN ('s2union', 's2union_geo') WHERE d.deptype = 'e'
 """
 # All that the extension has in the catalogue, a line for each: functions, aggregates, operators, classes with their
 # members, casts, the type, and comments. Numbers of objects are their names here.
@@ -79,7 +77,65 @@ CALLS = [
 ]
 
 
+# For each type of an argument that isn't a number, and for each name of one that is: a value that it takes, and those
+# that it may not have. A number that no integer has is no function's.
+RIGHT = {"s2union": "'04 0c'::s2union", "bigint": "s2_cell('0401')", "text": "'0401'::text", "bytea": "'\\x01'::bytea",
+         "double precision": "1", "level": "4", "face": "0", "child": "1", "modulus": "1"}
+WRONG = {"bigint": ("0::bigint", "2::bigint", "'-1'::bigint", "'-9223372036854775808'::bigint"),
+         "text": ("'X'::text", "'2'::text", "'0/4'::text", "'6/'::text", "'-5'::text", "'04 0'::text"),
+         "level": ("-1", "31", "50", "2147483647", "2147483648"), "face": ("-1", "6", "2147483648"),
+         "child": ("-1", "4", "2147483648"), "modulus": ("-1", "0", "4", "2147483648"),
+         "place": ("-1", "1073741824", "2147483648")}
+
+
 class Catalogue(Tests):
+    @classmethod
+    def setUpClass(cls):
+        super().setUpClass()
+        psql("SET client_min_messages = error; CREATE EXTENSION IF NOT EXISTS s2union_geo;")
+
+    def test_levels_and_cells_that_there_are_not(self):
+        """Asked of each function and aggregate: an error, never NULL and never no row."""
+        said = psql(f"""
+            SELECT p.proname, p.prokind, p.proretset, array_to_string(p.proargtypes::regtype[], ','),
+                array_to_string(coalesce(p.proargnames, '{{}}')::text[], ',')
+            FROM pg_proc p JOIN ({MEMBERS}) m ON m.classid = 'pg_proc'::regclass AND m.objid = p.oid
+            WHERE starts_with(p.proname, 's2_') AND p.pronargs > 0 AND p.proname <> 's2_is_cell' ORDER BY 1, 4;
+        """)
+        right, wrong = [], []
+        for name, kind, rows, types, names in (line.split("|") for line in said):
+            types, names = types.split(","), names.split(",")
+            kinds = [names[k] if names[k] in WRONG else "place" if each == "integer" else each
+                     for k, each in enumerate(types)]
+            values = [RIGHT.get(each, "5") for each in kinds]
+            call = f"(SELECT count(*) FROM {name}({{}}))" if rows == "t" else f"{name}({{}})"
+            call = f"(SELECT {name}(v) FROM (SELECT {{}} AS v) t)" if kind == "a" else call
+            right.append(call.format(", ".join(values)))
+            wrong += [call.format(", ".join(values[:k] + [each] + values[k + 1:]))
+                      for k, some in enumerate(kinds) for each in WRONG.get(some, ())]
+        for call, answer in zip(right, ask(right)):
+            self.assertFalse(answer == "null" or answer.startswith("error"), (call, answer))
+        for call, answer in zip(wrong, ask(wrong)):
+            self.assertRegex(answer, "^error: .*(out of range|not a cell|names no cell|does not exist)", call)
+        self.assertGreater(len(wrong), 300)
+
+    def test_a_level_deeper_than_the_cell(self):
+        """No cell of it contains the cell, which has no child if it is a leaf: NULL."""
+        self.all_are([(f"s2_parent('0401', {level})", "null") for level in (7, 8, 29, 30)]
+                     + [("s2_level(s2_parent('0401', 6))", "6"), ("s2_child('0401', 3) IS NULL", "false")]
+                     + [(f"s2_child(s2_range_min('04'), {child})", "null") for child in range(4)])
+
+    def test_each_argument_has_a_name(self):
+        said = psql(f"""
+            SELECT object FROM ({MEMBERS}) m JOIN pg_proc p ON m.classid = 'pg_proc'::regclass AND m.objid = p.oid
+            WHERE prokind = 'f' AND starts_with(proname, 's2_') AND pronargs > 0
+                AND (proargnames IS NULL OR '' = ANY (proargnames[: pronargs]));
+        """)
+        self.assertEqual(said, [])
+        self.all_are([("s2_parent(level => 1, cell => '0401') = s2_cell('04')", "true"),
+                      ("s2_contains(part => s2_cell('04'), whole => '1'::s2union)", "true"),
+                      ("s2_cells(modulus => 2, region => '1', level => 0)", "{1152921504606846976}")])
+
     def test_version(self):
         said = psql("SELECT s2_version(), extversion FROM pg_extension WHERE extname = 's2union';")
         self.assertEqual(said, [f"{model.VERSION}|{VERSION}"])
@@ -161,26 +217,37 @@ class Catalogue(Tests):
         """)
         self.assertEqual(said, [])
 
-    def test_the_pages_say_what_the_comments_say(self):
-        """A row of the table of functions begins with the comment of its function, and has its number of arguments."""
+    def rows_of(self, page):
+        """Of each function and number of arguments: their names, and what the table of functions of a page says."""
         rows = {}
-        for calls, answer in re.findall(r"^\| (`s2_.*?`(?:, `s2_.*?`)*) \| (.*) \|$", (PAGES / "SQLITE.md").read_text(),
-                                        re.M):
-            for name, arguments in re.findall(r"`(s2_\w+)\((.*?)\)`", calls):
-                rows[name, len(arguments.split(",")) if arguments else 0] = answer
+        text = (PAGES / page).read_text()
+        for calls, said in re.findall(r"^\| (`\w+\(.*?\)`(?:, `.*?`)*) \| (.*) \|$", text, re.M):
+            for name, names in re.findall(r"`(\w+)\((.*?)\)`", calls):
+                rows[name, len(names.split(",")) if names else 0] = (names, said)
+        return rows
+
+    def test_the_pages_say_what_the_comments_say(self):
+        """The table of functions has a row for each, with its comment and the names of its arguments. The page on
+        SQLite says the same of the functions that it has, and may say more."""
         said = psql(f"""
-            SELECT DISTINCT proname, pronargs, pronargdefaults, description FROM ({MEMBERS}) m
-            JOIN pg_proc p ON p.oid = m.objid JOIN pg_description d ON (d.classoid, d.objoid) = (m.classid, m.objid)
-            WHERE starts_with(proname, 's2_');
+            SELECT DISTINCT proname, pronargs, pronargdefaults, description, CASE prokind WHEN 'a' THEN 'region'
+                ELSE array_to_string(coalesce(proargnames[: pronargs], '{{}}'), ',') END
+            FROM ({MEMBERS}) m JOIN pg_proc p ON m.classid = 'pg_proc'::regclass AND p.oid = m.objid
+            JOIN pg_description d ON (d.classoid, d.objoid) = (m.classid, m.objid)
+            WHERE starts_with(proname, 's2_') OR proname = 'unnest';
         """)
-        page = (PAGES / "POSTGRES.md").read_text()
-        for name, count, defaults, comment in (line.split("|", 3) for line in said):
-            if (name, int(count)) not in rows: # PostgreSQL alone has it
-                self.assertIn(f"`{name}(", page)
-                self.assertIn(comment, page)
-                continue
+        wanted = {}
+        for line in said:
+            name, count, defaults, rest = line.split("|", 3)
+            comment, names = rest.rsplit("|", 1)
             for arguments in range(int(count) - int(defaults), int(count) + 1):
-                self.assertTrue(rows[name, arguments].startswith(comment), (name, arguments, comment))
+                wanted[name, arguments] = (", ".join(names.split(",")[:arguments]), comment)
+        self.assertEqual(self.rows_of("POSTGRES.md"), wanted)
+        for (name, arguments), (_, row) in self.rows_of("SQLITE.md").items():
+            if (name, arguments) in wanted:
+                comment = wanted[name, arguments][1]
+                self.assertEqual(row[: len(comment)], comment, name)
+        page = (PAGES / "POSTGRES.md").read_text()
         said = psql(f"""
             SELECT CASE oprleft WHEN 0 THEN oprname || 'x' ELSE format('x %s y', oprname) END, proname,
                 obj_description(m.objid, 'pg_operator')
@@ -200,7 +267,7 @@ class Updates(unittest.TestCase):
     def setUpClass(cls):
         psql("DROP DATABASE IF EXISTS fresh;")
         psql("CREATE DATABASE fresh;")
-        psql("CREATE EXTENSION s2union;", "fresh")
+        psql("CREATE EXTENSION s2union; CREATE EXTENSION s2union_geo;", "fresh")
         cls.whole = psql(CATALOGUE, "fresh")
         psql("DROP DATABASE fresh;")
 
@@ -225,16 +292,23 @@ class Updates(unittest.TestCase):
         psql("DROP DATABASE IF EXISTS updated;")
         psql("CREATE DATABASE updated;")
         before = psql(f"""
-            CREATE EXTENSION s2union VERSION '{earlier}'; CREATE TABLE regions(id int, region s2union, leaf bigint);
+            CREATE EXTENSION s2union VERSION '{earlier}'; CREATE EXTENSION s2union_geo;
+            CREATE TABLE regions(id int, region s2union, leaf bigint);
             INSERT INTO regions SELECT k, s2_leaf(0, k * 1000000, k * 900000)::s2union, s2_leaf(0, k, k)
                 FROM generate_series(1, 999) k;
             CREATE INDEX ON regions USING gin (region);
+            CREATE INDEX ON regions (leaf);
             CREATE INDEX regions_level ON regions (s2_level(leaf));
             CREATE VIEW counts AS SELECT s2_count(region) AS n FROM regions WHERE region @> s2_leaf(0, 1000000, 900000);
             CREATE VIEW tiles AS SELECT s2_parent(leaf, 24) AS tile FROM regions WHERE NOT s2_contains(region, '04');
         """ + TRY + query, "updated")
         asked = [f"{call} FROM regions WHERE id = 7" for call in CALLS]
         answers = self.asked(asked)
+        conditions = [call for call, was in zip(CALLS, answers) if was in ("true", "false")]
+        rows = [f"count(*) FROM regions WHERE {call}" for call in conditions]
+        found = self.asked(rows, "SET enable_seqscan = off;")
+        self.assertGreater(len(found), 9)
+        self.assertEqual(found, self.asked(rows, "SET enable_indexscan = off; SET enable_bitmapscan = off;"))
         after = psql("ALTER EXTENSION s2union UPDATE; " + query + """
             SELECT count(*) FROM regions WHERE region @> s2_leaf(0, 5000000, 4500000);
             EXPLAIN SELECT * FROM regions WHERE region @> s2_leaf(0, 5000000, 4500000);
@@ -247,12 +321,13 @@ class Updates(unittest.TestCase):
         lost = [(call, now) for call, was, now in zip(CALLS, answers, self.asked(asked))
                 if not was.startswith("error") and was != now]
         self.assertEqual(lost, [])
+        self.assertEqual(self.asked(rows, "SET enable_seqscan = off;"), found)
         self.assertGreater(len([was for was in answers if not was.startswith("error")]), 50)
         self.assertEqual(psql(CATALOGUE, "updated"), self.whole)
         psql("DROP DATABASE updated;")
 
-    def asked(self, queries):
-        return ask([f"SELECT {query}" for query in queries], "", "updated")
+    def asked(self, queries, before=""):
+        return ask([f"SELECT {query}" for query in queries], before, "updated")
 
     def test_a_later_version(self):
         script = os.path.join(os.environ["EXTENSIONS"], f"s2union--{VERSION}--later.sql")

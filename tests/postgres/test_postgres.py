@@ -12,6 +12,7 @@ import subprocess
 import tempfile
 import time
 import unittest
+from pathlib import Path
 
 import model
 import plain_sql
@@ -24,6 +25,7 @@ FLIPPED = min(100, ROUNDS // 10)
 QUESTIONS = min(2000, 2 * ROUNDS)
 AS_POSTGRES = ["runuser", "-u", "postgres", "--"] if os.geteuid() == 0 else []
 DATABASE = os.environ.get("PGDATABASE", "postgres")
+PAGES = Path(__file__).resolve().parents[2] / "docs"
 PSQL = ["psql", "-XAqt", "-v", "ON_ERROR_STOP=1", "-d"]
 TRY = """
 CREATE OR REPLACE FUNCTION try(query text) RETURNS text LANGUAGE plpgsql AS $$
@@ -246,10 +248,9 @@ class AgainstTheModel(Tests):
         """What each function answers of a cell and of another, which SQL has as `one` and `two`."""
         level, place = model.cell(number)
         first, end = model.run(number)
-        above, kth = self.random.randint(0, 30), self.random.randrange(5)
+        above, kth = self.random.randint(0, 30), self.random.randrange(4)
         parent = str(signed(model.identifier(above, place // 4 ** (level - above)))) if above <= level else "null"
-        child = level < 30 and kth < 4
-        child = str(signed(model.identifier(level + 1, 4 * place + kth))) if child else "null"
+        child = str(signed(model.identifier(level + 1, 4 * place + kth))) if level < 30 else "null"
         leaves = (first, end - 1, model.run(other)[0], model.run(other)[1] - 1)
         both = [k for k in range(31) if len({leaf // 4 ** (30 - k) for leaf in leaves}) == 1]
         common = str(signed(model.identifier(both[-1], first // 4 ** (30 - both[-1])))) if both else "null"
@@ -607,10 +608,14 @@ class WhatIsRefused(Tests):
             ("SELECT 'X'::s2union", "22P02"), ("SELECT s2_level(0)", "22023"), ("SELECT s2_leaf(6, 0, 0)", "22023"),
             ("SELECT s2_cells('1', 30)", "54000"), ("SELECT s2_outer(0, 0, 1073741823, 5, 5, 30)", "54000"),
             ("SELECT s2_count('\\x0100000000'::raw8::s2union)", "XX001"),
-            ("SELECT ARRAY[NULL::bigint]::s2union", "22004"),
+            ("SELECT ARRAY[NULL::bigint]::s2union", "22004"), ("SELECT s2_parent('04', 31)", "22023"),
+            ("SELECT s2_leaf_at(541, 0)", "22003"), ("SELECT s2_leaf_at(0, -91)", "22003"),
+            ("SELECT s2_longitude(2)", "22023"), ("SELECT s2_latitude(2)", "22023"),
         ]
-        psql(STATE)
+        psql(STATE + "CREATE EXTENSION IF NOT EXISTS s2union_geo;")
         self.all_are([(f"state_of($s${query}$s$)", code) for query, code in codes])
+        on_the_page = re.findall(r"^\| `(\w{5})` \|", (PAGES / "POSTGRES.md").read_text(), re.M)
+        self.assertEqual({*on_the_page}, {code for _, code in codes} | {"53200"})
 
     def test_each_bit_of_100_stored_values_flipped(self):
         """What a damaged page may hold: the bytes of a value after its length, with one wrong bit."""
@@ -1002,7 +1007,8 @@ class Planner(Tests):
         def cost(query):
             return float(re.search(r"\.\.([\d.]+) rows", self.plan(query))[1])
 
-        for call in ("s2_count(region)", "region | '04'", "s2_tokens(region)", "region = ''", "s2_cells(region, 3)"):
+        for call in ("s2_count(region)", "region | '04'", "s2_tokens(region)", "region = ''", "s2_cells(region, 3)",
+                     "s2_tiles(region, 3)"):
             ratio = cost(f"SELECT {call} FROM countries") / 180 / (cost(f"SELECT {call} FROM small") / 20000)
             self.assertGreater(ratio, 200, call)
 
@@ -1439,7 +1445,7 @@ class Guarded(Tests):
     def test_what_is_compared_with_what_is_kept(self):
         """Values of 1,001 cells that are made in each of 60 rows: some differ in one word, which is not looked at
         first, so each is compared with two others; some in all words; and some are the same."""
-        size, words = 8 + 8 * 1001, 64 * 16 * 8
+        size = 8 + 8 * 1001
         cells = " ".join(model.token(model.identifier(20, k * (6 * 4**20 // 1000))) for k in range(1000))
         values = ("s2_union(region, s2_leaf(3, 2 * k, 0)::s2union)",
                   "(SELECT s2_union_agg(s2_leaf(3, 2 * n, 2 * k)) FROM generate_series(1, 1001) AS n)",
@@ -1454,9 +1460,9 @@ class Guarded(Tests):
         """ for value in values))
         self.assertEqual(said[1::3], ["1", "0", "60"])
         alike, apart, same = map(int, said[2::3])
-        self.assertTrue(57 * size < alike < 60 * (2 * size + words), alike)
-        self.assertLess(apart, 10 * size)
-        self.assertTrue(59 * size < same < 60 * (size + words), same)
+        self.assertTrue(57 * size < alike < 60 * 2 * size, alike)
+        self.assertLess(apart, size)
+        self.assertEqual(same, 59 * size)
 
     def test_limits_of_a_value(self):
         """Ten cells, or 87 bytes of text: 1 GB is more than a test should take."""

@@ -23,12 +23,19 @@ FUNCTIONS = {
     "s2_complement": "l",
     "s2_normalise": "l", "s2_is_union": "b", "s2_contains": "lq", "s2_within": "ql", "s2_intersects": "lq",
     "s2_count": "l", "s2_leaves": "l", "s2_tokens": "l", "s2_is_cell": "b",
-    "s2_cell": "c", "s2_token": "c", "s2_debug": "c", "s2_level": "c", "s2_face": "c", "s2_parent": "cn",
-    "s2_child": "cn", "s2_range_min": "c", "s2_range_max": "c", "s2_common_ancestor": "cc", "s2_leaf": "nnn",
+    "s2_cell": "c", "s2_token": "c", "s2_debug": "c", "s2_level": "c", "s2_face": "c", "s2_parent": "cv",
+    "s2_child": "ck", "s2_range_min": "c", "s2_range_max": "c", "s2_common_ancestor": "cc", "s2_leaf": "fnn",
     "s2_union_agg": "l", "s2_intersection_agg": "l", "s2_version": "",
 }
 COVERINGS = ("s2_outer", "s2_inner")
-GOOD = {"l": "0c 14", "q": "0c", "c": "1c", "n": 1, "b": EMPTY}
+# A value that each kind of argument takes, and of each kind of number the first that is too great: lists, cells or
+# lists, cells, bytes; levels, faces, children, places on a face, the modulus.
+GOOD = {"l": "0c 14", "q": "0c", "c": "1c", "b": EMPTY, "v": 1, "f": 1, "k": 1, "n": 1, "m": 1}
+TOO_GREAT = {"v": 31, "f": 6, "k": 4, "n": 2**30, "m": 4}
+NUMBERS = {"v": (-1, 31, 50, 2**31, 2**32, 2**32 + 5, -2**63), **{
+    letter: (-1, TOO_GREAT[letter], 2**31, 2**32, 2**32 + 1, 2**63 - 1) for letter in "fknm"}}
+NO_CELLS = (0, 2, -1, -2**63, "", "X", "0/4", "6/", "1\0", "9" * 17)
+NO_LISTS = (0, 2, -1, "X", "0/4", "1 g", "1\0", "1\0 1")
 sqlite = ctypes.CDLL("libsqlite3.so.0")
 sqlite.sqlite3_memory_used.restype = ctypes.c_int64
 sqlite.sqlite3_hard_heap_limit64.restype = ctypes.c_int64
@@ -40,9 +47,9 @@ def calls():
     for name, letters in FUNCTIONS.items():
         yield name, letters, [GOOD[letter] for letter in letters]
     for name in COVERINGS:
-        yield name, "ln", ["0c 14", 3]
-        yield name, "nnnnnn", [0, 5, 900, 7, 1000, 25]
-        yield name, "lnnnnnn", ["0c 14", 0, 5, 900, 7, 1000, 25]
+        yield name, "lv", ["0c 14", 3]
+        yield name, "fnnnnv", [0, 5, 900, 7, 1000, 25]
+        yield name, "lfnnnnv", ["0c 14", 0, 5, 900, 7, 1000, 25]
 
 
 class Random(random_cells.Random):
@@ -186,11 +193,11 @@ class AgainstTheModel(Tests):
                 self.assertEqual(self.ask("s2_is_cell(?)", signed(value)), is_cell)
                 self.assertEqual(self.ask("s2_is_cell(?)", f"{value:016x}"), is_cell)
             self.assertEqual(self.ask("s2_is_cell(?)", model.debug(number)), 1)
-            for k in range(32):
+            for k in range(31):
                 parent = signed(model.identifier(k, place // 4 ** (level - k))) if k <= level else None
                 self.assertEqual(self.ask("s2_parent(?, ?)", signed(number), k), parent)
-            for k in range(5):
-                child = signed(model.identifier(level + 1, 4 * place + k)) if level < 30 and k < 4 else None
+            for k in range(4):
+                child = signed(model.identifier(level + 1, 4 * place + k)) if level < 30 else None
                 self.assertEqual(self.ask("s2_child(?, ?)", signed(number), k), child)
             other = self.random.near(number)
             leaves = (first, end - 1, model.run(other)[0], model.run(other)[1] - 1)
@@ -574,8 +581,9 @@ class WhatIsRefused(Tests):
     def test_wrong_types(self):
         for name, letters, values in calls():
             for k, letter in enumerate(letters):
-                for wrong in {"l": (1.5,), "q": (1.5,), "c": (1.5, EMPTY), "n": (1.0, "1", b"1"), "b": ()}[letter]:
-                    what = {"c": "a cell is", "n": "a level, face or coordinate is"}.get(letter, "a union is")
+                for wrong in {"l": (1.5,), "q": (1.5,), "c": (1.5, EMPTY), "b": ()}.get(letter, (1.0, "1", b"1")):
+                    what = "a level, face or coordinate is" if letter in NUMBERS else "a union is"
+                    what = "a cell is" if letter == "c" else what
                     marks = ", ".join("?" * len(values))
                     self.refused(f"s2: {what}", f"{name}({marks})", *values[:k], wrong, *values[k + 1 :])
         for wrong in (1, 1.5, "1", b"", b"\1", EMPTY.decode()):
@@ -586,13 +594,8 @@ class WhatIsRefused(Tests):
             self.refused("s2: a union is", f"* FROM {table}(1.5)")
         self.refused("s2: a union is", "* FROM s2_tiles(1.5, 1)")
         self.refused("s2: a level", "* FROM s2_tiles('1', '1')")
-        self.refused("s2: argument", "* FROM s2_tiles('1', 31)")
-        self.refused("s2: argument", "* FROM s2_tiles('', -1)")
         self.refused("s2: a level", "* FROM s2_cells('1', '1')")
         self.refused("s2: a level", "* FROM s2_cells('1', 1, 1.5)")
-        for cells in ("1", ""):
-            self.refused("s2: argument", f"* FROM s2_cells('{cells}', 1, 4)")
-            self.refused("s2: argument", f"* FROM s2_cells('{cells}', 31)")
 
     def test_the_value_is_named(self):
         for said, expression, *values in (
@@ -629,19 +632,41 @@ class WhatIsRefused(Tests):
             self.assertTrue(f"`{reason}`" in page or f"`{others}`" in page, reason)
         self.assertEqual(len(reasons), 11)
 
-    def test_no_cells(self):
+    def wrong_in_turn(self, call, letters, values):
+        """Each value that an argument may not have, in its place among others that are right, is an error."""
+        for k, letter in enumerate(letters):
+            reason = "s2: argument out of range" if letter in NUMBERS else "s2: not a cell"
+            for wrong in {**NUMBERS, "c": NO_CELLS, "l": NO_LISTS, "q": NO_LISTS, "b": ()}[letter]:
+                self.refused(reason, call, *values[:k], wrong, *values[k + 1 :])
+
+    def test_levels_and_cells_that_there_are_not(self):
+        """Asked of each function and of each table that the extension has: never NULL, never no row. So it is of a
+        level that is deeper than all cells of an empty union."""
         for name, letters, values in calls():
-            for k, letter in enumerate(letters):
-                wrongs = {"n": (-1, 2**32, 2**63 - 1), "b": ()}.get(letter,
-                    (0, 2, -1, "X", "0/4", "1 g", "1\0", "1\0 1"))
-                reason = "s2: argument out of range" if letter == "n" else "s2: not a cell"
-                for wrong in wrongs:
-                    marks = ", ".join("?" * len(values))
-                    self.refused(reason, f"{name}({marks})", *values[:k], wrong, *values[k + 1 :])
+            self.wrong_in_turn(f"{name}({', '.join('?' * len(values))})", letters, values)
+        tables = {name for name, in self.db.execute("SELECT name FROM pragma_module_list WHERE name LIKE 's2%'")}
+        for name in tables:
+            rows = self.db.execute("SELECT name FROM pragma_table_xinfo(?) WHERE hidden = 1", (name,)).fetchall()
+            letters = "".join({"x": "l", "level": "v", "modulus": "m"}[column] for column, in rows)
+            for cells in ("0c 14", ""):
+                values = [cells, 2, 1][: len(letters)]
+                call = f"count(*) FROM {name}({', '.join('?' * len(values))})"
+                self.assertIsNotNone(self.ask(call, *values))
+                self.wrong_in_turn(call, letters, values)
+        self.assertEqual(tables, {"s2_cells", "s2_tiles", "s2_ancestors", "s2_prepared"})
+
+    def test_a_level_deeper_than_the_cell(self):
+        """No cell of it contains the cell, which has no child if it is a leaf: NULL."""
+        for level in range(31):
+            cell = signed(model.identifier(level, 3))
+            said = [self.ask("s2_parent(?, ?) IS NULL", cell, deeper) for deeper in range(31)]
+            self.assertEqual(said, [0] * (level + 1) + [1] * (30 - level))
+            said = [self.ask("s2_child(?, ?) IS NULL", cell, child) for child in range(4)]
+            self.assertEqual(said, [int(level == 30)] * 4)
+
+    def test_texts_that_are_not_one_cell(self):
         for text in ("", "1 1", " 1", "1,"):
             self.refused("s2: not a cell", "s2_cell(?)", text)
-        self.refused("s2: argument", "s2_leaf(6, 0, 0)")
-        self.refused("s2: argument", "s2_leaf(0, 0, 1073741824)")
 
     def test_the_empty_union(self):
         for empty in (EMPTY, "", " , "):
