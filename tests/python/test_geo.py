@@ -1,10 +1,12 @@
 """The module s2union_geo: points to leaves and back, polygons to unions, cells to polygons, and what is refused.
 tests/geo asks S2 about more."""
 
+import contextlib
+import io
 import json
 import math
 import os
-import re
+import pty
 import subprocess
 import sys
 import tempfile
@@ -15,6 +17,7 @@ import numpy
 import s2union_geo
 from s2union import Union, from_face_ij, from_token, level, tokens
 from s2union_geo import covering, coverings, interior, leaf, leaves, points, read_geojson, to_geojson
+from s2union_geo.__main__ import main
 from s2union_geo.geojson import rings
 from s2union_geo.sphere import geographic, on_cube
 
@@ -53,10 +56,11 @@ class Points(unittest.TestCase):
         self.assertEqual(numpy.array(points(cells)).tolist(), [longitude.tolist(), latitude.tolist()])
 
     def test_what_is_refused(self):
-        for x, y, said in (([0, math.nan], [0, 0], "a longitude is from -540 to 540 at place 1: nan"),
-                           ([0, 0], [math.inf, 0], "a latitude is from -90 to 90 at place 0: inf"),
-                           (0, 91, "a latitude is from -90 to 90: 91.0"), ([1, 2], [1, 2, 3], "2 longitudes and 3 lat"),
-                           (541, 0, "a longitude is from -540 to 540: 541.0")):
+        latitude = r"a latitude is from -90 to 90 \(the longitude comes first\): "
+        for x, y, said in (([0, math.nan], [0, 0], "a longitude is from -540 to 540: nan at place 1$"),
+                           ([0, 0], [math.inf, 0], f"{latitude}inf at place 0$"), (0, 91, f"{latitude}91.0$"),
+                           ([1, 2], [1, 2, 3], "2 longitudes and 3 lat"), (35.68, 139.69, f"{latitude}139.69$"),
+                           (541, 0, "a longitude is from -540 to 540: 541.0$")):
             with self.subTest(said=said), self.assertRaisesRegex(ValueError, said):
                 leaves(x, y)
         for given in (["1", "2"], [None, None], [True, False]):
@@ -157,12 +161,16 @@ class Polygons(unittest.TestCase):
                             (polygon([[0, 0], [5, 0], [9, 0], [5, 0], [5, 5], [0, 0]]), "crosses or touches itself"),
                             (polygon([[0, 0], [5, 0], [2, 0], [0, 0]]), "ring 0 crosses or touches itself"),
                             (polygon(SQUARE, [[5, 5], [15, 5], [15, 6], [5, 6], [5, 5]]), "rings 0 and 1 cross near"),
-                            (polygon([[0, 0], [1, 91], [1, 0], [0, 0]]), "ring 0: position 1 is out of range"),
-                            (polygon([[0, 0], [math.nan, 1], [1, 0], [0, 0]]), "ring 0: position 1 is out of range"),
+                            (polygon([[0, 0], [1, 91], [1, 0], [0, 0]]), r"ring 0: position 1 is out of range: a "
+                             r"latitude is from -90 to 90 \(the longitude comes first\): \[1.0, 91.0\]"),
+                            (polygon([[0, 0], [math.nan, 1], [1, 0], [0, 0]]), "ring 0: position 1 is out of range: a "
+                             "longitude is from -540 to 540"),
                             (polygon([[0, 0], ["x", 1], [1, 0], [0, 0]]), "a position is a longitude and a latitude"),
                             (polygon([[0, 0], [10**400, 1], [1, 0], [0, 0]]), "a position is a longitude and a"),
                             ({"type": "Point", "coordinates": [0, 0]}, "it is no polygon: Point"),
                             ({"type": "Polygon"}, "a Polygon has a list of coordinates"), (7, "it is no polygon: int"),
+                            ({"type": "MultiPolygon", "coordinates": [3]}, "polygon 0 has a list of rings"),
+                            ({"type": []}, "it is no polygon: dict"),
                             (None, "it is no polygon: NoneType"), ("{", "the text is no GeoJSON"),
                             ("[" * 100000, "the text is no GeoJSON")):
             with self.subTest(said=said), self.assertRaisesRegex(ValueError, said):
@@ -208,47 +216,101 @@ class Maps(unittest.TestCase):
         self.assertEqual([feature["properties"]["cell"] for feature in found], "04 0c 14 1c 44 4c 54 5c".split())
 
     def test_the_command_line(self):
-        def said(*words, text=""):
-            return subprocess.run([sys.executable, "-m", "s2union_geo", *words], input=text, capture_output=True,
-                                  text=True)
-
         self.assertEqual(said("leaves", text="2.3522 48.8566 Paris\n\n0 90 North Pole\n").stdout,
                          "47e66e1d8f8be23b\n5000000000000001\n")
-        with tempfile.TemporaryDirectory() as above:
-            folder = os.path.join(above, "cells")
-            os.mkdir(folder)
-            others = ["../good", f"{above}/good", "more/good"]
-            named = [("good", SQUARE), *((name, SQUARE) for name in others), ("open", SQUARE[:-1])]
-            features = [{"type": "Feature", "properties": {"file": name}, "geometry": polygon(ring)}
-                        for name, ring in named]
-            file = os.path.join(above, "some.geojson")
-            with open(file, "w") as it:
-                json.dump({"type": "FeatureCollection", "features": features}, it)
-            done = said("cover", file, folder, "20", "12")
-            self.assertRegex(done.stdout, r"^5 features, \d+ and \d+ cells; left: .*, open \(polygon 0, ring 0 .*\)$")
-            self.assertEqual(re.findall(r"(\S+) \(its files would lie in another folder\)", done.stdout), others)
-            self.assertEqual((sorted(os.listdir(above)), sorted(os.listdir(folder))),
-                             (["cells", "some.geojson"], ["good.inner", "good.outer"]))
-            outer = covering(polygon(SQUARE), 20, 12)
-            with open(os.path.join(folder, "good.outer"), "rb") as it:
-                self.assertEqual(Union.from_bytes(it.read()), outer)
-            made = json.loads(said("geojson", os.path.join(folder, "good.outer")).stdout)
-            self.assertEqual(made, to_geojson(outer, name="good.outer"))
-            for found, wanted in (([features[0], features[1] | {"properties": {}}], "feature 1 has no property 'file'"),
-                                  ([features[0] | {"properties": None}], "feature 0 has no property 'file'"),
-                                  (None, f"{file} is no collection of features")):
-                with open(file, "w") as it:
-                    json.dump({"type": "FeatureCollection", "features": found}, it)
-                done = said("cover", file, above, "20", "12")
-                self.assertEqual((done.returncode, done.stdout, done.stderr), (1, "", f"s2union_geo: {wanted}\n"))
-                self.assertEqual(sorted(os.listdir(above)), ["cells", "some.geojson"])
         for words, text, wanted in ((("leaves",), "x 1\n", "s2union_geo: a line begins with a longitude and a lat"),
-                                    (("leaves",), "1 91\n", "a latitude is from -90 to 90 at place 0: 91.0\n"),
+                                    (("leaves",), "1 91\n", r"comes first\): 91.0 at place 0\n"),
                                     (("geojson", "none"), "", "s2union_geo: .*'none'\n"), ((), "", "Points, polygons"),
                                     (("leaves", "more"), "", "Points, polygons")):
             done = said(*words, text=text)
             self.assertEqual((done.returncode, done.stdout), (1, ""))
             self.assertRegex(done.stderr, wanted)
+
+
+def said(*words, text="", **options):
+    return subprocess.run([sys.executable, "-m", "s2union_geo", *words], input=text, text=True,
+                          **{"stdout": subprocess.PIPE, "stderr": subprocess.PIPE, **options})
+
+
+class Cover(unittest.TestCase):
+    """`cover` of the command line, in a folder of its own."""
+
+    def setUp(self):
+        above = tempfile.TemporaryDirectory()
+        self.addCleanup(above.cleanup)
+        self.above, self.folder, self.file = (os.path.join(above.name, name) for name in ("", "cells", "some.geojson"))
+        os.mkdir(self.folder)
+
+    def words(self, features, folder=None, limits=("20", "12")):
+        """The words that cover features: pairs of a file name and a ring, or what stands in their place."""
+        features = [{"type": "Feature", "properties": {"file": it[0]}, "geometry": polygon(it[1])}
+                    if isinstance(it, tuple) else it for it in features]
+        with open(self.file, "w") as it:
+            json.dump({"type": "FeatureCollection", "features": features}, it)
+        return "cover", self.file, folder or self.folder, *limits
+
+    def test_files(self):
+        flat = {"type": "MultiPolygon", "coordinates": [3]}
+        done = said(*self.words([("good", SQUARE), (7, SQUARE), ("open\n", SQUARE[:-1]), (True, SQUARE),
+                                 {"type": "Feature", "properties": {"file": "flat"}, "geometry": flat}]))
+        outer, inner = coverings(polygon(SQUARE), 20, 12)
+        self.assertEqual((done.returncode, done.stderr), (0, ""))
+        self.assertEqual(done.stdout, f"5 features, {3 * len(outer)} and {3 * len(inner)} cells; left: 2\n"
+                         "'open\\n': polygon 0, ring 0 is open: its last position is not its first\n"
+                         "'flat': polygon 0 has a list of rings\n")
+        self.assertEqual(sorted(os.listdir(self.folder)), ["7.inner", "7.outer", "True.inner", "True.outer",
+                                                           "good.inner", "good.outer"])
+        with open(os.path.join(self.folder, "good.outer"), "rb") as it:
+            self.assertEqual(Union.from_bytes(it.read()), outer)
+        made = json.loads(said("geojson", os.path.join(self.folder, "good.outer")).stdout)
+        self.assertEqual(made, to_geojson(outer, name="good.outer"))
+        self.assertRegex(said(*self.words([("good", SQUARE)])).stdout, "^1 features, .*; left: none\n$")
+
+    def test_nothing_is_written_if_a_name_is_wrong(self):
+        """A name that is missing, that comes twice, that the system refuses, or that leads out of the folder."""
+        os.mkdir(os.path.join(self.folder, "there.inner"))
+        for names, wanted in ((["a", None], "feature 1 has no property 'file'"),
+                              (["a", "b", "a"], "features 0 and 2 have the same name of files: 'a'"),
+                              ([1, "1"], "features 0 and 1 have the same name of files: '1'"),
+                              ([True, "True"], "features 0 and 1 have the same name of files: 'True'"),
+                              (["true", True], "features 0 and 1 have the same name of files: 'True'"),
+                              (["a", "A"], "features 0 and 1 have the same name of files: 'A'"),
+                              (["\u00e9", "E\u0301"], "features 0 and 1 have the same name of files: 'E\u0301'"),
+                              (["a", {"x": 1}], "feature 1: its property 'file' is a name, not a dict"),
+                              (["a", ["x"]], "feature 1: its property 'file' is a name, not a list")):
+            self.is_refused(wanted, [(name, SQUARE) for name in names])
+        for name, why in (("b" * 300, "File name too long"), ("\0", "embedded null byte"), ("\ud800", "'utf-8' codec"),
+                          ("there", "'there.inner' is there, and is no file"),
+                          *((name, "it is no name of a file in this folder")
+                            for name in ("", ".", "..", "../good", "more/good", "more/", f"{self.above}good"))):
+            self.is_refused(f"feature 1: its files can't be called {name[:99]!r}: {why}",
+                            [("a", SQUARE), (name, SQUARE)])
+        for other in ({"type": "Feature", "properties": {}}, {"type": "Feature", "properties": None}, 7):
+            self.is_refused("feature 1 has no property 'file'", [("a", SQUARE), other])
+        self.is_refused(f"{self.file} is no folder", [("a", SQUARE)], folder=self.file)
+        self.is_refused("max_level is out of range: 31", [("a", SQUARE)], limits=("20", "31"))
+        self.is_refused("invalid literal for int", [("a", SQUARE)], limits=("x", "3"))
+
+    def is_refused(self, wanted, features, **options):
+        with self.subTest(wanted=wanted), contextlib.redirect_stdout(io.StringIO()) as out:
+            error = main(self.words(features, **options))
+            self.assertEqual((error[:len(f"s2union_geo: {wanted}")], out.getvalue()), (f"s2union_geo: {wanted}", ""))
+            self.assertEqual((sorted(os.listdir(self.above)), os.listdir(self.folder)),
+                             (["cells", "some.geojson"], ["there.inner"]))
+
+    def test_no_collection(self):
+        with open(self.file, "w") as it:
+            json.dump({"type": "FeatureCollection", "features": None}, it)
+        self.assertEqual(main(["cover", self.file, self.folder, "20", "12"]),
+                         f"s2union_geo: {self.file} is no collection of features")
+
+    def test_progress_on_a_terminal(self):
+        ours, theirs = pty.openpty()
+        with os.fdopen(ours, "rb", buffering=0) as terminal, os.fdopen(theirs, "wb"):
+            done = said(*self.words([("a", SQUARE), ("b", SQUARE)]), stderr=theirs)
+            shown = terminal.read(1000).decode()
+        self.assertEqual((done.returncode, shown), (0, "\r0 of 2 features\r1 of 2 features\r\x1b[K"))
+        self.assertRegex(done.stdout, "^2 features, .*; left: none\n$")
 
 
 if __name__ == "__main__":

@@ -9,7 +9,7 @@ from typing import Any, Iterator
 import numpy
 from s2union import Union, tokens
 
-from .sphere import MOST_LONGITUDE, geographic, on_cube, squares_of
+from .sphere import MOST, geographic, on_cube, range_of, squares_of
 
 MOST_BYTES = 2**28  # of a text or a file
 MOST_POSITIONS = 1_000_000  # of all rings together
@@ -20,7 +20,8 @@ PARTS = {"FeatureCollection": "features", "GeometryCollection": "geometries"}
 
 
 def read_geojson(path: str | os.PathLike[str]) -> Any:
-    """The GeoJSON of a file, of at most MOST_BYTES bytes."""
+    """The GeoJSON of a file, of at most MOST_BYTES bytes, as objects of Python; ValueError if it is none. In a position
+    the longitude comes first, then the latitude."""
     with open(path, "rb") as file:
         return parsed(file.read(MOST_BYTES + 1), os.fspath(path))
 
@@ -43,6 +44,8 @@ def polygons_of(shape: Any) -> list[list[Any]]:
         it = waiting.pop()
         it = parsed(it) if isinstance(it, (str, bytes)) else getattr(it, "__geo_interface__", it)
         kind = it.get("type") if isinstance(it, dict) else None
+        if not isinstance(kind, str):
+            raise ValueError(f"it is no polygon: {type(it).__name__}")
         if kind in PARTS:
             waiting += reversed(_list_of(it, PARTS[kind], kind))
         elif kind == "Feature":
@@ -50,12 +53,14 @@ def polygons_of(shape: Any) -> list[list[Any]]:
         elif kind in ("Polygon", "MultiPolygon"):
             parts = _list_of(it, "coordinates", kind)
             for rings in parts if kind == "MultiPolygon" else [parts]:
+                if not numpy.iterable(rings):
+                    raise ValueError(f"polygon {len(found)} has a list of rings")
                 found.append([_ring_of(ring, f"polygon {len(found)}, ring {k}") for k, ring in enumerate(rings)])
                 positions += sum(map(len, found[-1]))
                 if positions > MOST_POSITIONS:
                     raise ValueError(f"there are more than {MOST_POSITIONS} positions")
         else:
-            raise ValueError(f"it is no polygon: {kind or type(it).__name__}")
+            raise ValueError(f"it is no polygon: {kind}")
     return found
 
 
@@ -72,9 +77,11 @@ def _ring_of(ring: Any, what: str) -> Any:
         positions = numpy.array([[float(x) for x in position[:2]] for position in ring], "float64").reshape(-1, 2)
     except (TypeError, ValueError, OverflowError):
         raise ValueError(f"{what}: a position is a longitude and a latitude") from None
-    wrong = numpy.flatnonzero(~(numpy.abs(positions) <= (MOST_LONGITUDE, 90)).all(axis=1))
+    wrong = numpy.argwhere(~(numpy.abs(positions) <= list(MOST.values())))
     if wrong.size:
-        raise ValueError(f"{what}: position {wrong[0]} is out of range: {positions[wrong[0]].tolist()}")
+        place, which = wrong[0]
+        raise ValueError(f"{what}: position {place} is out of range: {range_of(list(MOST)[which])}: "
+                         f"{positions[place].tolist()}")
     if len(positions) < 4:
         raise ValueError(f"{what} has fewer than four positions")
     if (positions[0] != positions[-1]).any():
@@ -100,7 +107,8 @@ def rings(cells: Any) -> Iterator[list[list[float]]]:
 
 
 def to_geojson(union: Union, **properties: Any) -> dict[str, Any]:
-    """The cells of a union as polygons of GeoJSON, a feature for each, with these properties and its token, `cell`.
+    """The cells of a union as polygons of GeoJSON, a feature for each, with these properties and its token, `cell`. In
+    a position the longitude comes first, then the latitude, in degrees.
 
     Faces are cut, since two of them have a pole inside. A cell across the date line goes on beyond 180 or -180 degrees.
 

@@ -47,17 +47,22 @@ class Squares(NamedTuple):
 
 def covering(shape: Any, max_cells: int = 200, max_level: int = 30) -> Union:
     """The cells, at most `max_cells` and none deeper than `max_level`, that contain all of the polygons. Where the
-    polygons meet more faces than `max_cells`, these are the cells."""
+    polygons meet more faces than `max_cells`, these are the cells.
+
+    Polygons are GeoJSON, as objects of Python or as a text, or what has a `__geo_interface__`, as shapely's objects
+    have. The longitude of a position comes first, then the latitude, in degrees: from -540 to 540 and from -90 to 90.
+    ValueError names what is no polygon, what is out of range, and a ring that is open, or crosses or touches itself."""
     return _Walk(shape, max_cells, max_level).outer()
 
 
 def interior(shape: Any, max_cells: int = 200, max_level: int = 30) -> Union:
-    """Cells that lie in a polygon, at most `max_cells` and none deeper than `max_level`, the largest first."""
+    """Cells that lie in a polygon, at most `max_cells` and none deeper than `max_level`, the largest first. Polygons,
+    whose longitudes come before their latitudes, and errors are those of `covering`."""
     return _Walk(shape, max_cells, max_level).inner()
 
 
 def coverings(shape: Any, max_cells: int = 200, max_level: int = 30) -> tuple[Union, Union]:
-    """Both: `covering` and `interior`. The polygons are looked at once."""
+    """Both: `covering` and `interior`. The polygons, longitudes before latitudes, are looked at once."""
     walk = _Walk(shape, max_cells, max_level)
     return walk.outer(), walk.inner()
 

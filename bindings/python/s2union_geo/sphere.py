@@ -9,28 +9,35 @@ import numpy
 from s2union import from_points, square
 
 SIDE = 2**30  # of a face, in leaves
-MOST_LONGITUDE = 540  # in data from -180 to 180, from 0 to 360, and in rings that go on over the date line
+# In degrees. Longitudes of data are from -180 to 180 or from 0 to 360, and rings go on over the date line.
+MOST = {"longitude": 540, "latitude": 90}
 # The C library's, which S2 takes. The last bit of numpy's own may differ, and on the border of two leaves it matters.
 sine, cosine = (numpy.vectorize(function, otypes="d") for function in (math.sin, math.cos))
 
 
-def degrees_of(value: Any, what: str, most: float) -> Any:
-    """The numbers as an array of float64. What is no number, or not from -most to most, is refused by its place."""
+def range_of(what: str) -> str:
+    """What is said of a longitude or a latitude that is out of range."""
+    order = " (the longitude comes first)" if what == "latitude" else ""
+    return f"a {what} is from -{MOST[what]} to {MOST[what]}{order}"
+
+
+def degrees_of(value: Any, what: str) -> Any:
+    """Longitudes or latitudes as an array of float64. What is no number, or out of range, is refused by its place."""
     given = numpy.asarray(value)
     if given.dtype.kind not in "iuf" and given.size:
         kind = given.flat[0]
         raise TypeError(f"a {what} is a number, not {type(kind).__name__}: {kind!r}")
     numbers = given.astype("float64")
-    wrong = numpy.flatnonzero(~(numpy.abs(numbers) <= most))
+    wrong = numpy.flatnonzero(~(numpy.abs(numbers) <= MOST[what]))
     if wrong.size:
         place = f" at place {wrong[0]}" if numbers.ndim else ""
-        raise ValueError(f"a {what} is from -{most} to {most}{place}: {numbers.flat[wrong[0]].item()!r}")
+        raise ValueError(f"{range_of(what)}: {numbers.flat[wrong[0]].item()!r}{place}")
     return numbers
 
 
 def places_of(longitude: Any, latitude: Any) -> Any:
     """Both as arrays of one shape."""
-    x, y = degrees_of(longitude, "longitude", MOST_LONGITUDE), degrees_of(latitude, "latitude", 90)
+    x, y = degrees_of(longitude, "longitude"), degrees_of(latitude, "latitude")
     try:
         return numpy.broadcast_arrays(x, y)
     except ValueError:
@@ -83,7 +90,9 @@ def squares_of(cells: Any) -> Any:
 
 
 def leaves(longitude: Any, latitude: Any) -> Any:
-    """The leaf of each place, in degrees, as an array of S2's identifiers: those of S2 itself.
+    """The leaf of each place, as an array of S2's identifiers: those of S2 itself. Longitudes come first, then
+    latitudes, as arrays of one shape or single numbers, in degrees: from -540 to 540 and from -90 to 90. ValueError
+    names the place of a number out of range, and TypeError what is no number.
 
     >>> leaves([2.3522, 180.0], [48.8566, -16.5])
     array([5180949494577750587, 7935343058781468041], dtype=uint64)
@@ -94,18 +103,18 @@ def leaves(longitude: Any, latitude: Any) -> Any:
 
 
 def leaf(longitude: float, latitude: float) -> int:
-    """The leaf of one place.
+    """The leaf of one place. The longitude comes first, then the latitude, in degrees; errors are those of `leaves`.
 
     >>> from s2union import token
-    >>> token(leaf(2.3522, 48.8566))
+    >>> token(leaf(longitude=2.3522, latitude=48.8566))
     '47e66e1d8f8be23b'
     """
     return int(leaves(float(longitude), float(latitude)))
 
 
 def points(cells: Any) -> Any:
-    """The longitudes and the latitudes of the middles of cells, as two arrays. That of a leaf is less than 8 mm from
-    each place in it.
+    """The longitudes and then the latitudes of the middles of cells, as two arrays, in degrees from -180 to 180 and
+    from -90 to 90. The middle of a leaf is less than 8 mm from each place in it. ValueError names what is no cell.
 
     >>> [float(round(found[0], 6)) for found in points([leaf(2.3522, 48.8566)])]
     [2.3522, 48.8566]
