@@ -51,6 +51,8 @@ CALLS = {
     "Python": (r"(?!in\b)\w{2,}", ["bindings/python/s2union/__init__.py"], r"\b(?:def|class) (?:{0}|__{0}__)\b"),
     "SQL": (r"s2_\w+", ["databases/sqlite/*.c", "databases/postgres/*.sql"], r"\b{}\b"),
     "Script": (r"[a-z]{2,}", ["docs/SCRIPT.md"], r"`{}\b"),
+    "JavaScript": (r"\w+", ["bindings/js/s2union.d.ts"], r"(?:\bfunction |^  (?:static |readonly )?|\bclass ){}\b"),
+    "Java": (r"\w+", ["bindings/java/s2union/*.java"], r"\bpublic (?:static |final )*[\w\[\]]+ {}\b"),
 }
 # Where the version stands beside the file VERSION: a file, what comes before it and after it, and its form there.
 VERSIONS = [
