@@ -3,7 +3,11 @@ package s2union
 // #include <s2union.h>
 import "C"
 
-import "strconv"
+import (
+	"encoding/json"
+	"fmt"
+	"strconv"
+)
 
 // CellID is the identifier of a cell. Any number may be one; IsValid says whether it is. All other methods panic with
 // ErrNoCell if it isn't, except String.
@@ -143,6 +147,46 @@ func (id CellID) String() string {
 	return string(text(C.S2U_MOST_DEBUG, func(out *C.char, room C.size_t, length *C.size_t) C.int32_t {
 		return C.s2u_debug(C.uint64_t(id), out, room, length)
 	}))
+}
+
+// MarshalText makes the token, so a cell is a text in JSON. ErrNoCell of a number that is not a cell. JavaScript and jq
+// round numbers above 2^53, so a number in JSON would become another cell there.
+func (id CellID) MarshalText() ([]byte, error) {
+	if err := id.checked(); err != nil {
+		return nil, err
+	}
+	return []byte(id.ToToken()), nil
+}
+
+// UnmarshalText takes a token or a debug text. If there is an error, ErrNoCell, the cell stays as it was.
+func (id *CellID) UnmarshalText(text []byte) error { return id.scanText(string(text)) }
+
+// UnmarshalJSON takes a text as UnmarshalText does, and a number, as versions before 1.1 wrote it and as databases have
+// it. If another program has rounded the number, it may be another cell now; ErrNoCell if it is none.
+func (id *CellID) UnmarshalJSON(value []byte) error {
+	var text string
+	if string(value) == "null" {
+		return nil
+	} else if json.Unmarshal(value, &text) == nil {
+		return id.scanText(text)
+	}
+	number, err := strconv.ParseUint(string(value), 10, 64)
+	if signed, isSigned := strconv.ParseInt(string(value), 10, 64); isSigned == nil {
+		number, err = uint64(signed), nil
+	}
+	if err != nil || !CellID(number).IsValid() {
+		return fmt.Errorf("%w: %s", ErrNoCell, value)
+	}
+	*id = CellID(number)
+	return nil
+}
+
+// checked is an error that names the number if it is not a cell.
+func (id CellID) checked() error {
+	if id.IsValid() {
+		return nil
+	}
+	return fmt.Errorf("%w: %#x", ErrNoCell, uint64(id))
 }
 
 // answerFor is the number that a call answered for cells; 0 if it has none. Only then it asks whether they are cells,

@@ -5,10 +5,12 @@ import (
 	"encoding/gob"
 	"encoding/json"
 	"errors"
+	"fmt"
 	"io"
 	"math"
 	"reflect"
 	"runtime"
+	"strconv"
 	"strings"
 	"sync"
 	"testing"
@@ -36,36 +38,63 @@ func panics(t *testing.T, want error, what string, call func()) {
 	call()
 }
 
+// refusalOf is what a method panics with, or the error that it returns.
+func refusalOf(method reflect.Value, arguments []reflect.Value) (err error) {
+	defer func() {
+		if said := recover(); said != nil {
+			err = said.(error)
+		}
+	}()
+	call := method.Call
+	if method.Type().IsVariadic() {
+		call = method.CallSlice
+	}
+	for _, result := range call(arguments) {
+		if found, isError := result.Interface().(error); isError {
+			err = found
+		}
+	}
+	return err
+}
+
+// TestACellThatIsNone asks each method about a number that is no cell: each of a cell, and each that takes one.
 func TestACellThatIsNone(t *testing.T) {
 	union := must(s2union.NewCellUnion(face))
 	file := must(s2union.NewUnionFile(must(union.MarshalBinary())))
 	for _, id := range []CellID{0, 2, 12 * face, math.MaxUint64} {
-		for what, call := range map[string]func(){
-			"Level": func() { id.Level() }, "Face": func() { id.Face() }, "IsLeaf": func() { id.IsLeaf() },
-			"IsFace": func() { id.IsFace() }, "Parent": func() { id.Parent(0) }, "Children": func() { id.Children() },
-			"RangeMin": func() { id.RangeMin() }, "RangeMax": func() { id.RangeMax() }, "Next": func() { id.Next() },
-			"Prev": func() { id.Prev() }, "LeafCellsCovered": func() { id.LeafCellsCovered() },
-			"ToToken": func() { id.ToToken() }, "Square": func() { id.Square() },
-			"Contains": func() { id.Contains(face) }, "Intersects": func() { face.Intersects(id) },
-			"CommonAncestor":          func() { face.CommonAncestor(id) },
-			"CommonAncestorLevel":     func() { id.CommonAncestorLevel(face) },
-			"ContainsCellID":          func() { union.ContainsCellID(id) },
-			"IntersectsCellID":        func() { union.IntersectsCellID(id) },
-			"CellIDsAt":               func() { union.CellIDsAt(id) },
-			"file's ContainsCellID":   func() { file.ContainsCellID(id) },
-			"file's IntersectsCellID": func() { file.IntersectsCellID(id) },
-			"IntersectionWithCellID":  func() { s2union.CellUnionFromIntersectionWithCellID(union, id) },
-		} {
-			panics(t, s2union.ErrNoCell, what, call)
+		asked := 0
+		for place, of := range []any{id, face, union, file} {
+			value, given := reflect.ValueOf(of), map[reflect.Type]any{reflect.TypeOf(id): id}
+			if place == 0 {
+				given[reflect.TypeOf(id)] = face
+			}
+			given[reflect.TypeOf([]CellID{})] = []CellID{id}
+			for k := 0; k < value.NumMethod(); k++ {
+				name, method := value.Type().Method(k).Name, value.Method(k)
+				isAbout, arguments := place == 0 && name != "IsValid" && name != "String", []reflect.Value{}
+				for n := 0; n < method.Type().NumIn(); n++ {
+					argument := reflect.Zero(method.Type().In(n))
+					if cell, isCell := given[argument.Type()]; isCell {
+						argument, isAbout = reflect.ValueOf(cell), true
+					}
+					arguments = append(arguments, argument)
+				}
+				if isAbout {
+					asked++
+					err := refusalOf(method, arguments)
+					check(t, errors.Is(err, s2union.ErrNoCell), fmt.Sprintf("%T.%s: %v", of, name, err))
+				}
+			}
 		}
+		check(t, asked > 30, fmt.Sprintf("%d methods are found", asked))
+		panics(t, s2union.ErrNoCell, "IntersectionWithCellID", func() {
+			s2union.CellUnionFromIntersectionWithCellID(union, id)
+		})
 		check(t, !id.IsValid() && strings.HasPrefix(id.String(), "Invalid: "), "String")
 		_, err := s2union.RangeUnion(id, face)
 		check(t, err == s2union.ErrNoCell, "RangeUnion")
 		_, err = union.ContainsCellIDs(face, id)
-		check(t, errors.Is(err, s2union.ErrNoCell), "ContainsCellIDs")
 		check(t, err.Error() == "s2union: not a cell at place 1", "its text")
-		_, err = union.IntersectsCellIDs(id)
-		check(t, errors.Is(err, s2union.ErrNoCell), "IntersectsCellIDs")
 	}
 	check(t, CellID(254).String() == "Invalid: fe" && CellID(0).String() == "Invalid: 0", "a text of no cell")
 	for _, level := range []int{-1, 1, 31, math.MaxInt, math.MinInt, 1 << 32} {
@@ -310,6 +339,40 @@ func TestTexts(t *testing.T) {
 	union := parks["lawn"]
 	err := json.Unmarshal([]byte(`"04 x"`), &union)
 	check(t, errors.Is(err, s2union.ErrNoCell) && union.Equal(parks["lawn"]), "a text that names no cell")
+}
+
+// TestCellsInJSON sends cells of all levels and faces through what rounds numbers to 53 bits, as JavaScript and jq do.
+func TestCellsInJSON(t *testing.T) {
+	var cells []CellID
+	numbers := "["
+	for place := 0; place < 31*200; place++ {
+		leaf := must(s2union.CellIDFromFaceIJ(place%6, place*7919%(1<<30), place*104729%(1<<30)))
+		cells = append(cells, leaf.Parent(place%31))
+		numbers += strconv.FormatUint(uint64(cells[place]), 10) + ","
+	}
+	var rounded any
+	check(t, json.Unmarshal(must(json.Marshal(cells)), &rounded) == nil, "JSON is read")
+	var again, fromNumbers []CellID
+	check(t, json.Unmarshal(must(json.Marshal(rounded)), &again) == nil && reflect.DeepEqual(again, cells), "tokens")
+	document := []byte(strings.TrimSuffix(numbers, ",") + "]")
+	check(t, json.Unmarshal(document, &fromNumbers) == nil && reflect.DeepEqual(fromNumbers, cells), "numbers")
+	names := map[CellID]*CellID{face: &cells[0], 3 * face: nil}
+	text := must(json.Marshal(names))
+	check(t, string(text) == `{"1":"`+cells[0].ToToken()+`","3":null}`, "keys, and no cell")
+	var keys map[CellID]*CellID
+	check(t, json.Unmarshal(text, &keys) == nil && reflect.DeepEqual(keys, names), "keys are read")
+	id := face
+	check(t, json.Unmarshal([]byte("-8070450532247928832"), &id) == nil && id == 9*face, "a number with a sign")
+	id = face
+	check(t, json.Unmarshal([]byte("null"), &id) == nil && id == face, "null")
+	for _, wrong := range []string{
+		"1152921504606847002", "1.152921504606847e+18", "2", "0", "-1", "18446744073709551616", `"x"`, `""`, "true", "[1]",
+	} {
+		err := json.Unmarshal([]byte(wrong), &id)
+		check(t, errors.Is(err, s2union.ErrNoCell) && id == face, wrong)
+	}
+	_, err := json.Marshal([]CellID{face, 0})
+	check(t, errors.Is(err, s2union.ErrNoCell), "a number that is no cell is not written")
 }
 
 type brokenWriter struct{}

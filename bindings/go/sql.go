@@ -7,8 +7,8 @@ import (
 
 // Value is the cell as a database has it: a signed number of the same 64 bits. ErrNoCell.
 func (id CellID) Value() (driver.Value, error) {
-	if !id.IsValid() {
-		return nil, fmt.Errorf("%w: %#x", ErrNoCell, uint64(id))
+	if err := id.checked(); err != nil {
+		return nil, err
 	}
 	return int64(id), nil
 }
