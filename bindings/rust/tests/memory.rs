@@ -1,0 +1,92 @@
+//! Each allocation refused in turn: a call that returns a `Result` returns `Error::Memory`, or what it would have.
+
+use std::alloc::{GlobalAlloc, Layout, System};
+use std::cell::Cell;
+use std::fmt::Debug;
+
+use s2union::{CellId, CellUnion, Error, Rect, UnionFile};
+
+thread_local! {
+    /// The allocation of this thread that is refused, counted from 1; or 0, if none is left.
+    static REFUSED: Cell<usize> = const { Cell::new(0) };
+}
+
+struct Refusing;
+
+impl Refusing {
+    fn refuses(&self) -> bool {
+        let left = REFUSED.with(Cell::get);
+        REFUSED.with(|refused| refused.set(left.saturating_sub(1)));
+        left == 1
+    }
+}
+
+// SAFETY: the system's own allocator, except that it may return null, as any allocator may.
+unsafe impl GlobalAlloc for Refusing {
+    unsafe fn alloc(&self, layout: Layout) -> *mut u8 {
+        if self.refuses() {
+            std::ptr::null_mut()
+        } else {
+            System.alloc(layout)
+        }
+    }
+
+    unsafe fn realloc(&self, at: *mut u8, layout: Layout, size: usize) -> *mut u8 {
+        if self.refuses() {
+            std::ptr::null_mut()
+        } else {
+            System.realloc(at, layout, size)
+        }
+    }
+
+    unsafe fn dealloc(&self, at: *mut u8, layout: Layout) {
+        System.dealloc(at, layout)
+    }
+}
+
+#[global_allocator]
+static ALLOCATOR: Refusing = Refusing;
+
+fn asked<T: Debug + PartialEq>(call: impl Fn() -> Result<T, Error>) {
+    let wanted = call();
+    assert!(wanted.is_ok());
+    let mut refusals = 0;
+    for turn in 1.. {
+        REFUSED.with(|refused| refused.set(turn));
+        let found = call();
+        let left = REFUSED.with(|refused| refused.replace(0));
+        if left > 0 {
+            assert_eq!(found, wanted);
+            break;
+        }
+        refusals += usize::from(found == Err(Error::Memory));
+        assert!(found == wanted || found == Err(Error::Memory));
+    }
+    assert!(refusals > 0);
+}
+
+#[test]
+fn each_allocation_refused_in_turn() {
+    let leaves = (0..3000).map(|k| CellId::from_face_ij(k % 6, 17 * k, 31 * k).unwrap());
+    let (x, y): (CellUnion, CellUnion) = (leaves.clone().take(2000).collect(), leaves.skip(1000).collect());
+    let (bytes, rect) = (x.encode().unwrap(), Rect { face: 0, i0: 0, i1: 99, j0: 0, j1: 99 });
+    let file = UnionFile::new(&bytes).unwrap();
+    asked(|| x.union(&y));
+    asked(|| x.intersection(&y));
+    asked(|| x.difference(&y));
+    asked(|| x.symmetric_difference(&y));
+    asked(|| x.complement());
+    asked(|| x.intersection_with_cell(x.cells()[0]));
+    asked(|| CellUnion::union_of([&x, &y, &x]));
+    asked(|| CellUnion::from_range(x.cells()[0], y.cells()[9]));
+    asked(|| x.outer(3, 1000));
+    asked(|| x.inner(30, 9000));
+    asked(|| x.outer_in(&rect, 30, 9000));
+    asked(|| rect.outer(30, 9000));
+    asked(|| x.denormalized(30, 1, 9000));
+    asked(|| x.ancestors());
+    asked(|| x.encode());
+    asked(|| CellUnion::decode(&bytes));
+    asked(|| file.ancestors());
+    asked(|| file.to_union());
+}
