@@ -7,6 +7,7 @@ import re
 import subprocess
 import sys
 import threading
+import time
 import tracemalloc
 import unittest
 from array import array
@@ -33,11 +34,18 @@ WORDS = {
 }
 OTHERS = {"from_debug": ("0/2",), "file_contains": (FILE, FILE), "file_intersects": (FILE, FILE)}
 TYPES = (Path(calls.__file__).parent / "_library.pyi").read_text()
-TAKEN = {name: OTHERS.get(name) or tuple(WORDS[word] for word in re.findall(r"\b__(\w+):", words))
-         for name, words in re.findall(r"^def (\w+)\((.*?)\) -> ", TYPES, re.M | re.S) if name != "refuse"}
+
+
+def each_call(words, others):
+    """What each function is given: these words by the names of what it takes, or others of its own."""
+    return {name: others.get(name) or tuple(words[word] for word in re.findall(r"\b__(\w+):", takes))
+            for name, takes in re.findall(r"^def (\w+)\((.*?)\) -> ", TYPES, re.M | re.S) if name != "refuse"}
+
+
+TAKEN = each_call(WORDS, OTHERS)
 # Calls that are refused after they have taken memory, or while they look at what they are given.
 REFUSED = {
-    "level": (0,), "parent": (CELL, 31), "cell_contains": (CELL, 2), "from_token": ("x",), "from_tokens": ("14 x",),
+    "level": (0,), "parent": (CELL, 31), "cell_contains": (CELL, 2), "from_token": ("x",), "from_tokens": ("14 xy",),
     "tokens": (bytes(8),), "normalise": (CELLS + bytes(8),), "list_of": ([CELL, "x"],), "number": (10, 9, "n"),
     "range_": ("what", 1, CELL, 1), "outer": ("what", 1, RECT, 30, 1), "inner_in": ("what", 1, CELLS, RECT[:4], 30, 99),
     "outer_of": ("what", 1, CELLS, 9, 1), "decode": ("what", 1, FILE[:-1]), "file_cell": (FILE, 2),
@@ -146,6 +154,24 @@ class Taken(unittest.TestCase):
             for call in (s2union.level, lambda it: it in Union([FACE]), lambda it: Union([FACE, it])):
                 self.assertRaises(KeyError, call, wrong)
 
+    def test_an_index_that_releases_the_lists_beside_it(self):
+        """Numbers are read before lists are looked at: what was released by then is an error, and isn't read."""
+        asked = 0
+        for name, words in TAKEN.items():
+            for place, word in enumerate(words):
+                views = [memoryview(bytes(it)) if isinstance(it, (bytes, memoryview)) else it for it in words]
+                lists = [it for it in views if isinstance(it, memoryview)]
+                if lists and word == RECT:
+                    views[place] = (Releasing(RECT[0], lists), *RECT[1:])
+                elif lists and type(word) is int:
+                    views[place] = Releasing(word, lists)
+                else:
+                    continue
+                asked += 1
+                with self.assertRaisesRegex(ValueError, "released", msg=(name, place)):
+                    getattr(calls, name)(*views)
+        self.assertGreater(asked, 40)
+
     def test_an_iterable_that_raises(self):
         def cells():
             yield from range(1, 2001, 2)
@@ -163,6 +189,19 @@ class Indexed:
 
     def __index__(self):
         return self.number + 0
+
+
+class Releasing(Indexed):
+    """A number that releases memoryviews when it is wanted."""
+
+    def __init__(self, number, views):
+        super().__init__(number)
+        self.views = views
+
+    def __index__(self):
+        for view in self.views:
+            view.release()
+        return super().__index__()
 
 
 class LeftBehind(unittest.TestCase):
@@ -205,28 +244,43 @@ class LeftBehind(unittest.TestCase):
 
 class Around(unittest.TestCase):
     def test_other_threads_run_during_a_call(self):
-        """One that is asleep wakes while the library works: none is asked to hand over the lock."""
-        many = array("Q", range(2**22 - 1, 0, -2))
+        """One that is asleep wakes while the library works: none is asked to hand over the lock. Each call that may
+        take long is made until it did."""
+        xs, ys = (memoryview(array("Q", range(first, 2**21, 8))) for first in (1, 5))
+        points, data = memoryview(array("I", 3 * len(xs) * [1])), [calls.encode("", 9, ids) for ids in (xs, ys)]
+        words = {
+            **WORDS, **dict.fromkeys(("ids", "xs", "cells"), xs), "ys": ys, "bytes": data[0], "points": points,
+            "bounds": (0, 0, 999, 0, 999), "level": 30, "min": 30, "most": 10**6, "text": calls.tokens(xs),
+            "each": range(1, 2**19, 2), "ends": memoryview(array("Q", [len(xs)])),
+        }
+        others = {"contains": (xs, xs), "compare": (xs, xs), "file_contains": data[:1] * 2, "file_intersects": data}
+        large = [xs, ys, points, *data, words["bounds"], words["text"]]
+        quick = {"contains_cell", "intersects_cell", "cells_at", "file_count", "file_cell", "file_contains_cell",
+                 "file_intersects_cell", "from_token", "from_debug"}
         ticks, ends = [0], threading.Event()
 
         def tick():
-            while not ends.wait(0.001):
+            while not ends.wait(0.0005):
                 ticks[0] += 1
+
+        def is_seen(call, given):
+            before, deadline = ticks[0], time.monotonic() + 20
+            while ticks[0] == before and time.monotonic() < deadline:
+                call(*given)
+            return ticks[0] > before
 
         interval, thread = sys.getswitchinterval(), threading.Thread(target=tick)
         sys.setswitchinterval(1000)
         try:
             thread.start()
-            data = many.tobytes()
-            before = ticks[0]
-            union = calls.normalise(data)
-            during = ticks[0] - before
+            long = {name: given for name, given in each_call(words, others).items()
+                    if name not in quick and any(it is one for it in given for one in large)}
+            wrong = [name for name, given in long.items() if not is_seen(getattr(calls, name), given)]
         finally:
             sys.setswitchinterval(interval)
             ends.set()
             thread.join()
-        self.assertEqual(len(union) // 8, len(Union(many)))
-        self.assertGreater(during, 3)
+        self.assertEqual((wrong, len(long) > 35), ([], True))
 
     def test_one_union_in_many_threads(self):
         a, b = Union(range(1, 20001, 8)), Union(range(5, 20001, 16))

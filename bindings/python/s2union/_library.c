@@ -210,11 +210,6 @@ static bool take(Room* room, uint64_t n, size_t unit) {
   return room->at != NULL;
 }
 
-static bool as_room(PyObject* given, size_t unit, Room* room) {
-  uint64_t n;
-  return as_number(given, "room", 0, UINT64_MAX, &n) && take(room, n, unit);
-}
-
 static PyObject* given_back(Room* room) {
   PyMem_Free(room->at);
   room->at = NULL;

@@ -45,9 +45,10 @@ typedef struct Calls {
 static PyObject* py_ancestors(PyObject* module, PyObject* words) {
   List ids;
   size_t len = 0;
+  uint64_t room;
   Room out;
-  if (!has(words, 3) || !as_list(WORD(2), sizeof(uint64_t), &ids) ||
-      !as_room(WORD(1), sizeof(uint64_t), &out))
+  if (!has(words, 3) || !as_number(WORD(1), "room", 0, UINT64_MAX, &room) ||
+      !as_list(WORD(2), sizeof(uint64_t), &ids) || !take(&out, room, sizeof(uint64_t)))
     return NULL;
   int32_t status;
   do {
@@ -94,9 +95,10 @@ static PyObject* py_compare(PyObject* module, PyObject* words) {
 static PyObject* py_complement(PyObject* module, PyObject* words) {
   List ids;
   size_t len = 0;
+  uint64_t room;
   Room out;
-  if (!has(words, 3) || !as_list(WORD(2), sizeof(uint64_t), &ids) ||
-      !as_room(WORD(1), sizeof(uint64_t), &out))
+  if (!has(words, 3) || !as_number(WORD(1), "room", 0, UINT64_MAX, &room) ||
+      !as_list(WORD(2), sizeof(uint64_t), &ids) || !take(&out, room, sizeof(uint64_t)))
     return NULL;
   int32_t status;
   do {
@@ -141,9 +143,10 @@ static PyObject* py_contains_cells(PyObject* module, PyObject* words) {
 static PyObject* py_decode(PyObject* module, PyObject* words) {
   List bytes;
   size_t len = 0;
+  uint64_t room;
   Room out;
-  if (!has(words, 3) || !as_list(WORD(2), sizeof(uint8_t), &bytes) ||
-      !as_room(WORD(1), sizeof(uint64_t), &out))
+  if (!has(words, 3) || !as_number(WORD(1), "room", 0, UINT64_MAX, &room) ||
+      !as_list(WORD(2), sizeof(uint8_t), &bytes) || !take(&out, room, sizeof(uint64_t)))
     return NULL;
   int32_t status;
   do {
@@ -154,12 +157,13 @@ static PyObject* py_decode(PyObject* module, PyObject* words) {
 
 static PyObject* py_denormalised(PyObject* module, PyObject* words) {
   List ids;
-  uint64_t min, modulus;
+  uint64_t min, modulus, room;
   size_t len = 0;
   Room out;
   if (!has(words, 5) || !as_number(WORD(3), "a level", 0, 30, &min) ||
-      !as_number(WORD(4), "a modulus", 1, 3, &modulus) || !as_list(WORD(2), sizeof(uint64_t), &ids) ||
-      !as_room(WORD(1), sizeof(uint64_t), &out))
+      !as_number(WORD(4), "a modulus", 1, 3, &modulus) ||
+      !as_number(WORD(1), "room", 0, UINT64_MAX, &room) || !as_list(WORD(2), sizeof(uint64_t), &ids) ||
+      !take(&out, room, sizeof(uint64_t)))
     return NULL;
   int32_t status;
   do {
@@ -182,9 +186,11 @@ static PyObject* py_denormalised_len(PyObject* module, PyObject* words) {
 static PyObject* py_difference(PyObject* module, PyObject* words) {
   List xs, ys;
   size_t len = 0;
+  uint64_t room;
   Room out;
-  if (!has(words, 4) || !as_list(WORD(2), sizeof(uint64_t), &xs) ||
-      !as_list(WORD(3), sizeof(uint64_t), &ys) || !as_room(WORD(1), sizeof(uint64_t), &out))
+  if (!has(words, 4) || !as_number(WORD(1), "room", 0, UINT64_MAX, &room) ||
+      !as_list(WORD(2), sizeof(uint64_t), &xs) || !as_list(WORD(3), sizeof(uint64_t), &ys) ||
+      !take(&out, room, sizeof(uint64_t)))
     return NULL;
   int32_t status;
   do {
@@ -196,9 +202,10 @@ static PyObject* py_difference(PyObject* module, PyObject* words) {
 static PyObject* py_encode(PyObject* module, PyObject* words) {
   List ids;
   size_t len = 0;
+  uint64_t room;
   Room out;
-  if (!has(words, 3) || !as_list(WORD(2), sizeof(uint64_t), &ids) ||
-      !as_room(WORD(1), sizeof(uint8_t), &out))
+  if (!has(words, 3) || !as_number(WORD(1), "room", 0, UINT64_MAX, &room) ||
+      !as_list(WORD(2), sizeof(uint64_t), &ids) || !take(&out, room, sizeof(uint8_t)))
     return NULL;
   int32_t status;
   do {
@@ -216,9 +223,10 @@ static PyObject* py_face(PyObject* module, PyObject* words) {
 static PyObject* py_file_ancestors(PyObject* module, PyObject* words) {
   List bytes;
   size_t len = 0;
+  uint64_t room;
   Room out;
-  if (!has(words, 3) || !as_list(WORD(2), sizeof(uint8_t), &bytes) ||
-      !as_room(WORD(1), sizeof(uint64_t), &out))
+  if (!has(words, 3) || !as_number(WORD(1), "room", 0, UINT64_MAX, &room) ||
+      !as_list(WORD(2), sizeof(uint8_t), &bytes) || !take(&out, room, sizeof(uint64_t)))
     return NULL;
   int32_t status;
   do {
@@ -325,11 +333,12 @@ static PyObject* py_from_points(PyObject* module, PyObject* words) {
 
 static PyObject* py_inner(PyObject* module, PyObject* words) {
   s2u_rect bounds;
-  uint64_t level, most;
+  uint64_t level, most, room;
   size_t len = 0;
   Room out;
   if (!has(words, 5) || !as_rect(WORD(2), &bounds) || !as_number(WORD(3), "a level", 0, 30, &level) ||
-      !as_number(WORD(4), "most", 0, INT64_MAX, &most) || !as_room(WORD(1), sizeof(uint64_t), &out))
+      !as_number(WORD(4), "most", 0, INT64_MAX, &most) ||
+      !as_number(WORD(1), "room", 0, UINT64_MAX, &room) || !take(&out, room, sizeof(uint64_t)))
     return NULL;
   int32_t status;
   do {
@@ -341,12 +350,13 @@ static PyObject* py_inner(PyObject* module, PyObject* words) {
 static PyObject* py_inner_in(PyObject* module, PyObject* words) {
   List ids;
   s2u_rect bounds;
-  uint64_t level, most;
+  uint64_t level, most, room;
   size_t len = 0;
   Room out;
   if (!has(words, 6) || !as_rect(WORD(3), &bounds) || !as_number(WORD(4), "a level", 0, 30, &level) ||
-      !as_number(WORD(5), "most", 0, INT64_MAX, &most) || !as_list(WORD(2), sizeof(uint64_t), &ids) ||
-      !as_room(WORD(1), sizeof(uint64_t), &out))
+      !as_number(WORD(5), "most", 0, INT64_MAX, &most) ||
+      !as_number(WORD(1), "room", 0, UINT64_MAX, &room) || !as_list(WORD(2), sizeof(uint64_t), &ids) ||
+      !take(&out, room, sizeof(uint64_t)))
     return NULL;
   int32_t status;
   do {
@@ -357,12 +367,13 @@ static PyObject* py_inner_in(PyObject* module, PyObject* words) {
 
 static PyObject* py_inner_of(PyObject* module, PyObject* words) {
   List ids;
-  uint64_t level, most;
+  uint64_t level, most, room;
   size_t len = 0;
   Room out;
   if (!has(words, 5) || !as_number(WORD(3), "a level", 0, 30, &level) ||
-      !as_number(WORD(4), "most", 0, INT64_MAX, &most) || !as_list(WORD(2), sizeof(uint64_t), &ids) ||
-      !as_room(WORD(1), sizeof(uint64_t), &out))
+      !as_number(WORD(4), "most", 0, INT64_MAX, &most) ||
+      !as_number(WORD(1), "room", 0, UINT64_MAX, &room) || !as_list(WORD(2), sizeof(uint64_t), &ids) ||
+      !take(&out, room, sizeof(uint64_t)))
     return NULL;
   int32_t status;
   do {
@@ -374,9 +385,11 @@ static PyObject* py_inner_of(PyObject* module, PyObject* words) {
 static PyObject* py_intersection(PyObject* module, PyObject* words) {
   List xs, ys;
   size_t len = 0;
+  uint64_t room;
   Room out;
-  if (!has(words, 4) || !as_list(WORD(2), sizeof(uint64_t), &xs) ||
-      !as_list(WORD(3), sizeof(uint64_t), &ys) || !as_room(WORD(1), sizeof(uint64_t), &out))
+  if (!has(words, 4) || !as_number(WORD(1), "room", 0, UINT64_MAX, &room) ||
+      !as_list(WORD(2), sizeof(uint64_t), &xs) || !as_list(WORD(3), sizeof(uint64_t), &ys) ||
+      !take(&out, room, sizeof(uint64_t)))
     return NULL;
   int32_t status;
   do {
@@ -467,11 +480,12 @@ static PyObject* py_next_cell(PyObject* module, PyObject* words) {
 
 static PyObject* py_outer(PyObject* module, PyObject* words) {
   s2u_rect bounds;
-  uint64_t level, most;
+  uint64_t level, most, room;
   size_t len = 0;
   Room out;
   if (!has(words, 5) || !as_rect(WORD(2), &bounds) || !as_number(WORD(3), "a level", 0, 30, &level) ||
-      !as_number(WORD(4), "most", 0, INT64_MAX, &most) || !as_room(WORD(1), sizeof(uint64_t), &out))
+      !as_number(WORD(4), "most", 0, INT64_MAX, &most) ||
+      !as_number(WORD(1), "room", 0, UINT64_MAX, &room) || !take(&out, room, sizeof(uint64_t)))
     return NULL;
   int32_t status;
   do {
@@ -483,12 +497,13 @@ static PyObject* py_outer(PyObject* module, PyObject* words) {
 static PyObject* py_outer_in(PyObject* module, PyObject* words) {
   List ids;
   s2u_rect bounds;
-  uint64_t level, most;
+  uint64_t level, most, room;
   size_t len = 0;
   Room out;
   if (!has(words, 6) || !as_rect(WORD(3), &bounds) || !as_number(WORD(4), "a level", 0, 30, &level) ||
-      !as_number(WORD(5), "most", 0, INT64_MAX, &most) || !as_list(WORD(2), sizeof(uint64_t), &ids) ||
-      !as_room(WORD(1), sizeof(uint64_t), &out))
+      !as_number(WORD(5), "most", 0, INT64_MAX, &most) ||
+      !as_number(WORD(1), "room", 0, UINT64_MAX, &room) || !as_list(WORD(2), sizeof(uint64_t), &ids) ||
+      !take(&out, room, sizeof(uint64_t)))
     return NULL;
   int32_t status;
   do {
@@ -499,12 +514,13 @@ static PyObject* py_outer_in(PyObject* module, PyObject* words) {
 
 static PyObject* py_outer_of(PyObject* module, PyObject* words) {
   List ids;
-  uint64_t level, most;
+  uint64_t level, most, room;
   size_t len = 0;
   Room out;
   if (!has(words, 5) || !as_number(WORD(3), "a level", 0, 30, &level) ||
-      !as_number(WORD(4), "most", 0, INT64_MAX, &most) || !as_list(WORD(2), sizeof(uint64_t), &ids) ||
-      !as_room(WORD(1), sizeof(uint64_t), &out))
+      !as_number(WORD(4), "most", 0, INT64_MAX, &most) ||
+      !as_number(WORD(1), "room", 0, UINT64_MAX, &room) || !as_list(WORD(2), sizeof(uint64_t), &ids) ||
+      !take(&out, room, sizeof(uint64_t)))
     return NULL;
   int32_t status;
   do {
@@ -543,11 +559,11 @@ static PyObject* py_previous_cell(PyObject* module, PyObject* words) {
 }
 
 static PyObject* py_range_(PyObject* module, PyObject* words) {
-  uint64_t first, last;
+  uint64_t first, last, room;
   size_t len = 0;
   Room out;
   if (!has(words, 4) || !as_cell(WORD(2), &first) || !as_cell(WORD(3), &last) ||
-      !as_room(WORD(1), sizeof(uint64_t), &out))
+      !as_number(WORD(1), "room", 0, UINT64_MAX, &room) || !take(&out, room, sizeof(uint64_t)))
     return NULL;
   int32_t status;
   do {
@@ -603,9 +619,11 @@ static PyObject* py_size(PyObject* module, PyObject* words) {
 static PyObject* py_symmetric_difference(PyObject* module, PyObject* words) {
   List xs, ys;
   size_t len = 0;
+  uint64_t room;
   Room out;
-  if (!has(words, 4) || !as_list(WORD(2), sizeof(uint64_t), &xs) ||
-      !as_list(WORD(3), sizeof(uint64_t), &ys) || !as_room(WORD(1), sizeof(uint64_t), &out))
+  if (!has(words, 4) || !as_number(WORD(1), "room", 0, UINT64_MAX, &room) ||
+      !as_list(WORD(2), sizeof(uint64_t), &xs) || !as_list(WORD(3), sizeof(uint64_t), &ys) ||
+      !take(&out, room, sizeof(uint64_t)))
     return NULL;
   int32_t status;
   do {
@@ -630,9 +648,11 @@ static PyObject* py_token_fields(PyObject* module, PyObject* words) {
 static PyObject* py_union(PyObject* module, PyObject* words) {
   List xs, ys;
   size_t len = 0;
+  uint64_t room;
   Room out;
-  if (!has(words, 4) || !as_list(WORD(2), sizeof(uint64_t), &xs) ||
-      !as_list(WORD(3), sizeof(uint64_t), &ys) || !as_room(WORD(1), sizeof(uint64_t), &out))
+  if (!has(words, 4) || !as_number(WORD(1), "room", 0, UINT64_MAX, &room) ||
+      !as_list(WORD(2), sizeof(uint64_t), &xs) || !as_list(WORD(3), sizeof(uint64_t), &ys) ||
+      !take(&out, room, sizeof(uint64_t)))
     return NULL;
   int32_t status;
   do {
