@@ -23,10 +23,14 @@ enum kind { MEMORY, READ, WRITE, OPEN, STATX, CLOSE, LSEEK, KINDS };
 static const char *const names[KINDS] = {"memory", "read", "write", "open", "statx", "close", "lseek"};
 
 static struct { enum kind kind; int file; long answer; } calls[1 << 16];
-static long total, counted[KINDS], taken;
+static long total, counted[KINDS];
 static char refused[16];
 static long first, last, error, piece;
 static const char *log_of_calls, *swapped;
+
+/* Of the thread that asks: how many calls for memory it made, which of them is refused, and its blocks. */
+#define OF_THREAD static _Thread_local __attribute__((tls_model("initial-exec")))
+OF_THREAD long asked, to_refuse, taken;
 
 /* The C library's own functions, or those of a sanitizer. */
 static void *(*take)(size_t), *(*take_zeros)(size_t, size_t), *(*grow)(void *, size_t), (*give_back)(void *);
@@ -55,7 +59,9 @@ static int is_refused(enum kind kind, int file) {
   }
   int is = number >= first && number <= last && strcmp(refused, names[kind]) == 0;
   if (is) errno = (int)error;
-  return is;
+  if (kind != MEMORY || ++asked != to_refuse) return is;
+  errno = ENOMEM;
+  return 1;
 }
 
 /* Notes what the last call answered. */
@@ -88,11 +94,9 @@ void free(void *memory) {
 }
 
 long refuse_memory(long n) {
-  long before = counted[MEMORY];
-  counted[MEMORY] = 0;
-  strcpy(refused, names[MEMORY]);
-  first = last = n;
-  error = ENOMEM;
+  long before = asked;
+  asked = 0;
+  to_refuse = n;
   return before;
 }
 

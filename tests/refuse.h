@@ -2,10 +2,10 @@
 #ifndef REFUSE_H
 #define REFUSE_H
 
-/* From now on the n-th call of malloc, calloc or realloc is refused, or none if n is 0. Answers how many there were
- * since the last such call. */
+/* From now on the n-th call of malloc, calloc or realloc by this thread is refused, or none if n is 0. Answers how many
+ * there were since the last such call. */
 long refuse_memory(long n);
 
-/* How many blocks of memory are taken. */
+/* How many more blocks of memory this thread has taken than given back. */
 long blocks_taken(void);
 #endif

@@ -4,7 +4,10 @@
 #include <jni.h>
 #include <s2union.h>
 
-enum { SHORT = 1000000, LISTS = 4 };
+#ifndef SHORT
+#define SHORT 1000000
+#endif
+enum { LISTS = 4 };
 
 /* The lists of a call, and where they are. */
 typedef struct {

@@ -1,9 +1,9 @@
 #!/usr/bin/env bash
 # The tests of the library for C, and of the bindings for C++, Python, Go and Rust: tests/run bindings [-- SECONDS]. The
 # fuzzer runs for SECONDS, 20 if none are given.
-# It installs the Debian packages that it needs, but not Go (golang-go), Rust (cargo, or rustup's), serde, mypy and
-# pandas (python3-pandas): what is for these is tested if they are there, and else a line says that it isn't. Its last
-# line is 'N passed, M failed'; the status is 1 if any failed.
+# It installs the Debian packages that it needs, except mypy and pandas (python3-pandas): what is for these is tested if
+# they are there, and else a line says that it isn't. Its last line is 'N passed, M failed'; the status is 1 if any
+# failed.
 . "$(dirname "$0")/../steps.sh"
 tests=$top/tests/c
 
@@ -20,6 +20,11 @@ need_modules hypothesis python3-hypothesis
 need_modules pip,setuptools,wheel python3-{pip,setuptools,wheel}
 need_headers
 need gcovr gcovr
+need go golang-go
+need cargo cargo
+for crate in serde serde_derive serde_json bincode; do
+  compgen -G "/usr/share/cargo/registry/$crate-1*" >/dev/null || packages+=("librust-${crate/_/-}-dev")
+done
 need_packages
 
 # ---- the library, installed as a package would be
@@ -262,7 +267,7 @@ for minor in 8 9 10 11 12 13 14; do
     "$other" -m doctest "$top/docs/PYTHON.md"
 done
 
-# ---- Go and Rust, if they are there
+# ---- Go and Rust
 
 export GOPATH=$work/go GOCACHE=$work/go-cache GOFLAGS=-mod=mod GOPROXY=off GOTOOLCHAIN=local
 for_go() (
@@ -273,12 +278,8 @@ by_go() ( # the page's program, in a module of its own
     go mod init program && go mod edit -require s2union@v0.0.0 -replace "s2union=$top/bindings/go" &&
     go build -o program && says GO.md go ./program
 )
-if command -v go >/dev/null; then
-  step "Go: against the model, the edges, what is refused, and the examples" for_go
-  step "Go: docs/GO.md" by_go
-else
-  echo "       Go is not there: its package is not tested"
-fi
+step "Go: against the model, the edges, what is refused, and the examples" for_go
+step "Go: docs/GO.md" by_go
 
 for_rust() ( # in a copy, since cargo writes beside the sources
   cp -r "$top/bindings/rust" "$work/for-rust" && cd "$work/for-rust" &&
@@ -295,19 +296,7 @@ with_serde() ( # by Debian's sources of serde, in place of a registry
     --config 'source.crates-io.replace-with="debian"' \
     --config 'source.debian.directory="/usr/share/cargo/registry"' test -q --offline
 )
-has_serde() {
-  local name
-  for name in serde serde_derive serde_json bincode; do ls -d "/usr/share/cargo/registry/$name-1"* || return; done
-}
-if command -v cargo >/dev/null; then
-  step "Rust: against the model, the edges, what is refused, and the examples" for_rust
-  step "Rust: docs/RUST.md" by_rust
-  if has_serde >/dev/null 2>&1; then
-    step "Rust: with serde" with_serde
-  else
-    echo "       serde is not there (librust-{serde,serde-derive,serde-json,bincode}-dev): its crate is not tested"
-  fi
-else
-  echo "       cargo is not there: the crate for Rust is not tested"
-fi
+step "Rust: against the model, the edges, what is refused, and the examples" for_rust
+step "Rust: docs/RUST.md" by_rust
+step "Rust: with serde" with_serde
 finish

@@ -3,8 +3,6 @@ import java.io.ByteArrayOutputStream;
 import java.io.IOException;
 import java.io.ObjectInputStream;
 import java.io.ObjectOutputStream;
-import java.nio.file.Files;
-import java.nio.file.Path;
 import java.util.Arrays;
 import java.util.List;
 import java.util.stream.IntStream;
@@ -52,30 +50,30 @@ final class Refusals {
     refused(-5, place, "argument out of range", action);
   }
 
+  /** Every call, about a number that is no cell in the place of each cell, alone or in a list. */
   private static void numbersThatAreNoCells() {
-    for (long wrong : new long[] {0, 2, -1}) {
-      noCell(0, () -> CellId.level(wrong));
-      noCell(0, () -> CellId.face(wrong));
-      noCell(0, () -> CellId.parent(wrong, 0));
-      noCell(0, () -> CellId.child(wrong, 0));
-      noCell(0, () -> CellId.rangeMin(wrong));
-      noCell(0, () -> CellId.leafCellsCovered(wrong));
-      noCell(0, () -> CellId.next(wrong));
-      noCell(0, () -> CellId.commonAncestor(FACE, wrong));
-      noCell(0, () -> CellId.contains(FACE, wrong));
-      noCell(0, () -> CellId.square(wrong));
-      noCell(0, () -> CellId.toToken(wrong));
-      noCell(1, () -> CellUnion.of(FACE, wrong));
-      noCell(0, () -> CellUnion.fromRange(FACE, wrong));
-      noCell(0, () -> CellUnion.of(FACE).contains(wrong));
-      noCell(0, () -> CellUnion.of(FACE).intersects(wrong));
-      noCell(0, () -> CellUnion.of(FACE).intersection(wrong));
-      noCell(0, () -> CellUnion.of(FACE).cellIdsAt(wrong));
-      noCell(1, () -> CellUnion.of(FACE).containsEach(FACE, wrong));
-      noCell(1, () -> CellId.levels(FACE, wrong));
-      noCell(1, () -> CellId.toTokens(FACE, wrong));
-      noCell(1, () -> CellId.rangeMaxes(FACE, wrong));
+    int asked = 0;
+    for (EachCall call : EachCall.about(CellUnion.of(1, 5))) {
+      Class<?>[] types = call.method().getParameterTypes();
+      for (int place = 0; place < types.length; place++) {
+        if (types[place] != long.class && types[place] != long[].class) continue;
+        asked++;
+        int before = failed;
+        for (long wrong : new long[] {0, 2, -1, 12 * FACE}) {
+          boolean isList = types[place] == long[].class;
+          EachCall about = call.with(place, isList ? new long[] {1, wrong} : (Object) wrong);
+          if (call.method().getName().matches("isCell|isNormalized")) {
+            check(about.answer().equals(false), call + " of " + wrong);
+          } else if (call.method().getName().equals("fromNormalized")) {
+            refused(-4, 0, "not a normalized list of cells", about::answer);
+          } else {
+            noCell(isList ? 1 : 0, about::answer);
+          }
+        }
+        if (failed > before) System.out.println("  of " + call + ", argument " + place);
+      }
     }
+    check(asked > 35, "the calls about cells are found: " + asked);
   }
 
   private static void numbersOutOfRange() {
@@ -142,16 +140,6 @@ final class Refusals {
     check(CellUnion.fromTokens("04, 0c 14\n1c").toString().equals("1"), "texts");
   }
 
-  /** How many kilobytes of memory the process has. */
-  private static long resident() {
-    try {
-      return Files.readAllLines(Path.of("/proc/self/status")).stream().filter(line -> line.startsWith("VmRSS:"))
-          .mapToLong(line -> Long.parseLong(line.replaceAll("\\D", ""))).sum();
-    } catch (IOException error) {
-      throw new AssertionError(error);
-    }
-  }
-
   /** Lists that are copied, and lists that are not, answer alike. */
   private static void longLists() {
     long[] cells = IntStream.range(0, 1_200_000).mapToLong(k -> CellId.fromFaceIJ(k % 6, 17 * k, 31 * k)).toArray();
@@ -166,9 +154,6 @@ final class Refusals {
     boolean[] found = whole.containsEach(cells);
     check(IntStream.range(0, found.length).allMatch(k -> found[k]), "many questions");
     check(whole.leafCellsCovered() == LongStream.of(whole.cellIds()).map(CellId::leafCellsCovered).sum(), "leaves");
-    long before = resident();
-    for (int k = 0; k < 40; k++) whole.leafCellsCovered();
-    check(resident() - before < 200_000, "copies of 10 MB each are given back");
     List<Thread> threads = IntStream.range(0, 4)
         .mapToObj(k -> new Thread(() -> check(whole.intersection(half).equals(half), "threads"))).toList();
     threads.forEach(Thread::start);

@@ -1,27 +1,30 @@
 #!/usr/bin/env bash
-# The package for Java: tests/run java. It installs the Debian packages that it needs. Its last line is 'N passed, M
-# failed'; the status is 1 if any failed.
+# The package for Java: tests/run java. With --short it is asked for x86-64 alone, without the cross compiler. It
+# installs the Debian packages that it needs. Its last line is 'N passed, M failed'; the status is 1 if any failed.
 . "$(dirname "$0")/../steps.sh"
 tests=$top/tests/java
+processors="amd64:x86-64 aarch64:AArch64" target=()
+[ "${1:-}" != --short ] || processors=amd64:x86-64 target=(--target x86_64)
 
 need javac openjdk-17-jdk-headless
 need gcc gcc libc6-dev
-need aarch64-linux-gnu-gcc gcc-aarch64-linux-gnu libc6-dev-arm64-cross
+[ ${#target[@]} -gt 0 ] || need aarch64-linux-gnu-gcc gcc-aarch64-linux-gnu libc6-dev-arm64-cross
 need_packages
+need_library
 
 step "no arithmetic on cells" no_arithmetic "$top/bindings/java/s2union.c"
-step "tools/java" "$top/tools/java" "$work/java"
+step "tools/java" "$top/tools/java" "$work/java" "${target[@]}"
 [ "$failed" -eq 0 ] || finish
 jar=$work/java/s2union.jar
-again() { "$top/tools/java" "$work/again" && cmp "$jar" "$work/again/s2union.jar"; }
+again() { "$top/tools/java" "$work/again" "${target[@]}" && cmp "$jar" "$work/again/s2union.jar"; }
 step "the same bytes a second time" again
-both() { # libraries, each for its processor
+unpacked() { # libraries, each for its processor
   local each
-  (cd "$work" && jar --extract --file "$jar") && for each in amd64:x86-64 aarch64:AArch64; do
-    readelf -hW "$work/s2union/${each%:*}/libs2union_java.so" | grep -i "Machine:.*${each#*:}" || return 1
+  mkdir "$work/classes" && (cd "$work/classes" && jar --extract --file "$jar") && for each in $processors; do
+    readelf -hW "$work/classes/s2union/${each%:*}/libs2union_java.so" | grep -i "Machine:.*${each#*:}" || return 1
   done
 }
-step "the library for both processors is in it" both
+step "the library for each processor is in it" unpacked
 compiled() { # with the class of the page
   block JAVA.md "java region" >"$work/Region.java" &&
     javac -Xlint:all -Werror -cp "$jar" -d "$work/tests" "$tests"/*.java "$work/Region.java"
@@ -29,15 +32,45 @@ compiled() { # with the class of the page
 step "compile the tests" compiled
 questions() { PYTHONDONTWRITEBYTECODE=1 /usr/bin/python3 "$top/tests/python/vectors.py" >"$work/vectors"; }
 step "questions" questions
+by_java() { # WORD..: nothing may stay in the folder for temporary files
+  mkdir -p "$work/temporary" && java -Djava.io.tmpdir="$work/temporary" "$@" &&
+    { [ -z "$(ls "$work/temporary")" ] || { ls "$work/temporary" && return 1; }; }
+}
 asked() { # CLASS WORD..: with Java's own checks of native code, which say what they find
-  java -Xcheck:jni -cp "$jar:$work/tests" "$@" >"$work/said" 2>&1 || { tail -20 "$work/said" && return 1; }
+  by_java -Xcheck:jni -cp "$jar:$work/tests" "$@" >"$work/said" 2>&1 || { tail -20 "$work/said" && return 1; }
   ! grep -Ei 'warning|fatal' "$work/said" && tail -1 "$work/said"
 }
 step "against the model" asked Vectors "$work/vectors"
 step "what is refused, what stays, and long lists" asked Refusals "$(cat "$top/VERSION")"
+without_memory() { # short lists are copied too; by the interpreter, which takes no memory itself during a call
+  local java flags=(-std=c11 -O2 -Wall -fPIC -shared)
+  java=$(dirname "$(dirname "$(realpath "$(command -v javac)")")") && cat >"$work/refuse_java.c" <<'END' &&
+#include <jni.h>
+#include <refuse.h>
+JNIEXPORT jlong JNICALL Java_Memory_refuse(JNIEnv* env, jclass of, jlong n) { return refuse_memory(n); }
+JNIEXPORT jlong JNICALL Java_Memory_taken(JNIEnv* env, jclass of) { return blocks_taken(); }
+END
+    flags+=(-I"$java/include" -I"$java/include/linux" -I"$top/tests" -I"$work/usr/include") &&
+    gcc "${flags[@]}" "$top/tests/refuse.c" "$work/refuse_java.c" -o "$work/refuse.so" &&
+    gcc "${flags[@]}" -DSHORT=99 "$top/bindings/java/s2union.c" "$work/usr/lib/libs2union.a" -o "$work/few.so" &&
+    LD_PRELOAD=$work/refuse.so by_java -Xint -XX:+UseSerialGC -Dsun.reflect.inflationThreshold=2147483647 \
+      -Ds2union.library="$work/few.so" -cp "$jar:$work/tests" Memory "$work/refuse.so"
+}
+step "each allocation refused in turn, and what calls keep" without_memory
 by_page() {
   block JAVA.md java >"$work/Program.java" && block JAVA.md "text java" >"$work/wanted" && [ -s "$work/wanted" ] &&
-    java -cp "$jar" "$work/Program.java" >"$work/printed" && diff "$work/wanted" "$work/printed"
+    by_java "$@" "$work/Program.java" >"$work/printed" && diff "$work/wanted" "$work/printed"
 }
-step "docs/JAVA.md" by_page
+step "docs/JAVA.md" by_page -cp "$jar"
+by_property() ( # named from the root and from here, where the classes have none
+  cd "$work" && mv classes/s2union/amd64/libs2union_java.so named.so &&
+    by_page -cp classes -Ds2union.library="$work/named.so" && by_page -cp classes -Ds2union.library=named.so &&
+    ! by_page -cp classes >said 2>&1 && grep "s2union has no library for amd64" said
+)
+step "the property s2union.library" by_property
+not_loaded() ( # what can't be loaded doesn't stay either
+  cd "$work" && echo "no library" >classes/s2union/amd64/libs2union_java.so &&
+    ! by_page -cp classes >said 2>&1 && grep UnsatisfiedLinkError said && [ -z "$(ls temporary)" ]
+)
+step "a library that can't be loaded" not_loaded
 finish

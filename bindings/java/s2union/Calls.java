@@ -9,7 +9,7 @@ import java.util.Arrays;
 
 /** The calls of s2union.h, by their numbers in s2union.c, and what their statuses mean. */
 final class Calls {
-  static final int ROOM = -1, MEMORY = -2, NO_CELL = -3, NO_UNION = -4, ARGUMENT = -5, MANY = -6;
+  static final int ROOM = -1, MEMORY = -2;
   static final int TOKEN = 0, DEBUG = 1;
   static final int DECODE = 0, FILE_ANCESTORS = 1, FROM_TOKENS = 2;
   static final int LAST_LEVEL = 30, MOST_TOKEN = 16, MOST_DEBUG = 32, HEAD = 9;
@@ -49,9 +49,12 @@ final class Calls {
         throw new UnsatisfiedLinkError("s2union has no library for " + System.getProperty("os.arch"));
       }
       Path copy = Files.createTempFile("libs2union_java", ".so");
-      Files.copy(library, copy, StandardCopyOption.REPLACE_EXISTING);
-      System.load(copy.toString());
-      Files.delete(copy);
+      try {
+        Files.copy(library, copy, StandardCopyOption.REPLACE_EXISTING);
+        System.load(copy.toString());
+      } finally {
+        Files.delete(copy);
+      }
     } catch (IOException error) {
       throw new UnsatisfiedLinkError("s2union can't unpack its library: " + error);
     }
@@ -131,7 +134,8 @@ final class Calls {
 
   private static void whole(int status, long[] cells, long bad) {
     if (status == MEMORY) checked(status, bad);
-    if (bad < cells.length) throw new Refusal(CellId.isCell(cells[(int) bad]) ? ARGUMENT : NO_CELL, bad);
+    if (bad >= cells.length) return;
+    throw new Refusal(CellId.isCell(cells[(int) bad]) ? Refusal.ARGUMENT : Refusal.NO_CELL, bad);
   }
 
   /** The bytes that a call writes. */
@@ -160,13 +164,13 @@ final class Calls {
 
   /** The length of an array, if Java has arrays of that length. */
   private static int roomOf(long room) {
-    if (room < 0 || room > Integer.MAX_VALUE - 8) throw new Refusal(MANY, 0);
+    if (room < 0 || room > Integer.MAX_VALUE - 8) throw new Refusal(Refusal.MANY, 0);
     return (int) room;
   }
 
   /** A number from 0 to this; any other is refused. */
   static int within(int number, int most) {
-    if (number < 0 || number > most) throw new Refusal(ARGUMENT, 0);
+    if (number < 0 || number > most) throw new Refusal(Refusal.ARGUMENT, 0);
     return number;
   }
 }

@@ -15,12 +15,13 @@ public final class CellId {
     return number / 10000 + "." + number / 100 % 100 + "." + number % 100;
   }
 
+  /** Whether the number is a cell. S2CellId.isValid. */
   public static boolean isCell(long id) {
     return Calls.number(Calls.IS_CELL, id, 0) == 1;
   }
 
   static long checked(long id) {
-    if (!isCell(id)) throw new Refusal(Calls.NO_CELL, 0);
+    if (!isCell(id)) throw new Refusal(Refusal.NO_CELL, 0);
     return id;
   }
 
@@ -29,6 +30,7 @@ public final class CellId {
     return Calls.checked((int) Calls.number(Calls.LEVEL, id, 0), 0);
   }
 
+  /** 0 to 5. */
   public static int face(long id) {
     return Calls.checked((int) Calls.number(Calls.FACE, id, 0), 0);
   }
@@ -43,10 +45,12 @@ public final class CellId {
     return Calls.number(Calls.CHILD, checked(id), Calls.within(position, 3));
   }
 
+  /** Its first leaf. Another cell is in it if its unsigned number is from rangeMin to rangeMax. */
   public static long rangeMin(long id) {
     return Calls.number(Calls.RANGE_MIN, checked(id), 0);
   }
 
+  /** Its last leaf. */
   public static long rangeMax(long id) {
     return Calls.number(Calls.RANGE_MAX, checked(id), 0);
   }
@@ -61,6 +65,7 @@ public final class CellId {
     return Calls.number(Calls.NEXT, checked(id), 0);
   }
 
+  /** The cell of its level before it along the curve, across faces; 0 before the first. */
   public static long prev(long id) {
     return Calls.number(Calls.PREV, checked(id), 0);
   }
@@ -70,18 +75,20 @@ public final class CellId {
     return Calls.number(Calls.COMMON_ANCESTOR, checked(a), checked(b));
   }
 
+  /** Whether all leaves of a part are in a whole; a cell contains itself. */
   public static boolean contains(long whole, long part) {
     return Calls.checked((int) Calls.number(Calls.CELL_CONTAINS, whole, part), 0) == 1;
   }
 
+  /** Whether they share a leaf. */
   public static boolean intersects(long a, long b) {
     return Calls.checked((int) Calls.number(Calls.CELL_INTERSECTS, a, b), 0) == 1;
   }
 
-  /** The leaf at a place of a face. */
+  /** The leaf at a place of a face: the face is 0 to 5, i and j are 0 to 2^30 - 1. Other numbers are refused. */
   public static long fromFaceIJ(int face, int i, int j) {
     long id = Calls.leafAt(face, i, j);
-    if (id == 0) throw new Refusal(Calls.ARGUMENT, 0);
+    if (id == 0) throw new Refusal(Refusal.ARGUMENT, 0);
     return id;
   }
 
@@ -92,10 +99,12 @@ public final class CellId {
     return new int[] {(int) found[0], (int) found[1], (int) found[2], (int) found[3]};
   }
 
+  /** Its token, as "89c25": the number in hexadecimal without the zeros at its end. */
   public static String toToken(long id) {
     return text(Calls.TOKEN, id);
   }
 
+  /** The cell of a token, in either case; a text that is no token is refused. */
   public static long fromToken(String token) {
     return named(Calls.TOKEN, token);
   }
@@ -105,6 +114,7 @@ public final class CellId {
     return text(Calls.DEBUG, id);
   }
 
+  /** The cell of a debug text, as "4/032212". */
   public static long fromDebugString(String text) {
     return named(Calls.DEBUG, text);
   }
@@ -120,34 +130,39 @@ public final class CellId {
     return id[0];
   }
 
-  // Many cells in one call. The first that has no answer is refused by its place.
+  // Many cells in one call. A Refusal has the place of the first that has no answer.
 
+  /** The level of each cell. */
   public static byte[] levels(long... cells) {
     return Calls.bytesOfEach(Calls.LEVELS, cells, 1);
   }
 
+  /** The cell of the level that contains each cell; a level deeper than a cell's own is refused. */
   public static long[] parents(long[] cells, int level) {
     return Calls.entries(Calls.PARENTS, cells, Calls.within(level, Calls.LAST_LEVEL));
   }
 
+  /** The first leaf of each cell. */
   public static long[] rangeMins(long... cells) {
     return Calls.entries(Calls.RANGE_MINS, cells);
   }
 
+  /** The last leaf of each cell. */
   public static long[] rangeMaxes(long... cells) {
     return Calls.entries(Calls.RANGE_MAXES, cells);
   }
 
-  /** The leaves at points, which are a face, i and j each. */
+  /** The leaves at points, each of which is three numbers: a face, i and j. */
   public static long[] fromPoints(int... points) {
-    if (points.length % 3 != 0) throw new Refusal(Calls.ARGUMENT, points.length / 3);
+    if (points.length % 3 != 0) throw new Refusal(Refusal.ARGUMENT, points.length / 3);
     long[] out = new long[points.length / 3];
     long[] bad = new long[1];
     Calls.checked(Calls.fromPoints(points, out, bad), 0);
-    if (bad[0] < out.length) throw new Refusal(Calls.ARGUMENT, bad[0]);
+    if (bad[0] < out.length) throw new Refusal(Refusal.ARGUMENT, bad[0]);
     return out;
   }
 
+  /** The token of each cell. */
   public static String[] toTokens(long... cells) {
     byte[] fields = Calls.bytesOfEach(Calls.TOKEN_FIELDS, cells, Calls.MOST_TOKEN);
     String text = new String(fields, StandardCharsets.US_ASCII);

@@ -28,7 +28,7 @@ public final class CellUnion implements Comparable<CellUnion> {
   /** The union of a list that is normalized already; any other is refused. */
   public static CellUnion fromNormalized(long... cells) {
     long[] ids = cells.clone();
-    if (!isNormalized(ids)) throw new Refusal(Calls.NO_UNION, 0);
+    if (!isNormalized(ids)) throw new Refusal(Refusal.NO_UNION, 0);
     return new CellUnion(ids);
   }
 
@@ -87,10 +87,12 @@ public final class CellUnion implements Comparable<CellUnion> {
     return ids.length;
   }
 
+  /** Whether it has no cells. */
   public boolean isEmpty() {
     return ids.length == 0;
   }
 
+  /** The cell at a place, from 0 to size() - 1; else an ArrayIndexOutOfBoundsException. */
   public long cellId(int place) {
     return ids[place];
   }
@@ -100,6 +102,7 @@ public final class CellUnion implements Comparable<CellUnion> {
     return ids.clone();
   }
 
+  /** Its cells, in their order. */
   public LongStream stream() {
     return Arrays.stream(ids);
   }
@@ -114,14 +117,17 @@ public final class CellUnion implements Comparable<CellUnion> {
     return Calls.asks(Calls.CONTAINS_CELL, ids, Calls.NONE, cell);
   }
 
+  /** Whether it shares a leaf with the cell. */
   public boolean intersects(long cell) {
     return Calls.asks(Calls.INTERSECTS_CELL, ids, Calls.NONE, cell);
   }
 
+  /** Whether all leaves of the other are in it. */
   public boolean contains(CellUnion other) {
     return Calls.asks(Calls.CONTAINS, ids, other.ids, 0);
   }
 
+  /** Whether they share a leaf. */
   public boolean intersects(CellUnion other) {
     return Calls.asks(Calls.INTERSECTS, ids, other.ids, 0);
   }
@@ -131,6 +137,7 @@ public final class CellUnion implements Comparable<CellUnion> {
     return each(Calls.CONTAINS_CELLS, cells);
   }
 
+  /** `intersects` of many cells in one call, which is quickest if they ascend. */
   public boolean[] intersectsEach(long... cells) {
     return each(Calls.INTERSECTS_CELLS, cells);
   }
@@ -152,18 +159,22 @@ public final class CellUnion implements Comparable<CellUnion> {
     return Arrays.copyOfRange(ids, (int) places[0], (int) (places[0] + places[1]));
   }
 
+  /** The leaves of either. */
   public CellUnion union(CellUnion other) {
     return with(Calls.UNION, other);
   }
 
+  /** The leaves that both have. */
   public CellUnion intersection(CellUnion other) {
     return with(Calls.INTERSECTION, other);
   }
 
+  /** The leaves that the other doesn't have. */
   public CellUnion difference(CellUnion other) {
     return with(Calls.DIFFERENCE, other);
   }
 
+  /** The leaves that only one of them has. */
   public CellUnion symmetricDifference(CellUnion other) {
     return with(Calls.SYMMETRIC_DIFFERENCE, other);
   }
@@ -173,6 +184,7 @@ public final class CellUnion implements Comparable<CellUnion> {
     return new CellUnion(Calls.made(Calls.COMPLEMENT, ids, Calls.NONE, 2L * ids.length + 6));
   }
 
+  /** The leaves that it shares with a cell. */
   public CellUnion intersection(long cell) {
     return intersection(new CellUnion(new long[] {CellId.checked(cell)}));
   }
@@ -212,10 +224,11 @@ public final class CellUnion implements Comparable<CellUnion> {
    */
   public long[] denormalized(int min, int modulus, int most) {
     long count = denormalizedSize(min, modulus);
-    if (Long.compareUnsigned(count, Math.max(most, 0)) > 0) throw new Refusal(Calls.MANY, 0);
+    if (Long.compareUnsigned(count, Math.max(most, 0)) > 0) throw new Refusal(Refusal.MANY, 0);
     return Calls.made(Calls.DENORMALISED, ids, Calls.NONE, count, min, modulus);
   }
 
+  /** How many cells `denormalized` returns. */
   public long denormalizedSize(int min, int modulus) {
     long[] length = new long[1];
     Calls.checked(Calls.denormalisedLength(ids, min, modulus, length), 0);
@@ -233,6 +246,7 @@ public final class CellUnion implements Comparable<CellUnion> {
     return (int) Calls.numberOf(Calls.COMPARE, ids, other.ids);
   }
 
+  /** Whether the other is a union of the same leaves. */
   @Override
   public boolean equals(Object other) {
     return other instanceof CellUnion && Arrays.equals(ids, ((CellUnion) other).ids);

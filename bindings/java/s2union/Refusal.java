@@ -2,6 +2,23 @@ package s2union;
 
 /** A refusal of the library, with its words, its status in s2union.h, and the place that it reports. */
 public final class Refusal extends IllegalArgumentException {
+  /** A number is not a cell, or a text names none. */
+  public static final int NO_CELL = -3;
+  /** A list is not normalized. */
+  public static final int NO_UNION = -4;
+  /** A level, coordinate, modulus or place is out of range. */
+  public static final int ARGUMENT = -5;
+  /** The result would have more cells than are allowed, or than an array can have. */
+  public static final int MANY = -6;
+  /** Bytes of a file are missing. */
+  public static final int FILE_SHORT = -10;
+  /** The first byte of a file is not 1. */
+  public static final int FILE_VERSION = -11;
+  /** Bytes follow the last cell of a file. */
+  public static final int FILE_TRAILING = -12;
+  /** A number in a file is not a cell. */
+  public static final int FILE_CELL = -13;
+
   private static final long serialVersionUID = 1;
   private final int status;
   private final long place;
@@ -27,7 +44,7 @@ public final class Refusal extends IllegalArgumentException {
     }
   }
 
-  /** The status in s2union.h, below 0. */
+  /** Which one: the status of s2union.h, a constant of this class. */
   public int status() {
     return status;
   }

@@ -1,0 +1,62 @@
+import java.lang.reflect.InvocationTargetException;
+import java.lang.reflect.Method;
+import java.lang.reflect.Modifier;
+import java.util.Arrays;
+import java.util.List;
+import java.util.Map;
+import java.util.stream.Stream;
+import s2union.CellId;
+import s2union.CellUnion;
+import s2union.UnionFile;
+
+/** A public call of the package with its arguments, and the object that it is a method of, if it is one. */
+record EachCall(Method method, Object of, Object[] given) {
+  private static final Map<String, Object[]> OWN = Map.of("denormalized", new Object[] {1, 1, Integer.MAX_VALUE},
+      "fromToken", new Object[] {"1"}, "fromDebugString", new Object[] {"0/2"});
+
+  /** All of them, about a union of leaves: what an argument is follows from its type. */
+  static List<EachCall> about(CellUnion union) {
+    byte[] bytes = union.encode();
+    UnionFile file = new UnionFile(bytes);
+    int[] points = new int[3 * union.size()];
+    Map<Class<?>, Object> words = Map.of(long.class, 0x1000000000000000L, int.class, 1, long[].class, union.cellIds(),
+        byte[].class, bytes, int[].class, points, String.class, union.toString(), Iterable.class, List.of(union, union),
+        CellUnion.class, union, UnionFile.class, file, Object.class, CellUnion.of(1));
+    return Stream.of(CellId.class, CellUnion.class, UnionFile.class).map(Class::getDeclaredMethods)
+        .flatMap(Arrays::stream).filter(method -> Modifier.isPublic(method.getModifiers()) && !method.isBridge())
+        .map(method -> new EachCall(method,
+            method.getDeclaringClass() == CellUnion.class ? union : file,
+            OWN.getOrDefault(method.getName(),
+                Arrays.stream(method.getParameterTypes()).map(words::get).toArray())))
+        .toList();
+  }
+
+  /** The same call with another argument at a place. */
+  EachCall with(int place, Object argument) {
+    Object[] others = given.clone();
+    others[place] = argument;
+    return new EachCall(method, of, others);
+  }
+
+  /** What it answers; what it throws is thrown. */
+  Object answer() {
+    try {
+      return method.invoke(of, given);
+    } catch (InvocationTargetException error) {
+      if (error.getCause() instanceof RuntimeException refusal) throw refusal;
+      throw (Error) error.getCause();
+    } catch (IllegalAccessException error) {
+      throw new AssertionError(error);
+    }
+  }
+
+  /** Whether an answer is this one, all of it. */
+  static boolean isSame(Object one, Object other) {
+    return Arrays.deepEquals(new Object[] {one}, new Object[] {other});
+  }
+
+  @Override
+  public String toString() {
+    return method.getDeclaringClass().getSimpleName() + "." + method.getName();
+  }
+}

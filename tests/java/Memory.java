@@ -1,0 +1,76 @@
+import java.util.Arrays;
+import java.util.List;
+import java.util.stream.IntStream;
+import s2union.CellId;
+import s2union.CellUnion;
+
+/**
+ * Each call without memory, and what each keeps: java Memory REFUSE, with tests/refuse.c built as the library REFUSE
+ * and loaded before the C library, and with a library of the package that copies lists of more than SHORT elements. The
+ * last line is 'N passed, M failed'.
+ */
+final class Memory {
+  private static final int SHORT = 99;
+  private static int passed;
+  private static int failed;
+
+  private Memory() {}
+
+  /** From now on the n-th call for memory of this thread is refused, or none if n is 0; how many there were. */
+  private static native long refuse(long n);
+
+  /** How many blocks of memory this thread has. */
+  private static native long taken();
+
+  private static void check(boolean holds, String what) {
+    if (holds) {
+      passed++;
+    } else {
+      failed++;
+      System.out.println("FAILED: " + what);
+    }
+  }
+
+  /** Asks once more, with one call for memory refused: the answer is the same, or there is no memory. */
+  private static boolean isRefused(EachCall call, long turn, Object wanted) {
+    try {
+      refuse(turn);
+      Object answer = call.answer();
+      refuse(0);
+      check(EachCall.isSame(answer, wanted), call + " answers otherwise without memory");
+      return false;
+    } catch (OutOfMemoryError | RuntimeException error) {
+      refuse(0);
+      boolean isRight = error.toString().equals("java.lang.OutOfMemoryError: s2union: out of memory");
+      check(isRight, call + " without memory: " + error);
+      return true;
+    }
+  }
+
+  private static void askedInTurn(EachCall call, boolean isLong) {
+    Object wanted = call.answer();
+    call.answer();
+    refuse(0);
+    call.answer();
+    long allocations = refuse(0);
+    int refusals = 0;
+    for (long turn = 1; turn <= allocations; turn++) refusals += isRefused(call, turn, wanted) ? 1 : 0;
+    boolean isCopied = isLong && Arrays.stream(call.given()).anyMatch(word -> word.getClass().isArray());
+    check(refusals > 0 || !isCopied, call + " of a long list, which is copied, is refused without memory");
+    long before = taken();
+    for (int k = 0; k < 10; k++) call.answer();
+    check(taken() - before < 10, call + " keeps memory: " + (taken() - before) + " blocks in 10 calls");
+  }
+
+  public static void main(String[] words) {
+    System.load(words[0]);
+    for (int count : new int[] {3, SHORT + 1}) {
+      long[] cells = IntStream.range(0, count).mapToLong(k -> CellId.fromFaceIJ(k % 6, 17 * k, 31 * k)).toArray();
+      List<EachCall> calls = EachCall.about(CellUnion.of(cells));
+      for (EachCall call : calls) askedInTurn(call, count > SHORT);
+      check(calls.size() > 60, "the calls are found");
+    }
+    System.out.println(passed + " passed, " + failed + " failed");
+    System.exit(failed == 0 ? 0 : 1);
+  }
+}
