@@ -10,7 +10,7 @@ import s2union.CellUnion;
  * last line is 'N passed, M failed'.
  */
 final class Memory {
-  private static final int SHORT = 99;
+  private static final int SHORT = 3;
   private static int passed;
   private static int failed;
 
@@ -64,7 +64,7 @@ final class Memory {
 
   public static void main(String[] words) {
     System.load(words[0]);
-    for (int count : new int[] {3, SHORT + 1}) {
+    for (int count : new int[] {SHORT, 100}) {
       long[] cells = IntStream.range(0, count).mapToLong(k -> CellId.fromFaceIJ(k % 6, 17 * k, 31 * k)).toArray();
       List<EachCall> calls = EachCall.about(CellUnion.of(cells));
       for (EachCall call : calls) askedInTurn(call, count > SHORT);

@@ -36,13 +36,13 @@ by_java() { # WORD..: nothing may stay in the folder for temporary files
   mkdir -p "$work/temporary" && java -Djava.io.tmpdir="$work/temporary" "$@" &&
     { [ -z "$(ls "$work/temporary")" ] || { ls "$work/temporary" && return 1; }; }
 }
-asked() { # CLASS WORD..: with Java's own checks of native code, which say what they find
+asked() { # [OPTION] CLASS WORD..: with Java's own checks of native code, which say what they find
   by_java -Xcheck:jni -cp "$jar:$work/tests" "$@" >"$work/said" 2>&1 || { tail -20 "$work/said" && return 1; }
   ! grep -Ei 'warning|fatal' "$work/said" && tail -1 "$work/said"
 }
 step "against the model" asked Vectors "$work/vectors"
 step "what is refused, what stays, and long lists" asked Refusals "$(cat "$top/VERSION")"
-without_memory() { # short lists are copied too; by the interpreter, which takes no memory itself during a call
+copying() { # a library that copies lists of more than three elements, and refuse.c with what Java asks of it
   local java flags=(-std=c11 -O2 -Wall -fPIC -shared)
   java=$(dirname "$(dirname "$(realpath "$(command -v javac)")")") && cat >"$work/refuse_java.c" <<'END' &&
 #include <jni.h>
@@ -52,9 +52,13 @@ JNIEXPORT jlong JNICALL Java_Memory_taken(JNIEnv* env, jclass of) { return block
 END
     flags+=(-I"$java/include" -I"$java/include/linux" -I"$top/tests" -I"$work/usr/include") &&
     gcc "${flags[@]}" "$top/tests/refuse.c" "$work/refuse_java.c" -o "$work/refuse.so" &&
-    gcc "${flags[@]}" -DSHORT=99 "$top/bindings/java/s2union.c" "$work/usr/lib/libs2union.a" -o "$work/few.so" &&
-    LD_PRELOAD=$work/refuse.so by_java -Xint -XX:+UseSerialGC -Dsun.reflect.inflationThreshold=2147483647 \
-      -Ds2union.library="$work/few.so" -cp "$jar:$work/tests" Memory "$work/refuse.so"
+    gcc "${flags[@]}" -DSHORT=3 "$top/bindings/java/s2union.c" "$work/usr/lib/libs2union.a" -o "$work/copying.so"
+}
+step "a library that copies most lists" copying
+step "against the model, by copies" asked -Ds2union.library="$work/copying.so" Vectors "$work/vectors"
+without_memory() { # by the interpreter, which takes no memory itself during a call
+  LD_PRELOAD=$work/refuse.so by_java -Xint -XX:+UseSerialGC -Dsun.reflect.inflationThreshold=2147483647 \
+    -Ds2union.library="$work/copying.so" -cp "$jar:$work/tests" Memory "$work/refuse.so"
 }
 step "each allocation refused in turn, and what calls keep" without_memory
 by_page() {
