@@ -43,6 +43,9 @@ impl<R: Source> Source for ListedReader<R> {
         ensures bytes { ReadConsumes (R.remaining self.old.reader) (R.remaining self.new.reader) result buf.new }
         ensures below { 0 < length buf.old
             → Gains (R.reads self.old.reader) (R.reads self.new.reader) (what_came result ∷ []) }
+        ensures below_given { 0 < length buf.old
+            → Gains (R.given self.old.reader) (R.given self.new.reader) (bytes_given result buf.new) }
+        ensures below_unasked { length buf.old ≡ 0 → self.new.reader ≡ self.old.reader }
         ensures listed { calls_of_reader self.new
             ≡ calls_of_reader self.old ++ read_call result (length buf.old) buf.new ∷ [] }
         ensures room { OnOk result (0 < length buf.old) }

@@ -37,6 +37,8 @@ impl<W: Sink> Sink for ListedWriter<W> {
 
     fn write(&mut self, bytes: &[u8]) -> io::Result<usize>
         ensures below { WriteAppends (W.contents self.old.writer) (W.contents self.new.writer) result bytes.now }
+        ensures below_takes { 0 < length bytes.now → IfOk result (λ count. 0 < count →
+            NoneFailed ⊥ (W.calls self.old.writer) (W.calls self.new.writer)) }
         ensures below_takes_nothing { 0 < length bytes.now → IfOk result (λ count. count ≡ 0 →
             LastFailed ⊥ (W.calls self.old.writer) (W.calls self.new.writer)) }
         ensures below_failed { 0 < length bytes.now → OnErr result (LastFailed ⊥ (W.calls self.old.writer)
@@ -60,6 +62,7 @@ impl<W: Sink> Sink for ListedWriter<W> {
     }
 
     fn flush(&mut self) -> io::Result<()>
+        ensures below_keeps { Keeps (W.contents self.old.writer) (W.contents self.new.writer) }
         ensures below { OnOk result (LastFlushed ⊥ (W.calls self.old.writer) (W.calls self.new.writer)) }
         ensures below_failed { OnErr result (LastFailed ⊥ (W.calls self.old.writer) (W.calls self.new.writer)) }
         ensures listed { calls_of self.new ≡ calls_of self.old ++ flush_call result ∷ [] }
