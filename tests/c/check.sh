@@ -245,6 +245,18 @@ else
   echo "       mypy is not there: the types are not tested"
 fi
 step "Python: docs/PYTHON.md" python -m doctest "$top/docs/PYTHON.md"
+for page in README.md docs/COOKBOOK.md; do
+  step "Python: $page" python "$top/tests/docs/documented.py" --python "$top/$page"
+done
+tutorial() { # its first part, which needs no other package
+  python "$top/tests/docs/documented.py" --shell "$top/docs/TUTORIAL.md" "## Part 2: an hour"
+}
+export S2CALC=${S2CALC:-$top/crates/calculator/out/calculator}
+if [ -x "$S2CALC" ]; then
+  step "Python and s2calc: docs/TUTORIAL.md, Part 1" tutorial
+else
+  echo "       the calculator isn't built: docs/TUTORIAL.md is not tested"
+fi
 step "Python: s2union_geo, points, polygons and maps" python -m unittest -q test_geo
 without_numpy() {
   python -c 'import sys, unittest

@@ -1,15 +1,16 @@
 #!/usr/bin/env python3
 """Checks the pages: docs/STATEMENT.md is what tools/statement makes; each definition has a sentence, and stands in
-specs/Working if no public contract needs it; every relative link of every page leads to a file, and to its heading; if
-the link's text is names of the sources, the file has them, as it has those that a page says are in it; each path in
-backticks is there; the files that docs/ARCHITECTURE.md walks through have the functions that it names, and one calls
-another where it says so; each language has what docs/FROM_S2.md says it has; what can't read the file VERSION has the
-version that it gives; CHANGELOG.md says nothing twice; a contract has a limit as a number only where docs/EXTENDING.md
-says so; each part that a text names after `tests/run` is one; each command of tools/ and bench/ prints its usage
-with --help, and does nothing else; and what is a command, a file whose name has no ending and which names its
-interpreter, is executable, and no other file is. The last line is 'N passed, M failed', where N counts the definitions,
-the links, the paths, the names, the calls, the places of the version, the changes, the limits, the parts, the commands
-and the files. A check that has nothing to look at fails.
+specs/Working if no public contract needs it; every relative link of every page leads to a file, and to its heading;
+if the link's text is names of the sources, the file has them, as it has those that a page says are in it; each path
+in backticks is there; the files that docs/ARCHITECTURE.md walks through have the functions that it names, and one
+calls another where it says so; each language has what docs/FROM_S2.md says it has; docs/TROUBLESHOOTING.md has each
+error that the sources make, and no others; what can't read the file VERSION has the version that it gives;
+CHANGELOG.md says nothing twice; a contract has a limit as a number only where docs/EXTENDING.md says so; each part
+that a text names after `tests/run` is one; each command of tools/ and bench/ prints its usage with --help, and does
+nothing else; and what is a command, a file whose name has no ending and which names its interpreter, is executable,
+and no other file is. The last line is 'N passed, M failed', where N counts the definitions, the links, the paths,
+the names, the calls, the errors, the places of the version, the changes, the limits, the parts, the commands and the
+files. A check that has nothing to look at fails.
 """
 import functools
 import re
@@ -53,6 +54,20 @@ CALLS = {
     "Script": (r"[a-z]{2,}", ["docs/SCRIPT.md"], r"`{}\b"),
     "JavaScript": (r"\w+", ["bindings/js/s2union.d.ts"], r"(?:\bfunction |^  (?:static |readonly )?|\bclass ){}\b"),
     "Java": (r"\w+", ["bindings/java/s2union/*.java"], r"\bpublic (?:static |final )*[\w\[\]]+ {}\b"),
+}
+# The sections of docs/TROUBLESHOOTING.md: the sources that make its errors, and what an error's name is there.
+ERRORS = {
+    "The library": (["crates/s2union_c/include/s2union.h"], r"^  (S2U_\w+) = -|^    case S2U_\w+: return \"(.*)\";"),
+    "C++": (["bindings/cpp/s2union.hpp"], r"throw ([\w:]+)\("),
+    "Go": (["bindings/go/library.go"], r"^\t(Err\w+) +Error\b"),
+    "Rust": (["bindings/rust/src/error.rs"], r"^    ([A-Z]\w+)(?: \{|\(\w+\),|,)$"),
+    "Python": (["bindings/python/*/*.py", "bindings/python/s2union/*.c"], r"raise (\w+)\(|PyExc_(\w+)"),
+    "JavaScript": (["bindings/js/*.js", "bindings/page/core.js"], r"throw new (\w+)\("),
+    "Java": (["bindings/java/s2union/*.java"], r"throw new (\w+)\("),
+    "PostgreSQL": (["databases/postgres/*.c"], r"ERRCODE_(\w+)"),
+    "SQLite": (["databases/sqlite/s2union.c"], r"^    case N\w+: return \"(.*)\";"),
+    "The calculator": (["crates/s2script/specs/Refusals.antt", "crates/s2calc/specs/Refusals.antt"],
+                       r"codes \"([a-z-]+)\""),
 }
 # Where the version stands beside the file VERSION: a file, what comes before it and after it, and its form there.
 VERSIONS = [
@@ -225,6 +240,23 @@ def limits_as_numbers():
     return len(limits), sorted(f"{path}: {number}" for path, number in found - allowed - NO_LIMITS)
 
 
+def unexplained():
+    """The number of errors that the sources make, and those that docs/TROUBLESHOOTING.md lacks or has and they don't:
+    each stands in code at the head of a row of its section's first table, or for the library in its third column."""
+    page = (ROOT / "docs" / "TROUBLESHOOTING.md").read_text()
+    count, wrong = 0, []
+    for section, (globs, form) in ERRORS.items():
+        sources = "\n".join(file.read_text() for glob in globs for file in sorted(ROOT.glob(glob)))
+        made = {"".join(names) if isinstance(names, tuple) else names for names in re.findall(form, sources, re.M)}
+        made = {name.lower() for name in made} if section == "PostgreSQL" else made
+        table = page.partition(f"\n## {section}\n")[2].partition("\n|")[2].partition("\n\n")[0]
+        heads = re.findall(r"^\| `([^`]*)`", table, re.M)
+        texts = re.findall(r"^\|[^|]*\| -\d+ \| `(.*?)`", table, re.M)
+        count += len(made)
+        wrong += [f"{section}: {name}" for name in sorted(made ^ {*heads, *texts})]
+    return count, wrong
+
+
 def other_versions():
     """The number of places of the version, and those that have another one than the file VERSION, as 'file: what it
     has'."""
@@ -281,6 +313,7 @@ def is_command(file):
 CHECKS = {
     "leads nowhere": broken_links,
     "not defined in the file that is linked or named": lost_names,
+    "docs/TROUBLESHOOTING.md and the sources differ": unexplained,
     "another version": other_versions,
     "docs/ARCHITECTURE.md": calls_on_the_walk,
     "CHANGELOG.md says twice": said_twice,

@@ -19,6 +19,20 @@ def commands(text):
         yield from zip(parts[1::3], parts[3::3])
 
 
+def furnish(room):
+    """Puts what the commands name into a folder: the pages' files, and the calculator."""
+    os.symlink(os.path.join(TOP, "docs"), os.path.join(room, "docs"))
+    os.symlink(os.path.join("docs", "examples"), os.path.join(room, "examples"))
+    os.symlink(os.environ["S2CALC"], os.path.join(room, "s2calc"))
+
+
+def output(command, room):
+    """What a command prints in that folder, errors too."""
+    run = subprocess.run(["bash", "-c", command], cwd=room, stdin=subprocess.DEVNULL, stdout=subprocess.PIPE,
+                         stderr=subprocess.STDOUT, text=True, timeout=600)
+    return run.stdout
+
+
 class Page(unittest.TestCase):
     """A page whose commands have been run; those who inherit name it, and ask what the commands have made."""
     name = None
@@ -30,17 +44,14 @@ class Page(unittest.TestCase):
         cls.room = tempfile.mkdtemp()
         cls.addClassCleanup(shutil.rmtree, cls.room)
         os.chmod(cls.room, 0o755)  # for the server, which reads files there
-        os.symlink(os.path.join(TOP, "docs", "examples"), os.path.join(cls.room, "examples"))
-        os.symlink(os.environ["S2CALC"], os.path.join(cls.room, "s2calc"))
+        furnish(cls.room)
         cls.output("psql -qc 'DROP DATABASE IF EXISTS regions' -c 'CREATE DATABASE regions'")
         cls.output("psql -qd regions -c 'CREATE EXTENSION s2union_geo CASCADE'")
         cls.ran = [(command, wanted, cls.output(command)) for command, wanted in commands(cls.text)]
 
     @classmethod
     def output(cls, command):
-        run = subprocess.run(["bash", "-c", command], cwd=cls.room, stdin=subprocess.DEVNULL, stdout=subprocess.PIPE,
-                             stderr=subprocess.STDOUT, text=True, timeout=600)
-        return run.stdout
+        return output(command, cls.room)
 
     def file(self, name):
         return os.path.join(self.room, "world", name)

@@ -51,10 +51,11 @@ class Tutorial(page.Page):
     def test_page(self):
         self.page_holds()
 
-    def test_picture(self):
-        """The picture that the commands make is that of the pages."""
-        made, shown = Path(self.file("world.svg")), Path(page.TOP, "docs", "pictures", "world.svg")
-        self.assertEqual(made.read_bytes(), shown.read_bytes())
+    def test_pictures(self):
+        """The pictures and the files that the commands make are those of the pages."""
+        for made in ("world.svg", "uganda.svg", "picture/land.outer", "picture/lakes.outer", "countries/Uganda.outer"):
+            shown = Path(page.TOP, "docs", "pictures", Path(made).name.lower())
+            self.assertEqual(Path(self.file(made)).read_bytes(), shown.read_bytes(), made)
 
     def test_cities(self):
         """Each city's country is that of the polygons."""

@@ -63,6 +63,8 @@ page() { # PAGE DATABASE: its examples, in a database of their own
   createdb "$2" && S2UNION_FIRST=$work/data S2UNION_SHARD=$work/shard \
     /usr/bin/python3 "$top/tests/docs/documented.py" "$top/docs/$1" psql -XAqt -d "$2"
 }
+step "README.md" page ../README.md readme
+step "docs/COOKBOOK.md" page COOKBOOK.md cookbook
 step "docs/POSTGRES.md" page POSTGRES.md page
 step "docs/SCALE.md" page SCALE.md scale
 step "docs/ENGINES.md, without the extension" page ENGINES.md engines
