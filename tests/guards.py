@@ -69,6 +69,8 @@ MISTAKES = [
             swapped(WHOLE, WHOLE.replace("is_cell", "is_a_cell"))),
     Mistake("an error that no page explains", pages.unexplained, "crates/s2union_c/include/s2union.h",
             swapped("  S2U_MANY = -6, ", "  S2U_MUCH = -6, ")),
+    Mistake("a wrong number of cells of a level", pages.wrong_levels, "docs/CONCEPTS.md",
+            swapped("| 5 | 291 km | 6,144 |", "| 5 | 291 km | 6,154 |")),
     Mistake("another version in the header", pages.other_versions, "crates/s2union_c/include/s2union.h",
             swapped("#define S2U_VERSION_MAJOR ", "#define S2U_VERSION_MAJOR 9")),
     Mistake("a call that isn't made on the way of a line", pages.calls_on_the_walk, "docs/ARCHITECTURE.md",

@@ -4,13 +4,14 @@ specs/Working if no public contract needs it; every relative link of every page 
 if the link's text is names of the sources, the file has them, as it has those that a page says are in it; each path
 in backticks is there; the files that docs/ARCHITECTURE.md walks through have the functions that it names, and one
 calls another where it says so; each language has what docs/FROM_S2.md says it has; docs/TROUBLESHOOTING.md has each
-error that the sources make, and no others; what can't read the file VERSION has the version that it gives;
-CHANGELOG.md says nothing twice; a contract has a limit as a number only where docs/EXTENDING.md says so; each part
-that a text names after `tests/run` is one; each command of tools/ and bench/ prints its usage with --help, and does
-nothing else; and what is a command, a file whose name has no ending and which names its interpreter, is executable,
-and no other file is. The last line is 'N passed, M failed', where N counts the definitions, the links, the paths,
-the names, the calls, the errors, the places of the version, the changes, the limits, the parts, the commands and the
-files. A check that has nothing to look at fails.
+error that the sources make, and no others; docs/CONCEPTS.md has the edges and numbers of cells of all levels; what
+can't read the file VERSION has the version that it gives; CHANGELOG.md says nothing twice; a contract has a limit as
+a number only where docs/EXTENDING.md says so; each part that a text names after `tests/run` is one; each command of
+tools/ and bench/ prints its usage with --help, and does nothing else; and what is a command, a file whose name has
+no ending and which names its interpreter, is executable, and no other file is. The last line is 'N passed, M
+failed', where N counts the definitions, the links, the paths, the names, the calls, the errors, the levels, the
+places of the version, the changes, the limits, the parts, the commands and the files. A check that has nothing to
+look at fails.
 """
 import functools
 import re
@@ -257,6 +258,18 @@ def unexplained():
     return count, wrong
 
 
+def wrong_levels():
+    """The rows of the table in docs/CONCEPTS.md, and those that haven't S2's average edge, to three digits, and number
+    of cells."""
+    units = {"km": 1000, "m": 1, "cm": 0.01, "mm": 0.001}
+    row = re.compile(r"^\| (\d+) \| ([\d.,]+) (\w+) \| ([\d,]+) \|", re.M)
+    page = (ROOT / "docs" / "CONCEPTS.md").read_text()
+    rows = [[it.replace(",", "") for it in found] for found in row.findall(page)]
+    wrong = [f"level {level}" for level, edge, unit, cells in rows if int(cells) != 6 * 4**int(level)
+             or abs(float(edge) * units[unit] / (1.459213746386106 * 6371010 / 2**int(level)) - 1) > 0.005]
+    return len(rows), wrong if [row[0] for row in rows] == [str(level) for level in range(31)] else ["not all levels"]
+
+
 def other_versions():
     """The number of places of the version, and those that have another one than the file VERSION, as 'file: what it
     has'."""
@@ -314,6 +327,7 @@ CHECKS = {
     "leads nowhere": broken_links,
     "not defined in the file that is linked or named": lost_names,
     "docs/TROUBLESHOOTING.md and the sources differ": unexplained,
+    "the table of levels": wrong_levels,
     "another version": other_versions,
     "docs/ARCHITECTURE.md": calls_on_the_walk,
     "CHANGELOG.md says twice": said_twice,
