@@ -1,0 +1,43 @@
+#!/usr/bin/env bash
+# The pages about the earth: tests/run geo -- [PROGRAM]. Each command of docs/GEO.md and docs/TUTORIAL.md is run and its
+# output compared, and the answers are compared with S2's and with those of plain tests by polygons. PROGRAM is the
+# calculator; without it, the one that the gate or tools/prove has built. The Debian packages that it needs are
+# installed, which are over 100 MB. tests/run geo -- --costs [REGIONS POINTS] measures the table of docs/GEO.md, and
+# tests nothing. The last line is 'N passed, M failed'; the status is 1 if any failed.
+. "$(dirname "$0")/../steps.sh"
+
+export S2CALC=${S2CALC:-$top/crates/calculator/out/calculator}
+[ -z "${1:-}" ] || [ "$1" = --costs ] || S2CALC=$(realpath "$1")
+[ -x "$S2CALC" ] || { echo "there is no program: tools/prove builds it"; failed=1; finish; }
+
+. "$top/tests/geo/countries.sh"
+need_countries make time sqlite3 libsqlite3-dev
+. "$top/tests/postgres/server.sh"
+
+# ---- what the pages take as installed: the library, both extensions, a server
+
+step "a copy of PostgreSQL $server" copied
+step "the extension for PostgreSQL" built build
+in_sqlite() {
+  cp "$top"/databases/{sphere.h,sqlite/{Makefile,*.c}} "$work/usr" && make -C "$work/usr" PREFIX="$work/usr" install
+}
+step "the extension for SQLite" in_sqlite
+[ "$failed" -eq 0 ] || finish
+installed() { make -C "$work/build" PREFIX="$work/usr" PG_CONFIG="$config" install DESTDIR="$copy"; }
+step "install" installed
+step "a cluster on a socket" begun data
+[ "$failed" -eq 0 ] || finish
+
+# sqlite3 without its user's settings, as the pages' commands find it
+mkdir "$work/bin" && printf '#!/bin/sh\nexec /usr/bin/sqlite3 -init /dev/null "$@"\n' >"$work/bin/sqlite3" &&
+  chmod 755 "$work/bin/sqlite3"
+export PREFIX=$work/usr PATH=$work/bin:/usr/bin:$PATH PYTHONDONTWRITEBYTECODE=1 PYTHONWARNINGS=ignore
+export PYTHONPATH=$work/usr/lib/python:$top/docs/examples:$top/tests/geo
+if [ "${1:-}" = --costs ]; then
+  mkdir "$work/costs" && /usr/bin/python3 "$top/tests/geo/costs.py" "$work/costs" "${@:2}"
+  finish
+fi
+pages() { (cd "$top/tests/geo" && timeout 1800 /usr/bin/python3 -m unittest -q "$@"); }
+
+step "docs/TUTORIAL.md" pages tutorial
+finish
