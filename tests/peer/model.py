@@ -4,6 +4,7 @@ It is written only from docs/SCRIPT.md, docs/FORMATS.md and docs/STATEMENT.md an
 proved code: a set is a list of runs [first, end) of leaf numbers, ascending and apart; a normal form is computed from
 the set each time it is needed; the history keeps whole tables.
 """
+import codecs
 import functools
 import re
 import string
@@ -30,9 +31,10 @@ REASONS = {
     "format": "the file is not a union file",
     "session": "the file is not a session file",
     "too-deep": "the session has more states than the depth",
-    "too-many": "there would be more cells than are allowed",
+    "too-many": "too many cells: a register has up to 10000 (--limit raises that, up to 1000000), "
+                "denorm lists 1000000",
     "nothing": "there is nothing to undo or redo",
-    "line": f"more than {LONGEST_LINE} bytes",
+    "line": f"the line has more than {LONGEST_LINE} bytes: write several shorter lines",
 }
 
 
@@ -344,6 +346,14 @@ def shown(word):
     return "'" + "".join(escapes.get(b) or (chr(b) if 32 <= b < 127 else rf"\x{b:02x}") for b in word) + "'"
 
 
+def identified(word):
+    """Of which cell a word is the identifier in decimal, unsigned or signed; a shorter word may be meant as a token."""
+    if len(word) <= 16 or not re.fullmatch(rb"[0-9]{1,20}|-[0-9]{1,19}", word) or int(word) < -2**63:
+        return ""
+    cell = cell_of(int(word) + (2**64 if word.startswith(b"-") else 0))
+    return "" if cell is None else f"; in decimal it is the identifier of the cell {token(cell)}"
+
+
 def number_in(word, most, least=0):
     """The number that a word stands for; None if it stands for none in range."""
     if re.fullmatch(rb"[0-9]{1,10}", word) and least <= int(word) <= most:
@@ -399,7 +409,7 @@ class Words:
         return self.next(register_in, "register", "a register (a to z)")
 
     def cell(self):
-        return self.next(cell_in, "cell", "a cell (a token or a debug text)")
+        return self.next(cell_in, "cell", "a cell (a token or a debug text)", identified)
 
     def cells(self):
         found = [self.cell()]
@@ -412,7 +422,7 @@ class Words:
         first, word = self.cell(), self.words[:1]
         last = self.cell()
         if run_of(first)[0] > run_of(last)[1] - 1:
-            raise Refused("order", f"{shown(word[0])} is not a second cell that does not end before the first begins")
+            raise Refused("order", f"the second cell {shown(word[0])} ends before the first begins")
         return first, last
 
     def number(self, refusal, what, most, least=0):
@@ -438,7 +448,7 @@ class Words:
         return face, i0, i1, j0, self.coordinate(j0)
 
     def name(self):
-        form = "1 to 64 letters, digits, '.', '_' or '-', the first no '.' and no '-'; --dir names the folder"
+        form = "1 to 64 letters, digits, '.', '_' or '-'; it must not begin with '.' or '-'; --dir names the folder"
         return self.next(name_in, "name", f"a file name ({form})", unfit_byte)
 
     def end(self):
@@ -519,7 +529,9 @@ class Calculator:
             return self.compare(Words(words[1:]), COMPARISONS[command])
         method = getattr(self, "do_" + command, None) if re.fullmatch("[a-z]+", command) else None
         if method is None:
-            raise Refused("syntax", f"{shown(words[0])} is not a command{question(command)}")
+            mark = "; it begins with a byte order mark: save the script without that"
+            more = mark if words[0].startswith(codecs.BOM_UTF8) else question(command)
+            raise Refused("syntax", f"{shown(words[0])} is not a command{more}")
         return method(Words(words[1:]))
 
     # Moves of the history.

@@ -25,11 +25,14 @@ class Explanations(unittest.TestCase):
         b"load a none": (b"error missing", b"there is no file of that name"),
         b"load a bad": (b"error format", b"the file is not a union file"),
         b"restore bad": (b"error session", b"the file is not a session file"),
-        b"add b 3 5": (b"error too-many", b"there would be more cells than are allowed"),
+        b"add b 3 5": (
+            b"error too-many",
+            b"too many cells: a register has up to 10000 (--limit raises that, up to 1000000), denorm lists 1000000",
+        ),
         b"redo": (b"error nothing", b"there is nothing to undo or redo"),
         b"save a .x": (
             b"error name",
-            b"'.x' is not a file name (1 to 64 letters, digits, '.', '_' or '-', the first no '.' and no '-'; "
+            b"'.x' is not a file name (1 to 64 letters, digits, '.', '_' or '-'; it must not begin with '.' or '-'; "
             b"--dir names the folder): byte 1 is '.'",
         ),
         b"add a '\\\x01": (b"error cell", b"'\\'\\\\\\x01' is not a cell (a token or a debug text)"),
@@ -77,8 +80,8 @@ class Explanations(unittest.TestCase):
             (b"add a \xff'\"\\\r", b"cell: '\\xff\\'\\\"\\\\' is not a cell"),
             (b"add a " + b"\xff" * 4090, b"cell: '" + b"\\xff" * 4090 + b"' is not a cell"),
             (b"x" * 4096, b"syntax: '" + b"x" * 4096 + b"' is not a command\n"),
-            (b"x" * 4097, b"line: more than 4096 bytes\n"),
-            (b"#" * 70000, b"line: more than 4096 bytes\n"),
+            (b"x" * 4097, b"line: the line has more than 4096 bytes: write several shorter lines\n"),
+            (b"#" * 70000, b"line: the line has more than 4096 bytes: write several shorter lines\n"),
         ]:
             with self.subTest(line=line[:20]):
                 status, _, notes = self.explained(line)

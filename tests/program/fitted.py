@@ -123,8 +123,8 @@ class Paths(unittest.TestCase):
     """Where a word is no file's name, the answer stays, and standard error says why and what to write."""
 
     def test_notes(self):
-        why = (b" is not a file name (1 to 64 letters, digits, '.', '_' or '-', the first no '.' and no '-'; --dir "
-               b"names the folder): byte ")
+        why = (b" is not a file name (1 to 64 letters, digits, '.', '_' or '-'; it must not begin with '.' or '-'; "
+               b"--dir names the folder): byte ")
         for word, byte, instead in (("world/France.outer", b"6 is '/'", b"; write --dir 'world/' France.outer"),
                                     ("/srv/x", b"1 is '/'", b"; write --dir '/srv/' x"),
                                     ("/x", b"1 is '/'", b"; write --dir '/' x"), ("a/b/", b"2 is '/'", b""),

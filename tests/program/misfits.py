@@ -6,8 +6,10 @@ import unittest
 from model import COMMANDS, LONGEST_LINE, REGISTERS, edited, question
 from process import ran
 
-NAME = b"a file name (1 to 64 letters, digits, '.', '_' or '-', the first no '.' and no '-'; --dir names the folder)"
-LONG = b"line: more than 4096 bytes"
+NAME = (b"a file name (1 to 64 letters, digits, '.', '_' or '-'; it must not begin with '.' or '-'; "
+        b"--dir names the folder)")
+LONG = b"line: the line has more than 4096 bytes: write several shorter lines"
+MARK = b"is not a command; it begins with a byte order mark: save the script without that"
 
 # Refused lines, and what is said about them.
 REFUSED = [
@@ -29,6 +31,12 @@ REFUSED = [
     (b"ta 0 0 0", b"syntax: 'ta' is not a command; did you mean 'at'?"),
     (b"saev a f", b"syntax: 'saev' is not a command; did you mean 'save'?"),
     (b"list a", b"syntax: 'list' is not a command"),
+    # A byte order mark, before a command, before a comment, and alone; and bytes that are not one.
+    (b"\xef\xbb\xbfadd a 1", rb"syntax: '\xef\xbb\xbfadd' " + MARK),
+    (b"\xef\xbb\xbf# a comment", rb"syntax: '\xef\xbb\xbf#' " + MARK),
+    (b"\xef\xbb\xbf", rb"syntax: '\xef\xbb\xbf' " + MARK),
+    (b"\xef\xbb\xbeadd a 1", rb"syntax: '\xef\xbb\xbeadd' is not a command"),
+    (b"\xef\xbb", rb"syntax: '\xef\xbb' is not a command"),
     # A word is missing at the end of the line, whatever is wanted there.
     (b"add", b"syntax: a register (a to z) is missing"),
     (b"add a", b"syntax: a cell (a token or a debug text) is missing"),
@@ -60,8 +68,20 @@ REFUSED = [
     (b"at 0 0 1073741824", b"rectangle: '1073741824' is not a coordinate (0 to 1073741823)"),
     (b"outer a 3 0 5 4 0 1", b"rectangle: '4' is not a coordinate (5 to 1073741823)"),
     (b"inner a 3 0 5 6 9 8", b"rectangle: '8' is not a coordinate (9 to 1073741823)"),
-    (b"range a 3 1", b"order: '1' is not a second cell that does not end before the first begins"),
-    (b"range a 1/3 1/0 x", b"order: '1/0' is not a second cell that does not end before the first begins"),
+    (b"range a 3 1", b"order: the second cell '1' ends before the first begins"),
+    (b"range a 1/3 1/0 x", b"order: the second cell '1/0' ends before the first begins"),
+    # Of a cell's identifier in decimal, signed or not, the note names the cell. A word of at most 16 bytes may be meant
+    # as a token.
+    *((b"cell " + word, b"cell: '" + word + b"' is not a cell (a token or a debug text)"
+       + (more and b"; in decimal it is the identifier of the cell " + more)) for word, more in (
+        (b"864691128455135232", b"0c"), (b"000864691128455135232", b""), (b"00864691128455135232", b"0c"),
+        (b"12970366926827028480", b"b4"), (b"-5476377146882523136", b"b4"), (b"-05476377146882523136", b""),
+        (b"864691128455135233", b"0c00000000000001"), (b"864691128455135234", b""), (b"-864691128455135232", b""),
+        (b"13835058055282163712", b""), (b"-9223372036854775807", b"8000000000000001"),
+        (b"-9223372036854775809", b""), (b"-9999999999999999999", b""), (b"18446744073709551617", b""),
+        (b"99999999999999999999", b""), (b"00000000000000001", b"0000000000000001"), (b"0000000000000012", b""),
+        (b"+864691128455135232", b""), (b"-", b""), (b"--864691128455135232", b""), (b"8646911284551352_2", b""),
+    )),
     (b"dump .a", b"name: '.a' is not " + NAME + b": byte 1 is '.'"),
     (b"save a b/c", b"name: 'b/c' is not " + NAME + b": byte 2 is '/'"),
     (b"load a C\xc3\xb4te_d'Ivoire", rb"name: 'C\xc3\xb4te_d\'Ivoire' is not " + NAME + rb": byte 2 is '\xc3'"),

@@ -77,7 +77,10 @@ fn put_reason<T: TextSink>(line: &[u8], refusal: Refusal, text: &mut T)
         Refusal::Format => put_part(b"the file is not a union file", text),
         Refusal::Session => put_part(b"the file is not a session file", text),
         Refusal::TooDeep => put_part(b"the session has more states than the depth", text),
-        Refusal::TooMany => put_part(b"there would be more cells than are allowed", text),
+        Refusal::TooMany => put_part(
+            b"too many cells: a register has up to 10000 (--limit raises that, up to 1000000), denorm lists 1000000",
+            text,
+        ),
         Refusal::Nothing => put_part(b"there is nothing to undo or redo", text),
         Refusal::Memory => put_part(b"out of memory", text),
     }

@@ -20,9 +20,9 @@ use Rattle.s2cell.specs.Cell.{IsCell, IsCellAt, level_of, place_of, face_of, id_
 use Rattle.s2cell.specs.Token.{IsReading}
 use Rattle.s2cell.specs.Debug.{IsDebug}
 use Rattle.s2cell.specs.Words.{NamesCell}
-use Rattle.s2cell.proofs.CellLemmas.{own_place, level_of_cell, place_of_cell, four_pos}
+use Rattle.s2cell.proofs.CellLemmas.{own_place, level_of_cell, place_of_cell, four_pos, face_of_cell}
 use Rattle.s2script.specs.Named.{is_cell, is_hexadecimal, padded_value, token_cell, debug_cell, is_face_and_digits}
-use Rattle.s2script.specs.Named.{cell_below, has_slash, cell_named}
+use Rattle.s2script.specs.Named.{cell_below, has_slash, cell_named, cell_with}
 
 and_both : (a b : Bool) → (a && b) ≡ true → (a ≡ true) × (b ≡ true)
 and_both true b e = (refl, e)
@@ -96,6 +96,20 @@ some_where false n m e f = absurd (false≢true e)
 none_where : (b : Bool) (n : ℕ) → (b ≡ true → ⊥) → cond b (Some n) None ≡ None
 none_where true n h = absurd (h refl)
 none_where false n h = refl
+
+-- ---- the cell with an identifier
+
+pub cell_with_some : (n : ℕ) → IsCell n → cell_with (Some n) ≡ Some n
+cell_with_some n c = some_where (is_cell n) n n (is_cell_from n c) refl
+
+pub cell_with_none : (n : ℕ) → (IsCell n → ⊥) → cell_with (Some n) ≡ None
+cell_with_none n none = none_where (is_cell n) n (λ e. none (cell_from_test n e))
+
+pub cell_with_above : (n : ℕ) → 2 ^ 64 ≤ n → cell_with (Some n) ≡ None
+cell_with_above n h = cell_with_none n (λ c. let f = face_of_cell n c in omega arith)
+
+-- whether there is a cell with an identifier
+pub ruleset identified = (cell_with_some, cell_with_none, cell_with_above)
 
 -- ---- tokens
 

@@ -5,6 +5,7 @@ use Rattle.std.specs.List.{list_all, list_any}
 use Rattle.std.specs.Char.{is_digit}
 use Rattle.std.specs.Str.Parse.{digits_value}
 use Rattle.s2cell.specs.Cell.{level_of, place_of, id_at}
+use Rattle.s2script.specs.Number.{number_up_to}
 
 -- whether `n` is the identifier of a cell, the one at the level and place computed from `n`
 unfoldable pub is_cell : ℕ → Bool
@@ -43,6 +44,25 @@ debug_cell (face ∷ slash ∷ digits) = if is_face_and_digits face slash digits
 -- whether the word has a slash
 abbrev pub has_slash : List ℕ → Bool
 has_slash word = list_any (λ b. b == 47) word
+
+-- the number of 64 bits that stands for a negative one, of which this is the absolute value
+abbrev pub negated : Option ℕ → Option ℕ
+negated None = None
+negated (Some n) = if nat_le n (2 ^ 63) then Some (2 ^ 64 - n) else None
+
+-- the number that decimal digits stand for, with or without a minus before them
+abbrev pub signed_number : List ℕ → Option ℕ
+signed_number [] = None
+signed_number (b ∷ bs) = if b == 45 then negated (number_up_to 19 bs) else number_up_to 20 (b ∷ bs)
+
+-- the cell with this identifier, if there is one
+abbrev pub cell_with : Option ℕ → Option ℕ
+cell_with None = None
+cell_with (Some n) = if is_cell n then Some n else None
+
+-- the cell whose identifier a word has in decimal, signed or not; a shorter word may be meant as a token
+unfoldable pub decimal_cell : List ℕ → Option ℕ
+decimal_cell word = if nat_lt 16 (length word) then cell_with (signed_number word) else None
 
 -- the cell that a word names
 unfoldable pub cell_named : List ℕ → Option ℕ

@@ -12,10 +12,14 @@ is_decimal_digit b = nat_le 48 b && nat_le b 57
 abbrev pub with_digit : ℕ → ℕ → ℕ
 with_digit n b = 10 * n + (b - 48)
 
+-- the number that 1 to `most` decimal digits stand for
+abbrev pub number_up_to : ℕ → List ℕ → Option ℕ
+number_up_to most word = if nat_le 1 (length word) && (nat_le (length word) most && list_all is_decimal_digit word)
+    then Some (fold with_digit 0 word) else None
+
 -- the number that 1 to 10 decimal digits stand for
 abbrev pub number : List ℕ → Option ℕ
-number word = if nat_le 1 (length word) && (nat_le (length word) MOST_DIGITS && list_all is_decimal_digit word)
-    then Some (fold with_digit 0 word) else None
+number word = number_up_to MOST_DIGITS word
 
 -- the number, if it is from `low` to `high`
 abbrev pub number_from : ℕ → ℕ → Option ℕ → Option ℕ

@@ -1,11 +1,13 @@
 //! What is said of a line that does not fit. Each function puts the text that the definitions give.
 #![tactic(auto, using(crate::proofs::TextLemmas::parts))]
 
-ghost use Rattle.std.specs.Prelude.{◌++◌, ◌<◌, codes, flat_map, filter, length, Some};
+ghost use Rattle.std.specs.Prelude.{◌≡◌, ◌++◌, ◌<◌, codes, flat_map, filter, length, Some};
 ghost use Rattle.std.specs.Fmt.{WritesInCalls};
 ghost use Rattle.s2script.specs.FileName.{unfit_index};
 ghost use Rattle.s2script.specs.MisfitTexts.{shown_byte, word_text, ranged, byte_text, other_text, question_text};
-ghost use Rattle.s2script.specs.MisfitTexts.{wanted_text, unfit_text, misfit_text};
+ghost use Rattle.s2script.specs.MisfitTexts.{wanted_text, unfit_text, misfit_text, has_mark, command_hint};
+ghost use Rattle.s2script.specs.MisfitTexts.{identifier_text};
+ghost use Rattle.s2script.specs.Named.{decimal_cell};
 ghost use Rattle.s2script.specs.Similar.{is_like, commands_like};
 
 use crate::limits::{
@@ -14,9 +16,11 @@ use crate::limits::{
 };
 use crate::misfit::{Misfit, Wanted};
 use crate::name::unfit_index;
+use crate::named::decimal_cell_in;
 use crate::similar::{names, next_like};
 use crate::text::{TextSink, put_char, put_number, put_part};
 use crate::words::Words;
+use s2cell::CellId;
 
 /// Puts a byte as `escape_ascii` does.
 fn put_byte<T: TextSink>(byte: u8, text: &mut T)
@@ -99,6 +103,45 @@ fn put_question<T: TextSink>(word: &[u8], text: &mut T)
     put_part(b"?", text);
 }
 
+/// Whether a word begins with a byte order mark.
+fn has_mark(word: &[u8]) -> bool
+    ensures { result ≡ has_mark word.now }
+{
+    word.starts_with(b"\xef\xbb\xbf")
+}
+
+/// Puts what may be wrong with a word that names no command.
+fn put_command_hint<T: TextSink>(word: &[u8], text: &mut T)
+    ensures { WritesInCalls T.puts text.old (command_hint word.now) text.new }
+{
+    if has_mark(word) {
+        put_part(
+            b"; it begins with a byte order mark: save the script without that",
+            text,
+        );
+    } else {
+        put_question(word, text);
+    }
+}
+
+/// Puts of which cell a word is the identifier in decimal, if it is one.
+fn put_decimal_cell<T: TextSink>(word: &[u8], text: &mut T)
+    ensures { WritesInCalls T.puts text.old (identifier_text (decimal_cell word.now)) text.new }
+{
+    match decimal_cell_in(word) {
+        Some(cell) => put_identified(cell, text),
+        None => {}
+    }
+}
+
+/// Puts that a word is the identifier of this cell.
+fn put_identified<T: TextSink>(cell: CellId, text: &mut T)
+    ensures { WritesInCalls T.puts text.old (identifier_text (Some cell)) text.new }
+{
+    put_part(b"; in decimal it is the identifier of the cell ", text);
+    put_part(cell.token().as_slice(), text);
+}
+
 /// Puts what a number stands for, and its least and greatest value.
 fn put_ranged<T: TextSink>(what: &[u8], least: u64, most: u64, text: &mut T)
     ensures { WritesInCalls T.puts text.old (ranged what.now least most) text.new }
@@ -118,7 +161,7 @@ fn put_name_form<T: TextSink>(text: &mut T)
     put_part(b"a file name (1 to ", text);
     put_number(LONGEST_NAME as u64, text);
     put_part(
-        b" letters, digits, '.', '_' or '-', the first no '.' and no '-'; --dir names the folder)",
+        b" letters, digits, '.', '_' or '-'; it must not begin with '.' or '-'; --dir names the folder)",
         text,
     );
 }
@@ -132,10 +175,7 @@ fn put_wanted<T: TextSink>(wanted: Wanted, text: &mut T)
         Wanted::EndOfLine => put_part(b"the end of the line", text),
         Wanted::Register => put_part(b"a register (a to z)", text),
         Wanted::Cell => put_part(b"a cell (a token or a debug text)", text),
-        Wanted::RangeEnd => put_part(
-            b"a second cell that does not end before the first begins",
-            text,
-        ),
+        Wanted::RangeEnd => put_part(b"a second cell", text),
         Wanted::Level => put_ranged(b"a level", 0, GREATEST_LEVEL, text),
         Wanted::Modulus => put_ranged(b"a modulus", 1, GREATEST_MODULUS, text),
         Wanted::Face => put_ranged(b"a face", 0, GREATEST_FACE, text),
@@ -155,6 +195,15 @@ fn put_is_not<T: TextSink>(word: &[u8], wanted: Wanted, text: &mut T)
     put_wanted(wanted, text);
 }
 
+/// Puts that the second cell of a range ends before the first begins.
+fn put_range_end<T: TextSink>(word: &[u8], text: &mut T)
+    ensures { WritesInCalls T.puts text.old (unfit_text word.now Wanted.RangeEnd) text.new }
+{
+    put_part(b"the second cell ", text);
+    put_word(word, text);
+    put_part(b" ends before the first begins", text);
+}
+
 /// Puts what is said about a word that is not what is wanted.
 pub(crate) fn put_unfit<T: TextSink>(word: &[u8], wanted: Wanted, text: &mut T)
     ensures { WritesInCalls T.puts text.old (unfit_text word.now wanted) text.new }
@@ -162,12 +211,17 @@ pub(crate) fn put_unfit<T: TextSink>(word: &[u8], wanted: Wanted, text: &mut T)
     match wanted {
         Wanted::CommandName => {
             put_is_not(word, wanted, text);
-            put_question(word, text);
+            put_command_hint(word, text);
         }
         Wanted::EndOfLine => {
             put_word(word, text);
             put_part(b" is a word too many", text);
         }
+        Wanted::Cell => {
+            put_is_not(word, wanted, text);
+            put_decimal_cell(word, text);
+        }
+        Wanted::RangeEnd => put_range_end(word, text),
         Wanted::FileName => {
             put_is_not(word, wanted, text);
             put_unfit_byte(word, text);
@@ -196,7 +250,7 @@ impl<'a> Misfit<'a> {
 fn put_long_line<T: TextSink>(text: &mut T)
     ensures { WritesInCalls T.puts text.old (misfit_text Misfit.LongLine) text.new }
 {
-    put_part(b"more than ", text);
+    put_part(b"the line has more than ", text);
     put_number(LONGEST_LINE as u64, text);
-    put_part(b" bytes", text);
+    put_part(b" bytes: write several shorter lines", text);
 }
