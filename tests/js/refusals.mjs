@@ -95,6 +95,10 @@ const TESTS = {
       for (const [ask, name] of taking("cells")) assert.throws(() => ask(list), TypeError, name);
       for (const call of [s2.isUnion, CellUnion.fromNormalized]) assert.throws(() => call(list), TypeError);
     }
+    const buffer = new ArrayBuffer(16, {maxByteLength: 16});
+    const list = new BigUint64Array(buffer, 8, 1);
+    buffer.resize?.(8); // Node 20 and later
+    for (const [ask, name] of taking("cells")) if (!list.length) assert.throws(() => ask(list), TypeError, name);
     const bytes = few.union.encode();
     structuredClone(bytes, {transfer: [bytes.buffer]});
     for (const call of [CellUnion.decode, UnionFile.check, (it) => new UnionFile(it)]) {

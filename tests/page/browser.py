@@ -20,7 +20,7 @@ from pathlib import Path
 from runpy import run_path
 
 from s2union import Union, debug, from_face_ij, from_token, level, parent, size, square, to_signed, token
-from s2union_geo import leaves, to_geojson
+from s2union_geo import interior, leaves, to_geojson
 from selenium import webdriver
 from selenium.webdriver.common.action_chains import ActionChains
 from selenium.webdriver.common.by import By
@@ -83,20 +83,44 @@ def middle(face, i, j, side):
     return math.degrees(math.atan2(y, x)), math.degrees(math.atan2(z, math.hypot(x, y)))
 
 
-def is_north_of(ring, x, y):
-    """Whether an odd number of the ring's edges is to the north of a place."""
-    closed = ring if ring[0] == ring[-1] else [*ring, ring[0]]
-    return sum((a[0] <= x) != (b[0] <= x) and a[1] + (x - a[0]) / (b[0] - a[0]) * (b[1] - a[1]) > y
-               for a, b in zip(closed, closed[1:])) % 2 == 1
+def is_inside(rings, x, y):
+    """Whether an odd number of the rings' edges is to the north of a place, as it is or a turn away."""
+    edges = [edge for ring in rings for edge in zip(ring, [*ring[1:], ring[0]])]
+    return any(sum((a[0] <= at) != (b[0] <= at) and a[1] + (at - a[0]) / (b[0] - a[0]) * (b[1] - a[1]) > y
+                   for a, b in edges) % 2 == 1 for at in (x - 360, x, x + 360))
 
 
-def distance_to(rings, x, y):
-    """How far a place is from the edges of rings, in degrees of the map."""
-    def to_edge(a, b):
+def distance_to(lines, x, y):
+    """How far a place, as it is or a turn away, is from lines, in degrees of the map."""
+    def to_edge(a, b, at):
         dx, dy = b[0] - a[0], b[1] - a[1]
-        part = max(0, min(1, ((x - a[0]) * dx + (y - a[1]) * dy) / (dx * dx + dy * dy or 1)))
-        return math.hypot(a[0] + part * dx - x, a[1] + part * dy - y)
-    return min(to_edge(a, b) for ring in rings for a, b in zip(ring, [*ring[1:], ring[0]]))
+        part = max(0, min(1, ((at - a[0]) * dx + (y - a[1]) * dy) / (dx * dx + dy * dy or 1)))
+        return math.hypot(a[0] + part * dx - at, a[1] + part * dy - y)
+    return min(to_edge(a, b, at) for line in lines for a, b in zip(line, line[1:] or line)
+               for at in (x - 360, x, x + 360))
+
+
+def parts_of(shape):
+    """The rings of each polygon of GeoJSON, its lines, and its points."""
+    given = shape.get("coordinates")
+    parts = {"Polygon": lambda: ([given], [], []), "MultiPolygon": lambda: (given, [], []),
+             "LineString": lambda: ([], [given], []), "MultiLineString": lambda: ([], given, []),
+             "Point": lambda: ([], [], [given]), "MultiPoint": lambda: ([], [], given)}
+    if shape["type"] in parts:
+        return parts[shape["type"]]()
+    below = shape.get("features") or shape.get("geometries") or [shape["geometry"]]
+    return [sum(each, []) for each in zip(*map(parts_of, below))]
+
+
+def triangles(choice, count):
+    """Triangles of a tenth of a degree, anywhere, and how many leaves they have together, about."""
+    made, area = [], 0
+    for _ in range(count):
+        x, y = choice.uniform(-179, 179), math.degrees(math.asin(choice.uniform(-0.99, 0.99)))
+        a, b, c = ([x + choice.uniform(-0.05, 0.05), y + choice.uniform(-0.05, 0.05)] for _ in "abc")
+        area += abs((b[0] - a[0]) * (c[1] - a[1]) - (c[0] - a[0]) * (b[1] - a[1])) / 2 * math.cos(math.radians(y))
+        made.append([[a, b, c, a]])
+    return made, 6 * 4**30 * math.radians(math.radians(area)) / (4 * math.pi)
 
 
 def leaf_in(choice, cell):
@@ -148,6 +172,15 @@ class Trial:
             """, name, base64.b64encode(data).decode())
         self.wait()
 
+    def paste(self, text, where="body"):
+        """Pastes a text into the page, or into a part of it."""
+        self.run("""const [text, where] = arguments;
+            const clipboardData = new DataTransfer();
+            clipboardData.setData('text', text);
+            document.querySelector(where).dispatchEvent(new ClipboardEvent('paste', {clipboardData, bubbles: true}));
+            """, text, where)
+        self.wait()
+
     def begin(self):
         """The page anew, with two unions."""
         self.open()
@@ -160,7 +193,8 @@ class Trial:
     def last(self):
         """The bytes of the file of the last union."""
         return base64.b64decode(self.run("""const region = s2page.regions.at(-1);
-            return btoa(String.fromCharCode(...s2page.core.encode(region.ids)));"""))
+            const bytes = s2page.core.encode(region.ids);
+            return btoa(Array.from(bytes, (byte) => String.fromCharCode(byte)).join(''));"""))
 
     def set(self, name, value):
         field = self.driver.find_element(By.ID, name)
@@ -366,6 +400,66 @@ class Trial:
             self.click("outer")
             assert self.status() == "outer: refused: argument out of range" and self.count() == 2, self.status()
 
+    def test_refusals_and_the_history(self):
+        """What is refused is no step of the history, and leaves what was undone."""
+        self.begin()
+        self.click("undo")
+        self.drop("short", FAULTS["short"][0])
+        self.set("texts", "x")
+        self.click("add")
+        assert self.names() == ["a"] and self.driver.find_element(By.ID, "redo").is_enabled(), self.status()
+        self.click("redo")
+        assert self.names() == ["a", "b"], self.status()
+        self.drop("short", FAULTS["short"][0])
+        self.click("undo")
+        assert self.names() == ["a"], self.status()
+
+    def test_no_memory(self):
+        """Of several files for which there is no memory together, none is added, and all stays as it was."""
+        self.begin()
+        self.click("union")
+        self.click("undo")
+        before = self.state()
+        self.driver.execute_async_script("""const [done] = arguments;
+            const {core} = s2page;
+            const length = Math.max(20_000, core.calls.memory.buffer.byteLength / 16);
+            const bytes = core.encode(BigUint64Array.from({length}, (_, k) => BigInt(4 * k + 1)));
+            const {grow} = WebAssembly.Memory.prototype;
+            const most = core.front + 2.5 * bytes.length; // one at a time is looked at in twice its size
+            WebAssembly.Memory.prototype.grow = function (pages) {
+              if (this.buffer.byteLength + 65536 * pages > most) throw new RangeError('it may not grow');
+              return grow.call(this, pages);
+            };
+            s2page.open(['x', 'y', 'z'].map((name) => new File([bytes], name))).then(() => {
+              WebAssembly.Memory.prototype.grow = grow;
+              done();
+            });""")
+        assert self.status() == "3 files: refused: out of memory" and self.state() == before, self.status()
+        self.click("intersection")
+        assert self.last() == (self.a & self.b).to_bytes() and self.count() == 3
+
+    def test_no_memory_for_a_change(self):
+        """Nothing is changed where a change, an undo or a redo finds no memory; then all goes on."""
+        self.begin()
+        self.click("union")
+        self.click("undo")
+        before = self.state()
+        self.run("s2page.core.keep = () => { throw new Refusal(MEMORY, 0); }")
+        for what, way in (("undo", lambda: self.click("undo")), ("redo", lambda: self.click("redo")),
+                          ("remove a", lambda: self.click_of("remove a")), ("or", lambda: self.click("union")),
+                          ("1 files", lambda: self.drop("c", self.a.to_bytes()))):
+            way()
+            assert self.status() == f"{what}: refused: out of memory" and self.state() == before, self.status()
+        self.run("delete s2page.core.keep")
+        self.click("redo")
+        assert self.names() == ["a", "b", "a or b"] and self.last() == (self.a | self.b).to_bytes()
+
+    def state(self):
+        """What the page has, and shows of it."""
+        legend = [it.text for it in self.driver.find_elements(By.CSS_SELECTOR, "#legend .name")]
+        steps = [self.driver.find_element(By.ID, name).is_enabled() for name in ("undo", "redo")]
+        return self.names(), legend, self.chosen(), steps, self.run("return s2page.core.kept.size")
+
     def test_files_that_can_not_be_read(self):
         """A folder, or what the browser may not read, is refused by its name, and the files beside it are added."""
         self.open()
@@ -499,6 +593,17 @@ class Trial:
         self.drop("lines", b"04\t0c\r\n14")
         assert self.last() == Union.from_tokens("04 0c 14").to_bytes()
 
+    def test_byte_order_marks(self):
+        """The mark that Windows puts before a text is dropped, in a file and in what is pasted."""
+        self.open()
+        point = '{"type": "Point", "coordinates": [2.35, 48.86]}'
+        for text, wanted in (("04 0c", Union.from_tokens("04 0c")), (point, Union(leaves([2.35], [48.86]).tolist()))):
+            for way in (lambda: self.drop("marked", ("\ufeff" + text).encode()), lambda: self.paste("\ufeff" + text)):
+                way()
+                assert self.last() == wanted.to_bytes(), self.status()
+        self.paste("\ufeff04 x")
+        assert self.status() == "what was pasted: refused: not a cell at place 3" and self.count() == 4, self.status()
+
     def test_numbers(self):
         """Numbers of 17 digits and more, with a sign or without, among tokens; a list of cells may be a file too."""
         self.open()
@@ -531,55 +636,133 @@ class Trial:
 
     def test_pastes_and_drops_of_texts(self):
         self.open()
-        for kind, text in (("paste", "04 0c"), ("drop", json.dumps({"type": "Point", "coordinates": [2.35, 48.86]}))):
-            self.run("""const [kind, text] = arguments;
-                const transfer = new DataTransfer();
-                transfer.setData('text', text);
-                document.body.dispatchEvent(kind === 'paste'
-                  ? new ClipboardEvent('paste', {clipboardData: transfer, bubbles: true})
-                  : new DragEvent('drop', {dataTransfer: transfer, cancelable: true}));""", kind, text)
+        self.paste("04 0c")
+        dropped = """const dataTransfer = new DataTransfer();
+            dataTransfer.setData('text', arguments[0]);
+            document.body.dispatchEvent(new DragEvent('drop', {dataTransfer, cancelable: true}));"""
+        self.run(dropped, json.dumps({"type": "Point", "coordinates": [2.35, 48.86]}))
+        self.wait()
         assert self.names() == ["cells 1", "cells 2"], self.status()
         assert self.last() == Union(leaves([2.35], [48.86]).tolist()).to_bytes()
-        self.run("""const transfer = new DataTransfer();
-            transfer.setData('text', 'no');
-            document.body.dispatchEvent(new DragEvent('drop', {dataTransfer: transfer, cancelable: true}));""")
+        self.run(dropped, "no")
         assert self.status() == "what was dropped: refused: not a cell at place 0" and self.count() == 2
+        for field in ("#texts", "#place"):  # it takes what is pasted into it, and the page doesn't
+            self.paste("04 0c", field)
+            assert self.count() == 2, field
 
     def test_geojson(self):
-        """A covering has each leaf of a polygon, a line and a point, and none that is far from them; holes are left
-        out, and a polygon may go on across the date line."""
+        """A covering has each leaf of polygons, lines and points of each type, and none that is far from them; holes
+        are left out, and a polygon may go on across the date line, to both sides."""
         self.open()
         hole = [[12, 42], [12, 46], [16, 46], [16, 42], [12, 42]]
-        shapes = {
-            "polygon": {"type": "Polygon", "coordinates": [[[5, 40], [20, 38], [25, 48], [8, 50], [5, 40]], hole]},
-            "date line": {"type": "MultiPolygon", "coordinates": [[[[170, -10], [190, -15], [185, 5], [170, -10]]],
-                                                                  [[[-60, 70], [60, 65], [0, 89], [-60, 70]]]]},
-            "small": {"type": "Polygon", "coordinates": [[[2.35, 48.85], [2.36, 48.85], [2.355, 48.86]]]},
-            "south": {"type": "Polygon", "coordinates": [[[-180, -90], [180, -90], [180, -75], [0, -70], [-180, -75]]]},
-        }
-        for name, shape in shapes.items():
-            self.drop(name, json.dumps({"type": "Feature", "properties": {}, "geometry": shape}).encode())
-            union = Union.from_bytes(self.last())
-            rings = shape["coordinates"] if shape["type"] == "Polygon" else sum(shape["coordinates"], [])
-            xs, ys = zip(*sum(rings, []))
-            wide, high = (max(xs) - min(xs)) / 9, (max(ys) - min(ys)) / 9
-            points = [(self.choice.uniform(max(min(xs) - wide, -180), max(max(xs), min(max(xs) + wide, 180))),
-                       self.choice.uniform(max(min(ys) - high, -90), min(max(ys) + high, 90))) for _ in range(3000)]
-            inside = [sum(is_north_of(ring, *point) for ring in rings) % 2 == 1 for point in points]
-            far = 0.02 * (max(ys) - min(ys))
-            cells = leaves(*zip(*points)).tolist()
-            found = union.contains_cells(cells)
-            lost = [point for point, is_in, has in zip(points, inside, found) if is_in and not has]
-            more = [point for point, is_in, has in zip(points, inside, found)
-                    if has and not is_in and distance_to(rings, *point) > far]
-            assert not lost and not more and 0 < sum(inside) < 3000, (name, lost[:3], more[:3], sum(inside))
-        parallel = [[10, 60], [10.25, 60]]  # its cells are small beside what it bends away from the shortest line
-        for line in ([[2.35, 48.85], [13.4, 52.5], [37.6, 55.75]], parallel):
-            self.drop("line", json.dumps({"type": "LineString", "coordinates": line}).encode())
-            union = Union.from_bytes(self.last())
-            points = [(x + (u - x) * k / 50, y + (v - y) * k / 50) for (x, y), (u, v) in zip(line, line[1:])
-                      for k in range(51)]
-            assert all(union.contains_cells(leaves(*zip(*points)).tolist())) and union.leaf_count() < 6 * 4**30 / 10**5
+        polygon = {"type": "Polygon", "coordinates": [[[5, 40], [20, 38], [25, 48], [8, 50], [5, 40]], hole]}
+        beyond = [[[[170, -10], [190, -15], [185, 5], [170, -10]]], [[[-60, 70], [60, 65], [0, 89], [-60, 70]]]]
+        west = [[[x - 360, y] for x, y in ring] for ring in beyond[0]]
+        small = [[2.35, 48.85], [2.36, 48.85], [2.355, 48.86]]  # open, as is the next, whose ends have one longitude
+        ends = [[10, 10], [14, 12], [13, 15], [10, 16]]
+        south = [[-180, -90], [180, -90], [180, -75], [0, -70], [-180, -75]]
+        line = {"type": "LineString", "coordinates": [[2.35, 48.85], [13.4, 52.5], [37.6, 55.75]]}
+        points = {"type": "MultiPoint", "coordinates": [[2.35, 48.86], [13.4, 52.5], [-182, -1], [37.6, 55.75, 144]]}
+        shapes = [
+            polygon, line, points, {"type": "MultiPolygon", "coordinates": beyond},
+            {"type": "Polygon", "coordinates": west}, {"type": "Polygon", "coordinates": [small]},
+            {"type": "Polygon", "coordinates": [ends]}, {"type": "Polygon", "coordinates": [south]},
+            {"type": "LineString", "coordinates": [[10, 60], [10.25, 60]]},  # it bends away from the shortest line
+            {"type": "MultiLineString",
+             "coordinates": [[[0, 0], [3, 4]], [[179, 9], [184, 12]], [[-182, 5], [-178, 6]]]},
+            {"type": "Point", "coordinates": [2.35, 48.86]}, {"type": "Feature", "properties": {}, "geometry": polygon},
+            {"type": "GeometryCollection", "geometries": [polygon, line, points]},
+            {"type": "FeatureCollection", "features": [{"type": "Feature", "geometry": it} for it in (line, polygon)]},
+        ]
+        assert len({shape["type"] for shape in shapes}) == 9
+        for shape in shapes:
+            self.drop(shape["type"], json.dumps(shape).encode())
+            self.has_shape(Union.from_bytes(self.last()), shape)
+        assert self.count() == len(shapes), self.status()
+
+    def has_shape(self, union, shape):
+        """Compares the covering of a shape with a plain look at 3,000 places around it, and with Python's."""
+        polygons, lines, points = parts_of(shape)
+        edges = [[*ring, ring[0]] for rings in polygons for ring in rings] + lines + [[point] for point in points]
+        xs, ys = zip(*((x, y) for line in edges for x, y, *_ in line))
+        wide, high = (max(xs) - min(xs)) / 9, (max(ys) - min(ys)) / 9
+        places = [(self.choice.uniform(min(xs) - wide, max(xs) + wide),
+                   self.choice.uniform(max(min(ys) - high, -90), min(max(ys) + high, 90))) for _ in range(3000)]
+        near = 0.02 * (max(ys) - min(ys) or max(xs) - min(xs))
+        found = union.contains_cells(leaves(*zip(*places)).tolist())
+        inside = [any(is_inside(rings, x, y) for rings in polygons) for x, y in places]
+        lost = [place for place, is_in, has in zip(places, inside, found) if is_in and not has]
+        more = [place for place, is_in, has in zip(places, inside, found)
+                if has and not is_in and distance_to(edges, *place) > near]
+        assert not lost and not more and (0 < sum(inside) < 3000) == bool(polygons), (shape, lost[:3], more[:3])
+        along = [(x + (u - x) * k / 50, y + (v - y) * k / 50) for line in lines
+                 for (x, y), (u, v) in zip(line, line[1:]) for k in range(51)] + [(x, y) for x, y, *_ in points]
+        assert not along or all(union.contains_cells(leaves(*zip(*along)).tolist())), shape
+        if not polygons:
+            assert union.leaf_count() <= (6 * 4**30 / 10**5 if lines else len(points)), shape
+        for rings in polygons:
+            closed = [[*ring, ring[0]] if ring[0] != ring[-1] else ring for ring in rings]
+            assert interior({"type": "Polygon", "coordinates": closed}, 2000) <= union, shape
+
+    def test_many_small_polygons(self):
+        """Each of many shapes is covered by itself, so their union is hardly larger than they are."""
+        self.many_small_polygons(2_500)
+
+    @slow
+    def test_a_great_many_small_polygons(self):
+        self.many_small_polygons(20_000)
+
+    def many_small_polygons(self, count):
+        self.open()
+        made, wanted = triangles(self.choice, count)
+        self.drop("many", json.dumps({"type": "MultiPolygon", "coordinates": made}).encode())
+        union = Union.from_bytes(self.last())
+        middles = [[sum(corner[k] for corner in ring[:3]) / 3 for k in (0, 1)] for (ring,) in made]
+        assert all(union.contains_cells(leaves(*zip(*middles)).tolist()))
+        assert wanted < union.leaf_count() < 4 * wanted, (union.leaf_count() / wanted, self.status())
+        times = float(self.status().partition("about ")[2].split()[0])
+        assert 0.7 < times * wanted / union.leaf_count() < 1.4, (times, union.leaf_count() / wanted)
+        assert "cells at borders are of level 1" in self.status(), self.status()
+
+    def test_too_many_shapes(self):
+        """They are refused before any is covered."""
+        self.begin()
+        self.drop("many", json.dumps({"type": "MultiPolygon", "coordinates": [[[[0, 0], [0, 1]]]] * 100_001}).encode())
+        assert self.status() == "many: refused: there are more than 100000 shapes" and self.count() == 2, self.status()
+
+    def test_stopping(self):
+        """While GeoJSON is covered the page answers; if that is stopped, nothing is changed, and all goes on."""
+        self.begin()
+        self.click("undo")
+        text = json.dumps({"type": "MultiPolygon", "coordinates": triangles(self.choice, 3000)[0]})
+        for kind in ("texts", "files"):
+            frames, parts, drawn = self.driver.execute_async_script("""const [kind, text, done] = arguments;
+                const [parts, count] = [[], s2page.regions.length];
+                let frames = 0;
+                if (kind === 'texts') {
+                  at('texts').value = text;
+                  at('add').click();
+                } else {
+                  s2page.open([new File([s2page.core.encode(s2page.regions[0].ids)], 'first'), new File([text], 'long'),
+                    new File([text], 'longer')]);
+                }
+                const look = () => {
+                  if (!at('work').hidden) {
+                    frames++;
+                    parts.push(at('part').value);
+                  }
+                  if (parts.at(-1) > 0.02 && frames > 5) {
+                    at('stop').click();
+                    setTimeout(() => done([frames, parts, s2page.regions.length - count]), 200);
+                  } else requestAnimationFrame(look);
+                };
+                look();""", kind, text)
+            assert frames > 5 and parts == sorted(parts) and parts[-1] < 1 and not drawn, (frames, parts)
+            assert self.status().endswith(": stopped; nothing was added"), self.status()
+            assert self.names() == ["a"] and self.driver.find_element(By.ID, "redo").is_enabled()
+        assert self.run("return at('texts').value") == text, "what was not added stays in its field"
+        self.drop("point", b'{"type": "Point", "coordinates": [2.35, 48.86]}')
+        assert self.last() == Union(leaves([2.35], [48.86]).tolist()).to_bytes()
 
     @slow
     def test_geojson_that_is_none(self):
@@ -613,6 +796,34 @@ class Trial:
                 ring, same = it["geometry"]["coordinates"][0], other["geometry"]["coordinates"][0]
                 assert len(ring) == len(same) and all(math.dist(x, y) < 1e-9 for x, y in zip(ring, same)), (ring, same)
 
+    def test_the_most_polygons(self):
+        """GeoJSON is made of 200,000 cells, and of no more."""
+        self.open()
+        made = self.run("""const core = {token: () => '', square: () => ({face: 0, i: 0, j: 0, size: 1})};
+            return [200_000, 200_001].map((length) => {
+              core.denormalised = () => ({length});
+              try {
+                return JSON.parse(geojsonOf(core, '', {length})).features.length;
+              } catch (error) {
+                return error.message;
+              }
+            });""")
+        assert made == [200_000, "too many cells for GeoJSON"], made
+
+    def test_going_to_many_cells(self):
+        """A union of more cells than are framed one by one is shown too."""
+        self.open()
+        first = from_token("47e66e1d8f8be23b")
+        self.drop("many", Union([first + 4 * k for k in range(20_001)]).to_bytes())
+        self.click_of("go to many")
+        face, i, j, side = square(first)
+        x, y, width, height, scale = self.run("""const [face, s, t] = arguments;
+            const {view} = s2page;
+            const [x, y] = view.pixelAt(...view.planeAt(face, s, t));
+            return [x, y, view.canvas.width, view.canvas.height, view.pixelsOf(6) / view.canvas.height];""",
+                                              face, (i + 0.5) / SIDE, (j + 0.5) / SIDE)
+        assert self.status() == "many: shown." and 0 < x < width and 0 < y < height and scale > 0.3, (x, y, scale)
+
     def test_going_to_unions(self):
         """A union is shown whole, and as closely as it fits, in both pictures."""
         self.open()
@@ -637,9 +848,32 @@ class Trial:
         self.click_of("go to none")
         assert self.status() == "go to none: refused: it has no cell"
 
+    def test_places(self):
+        """The leaf at a place is said, and the cell that the picture shows there, as wide as a finger or wider."""
+        self.open()
+        for text, latitude, longitude in (("+48.86, 2.35", 48.86, 2.35), (".5, -.5", 0.5, -0.5),
+                                          ("-33.,151.21", -33, 151.21), ("\ufeff48.86 2.35", 48.86, 2.35),
+                                          ("\u221233.87; \u2212151.21", -33.87, -151.21)):
+            self.click("fit")
+            self.set("place", text)
+            self.click("go")
+            leaf = leaves([longitude], [latitude]).tolist()[0]
+            cell, width = self.run("""const {view} = s2page;
+                const [x, y] = [view.canvas.width / 2, view.canvas.height / 2];
+                return [s2page.core.token(s2page.cellAt(x, y)), view.pixelsOf(9)];""")
+            said = f"leaf {token(leaf)}. The cell of it that the picture shows: token {token(parent(leaf, 9))}; "
+            assert self.status().startswith(said) and 23.9 < width < 24.1, (text, self.status(), cell, width)
+        self.run("s2page.view.zoom(64, 9, 9)")
+        self.click("go")
+        assert self.run("return s2page.view.pixelsOf(9)") > 1000, "a picture that is closer stays as close"
+        for text in ("+-1, 2", "1,, 2", ".,.", "1e1, 2", "--1, 2", "91, 0"):
+            self.set("place", text)
+            self.click("go")
+            assert self.status().startswith("place: refused: "), (text, self.status())
+
     @slow
     def test_going_to_places(self):
-        """The picture's middle is at the latitude and longitude, and the cell there is said."""
+        """The picture's middle is at the latitude and longitude, and the leaf there is said."""
         self.open()
         for text, latitude, longitude in (("48.86, 2.35", 48.86, 2.35), ("-33.87 151.21", -33.87, 151.21),
                                           ("0;0", 0, 0), (" 90°, -180° ", 90, -180), ("40.7,-74", 40.7, -74)):
@@ -653,9 +887,9 @@ class Trial:
                 face, i, j, _ = square(from_token(found))
                 wanted = square(leaves([longitude], [latitude]).tolist()[0])
                 assert face == wanted[0] and abs(i - wanted[1]) < 2 and abs(j - wanted[2]) < 2, (text, kind, found)
-            assert self.status().startswith("token "), self.status()
+            assert self.status().startswith("leaf "), self.status()
         self.driver.find_element(By.ID, "place").send_keys(Keys.ENTER)
-        assert self.status().startswith("token "), self.status()
+        assert self.status().startswith("leaf "), self.status()
         for text in ("91, 0", "0, 181", "x", "1, 2, 3", ""):
             self.set("place", text)
             self.click("go")

@@ -30,8 +30,11 @@ function standIn() {
   };
   /** A call for many cells: what each answers, some elements of a kind; zeros, or what is said, if it is no cell. */
   const each = (answer, Kind = BigUint64Array, none = 0n) => (at, n, ...more) => {
-    const entries = cellsAt(at, n).flatMap((id) => (isCell(id) ? answer(id, ...more) : none));
+    const ids = cellsAt(at, n);
+    const entries = ids.flatMap((id) => (isCell(id) ? answer(id, ...more) : none));
     new Kind(memory.buffer, Number(more.at(-3)), entries.length).set(entries);
+    const wrong = ids.findIndex((id) => !isCell(id));
+    put(more.at(-1), wrong < 0 ? n : wrong);
     return 0;
   };
 
@@ -233,9 +236,10 @@ function standIn() {
     s2u_parents: each(ancestor),
     s2u_token_fields: each((id) => [...new TextEncoder().encode(token(id).padEnd(16, "\0"))], Uint8Array,
       Array(16).fill(0)),
-    s2u_from_points: (at, n, out) => {
+    s2u_from_points: (at, n, out, room, bad) => {
       const points = new Uint32Array(memory.buffer, Number(at), 3 * Number(n)).slice();
       for (let k = 0; k < Number(n); k++) put(Number(out) + 8 * k, leafAt(...points.subarray(3 * k, 3 * k + 3)));
+      put(bad, n);
       return 0;
     },
     s2u_normalise: (at, n, len) => normalised(cellsAt(at, n), len, at, n),
