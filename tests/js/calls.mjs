@@ -2,7 +2,7 @@
 
 export const FACE = 0x1000000000000000n;
 
-/** The cells of the questions to a module: the first `count` of every second leaf of a face, and the leaves between. */
+/** The lists of questions to a module: the first `count` of every second leaf of a face, and the leaves between. */
 export class Given {
   constructor(module, count) {
     this.module = module;

@@ -458,7 +458,8 @@ class Trial:
         """What the page has, and shows of it."""
         legend = [it.text for it in self.driver.find_elements(By.CSS_SELECTOR, "#legend .name")]
         steps = [self.driver.find_element(By.ID, name).is_enabled() for name in ("undo", "redo")]
-        return self.names(), legend, self.chosen(), steps, self.run("return s2page.core.kept.size")
+        counts = self.run("return [s2page.past.length, s2page.future.length, s2page.core.kept.size]")
+        return self.names(), legend, self.chosen(), steps, counts
 
     def test_files_that_can_not_be_read(self):
         """A folder, or what the browser may not read, is refused by its name, and the files beside it are added."""
