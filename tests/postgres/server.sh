@@ -36,8 +36,8 @@ built() { # FOLDER FLAGS..: the extension as it is
 guarded() { # FOLDER SOURCES FLAGS..: the extension over the allocator of guarded.c
   local folder=$work/$1 sources=$2
   shift 2
-  mkdir -p "$folder" && cp "$top"/databases/postgres/{Makefile,*.control,*.sql,geo.c} "$folder" &&
-    cp "$sources"/{planner.c,value.h} "$top/databases/sphere.h" "$folder" &&
+  mkdir -p "$folder" && cp "$top"/databases/postgres/{Makefile,*.control,*.sql} "$folder" &&
+    cp "$sources"/{planner.c,geo.c,value.h} "$top/databases/sphere.h" "$folder" &&
     cp "$top/tests/postgres/guarded.c" "$folder/s2union.c" &&
     sed -E 's/Datum ([a-z0-9_]+)\(PG_FUNCTION_ARGS\)/GUARDED(\1)/' "$sources/s2union.c" >"$folder/rewritten.c" &&
     make -C "$folder" PREFIX="$work/usr" PG_CONFIG="$config" "$@"

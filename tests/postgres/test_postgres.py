@@ -1358,13 +1358,16 @@ class Guarded(Tests):
             "SELECT s2_outer(0, 5, 9000, 7, 9000, 24)", "SELECT '1 04 3'::s2union",
             "SELECT s2_inner(0, 5, 9000, 7, 9000, 24)", "SELECT s2_range(s2_cell('0000000000000001'), s2_cell('3'))",
             "SELECT s2_token(s2_parent(s2_cell('1c'), 0)), s2_cell('04')::s2union", "SELECT indexed('gin')",
+            "SELECT s2_longitude('04') + s2_latitude('1/0') + s2_latitude(s2_leaf_at(2.3522, 48.8566))",
+            "SELECT s2_latitude('zz')", "SELECT s2_leaf_at(0, 91)",
             "SELECT s2_union_agg(c) FROM parts, unnest(s2_cells(part)) AS c",
             "SELECT s2_intersection_agg(part) FROM parts WHERE id > 4", "SELECT indexed('gist')",
             "SELECT indexed('btree')", "SELECT indexed('hash')", "SELECT s2_union_agg(part) FROM parts p, parts q",
         ]
         script = """SET parallel_setup_cost = 0; SET parallel_tuple_cost = 0; SET min_parallel_table_scan_size = 0;
             SET max_parallel_workers = 0; SET enable_seqscan = off; SET client_min_messages = error;
-            ANALYZE parts; ALTER TABLE parts SET (parallel_workers = 1);\n"""
+            ANALYZE parts; ALTER TABLE parts SET (parallel_workers = 1);
+            CREATE EXTENSION IF NOT EXISTS s2union_geo;\n"""
         script += "".join(f"SELECT * FROM refused_in_turn($q${query}$q$);\n" for query in queries)
         said = [line.split("|", 2) for line in psql(script)]
         self.assertEqual(len(said), len(queries))
@@ -1462,7 +1465,7 @@ class Guarded(Tests):
         alike, apart, same = map(int, said[2::3])
         self.assertTrue(57 * size < alike < 60 * 2 * size, alike)
         self.assertLess(apart, size)
-        self.assertEqual(same, 59 * size)
+        self.assertTrue(59 * size <= same < 60 * size, same) # the base too is compared, by its name
 
     def test_limits_of_a_value(self):
         """Ten cells, or 87 bytes of text: 1 GB is more than a test should take."""

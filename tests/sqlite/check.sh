@@ -81,7 +81,7 @@ step "under the sanitizers" sanitized test_sqlite.AgainstTheModel test_sqlite.Wh
 refused() {
   gcc -std=c11 -D_DEFAULT_SOURCE -Wall -Wextra -Werror "$top"/tests/{sqlite/memory,refuse}.c -lsqlite3 \
     -o "$work/memory" && valgrind -q --error-exitcode=9 --leak-check=full --soname-synonyms=somalloc=nouserintercepts \
-    "$work/memory" "$work/plain/mod_s2union"
+    "$work/memory" "$work/plain/"mod_s2union{,_geo}
 }
 step "each allocation refused in turn, under valgrind" refused
 
@@ -92,9 +92,11 @@ step "docs/SQLITE.md" documented plain
 step "docs/ENGINES.md, without the extension" /usr/bin/python3 "$top/tests/docs/documented.py" "$top/docs/ENGINES.md"
 covered() {
   build covered CFLAGS="-O0 -g --coverage" && export S2UNION_ROUNDS=300 &&
-    tests covered test_sqlite.AgainstTheModel test_sqlite.WhatIsRefused && "$work/memory" "$work/covered/mod_s2union" &&
-    documented covered && "${sqlite[@]}" ".load $work/covered/mod_s2union sqlite3_sunion_init" &&
-    /usr/bin/python3 "$top/tests/c/coverage.py" "$work/covered" s2union.c=databases/sqlite/s2union.c
+    tests covered test_sqlite.AgainstTheModel test_sqlite.WhatIsRefused test_geo &&
+    "$work/memory" "$work/covered/"mod_s2union{,_geo} && documented covered &&
+    "${sqlite[@]}" ".load $work/covered/mod_s2union sqlite3_sunion_init" &&
+    /usr/bin/python3 "$top/tests/c/coverage.py" "$work/covered" s2union.c=databases/sqlite/s2union.c \
+      s2union_geo.c=databases/sqlite/s2union_geo.c sphere.h=databases/sphere.h
 }
 step "what these tests execute" covered
 valgrind_run() { # the page shows errors, so sqlite3 ends with 1; all its calls have to be there

@@ -1,7 +1,9 @@
-/* Refuses each allocation of SQLite's heap in turn, in queries of the extension: the query is out of memory or has the
- * right answer, and all memory is freed. Usage: memory EXTENSION. */
+/* Refuses each allocation of SQLite's heap in turn, in queries of the extensions: the query is out of memory, or has the
+ * right answer or the right error, and all memory is freed. Usage: memory EXTENSION.. */
+#define SQLITE_CORE 1 /* this program calls SQLite itself; of sqlite3ext.h it wants what extensions are given */
 #include "../refuse.h"
-#include <sqlite3.h>
+#include <dlfcn.h>
+#include <sqlite3ext.h>
 #include <stdio.h>
 #include <stdlib.h>
 #include <string.h>
@@ -28,9 +30,42 @@ static const char* const queries[] = {
   "SELECT tile, hex(part) FROM s2_tiles('04 0001 1d', 2)",
   "SELECT tile, hex(t.part), x FROM parts, s2_tiles(parts.part, 1) AS t WHERE id < 3",
   "SELECT hex(value), count(*) FROM s2_prepared('04 14'), parts WHERE s2_intersects(value, part)",
+  "SELECT s2_longitude(s2_leaf_at(2.3522, 48.8566)), s2_latitude('1/0')",
+  "SELECT s2_leaf_at('north', 0)",
+  "SELECT s2_latitude(x'04')",
+  NULL,
 };
 
-/* The values of a query in hexadecimal, or NULL and the status of the call that failed. */
+/* Asked while SQLite has no memory for a copy of a text that a function reads. */
+static const char* const of_texts[] = {
+  "SELECT s2_is_cell('04')", "SELECT s2_cell('0/12')", "SELECT s2_count('04 0c')", "SELECT s2_contains('1', '04')",
+  "SELECT s2_parent('04', 31)", "SELECT s2_longitude('04')", "SELECT s2_latitude('zz')", "SELECT s2_union_agg('04')",
+  NULL,
+};
+
+static int texts_refused;
+static sqlite3_api_routines api;
+
+static const unsigned char* value_text(sqlite3_value* v) { return texts_refused ? NULL : sqlite3_value_text(v); }
+
+/* What SQLite calls when it opens a database: keeps the calls that it has for extensions. */
+static int take_calls(sqlite3* db, char** error, const sqlite3_api_routines* calls) {
+  (void)db, (void)error;
+  api = *calls;
+  api.value_text = value_text;
+  return SQLITE_OK;
+}
+
+static int loaded(sqlite3* db, const char* path) {
+  char name[1000], *error = NULL;
+  int (*begin)(sqlite3*, char**, const sqlite3_api_routines*);
+  snprintf(name, sizeof name, "%s.so", path);
+  void* extension = dlopen(name, RTLD_NOW);
+  *(void**)&begin = extension ? dlsym(extension, "sqlite3_extension_init") : NULL;
+  return begin && begin(db, &error, &api) == SQLITE_OK;
+}
+
+/* The values of a query in hexadecimal, or its error, or NULL and the status if that is another one. */
 static char* said(sqlite3* db, const char* query, int* status) {
   static char text[100000];
   size_t n = 0;
@@ -47,42 +82,63 @@ static char* said(sqlite3* db, const char* query, int* status) {
     }
   }
   text[n] = '\0';
+  if (*status == SQLITE_ERROR) snprintf(text, sizeof text, "%s", sqlite3_errmsg(db));
   sqlite3_finalize(statement);
-  return *status == SQLITE_DONE ? text : NULL;
+  return *status == SQLITE_DONE || *status == SQLITE_ERROR ? text : NULL;
+}
+
+static size_t passed, failed;
+
+/* Each allocation of the queries of a list refused in turn. */
+static void refuse_each(sqlite3* db, const char* const* query) {
+  for (; *query; query++) {
+    int status;
+    said(db, *query, &status);
+    refuse_memory(0);
+    char* text = said(db, *query, &status);
+    long allocations = refuse_memory(0);
+    if (!text) printf("%s: %s\n", *query, sqlite3_errmsg(db)), exit(2);
+    if (allocations == 0) printf("%s: no allocation is counted\n", *query), exit(2);
+    char* right = strdup(text);
+    for (long turn = 1; turn <= allocations; turn++) {
+      refuse_memory(turn);
+      text = said(db, *query, &status);
+      refuse_memory(0);
+      int holds = text ? strcmp(text, right) == 0 : status == SQLITE_NOMEM;
+      if (!holds) printf("FAILED: allocation %ld of %s: %d %s\n", turn, *query, status, sqlite3_errmsg(db));
+      if (holds) passed++;
+      else failed++;
+      said(db, *query, &status);
+    }
+    free(right);
+  }
+}
+
+static void refuse_texts(sqlite3* db) {
+  for (const char* const* query = of_texts; *query; query++) {
+    int status;
+    texts_refused = 1;
+    said(db, *query, &status);
+    texts_refused = 0;
+    if (status != SQLITE_NOMEM) printf("FAILED: no memory for a text of %s: %d\n", *query, status), failed++;
+    else passed++;
+  }
 }
 
 int main(int argc, char** argv) {
-  size_t passed = 0, failed = 0;
   sqlite3* db;
   sqlite3_config(SQLITE_CONFIG_LOOKASIDE, 0, 0);
-  if (argc != 2 || sqlite3_open(":memory:", &db) != SQLITE_OK) return 2;
-  sqlite3_enable_load_extension(db, 1);
-  if (sqlite3_load_extension(db, argv[1], NULL, NULL) != SQLITE_OK) return 2;
+  sqlite3_auto_extension((void (*)(void))take_calls);
+  if (argc < 2 || sqlite3_open(":memory:", &db) != SQLITE_OK) return 2;
+  sqlite3_reset_auto_extension();
+  for (int k = 1; k < argc; k++)
+    if (!loaded(db, argv[k])) return 2;
   sqlite3_exec(db, "CREATE TABLE parts(id, part);"
                "INSERT INTO parts VALUES (1, s2_normalise('1')), (2, '0c 14'), (3, '3'),"
                "(4, s2_difference('1', '0000000000000001')), (5, s2_difference('3', '2000000000000001'))",
                NULL, NULL, NULL);
-  for (size_t k = 0; k < sizeof queries / sizeof *queries; k++) {
-    int status;
-    said(db, queries[k], &status);
-    refuse_memory(0);
-    char* text = said(db, queries[k], &status);
-    long allocations = refuse_memory(0);
-    if (!text) return printf("%s: %s\n", queries[k], sqlite3_errmsg(db)), 2;
-    if (allocations == 0) return printf("%s: no allocation is counted\n", queries[k]), 2;
-    char* right = strdup(text);
-    for (long turn = 1; turn <= allocations; turn++) {
-      refuse_memory(turn);
-      text = said(db, queries[k], &status);
-      refuse_memory(0);
-      int holds = text ? strcmp(text, right) == 0 : status == SQLITE_NOMEM;
-      if (!holds) printf("FAILED: allocation %ld of %s: %d %s\n", turn, queries[k], status, sqlite3_errmsg(db));
-      if (holds) passed++;
-      else failed++;
-      said(db, queries[k], &status);
-    }
-    free(right);
-  }
+  refuse_each(db, queries);
+  refuse_texts(db);
   sqlite3_close(db);
   if (sqlite3_memory_used() != 0) printf("FAILED: %lld bytes stay taken\n", (long long)sqlite3_memory_used()), failed++;
   printf("%zu passed, %zu failed\n", passed, failed);

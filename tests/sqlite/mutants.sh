@@ -8,24 +8,24 @@
 build() { # FOLDER FLAGS..
   local folder=$1
   shift
-  mkdir -p "$folder" && cp "$work"/mutant/{Makefile,s2union.c} "$folder" &&
-    make -C "$folder" -B mod_s2union.so PREFIX="$work/usr" "$@"
+  mkdir -p "$folder" && cp "$work"/mutant/* "$top/databases/sphere.h" "$folder" &&
+    make -C "$folder" -B PREFIX="$work/usr" "$@"
 }
 
 gcc -std=c11 -D_DEFAULT_SOURCE -O1 "$top"/tests/{sqlite/memory,refuse}.c -lsqlite3 -o "$work/memory" || exit 2
 
 tests() { # FOLDER PRELOAD
   (
-    LD_PRELOAD=$2 ASAN_OPTIONS=detect_leaks=0 timeout 100 "$work/memory" "$1/mod_s2union" || exit
+    LD_PRELOAD=$2 ASAN_OPTIONS=detect_leaks=0 timeout 100 "$work/memory" "$1/"mod_s2union{,_geo} || exit
     cd "$top/tests/sqlite" && export PYTHONPATH=$top/tests/python PYTHONDONTWRITEBYTECODE=1
     export ASAN_OPTIONS=detect_leaks=0
     LD_PRELOAD=$2 S2UNION_ROUNDS=300 S2UNION_SQLITE=$1/mod_s2union.so timeout 300 \
-      /usr/bin/python3 -m unittest -q -f test_sqlite.WhatIsRefused test_sqlite.AgainstTheModel
+      /usr/bin/python3 -m unittest -q -f test_sqlite.WhatIsRefused test_sqlite.AgainstTheModel test_geo
   )
 }
 
 survives() { # EDIT
-  mutant "$1" "$top"/databases/sqlite/{Makefile,s2union.c} && build "$work/plain" CFLAGS="-O1 -Wno-error" || return 2
+  mutant "$1" "$top"/databases/sqlite/{Makefile,*.c} && build "$work/plain" CFLAGS="-O1 -Wno-error" || return 2
   refuse "$work/plain" "" || return
   build "$work/sanitized" CFLAGS="-O1 -g -Wno-error -fsanitize=address,undefined -fno-sanitize-recover" || return 2
   refuse "$work/sanitized" "$(gcc -print-file-name=libasan.so) $(gcc -print-file-name=libubsan.so)"
