@@ -1,5 +1,5 @@
--- s2union 1.1, whole: what CREATE EXTENSION makes. docs/POSTGRES.md and docs/SQLITE.md say what each function does, in
--- the words of its comment. From an earlier version an upgrade leads to the same; tests/postgres compares them.
+-- s2union 1.1, whole: what CREATE EXTENSION makes. docs/POSTGRES.md says what each function does, in the words of its
+-- comment. From an earlier version an upgrade leads to the same; tests/postgres compares them.
 
 \echo Use "CREATE EXTENSION s2union" to load this file. \quit
 

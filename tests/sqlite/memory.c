@@ -1,5 +1,5 @@
-/* Refuses each allocation of SQLite's heap in turn, in queries of the extensions: the query is out of memory, or has the
- * right answer or the right error, and all memory is freed. Usage: memory EXTENSION.. */
+/* Refuses each allocation of SQLite's heap in turn, in queries of the extensions: the query is out of memory, or has
+ * the right answer or the right error, and all memory is freed. Usage: memory EXTENSION.. */
 #define SQLITE_CORE 1 /* this program calls SQLite itself; of sqlite3ext.h it wants what extensions are given */
 #include "../refuse.h"
 #include <dlfcn.h>

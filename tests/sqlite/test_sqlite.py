@@ -8,6 +8,7 @@ import os
 import re
 import sqlite3
 import unittest
+from pathlib import Path
 
 import model
 import plain_sql
@@ -18,6 +19,7 @@ EXTENSION = os.environ["S2UNION_SQLITE"]
 ROUNDS = int(os.environ.get("S2UNION_ROUNDS", "1500"))
 UNDER_A_SANITIZER = "libasan" in os.environ.get("LD_PRELOAD", "")
 EMPTY = model.file([])
+PAGE = (Path(__file__).resolve().parents[2] / "docs" / "SQLITE.md").read_text()
 FUNCTIONS = {
     "s2_union": "ll", "s2_intersection": "ll", "s2_difference": "ll", "s2_symmetric_difference": "ll", "s2_range": "cc",
     "s2_complement": "l",
@@ -40,6 +42,13 @@ sqlite = ctypes.CDLL("libsqlite3.so.0")
 sqlite.sqlite3_memory_used.restype = ctypes.c_int64
 sqlite.sqlite3_hard_heap_limit64.restype = ctypes.c_int64
 sqlite.sqlite3_hard_heap_limit64.argtypes = [ctypes.c_int64]
+
+
+def calls_in(text):
+    """The functions that the tables of a page name, and the names of their arguments."""
+    for row in re.findall(r"^\| (`s2_.*?\)`) \|", text, re.M):
+        for name, names in re.findall(r"`(s2_\w+)\((.*?)\)`", row):
+            yield name, names.split(", ") if names else []
 
 
 def calls():
@@ -559,8 +568,25 @@ class AgainstTheModel(Tests):
 
 class WhatIsRefused(Tests):
     def test_the_functions_are_these(self):
-        rows = self.db.execute("SELECT name, narg FROM pragma_function_list WHERE name LIKE 's2\\_%' ESCAPE '\\'")
-        self.assertEqual(sorted(set(rows)), sorted((name, len(letters)) for name, letters, _ in calls()))
+        listed = "SELECT name, narg FROM pragma_function_list WHERE name LIKE 's2%'"
+        rows = {*self.db.execute(listed)}
+        self.assertEqual(rows, {(name, len(letters)) for name, letters, _ in calls()})
+        self.db.load_extension(os.path.join(os.path.dirname(EXTENSION), "mod_s2union_geo.so"))
+        functions, _, tables = PAGE.partition("### Tables of cells")
+        self.assertEqual({(name, len(names)) for name, names in calls_in(functions)}, {*self.db.execute(listed)})
+        for name in self.tables():
+            said = [names for other, names in calls_in(tables) if other == name]
+            self.assertEqual(said, [self.hidden(name)[: len(names)] for names in said])
+            self.assertEqual(said[-1], self.hidden(name))
+        self.assertEqual({name for name, _ in calls_in(tables)}, self.tables())
+
+    def tables(self):
+        return {name for name, in self.db.execute("SELECT name FROM pragma_module_list WHERE name LIKE 's2%'")}
+
+    def hidden(self, table):
+        """The columns that are the arguments of a table."""
+        rows = self.db.execute("SELECT name FROM pragma_table_xinfo(?) WHERE hidden = 1", (table,))
+        return [name for name, in rows]
 
     def test_equal_values_give_equal_values(self):
         """So an index may be made of what a function answers, except of the version, which an update changes."""
@@ -615,9 +641,7 @@ class WhatIsRefused(Tests):
             self.assertEqual(str(caught.exception), said)
 
     def test_the_page_lists_the_errors(self):
-        with open(os.path.join(os.path.dirname(os.path.abspath(__file__)), "../../docs/SQLITE.md")) as file:
-            page = file.read()
-        reasons = set()
+        reasons = {"s2: a longitude is a number from -540 to 540", "s2: a latitude is a number from -90 to 90"}
         for expression in (
             "s2_count(1.5)", "s2_level(1.5)", "s2_parent('1', 1.5)", "s2_level(0)", "s2_leaf(6, 0, 0)",
             "s2_outer(0, 0, 1073741823, 5, 5, 30)", "s2_count(x'01')", "s2_count(x'02')",
@@ -626,11 +650,9 @@ class WhatIsRefused(Tests):
         ):
             with self.assertRaises(sqlite3.OperationalError) as refusal:
                 self.ask(expression)
-            reason = re.match("s2: (?:union file: )?[^:]*", str(refusal.exception))[0]
-            reasons.add(reason)
-            others = reason.replace("s2: union file:", "..")
-            self.assertTrue(f"`{reason}`" in page or f"`{others}`" in page, reason)
-        self.assertEqual(len(reasons), 11)
+            reasons.add(re.match("s2: (?:union file: )?[^:]*", str(refusal.exception))[0])
+        rows = "".join(re.findall(r"^\| (`s2: .*?) \|", PAGE, re.M))
+        self.assertEqual({*re.findall("`(s2: .*?)`", rows)}, reasons)
 
     def wrong_in_turn(self, call, letters, values):
         """Each value that an argument may not have, in its place among others that are right, is an error."""
@@ -644,16 +666,14 @@ class WhatIsRefused(Tests):
         level that is deeper than all cells of an empty union."""
         for name, letters, values in calls():
             self.wrong_in_turn(f"{name}({', '.join('?' * len(values))})", letters, values)
-        tables = {name for name, in self.db.execute("SELECT name FROM pragma_module_list WHERE name LIKE 's2%'")}
-        for name in tables:
-            rows = self.db.execute("SELECT name FROM pragma_table_xinfo(?) WHERE hidden = 1", (name,)).fetchall()
-            letters = "".join({"x": "l", "level": "v", "modulus": "m"}[column] for column, in rows)
+        for name in self.tables():
+            letters = "".join({"x": "l", "level": "v", "modulus": "m"}[column] for column in self.hidden(name))
             for cells in ("0c 14", ""):
                 values = [cells, 2, 1][: len(letters)]
                 call = f"count(*) FROM {name}({', '.join('?' * len(values))})"
                 self.assertIsNotNone(self.ask(call, *values))
                 self.wrong_in_turn(call, letters, values)
-        self.assertEqual(tables, {"s2_cells", "s2_tiles", "s2_ancestors", "s2_prepared"})
+        self.assertEqual(len(self.tables()), 4)
 
     def test_a_level_deeper_than_the_cell(self):
         """No cell of it contains the cell, which has no child if it is a leaf: NULL."""
