@@ -1,24 +1,26 @@
 #!/usr/bin/env bash
-# The tests of unions on a cluster of worker processes: tests/run dask -- [CELLS]. It installs the Debian packages
-# that it needs, and prints the figures of docs/DASK.md. Its last line is 'N passed, M failed'; the status is 1 if any
-# failed.
+# The tests of unions on a cluster of worker processes, and of docs/ENGINES.md over MariaDB, ClickHouse and pandas:
+# tests/run dask -- [CELLS]. It installs the Debian packages that it needs, and prints the figures of docs/DASK.md. Its
+# last line is 'N passed, M failed'; the status is 1 if any failed.
 . "$(dirname "$0")/../steps.sh"
 [ -z "${1:-}" ] || export S2UNION_CELLS=$1
 
 need_modules dask.dataframe,distributed python3-{dask,distributed,pandas}
+need /usr/sbin/mariadbd mariadb-server
+need /usr/sbin/clickhouse-server clickhouse-server clickhouse-client
 need_packages
 . "$top/tests/geo/countries.sh"
 need_countries
 need_library
 export PYTHONPATH=$work/usr/lib/python:$top/tests/python:$top/tests/geo:$top/docs/examples PYTHONDONTWRITEBYTECODE=1
-export WORLD=$work/world/countries
+export WORLD=$work/world/countries WORK=$work
 
 page() {
   block DASK.md text >"$work/wanted" && [ -s "$work/wanted" ] &&
     (cd "$work" && timeout 300 /usr/bin/python3 dask_page.py) >"$work/said" && diff "$work/wanted" "$work/said"
 }
-tests() { # CLASS..
-  (cd "$work" && timeout 900 /usr/bin/python3 -m unittest -q "${@/#/test_dask.}")
+tests() { # TEST..
+  (cd "$work" && timeout 900 /usr/bin/python3 -m unittest -q "$@")
 }
 blocks() {
   block DASK.md python >"$work/dask_page.py" && block ENGINES.md python >"$work/engines.py" &&
@@ -26,9 +28,10 @@ blocks() {
 }
 step "the Python of docs/DASK.md and docs/ENGINES.md" blocks
 step "docs/DASK.md" page
-step "its join, beside a loop over all pairs: points in any order, parts without any" tests TheJoinOfThePage
+step "its join, beside a loop over all pairs: points in any order, parts without any" tests test_dask.TheJoinOfThePage
 step "the countries of the earth, covered" countries 200
-step "100,000 points joined with the countries, beside a loop over all pairs" tests OverTheCountries
-step "ten million cells on 1, 2 and 4 workers, and with one that is killed" tests OnACluster
+step "100,000 points joined with the countries, beside a loop over all pairs" tests test_dask.OverTheCountries
+for engine in Sqlite Mariadb Clickhouse; do step "the same by plain SQL in $engine" tests "test_engines.$engine"; done
+step "ten million cells on 1, 2 and 4 workers, and with one that is killed" tests test_dask.OnACluster
 grep -E '^one process|^[0-9] worker|^a worker' "$work/log" | sed 's/^/       /'
 finish

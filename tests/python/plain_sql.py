@@ -1,10 +1,34 @@
-"""What docs/ENGINES.md says of cells in plain SQL, for the tests of both databases."""
+"""What docs/ENGINES.md says of cells in plain SQL, for the tests of databases."""
 
 import re
+import sqlite3
 from pathlib import Path
 
 PAGE = (Path(__file__).resolve().parents[2] / "docs" / "ENGINES.md").read_text()
 UNIT = 2**50  # the lowest bit of a cell of level 5, of which the page speaks
+
+
+def statements(fence, part=""):
+    """The statements of the page's first block that begins with this fence and has this part."""
+    blocks = re.findall(rf"^```{fence}\n(.*?)^```$", PAGE, re.M | re.S)
+    return [each for each in next(block for block in blocks if part in block).split(";\n") if each.strip()]
+
+
+CUT, JOIN = statements("sql", "CREATE TABLE region_cells"), statements("sql", "JOIN region_cells")[0]
+
+
+def in_sqlite(points, regions):
+    """The pairs of the page's join in SQLite without an extension: the places of points, which are signed leaves, and
+    the names of regions, which have signed cells. And the database."""
+    database = sqlite3.connect(":memory:")
+    database.execute("CREATE TABLE places (place int, leaf bigint)")
+    database.execute("CREATE TABLE coverings (name text, cell bigint)")
+    database.executemany("INSERT INTO places VALUES (?, ?)", enumerate(points))
+    database.executemany("INSERT INTO coverings VALUES (?, ?)",
+                         [(name, cell) for name, cells in regions.items() for cell in cells])
+    for statement in CUT:
+        database.execute(statement)
+    return database.execute(JOIN).fetchall(), database
 
 
 def key(cell, level):

@@ -152,6 +152,24 @@ class TheJoinOfThePage(unittest.TestCase):
             pairs += len(wanted)
         self.assertGreater(pairs, 100)
 
+    def test_floats(self):
+        """A column that had missing values is of floats, which are rounded: no function of the pages takes it."""
+        union = Union([5180949494577750587])
+        for column in (pandas.Series([5180949494577750587, None]).dropna(), pandas.Series([], dtype="float64")):
+            part = pandas.Series([union.to_bytes()] * len(column), dtype=object)
+            for call in (lambda: engines.tile_of(column), lambda: engines.lies_in(column, part),
+                         lambda: dask_page.with_regions(pandas.DataFrame({"leaf": column}), {"Paris": union})):
+                with self.assertRaisesRegex(TypeError, "drop or fill missing values before they make floats"):
+                    call()
+        missing = pandas.Series([5180949494577750587, None], dtype="Int64")
+        for call in (lambda: engines.tile_of(missing), lambda: engines.lies_in(missing, missing.map(lambda _: b"")),
+                     lambda: dask_page.with_regions(pandas.DataFrame({"leaf": missing}), {"Paris": union})):
+            with self.assertRaises((TypeError, ValueError)):
+                call()
+        whole = missing.dropna()
+        self.assertEqual(engines.tile_of(whole).tolist(), [5180265471382913024])
+        self.assertEqual(engines.lies_in(whole, pandas.Series([union.to_bytes()])).tolist(), [True])
+
 
 class OverTheCountries(unittest.TestCase):
     """Random points joined with the countries of the earth by the functions of the pages: all pairs."""

@@ -227,6 +227,23 @@ class AgainstTheModel(Tests):
                 s2_contains(?1, ?3), s2_intersects(?1, ?3)""", (cell, level, near)).fetchone()
             self.assertEqual(said, wanted, (cell, level, near))
 
+    def test_the_join_in_plain_sql(self):
+        """That of docs/ENGINES.md, without the extension: regions with cells of all sizes, beside a loop over all
+        pairs; and its CHECK."""
+        regions = {f"region {k}": model.normal(model.runs(self.random.cells(9, low=0))) for k in range(40)}
+        near = [cell for cells in regions.values() for cell in cells]
+        leaves = [model.identifier(30, self.random.choice([first, end - 1, self.random.randrange(first, end)]))
+                  for cell in near for first, end in [model.run(self.random.near(cell))]]
+        wanted = [(place, name) for place, leaf in enumerate(leaves) for name, cells in regions.items()
+                  if any(first <= model.run(leaf)[0] < end for first, end in map(model.run, cells))]
+        found, db = plain_sql.in_sqlite(map(signed, leaves), {name: map(signed, cells)
+                                                              for name, cells in regions.items()})
+        self.assertEqual(sorted(found), sorted(wanted))
+        self.assertTrue(any(model.cell(cell)[0] < 5 for cell in near) and len(wanted) > 1000, len(wanted))
+        uncut = plain_sql.CUT[1].replace("WHERE (cell & -cell) <= ", "WHERE (cell & -cell) > ")
+        with self.assertRaisesRegex(sqlite3.IntegrityError, "CHECK constraint failed"):
+            db.execute(uncut)
+
     def test_ranges(self):
         for _ in range(ROUNDS):
             a, b = self.random.cell(), self.random.cell()

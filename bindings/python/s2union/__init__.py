@@ -379,8 +379,10 @@ def _ids_of(cells: Any) -> bytes | memoryview:
     if view is None:
         return _library.list_of(cells)
     if view.ndim != 1 or view.itemsize != 8 or view.format.lstrip("@=<") not in ("Q", "L", "N", "q", "l", "n"):
+        rule = "; floats are rounded: drop or fill missing values before they make floats of a column"
         raise TypeError("a buffer of cells has one dimension and 64-bit integers "
-                        f"(this one has {view.ndim} and the format {view.format!r})")
+                        f"(this one has {view.ndim} and the format {view.format!r}"
+                        f"{rule if view.format.endswith(('d', 'f', 'e')) else ''})")
     return view if view.c_contiguous else view.tobytes()
 
 

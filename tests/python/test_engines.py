@@ -1,0 +1,144 @@
+"""The plain SQL of docs/ENGINES.md in SQLite, MariaDB and ClickHouse, over random points and the countries of the earth
+as S2 covers them, with cells that are larger than a tile: all pairs.
+
+WORLD is the folder of the countries, and WORK one for the servers, which listen on no network but this machine's own.
+"""
+
+import os
+import socket
+import subprocess
+import time
+import unittest
+from pathlib import Path
+
+import earth
+import plain_sql
+from random_cells import signed
+
+WORK = Path(os.environ["WORK"])
+MARIADB = f"""[server]
+datadir={WORK}/mariadb
+socket={WORK}/mariadb.socket
+pid-file={WORK}/mariadb.pid
+skip-networking
+[client]
+socket={WORK}/mariadb.socket
+local-infile
+"""
+CLICKHOUSE = """<yandex>
+<logger><level>error</level><console>1</console></logger>
+<listen_host>127.0.0.1</listen_host><tcp_port>{port}</tcp_port>
+<path>{work}/clickhouse/</path><tmp_path>{work}/clickhouse/tmp/</tmp_path><mark_cache_size>1000000</mark_cache_size>
+<users_config>{work}/clickhouse.xml</users_config>
+<default_profile>default</default_profile><default_database>default</default_database>
+<profiles><default/></profiles><quotas><default/></quotas>
+<users><default><password/><networks><ip>127.0.0.1</ip></networks><profile>default</profile><quota>default</quota>
+</default></users>
+</yandex>
+"""
+
+
+def setUpModule():
+    """The points and the countries, as signed numbers and in files, and all pairs of them."""
+    global POINTS, REGIONS, PAIRS
+    leaves, regions = earth.points(), earth.coverings(os.environ["WORLD"])
+    PAIRS = sorted(earth.all_pairs(leaves, regions))
+    POINTS = leaves.view("int64").tolist()
+    REGIONS = {name: [signed(cell) for cell in cells] for name, cells in regions.items()}
+    assert any(cell & -cell > plain_sql.UNIT for cells in REGIONS.values() for cell in cells)
+    for sign, kind in ((0, "signed"), (2**64, "unsigned")):
+        write(f"places.{kind}", [(place, leaf % sign if sign else leaf) for place, leaf in enumerate(POINTS)])
+        write(f"coverings.{kind}", [(name, cell % sign if sign else cell)
+                                    for name, cells in REGIONS.items() for cell in cells])
+
+
+def write(name, rows):
+    (WORK / name).write_text("".join("\t".join(map(str, row)) + "\n" for row in rows))
+
+
+def pairs(text):
+    """The pairs that a client has written, a place and a name a line, with a tab between them."""
+    rows = (line.split("\t") for line in text.splitlines())
+    return sorted((int(place), name) for place, name in rows)
+
+
+class Engine(unittest.TestCase):
+    """A server that runs while its tests do. Those who inherit say how it is started and asked."""
+
+    @classmethod
+    def begin(cls, server, client):
+        cls.client = client
+        with open(WORK / f"{cls.__name__}.log", "wb") as log:
+            process = subprocess.Popen(server, stdin=subprocess.DEVNULL, stdout=log, stderr=log)
+        cls.addClassCleanup(process.wait)
+        cls.addClassCleanup(process.terminate)
+        until = time.monotonic() + 60
+        while cls.ask("SELECT 1", check=False) != "1\n":
+            assert process.poll() is None and time.monotonic() < until, (WORK / f"{cls.__name__}.log").read_text()
+            time.sleep(0.1)
+
+    @classmethod
+    def ask(cls, script, check=True):
+        return subprocess.run(cls.client, input=script, stdout=subprocess.PIPE, check=check, text=True, timeout=300,
+                              stderr=None if check else subprocess.DEVNULL).stdout
+
+
+class Sqlite(unittest.TestCase):
+    def test_all_pairs(self):
+        self.assertEqual(sorted(plain_sql.in_sqlite(POINTS, REGIONS)[0]), PAIRS)
+
+
+class Mariadb(Engine):
+    @classmethod
+    def setUpClass(cls):
+        (WORK / "mariadb.cnf").write_text(MARIADB)
+        own = f"--defaults-file={WORK}/mariadb.cnf"
+        user = ["--user=root"] if os.getuid() == 0 else []
+        subprocess.run(["mariadb-install-db", own, "--auth-root-authentication-method=normal", *user], check=True,
+                       stdout=subprocess.DEVNULL)
+        cls.begin(["/usr/sbin/mariadbd", own, *user], ["mariadb", own, "--skip-column-names", "--user=root"])
+
+    def given(self, kind, made="signed"):
+        """The tables of points and of countries, in columns of this kind, in a database of their own."""
+        return f"""DROP DATABASE IF EXISTS world; CREATE DATABASE world; USE world;
+            CREATE TABLE places (place int, leaf bigint {kind});
+            CREATE TABLE coverings (name varchar(200), cell bigint {kind});
+            LOAD DATA LOCAL INFILE '{WORK}/places.{made}' INTO TABLE places;
+            LOAD DATA LOCAL INFILE '{WORK}/coverings.{made}' INTO TABLE coverings;"""
+
+    def test_all_pairs(self):
+        recipe = ";".join(plain_sql.statements("sql mariadb"))
+        self.assertEqual(pairs(self.ask(self.given("") + recipe)), PAIRS)
+        self.assertEqual(pairs(self.ask(self.given("unsigned", "unsigned") + recipe)), PAIRS)
+
+    def test_what_is_not_cut(self):
+        """The CHECK refuses it."""
+        made, filled = plain_sql.statements("sql mariadb")[:2]
+        uncut = filled.replace("FROM cut WHERE CAST(cell & -cell AS SIGNED) <= ", "FROM cut WHERE 0 < ")
+        self.assertNotEqual(uncut, filled)
+        with self.assertRaises(subprocess.CalledProcessError):
+            self.ask(f"{self.given('')} {made}; {uncut}")
+
+
+class Clickhouse(Engine):
+    @classmethod
+    def setUpClass(cls):
+        with socket.create_server(("127.0.0.1", 0)) as free:
+            port = free.getsockname()[1]
+        (WORK / "clickhouse.xml").write_text(CLICKHOUSE.format(port=port, work=WORK))
+        cls.begin(["/usr/sbin/clickhouse-server", f"--config-file={WORK}/clickhouse.xml"],
+                  ["clickhouse-client", "--port", str(port), "--multiquery"])
+
+    def test_all_pairs(self):
+        self.ask("CREATE TABLE places (place Int32, leaf Int64) ENGINE = Memory")
+        self.ask("CREATE TABLE coverings (name String, cell Int64) ENGINE = Memory")
+        for table in ("places", "coverings"):
+            with open(WORK / f"{table}.signed", "rb") as rows:
+                subprocess.run([*self.client[:-1], "--query", f"INSERT INTO {table} FORMAT TSV"], stdin=rows,
+                               check=True)
+        found = [self.ask(statement) for statement in plain_sql.statements("sql clickhouse")]
+        self.assertEqual(pairs(found[-1]), PAIRS)
+
+
+if __name__ == "__main__":
+    unittest.main()
