@@ -16,6 +16,7 @@
 #include <iostream>
 #include <memory>
 #include <nlohmann/json.hpp>
+#include <set>
 #include <stdexcept>
 
 using nlohmann::json;
@@ -89,6 +90,11 @@ int main(int argc, char** argv) try {
   coverer.mutable_options()->set_max_level(NumberIn(argv[4], 0, 30));
   size_t outer_cells = 0, inner_cells = 0;
   const json features = Features(argv[1]);
+  std::set<std::string> names;
+  for (const json& feature : features) {
+    const std::string name = NameOf(feature, argv[1]);
+    if (!names.insert(name).second) Refuse(argv[1], name + " is the name of two features");
+  }
   for (const json& feature : features) {
     const std::string name = std::string(argv[2]) + "/" + NameOf(feature, argv[1]);
     S2Builder::Options options{s2builderutil::S2CellIdSnapFunction(23)};  // to within 2 m

@@ -102,14 +102,16 @@ SQL
         no number."""
         countries, other, folder = self.file("countries.geojson"), self.file("other"), self.file("countries")
         ring = [[[0, 0], [1, 0], [1, 1], [0, 0]]]
-        away, nothing, point, beyond = ({"features": [it]} for it in (
-            {"properties": {"file": "../x"}, "geometry": {"coordinates": ring}}, {"properties": {}},
-            {"properties": {"file": "x"}, "geometry": {"coordinates": [0, 0]}},
-            {"properties": {"file": "x"}, "geometry": {"coordinates": [[[0, 0], [10, 91], [20, 0], [0, 0]]]}}))
+        good = {"properties": {"file": "x"}, "geometry": {"coordinates": ring}}
+        away, twice, nothing = ({"features": [good, it]} for it in (
+            {"properties": {"file": "../x"}}, good, {"properties": {}}))
+        point, beyond = ({"features": [{"properties": {"file": "x"}, "geometry": {"coordinates": it}}]} for it in (
+            [0, 0], [[[0, 0], [10, 91], [20, 0], [0, 0]]]))
         for file, there, text, said in (
                 ("none.geojson", folder, None, "none.geojson: it can't be read"),
                 (other, folder, "{", f"{other}: it is no collection of features in GeoJSON"),
                 (other, folder, json.dumps(away), f"{other}: ../x would lie in another folder"),
+                (other, folder, json.dumps(twice), f"{other}: x is the name of two features"),
                 (other, folder, json.dumps(nothing), f"{other}: .*'file' not found"),
                 (other, folder, json.dumps(point), f"{other}: .*number"),
                 (other, folder, json.dumps(beyond), f"{other}: a position is out of range"),
@@ -119,6 +121,7 @@ SQL
             done = subprocess.run([self.file("cover"), file, there, "200", "30"], capture_output=True, text=True)
             self.assertEqual((done.returncode, done.stdout), (1, ""))
             self.assertRegex(done.stderr, f"^{said}\n$")
+            self.assertFalse(Path(folder, "x.outer").exists())
         for words, said in ((("many", "30"), "many: it is no number from 1 to 1000000"),
                             (("200", "31"), "31: it is no number from 0 to 30")):
             done = subprocess.run([self.file("cover"), countries, folder, *words], capture_output=True, text=True)
