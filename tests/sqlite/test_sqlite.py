@@ -230,7 +230,7 @@ class AgainstTheModel(Tests):
     def test_the_join_in_plain_sql(self):
         """That of docs/ENGINES.md, without the extension: regions with cells of all sizes, beside a loop over all
         pairs; and its CHECK."""
-        regions = {f"region {k}": model.normal(model.runs(self.random.cells(9, low=0))) for k in range(40)}
+        regions = {f"region {k}": model.normal(model.runs(self.random.cells(9, low=0))) for k in range(99)}
         near = [cell for cells in regions.values() for cell in cells]
         leaves = [model.identifier(30, self.random.choice([first, end - 1, self.random.randrange(first, end)]))
                   for cell in near for first, end in [model.run(self.random.near(cell))]]
@@ -239,7 +239,7 @@ class AgainstTheModel(Tests):
         found, db = plain_sql.in_sqlite(map(signed, leaves), {name: map(signed, cells)
                                                               for name, cells in regions.items()})
         self.assertEqual(sorted(found), sorted(wanted))
-        self.assertTrue(any(model.cell(cell)[0] < 5 for cell in near) and len(wanted) > 1000, len(wanted))
+        self.assertTrue(any(model.cell(cell)[0] < 5 for cell in near) and len(wanted) > 200, len(wanted))
         uncut = plain_sql.CUT[1].replace("WHERE (cell & -cell) <= ", "WHERE (cell & -cell) > ")
         with self.assertRaisesRegex(sqlite3.IntegrityError, "CHECK constraint failed"):
             db.execute(uncut)
