@@ -155,20 +155,20 @@ class TheJoinOfThePage(unittest.TestCase):
     def test_floats(self):
         """A column that had missing values is of floats, which are rounded: no function of the pages takes it."""
         union = Union([5180949494577750587])
-        for column in (pandas.Series([5180949494577750587, None]).dropna(), pandas.Series([], dtype="float64")):
-            part = pandas.Series([union.to_bytes()] * len(column), dtype=object)
-            for call in (lambda: engines.tile_of(column), lambda: engines.lies_in(column, part),
-                         lambda: dask_page.with_regions(pandas.DataFrame({"leaf": column}), {"Paris": union})):
-                with self.assertRaisesRegex(TypeError, "drop or fill missing values before they make floats"):
-                    call()
+        floats, part = pandas.Series([5180949494577750587, None]).dropna(), pandas.Series([union.to_bytes()])
+        for call in (lambda: engines.tile_of(floats), lambda: engines.lies_in(floats, part),
+                     lambda: dask_page.with_regions(pandas.DataFrame({"leaf": floats}), {"Paris": union})):
+            with self.assertRaisesRegex(TypeError, "drop or fill missing values before they make floats"):
+                call()
+        self.assertEqual(len(dask_page.with_regions(pandas.DataFrame({"leaf": floats[:0]}), {"Paris": union})), 0)
         missing = pandas.Series([5180949494577750587, None], dtype="Int64")
-        for call in (lambda: engines.tile_of(missing), lambda: engines.lies_in(missing, missing.map(lambda _: b"")),
+        for call in (lambda: engines.tile_of(missing), lambda: engines.lies_in(missing, part.repeat(2)),
                      lambda: dask_page.with_regions(pandas.DataFrame({"leaf": missing}), {"Paris": union})):
             with self.assertRaises((TypeError, ValueError)):
                 call()
         whole = missing.dropna()
         self.assertEqual(engines.tile_of(whole).tolist(), [5180265471382913024])
-        self.assertEqual(engines.lies_in(whole, pandas.Series([union.to_bytes()])).tolist(), [True])
+        self.assertEqual(engines.lies_in(whole, part).tolist(), [True])
 
 
 class OverTheCountries(unittest.TestCase):
