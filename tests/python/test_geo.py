@@ -167,7 +167,7 @@ class Polygons(unittest.TestCase):
                              "longitude is from -540 to 540"),
                             (polygon([[0, 0], ["x", 1], [1, 0], [0, 0]]), "a position is a longitude and a latitude"),
                             (polygon([[0, 0], [10**400, 1], [1, 0], [0, 0]]), "a position is a longitude and a"),
-                            ({"type": "Point", "coordinates": [0, 0]}, "it is no polygon: Point"),
+                            ({"type": "Point", "coordinates": [0, 0]}, "it is no polygon: 'Point'"),
                             ({"type": "Polygon"}, "a Polygon has a list of coordinates"), (7, "it is no polygon: int"),
                             ({"type": "MultiPolygon", "coordinates": [3]}, "polygon 0 has a list of rings"),
                             ({"type": []}, "it is no polygon: dict"),

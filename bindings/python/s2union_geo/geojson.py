@@ -60,7 +60,7 @@ def polygons_of(shape: Any) -> list[list[Any]]:
                 if positions > MOST_POSITIONS:
                     raise ValueError(f"there are more than {MOST_POSITIONS} positions")
         else:
-            raise ValueError(f"it is no polygon: {kind}")
+            raise ValueError(f"it is no polygon: {kind[:99]!r}")
     return found
 
 
