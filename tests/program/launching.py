@@ -70,7 +70,8 @@ class TheProgram(unittest.TestCase):
                 self.assertEqual(process.wait(60), 0)
 
     def test_where_no_program_is(self):
-        self.assertEqual(launched("run", env={"S2CALC_PROGRAM": "/dev/null/x"}), (2, b"", b"s2calc: there is no program /dev/null/x\n"))
+        missing = {"S2CALC_PROGRAM": "/dev/null/x"}
+        self.assertEqual(launched("run", env=missing), (2, b"", b"s2calc: there is no program /dev/null/x\n"))
 
 
 class Scripts(unittest.TestCase):
@@ -228,8 +229,9 @@ class Identifiers(unittest.TestCase):
     def test_thousands_in_all_forms(self):
         words = [self.word(*cell) for cell in self.cells]
         text = words[0]
+        between = [" ", "\n", ", ", "\r\n", "\t", "][", "', '", '","', ";", "|", "}\n{", "\n\n"]
         for word in words[1:]:
-            text += self.random.choice([" ", "\n", ", ", "\r\n", "\t", "][", "', '", '","', ";", "|", "}\n{", "\n\n"]) + word
+            text += self.random.choice(between) + word
         wanted = [f"{number:016x}".rstrip("0") for number, _ in self.cells]
         status, out, error = launched("cells", input=f"[{text}]\n".encode())
         self.assertEqual((status, error, out.split()), (0, b"", [word.encode() for word in wanted]))
@@ -257,15 +259,16 @@ class Identifiers(unittest.TestCase):
                          (0, b"0000000000000001 000000000000001 64\n", b""))
 
     def test_what_is_no_cell(self):
-        for text, place in ((b"1 3\n5 zz", "line 2, word 2: 'zz'"), (b"0", "line 1, word 1: '0'"),
-                            (b"X", "line 1, word 1: 'X'"), (b"6/0", "line 1, word 1: '6/0'"),
-                            (b"\n0x04", "line 2, word 1: '0x04'"), (b"-1", "line 1, word 1: '-1'"),
-                            (b"5.18e18", "line 1, word 1: '5.18e18'"), (b"18446744073709551617", "line 1, word 1: '1844"),
-                            (b"0/" + b"3" * 31, "line 1, word 1: '0/3333"), (b"\xff", r"line 1, word 1: '\xff'"),
-                            (b"-9223372036854775809", "line 1, word 1: '-9223"), (b"1\nNULL\n", "line 2, word 1: 'NULL'")):
+        for text, place, word in (
+            (b"1 3\n5 zz", (2, 2), "zz"), (b"0", (1, 1), "0"), (b"X", (1, 1), "X"), (b"6/0", (1, 1), "6/0"),
+            (b"\n0x04", (2, 1), "0x04"), (b"-1", (1, 1), "-1"), (b"5.18e18", (1, 1), "5.18e18"),
+            (b"18446744073709551617", (1, 1), "18446744073709551617"), (b"0/" + b"3" * 31, (1, 1), "0/" + "3" * 31),
+            (b"1 \xff", (1, 2), r"\xff"), (b"-9223372036854775809", (1, 1), "-9223372036854775809"),
+            (b"1\nNULL\n", (2, 1), "NULL"),
+        ):
             status, out, error = launched("cells", input=text)
-            self.assertEqual((status, out), (1, b""), text)
-            self.assertTrue(error.decode().startswith(f"s2calc: {place}"), error)
+            said = f"s2calc: line {place[0]}, word {place[1]}: '{word}' is not a cell\n"
+            self.assertEqual((status, out, error.decode()), (1, b"", said))
 
     def test_files_and_usage(self):
         with tempfile.TemporaryDirectory() as room:

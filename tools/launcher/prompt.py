@@ -179,8 +179,9 @@ class Keyboard:
 
     def __init__(self, readline, program, folder):
         self.readline, self.program, self.folder = readline, program, folder
-        self.is_typing, self.path = False, None
+        self.is_typing, self.is_covered, self.path = False, False, None
         signal.signal(signal.SIGINT, self.interrupted)
+        readline.set_pre_input_hook(self.begin)
         readline.set_auto_history(False)
         readline.set_completer_delims(" \t")
         readline.set_completer(self.completed)
@@ -192,7 +193,7 @@ class Keyboard:
                 calls.rl_cleanup_after_signal, calls.rl_reset_after_signal, calls.rl_forced_update_display)
             signal.signal(signal.SIGTSTP, self.stopped)
         except (OSError, AttributeError):
-            pass
+            self.show = print
         try:
             self.path = self.history()
         except OSError as error:
@@ -222,12 +223,20 @@ class Keyboard:
             except OSError:
                 self.path = None
 
+    def begin(self):
+        """The prompt is shown, and keys will be read. Python takes no signal before that."""
+        if self.is_covered:
+            self.show()
+        self.is_typing, self.is_covered = True, False
+
     def interrupted(self, *_):
         """Ctrl-C: drops the line that is typed. The program doesn't notice."""
+        is_line = self.is_typing and self.readline.get_line_buffer()
+        print("" if is_line else f"\n({LEAVING})", flush=True)
         if self.is_typing:
-            print("" if self.readline.get_line_buffer() else f"\n({LEAVING})", flush=True)
+            self.is_typing = False  # so this is raised once, where it is caught
             raise KeyboardInterrupt
-        print("(an answer can't be cut short)", flush=True)
+        self.is_covered = True
 
     def stopped(self, *_):
         """Ctrl-Z: gives the terminal back to the shell, and shows the line again after `fg`."""
@@ -245,15 +254,13 @@ class Keyboard:
         """The lines that are typed, up to Ctrl-D. What is pasted may have several."""
         while True:
             try:
-                self.is_typing = True
                 text = input(PROMPT)
+                self.is_typing = False
             except KeyboardInterrupt:
                 continue
             except EOFError:
                 print()
                 return
-            finally:
-                self.is_typing = False
             for line in text.split("\n"):
                 self.keep(line)
                 yield line

@@ -1,0 +1,320 @@
+"""The prompt of `s2calc run` at a terminal, key by key, beside bc and sqlite3: keys.py [PROGRAM [TEST..]]."""
+import os
+import re
+import signal
+import sys
+import tempfile
+import time
+import unittest
+
+import pexpect
+
+TESTS = os.path.dirname(os.path.dirname(os.path.realpath(__file__)))
+if len(sys.argv) > 1:
+    os.environ["S2CALC"] = os.path.realpath(sys.argv[1])
+sys.path += [TESTS, os.path.join(TESTS, "program")]
+from counting import has_failed  # noqa: E402
+from process import LAUNCHER, PROGRAM, TOP, ran  # noqa: E402
+
+PROMPT = "s2calc> "
+UP, LEFT, BACKSPACE, INTERRUPT, END, STOP = "\x1b[A", "\x1b[D", "\x7f", "\x03", "\x04", "\x1a"
+SECONDS = 60  # on a machine with much else to do
+
+
+def session_of_the_page():
+    """What is typed at each prompt of the page's session, and what is then shown."""
+    with open(os.path.join(TOP, "docs/SCRIPT.md"), encoding="utf-8") as it:
+        shown = re.search(r"^```console\n\$ s2calc run\n(.*?)^```$", it.read(), re.M | re.S)[1]
+    banner, *parts = shown.split(PROMPT)
+    return banner, [part.partition("\n")[::2] for part in parts]
+
+
+class Keys(unittest.TestCase):
+    def setUp(self):
+        room = tempfile.TemporaryDirectory()
+        self.addCleanup(room.cleanup)
+        self.room = room.name
+        os.mkdir(os.path.join(self.room, "empty"))
+        with open(os.path.join(self.room, "inputrc"), "w", encoding="ascii") as it:
+            it.write("set enable-bracketed-paste off\nset bell-style none\n")
+        self.environment = {
+            "S2CALC_PROGRAM": PROGRAM, "PATH": "/usr/bin:/bin", "HOME": self.room, "TERM": "xterm", "LC_ALL": "C.UTF-8",
+            "XDG_STATE_HOME": os.path.join(self.room, "state"), "INPUTRC": os.path.join(self.room, "inputrc"),
+        }
+
+    def spawned(self, command, *words, **environment):
+        """A program at a terminal of its own."""
+        session = pexpect.spawn(command, list(words), cwd=self.room, env={**self.environment, **environment},
+                                timeout=SECONDS, encoding="utf-8", dimensions=(60, 200))
+        session.delaybeforesend = None
+        self.addCleanup(session.close, True)
+        return session
+
+    def shown(self, session, end=PROMPT):
+        """What is shown before the next prompt, or before this end."""
+        session.expect_exact(end) if isinstance(end, str) else session.expect(end)
+        return session.before.replace("\r\n", "\n")
+
+    def started(self, *words, **environment):
+        """A session whose first prompt is shown."""
+        session = self.spawned(LAUNCHER, *(words or ["run"]), **environment)
+        session.banner = self.shown(session)
+        return session
+
+    def answered(self, session, keys, echo=None):
+        """What is shown after these keys and Enter, without the keys' echo."""
+        session.send(keys + "\r")
+        shown = self.shown(session)
+        echo = keys if echo is None else echo
+        self.assertEqual(shown[:len(echo) + 1], echo + "\n")
+        return shown[len(echo) + 1:]
+
+    def status(self, session, keys=END):
+        session.send(keys)
+        self.shown(session, pexpect.EOF)
+        session.close()
+        return session.exitstatus if session.signalstatus is None else -session.signalstatus
+
+    # ---- the session
+
+    def test_the_session_of_the_page(self):
+        banner, lines = session_of_the_page()
+        session = self.started()
+        self.assertEqual(session.banner, banner)
+        version = ran("--version")[1].decode().strip()
+        self.assertEqual(banner, f"{version}: 'help' for help, Ctrl-D to leave\n")
+        self.assertGreater(len(lines), 3)
+        for line, answer in lines[:-1]:
+            self.assertEqual(self.answered(session, line), answer)
+        self.assertEqual(lines[-1], ("", ""))
+        self.assertEqual(self.status(session), 1)  # a line was refused
+
+    def test_leaving(self):
+        for keys in ("quit\r", "exit\r", "  exit \r", END):
+            self.assertEqual(self.status(self.started(), keys), 0)
+        session = self.started()
+        self.assertEqual(self.answered(session, "count"), "error syntax\n  a register (a to z) is missing\n")
+        self.assertEqual(self.status(session, "quit\r"), 1)
+
+    def test_prompt_wanted_or_not(self):
+        session = self.started("run", "--prompt", "--limit", "1", "-")
+        self.assertTrue(session.banner.startswith("s2calc "))
+        self.assertIn("error too-many", self.answered(session, "add a 1 3"))
+        for words in ["run", "--no-prompt"], ["run", "-c", "count a"]:
+            session = self.spawned(LAUNCHER, *words)
+            session.send("count a\r" if words[1] == "--no-prompt" else "")
+            shown = self.shown(session, "leaves 0\r\n")
+            self.assertEqual(shown.replace("count a\n", ""), "cells 0 ")
+            self.assertEqual(self.status(session, END if words[1] == "--no-prompt" else ""), 0)
+
+    def test_usage_faults_have_no_banner(self):
+        session = self.spawned(LAUNCHER, "run", "--limit", "0")
+        self.assertTrue(self.shown(session, pexpect.EOF).startswith("s2calc: usage\nerror: invalid value '0'"))
+        session.close()
+        self.assertEqual(session.exitstatus, 2)
+
+    def test_help(self):
+        session = self.started()
+        whole = self.answered(session, "help")
+        self.assertEqual(self.answered(session, "?"), whole)
+        own = ran("run", "--help")[1].decode()
+        self.assertTrue(whole.startswith(own[own.index("The script has one command"):].rstrip("\n")))
+        self.assertEqual(self.answered(session, "help add"),
+                         "add r CELL..\n    adds the cells\nerrors: register, cell, too-many, memory, syntax\n"
+                         "example: add a 04 0c 14\n")
+        self.assertEqual(self.answered(session, "? add"), self.answered(session, "help add"))
+        self.assertEqual(self.answered(session, "help ad"), "'ad' is not a command; did you mean 'add', 'at'?\n")
+        self.assertEqual(self.status(session), 0)
+
+    def test_hints(self):
+        session = self.started()
+        for line, hint in (("hlep", "; did you mean 'help'?"), (".help", "; did you mean 'help'?"),
+                           ("quti", "; did you mean 'quit'?"), (".quit", "; did you mean 'quit'?"),
+                           ("q", "; did you mean 'quit'?"), ("exit()", "; did you mean 'exit'?"), ("walk", ""),
+                           ("cuont a", "; did you mean 'count'?"), ("un", "; did you mean 'union', 'undo'?"),
+                           ("h", "; did you mean 'has', 'history', 'help'?")):
+            self.assertEqual(self.answered(session, line),
+                             f"error syntax\n  '{line.split()[0]}' is not a command{hint}\n")
+
+    # ---- keys
+
+    def test_interrupt(self):
+        """Ctrl-C drops a line, and never the registers."""
+        session = self.started()
+        self.assertEqual(self.answered(session, "add a 04 0c"), "ok 0 2\n")
+        for _ in range(3):
+            session.send("clear a")
+            self.shown(session, "clear a")
+            session.send(INTERRUPT)
+            self.assertEqual(self.shown(session).strip("^C"), "\n")
+            session.send(INTERRUPT)
+            self.assertEqual(self.shown(session).strip("^C"), "\n(Ctrl-D or 'quit' leaves)\n")
+        self.assertEqual(self.answered(session, "count a"), "cells 2 leaves 576460752303423488\n")
+        self.assertEqual(self.status(session), 0)
+
+    def test_beside_others(self):
+        """The same keys: a line is edited, Ctrl-C at an empty one keeps the session, Up brings a line back."""
+        for command, words, first, edited, answer, said, line, other, leave in (
+            (LAUNCHER, ["run"], "show b", "cout a" + 3 * LEFT + "n", "cells 0", "leaves)", "at 0 0 0", "cell", "quit"),
+            ("bc", ["-q"], "2+3", "12" + 2 * LEFT + "7-", "-5", "to exit", "100+5", "105", "quit"),
+            ("sqlite3", [], "select 5;", "select 41+;" + LEFT + "1", "42", "", "select 2;", "2", ".quit"),
+        ):
+            with self.subTest(command=command):
+                session = self.spawned(command, *words)
+                for keys, shown in ((first, "\n(end|5)\r"), (edited, f"\n{answer}"), (INTERRUPT, re.escape(said)),
+                                    (line, f"\n{other}"), (UP, f"\n{other}")):
+                    session.send(keys if keys == INTERRUPT else keys + "\r")
+                    session.expect(shown)
+                self.assertEqual(self.status(session, leave + "\r"), 0)
+
+    def test_end_after_half_a_line(self):
+        session = self.started()
+        session.send("count a" + END)
+        self.assertEqual(self.answered(session, "", "count a"), "cells 0 leaves 0\n")
+        self.assertEqual(self.status(session), 0)
+
+    def test_history_over_two_runs(self):
+        for command, words, line, answer in ((LAUNCHER, ["run"], "count a", "cells 0"),
+                                             ("sqlite3", [], "select 41+1;", "42")):
+            for keys in (line, UP):
+                session = self.spawned(command, *words)
+                session.expect_exact("> ")
+                session.send(keys + "\r")
+                session.expect_exact(f"\n{answer}")
+                session.expect_exact("> ")
+                self.assertEqual(self.status(session), 0)
+        with open(os.path.join(self.room, "state/s2calc/history"), encoding="utf-8") as it:
+            self.assertEqual(it.read(), "count a\n")  # which stands once, though it was given twice
+        self.assertEqual(os.stat(it.name).st_mode & 0o777, 0o600)
+
+    def test_tab(self):
+        for name in ("parks", "paths", "no name", ".hidden"):
+            with open(os.path.join(self.room, name), "wb"):
+                pass
+        os.mkdir(os.path.join(self.room, "parkways"))
+        session = self.started()
+        for keys, line in (("cou\ta", "count a "), ("he\t", "help "), ("help und\t", "help undo "),
+                           ("load a par\t", "load a parks "), ("qui\t", "quit ")):
+            session.send(keys)
+            self.shown(session, line.rstrip())
+            session.send(INTERRUPT)
+            self.shown(session)
+        session.send("load a pa\t\t")
+        self.assertEqual(self.shown(session, re.compile(r"parks\s+paths")).count("pa"), 1)
+        session.send(INTERRUPT)
+        self.shown(session)
+        session = self.started("run", "--dir", "empty")
+        session.send("load a p\t\t" + INTERRUPT)
+        self.assertNotIn("parks", self.shown(session))
+
+    def test_stop_and_go_on(self):
+        """Ctrl-Z, and `fg` in a shell: the line is there again."""
+        shell = self.spawned("bash", "--norc", "--noprofile", "-i", PS1="$ ")
+        self.shown(shell, "$ ")
+        shell.send(f"{LAUNCHER} run\r")
+        self.shown(shell)
+        self.answered(shell, "add a 04")
+        shell.send("count b" + BACKSPACE)
+        self.shown(shell, "count b\b\x1b[K")
+        shell.send(STOP)
+        self.shown(shell, "Stopped")
+        self.shown(shell, "$ ")
+        shell.send("fg\r")
+        self.shown(shell)
+        self.shown(shell, "count ")
+        shell.send("a\r")
+        self.assertIn("cells 1 leaves", self.shown(shell))
+        shell.send(END)
+        self.shown(shell, "$ ")
+        shell.send("echo $?\r")
+        shell.expect(r"\n0\r\n")
+
+    # ---- lines and answers
+
+    def test_lines_of_odd_lengths_and_bytes(self):
+        session = self.started()
+        session.send("x" * 5000 + "\r")
+        self.assertRegex(self.shown(session), "\nerror line\n  .*4096 bytes")
+        session.send("add a " + "1 " * 2045 + "\r")
+        self.assertTrue(self.shown(session).endswith("\nok 0 1\n"))
+        self.assertIn(r"'\xc3\xa9' is not a command", self.answered(session, "é"))
+        self.assertEqual(self.answered(session, ""), "")
+        self.assertEqual(self.answered(session, "# count b"), "")
+
+    def test_lines_typed_ahead(self):
+        session = self.started()
+        session.send("add a 04\rdenorm a 8 1\radd a 0c\rcount a\r")
+        shown = "".join(self.shown(session) for _ in range(4))
+        self.assertEqual(re.findall(r"^(?:ok|cells) .*$", shown, re.M),
+                         ["ok 0 1", "ok 0 1", "cells 2 leaves 576460752303423488"])
+        self.assertEqual(len(re.findall(r"^[0-9a-f]{5}$", shown, re.M)) > 10000, True)
+
+    def test_answers_in_a_file(self):
+        """Then the reason has the error's name, which isn't seen otherwise."""
+        shell = self.spawned("sh", "-c", f"{LAUNCHER} run >answers")
+        self.shown(shell)
+        self.assertEqual(self.answered(shell, "count a"), "")
+        self.assertEqual(self.answered(shell, "count"), "  error syntax: a register (a to z) is missing\n")
+        self.assertEqual(self.status(shell), 1)
+        with open(os.path.join(self.room, "answers"), "rb") as it:
+            self.assertEqual(it.read(), b"cells 0 leaves 0\nerror syntax\n")
+
+    # ---- what fails
+
+    def test_without_readline_or_python(self):
+        path = os.path.join(self.room, "python3")
+        with open(path, "w", encoding="ascii") as it:
+            it.write("#!/bin/sh\nexec /usr/bin/python3 -c 'import runpy, sys; sys.modules[\"readline\"] = None; "
+                     "del sys.argv[:2]; runpy.run_path(sys.argv[0], run_name=\"__main__\")' \"$@\"\n")
+        os.chmod(path, 0o755)
+        for folders, missing in ((f"{self.room}:/usr/bin:/bin", "python3 has no readline"),
+                                 (os.path.join(self.room, "empty"), "python3 is missing")):
+            session = self.started(PATH=folders)
+            self.assertEqual(session.banner, f"s2calc: {missing}, so there are no keys, no history and no help\n")
+            self.assertEqual(self.answered(session, "count a"), "cells 0 leaves 0\n")
+            self.assertEqual(self.status(session), 0)
+
+    def test_state_that_can_not_be_kept(self):
+        session = self.started(XDG_STATE_HOME="/dev/null/x")
+        self.assertIn("s2calc: lines are not kept for the next time: /dev/null/x", session.banner)
+        self.answered(session, "count a")
+        self.assertEqual(self.answered(session, UP, "count a"), "cells 0 leaves 0\n")
+        self.assertEqual(self.status(session), 0)
+
+    def child(self, session):
+        with open(f"/proc/{session.pid}/task/{session.pid}/children", encoding="ascii") as it:
+            return int(it.read().split()[0])
+
+    def test_the_program_ends(self):
+        session = self.started()
+        os.kill(self.child(session), signal.SIGKILL)
+        session.send("count a\r")
+        self.assertIn("\ns2calc: the program was ended by signal 9\n", self.shown(session, pexpect.EOF))
+        session.close()
+        self.assertEqual(session.exitstatus, 137)
+        shell = self.spawned("sh", "-c", f"{LAUNCHER} run >/dev/full")
+        self.shown(shell)
+        shell.send("count a\r")
+        self.assertIn("\ns2calc: output\n", self.shown(shell, pexpect.EOF))
+        shell.close()
+        self.assertEqual(shell.exitstatus, 2)
+
+    def test_the_terminal_goes_away(self):
+        """In the middle of a line. Then the program ends too."""
+        session = self.started()
+        session.send("add a 04")
+        self.shown(session, "add a 04")
+        child, until = self.child(session), time.monotonic() + SECONDS
+        session.close(True)
+        while os.path.exists(f"/proc/{child}"):
+            with open(f"/proc/{child}/stat", encoding="ascii") as it:
+                if it.read().split()[2] == "Z":
+                    break
+            self.assertLess(time.monotonic(), until)
+            time.sleep(0.05)
+
+
+if __name__ == "__main__":
+    loader = unittest.TestLoader()
+    loader.testNamePatterns = [f"*{name}*" for name in sys.argv[2:]] or None
+    sys.exit(has_failed(loader.loadTestsFromTestCase(Keys)))
