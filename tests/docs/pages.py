@@ -4,14 +4,14 @@ specs/Working if no public contract needs it; every relative link of every page 
 if the link's text is names of the sources, the file has them, as it has those that a page says are in it; each path
 in backticks is there; the files that docs/ARCHITECTURE.md walks through have the functions that it names, and one
 calls another where it says so; each language has what docs/FROM_S2.md says it has; docs/TROUBLESHOOTING.md has each
-error that the sources make, and no others; docs/CONCEPTS.md has the edges and numbers of cells of all levels; what
-can't read the file VERSION has the version that it gives; CHANGELOG.md says nothing twice; a contract has a limit as
-a number only where docs/EXTENDING.md says so; each part that a text names after `tests/run` is one; each command of
-tools/ and bench/ prints its usage with --help, and does nothing else; and what is a command, a file whose name has
-no ending and which names its interpreter, is executable, and no other file is. The last line is 'N passed, M
-failed', where N counts the definitions, the links, the paths, the names, the calls, the errors, the levels, the
-places of the version, the changes, the limits, the parts, the commands and the files. A check that has nothing to
-look at fails.
+error that the sources make, and no others; docs/CONCEPTS.md has the edges and numbers of cells of all levels;
+docs/README.md leads to each page; README.md has fewer than 10,000 bytes; what can't read the file VERSION has the
+version that it gives; CHANGELOG.md says nothing twice; a contract has a limit as a number only where
+docs/EXTENDING.md says so; each part that a text names after `tests/run` is one; each command of tools/ and bench/
+prints its usage with --help, and does nothing else; and what is a command, a file whose name has no ending and which
+names its interpreter, is executable, and no other file is. The last line is 'N passed, M failed', where N counts the
+definitions, the links, the paths, the names, the calls, the errors, the levels, the places of the version, the
+changes, the limits, the parts, the commands and the files. A check that has nothing to look at fails.
 """
 import functools
 import re
@@ -259,6 +259,19 @@ def unexplained():
     return count, wrong
 
 
+def unlisted():
+    """The number of pages in docs/, and those to which their index doesn't lead."""
+    names = [name.removeprefix("docs/") for name in tracked(ROOT, "docs/*.md")]
+    links = {link for link, _ in LINK.findall((ROOT / "docs" / "README.md").read_text())}
+    return len(names), [name for name in names if name not in links | {"README.md"}]
+
+
+def too_long():
+    """README.md, and its length if that is 10,000 bytes or more."""
+    length = (ROOT / "README.md").stat().st_size
+    return 1, [f"{length} bytes"] if length >= 10_000 else []
+
+
 def wrong_levels():
     """The rows of the table in docs/CONCEPTS.md, and those that haven't S2's average edge, to three digits, and number
     of cells."""
@@ -328,6 +341,8 @@ CHECKS = {
     "leads nowhere": broken_links,
     "not defined in the file that is linked or named": lost_names,
     "docs/TROUBLESHOOTING.md and the sources differ": unexplained,
+    "not in the index docs/README.md": unlisted,
+    "README.md is too long": too_long,
     "the table of levels": wrong_levels,
     "another version": other_versions,
     "docs/ARCHITECTURE.md": calls_on_the_walk,
