@@ -6,8 +6,8 @@ in backticks is there; the files that docs/ARCHITECTURE.md walks through have th
 calls another where it says so; each language has what docs/FROM_S2.md says it has; docs/TROUBLESHOOTING.md has each
 error that the sources make, and no others; docs/CONCEPTS.md has the edges and numbers of cells of all levels;
 docs/README.md leads to each page; README.md has fewer than 10,000 bytes; what can't read the file VERSION has the
-version that it gives; CHANGELOG.md says nothing twice; a contract has a limit as a number only where
-docs/EXTENDING.md says so; each part that a text names after `tests/run` is one; each command of tools/ and bench/
+version that it gives, and a page that names the kit names the one of the file KIT; CHANGELOG.md says nothing twice;
+a contract has a limit as a number only where docs/EXTENDING.md says so; each part that a text names after `tests/run` is one; each command of tools/ and bench/
 prints its usage with --help, and does nothing else; and what is a command, a file whose name has no ending and which
 names its interpreter, is executable, and no other file is. The last line is 'N passed, M failed', where N counts the
 definitions, the links, the paths, the names, the calls, the errors, the levels, the places of the version, the
@@ -296,6 +296,13 @@ def other_versions():
     return len(VERSIONS), others
 
 
+def other_kits():
+    """The number of pages that name a kit of Rattle, and those that name another one than the file KIT."""
+    kit = (ROOT / "KIT").read_text().strip()
+    named = [(page, it) for page in pages() for it in re.findall(r"rattle-kit-\w+ logic \w+", page.read_text())]
+    return len(named), [f"{page.relative_to(ROOT)}: {it}" for page, it in named if it != kit]
+
+
 def unknown_parts():
     """The number of parts that texts name after tests/run, and those that it doesn't have, as 'file: part'."""
     parts = {"--tier", "gate", "full", "bench", *PART.findall((ROOT / "tests" / "run").read_text())}
@@ -345,6 +352,7 @@ CHECKS = {
     "README.md is too long": too_long,
     "the table of levels": wrong_levels,
     "another version": other_versions,
+    "another kit": other_kits,
     "docs/ARCHITECTURE.md": calls_on_the_walk,
     "CHANGELOG.md says twice": said_twice,
     "a limit as a number": limits_as_numbers,
