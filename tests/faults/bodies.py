@@ -10,14 +10,12 @@ one can be seen in the row of the other. The last line is 'N passed, M failed'.
 """
 import collections
 import contextlib
-import glob
 import itertools
 import os
 import re
 import subprocess
 import sys
 import tempfile
-import time
 
 TOP = os.path.dirname(os.path.dirname(os.path.dirname(os.path.realpath(__file__))))
 FOLDER = os.path.join(TOP, "tests", "faults", "let-through")
@@ -31,34 +29,15 @@ ASKED = [
 sys.path += [os.path.join(TOP, "tests"), os.path.join(TOP, "tests", "mutants"), os.path.join(TOP, "tools")]
 from checks import copy_tracked  # noqa: E402
 from mutant_texts import CRATE, TEST, make  # noqa: E402
-from over_gate import crate_of, words_of_trial  # noqa: E402
+from over_gate import build_unproved, crate_of, words_of_trial  # noqa: E402
 
 
 def built(copy):
-    """The program of the copy, built unproved, or None. A trial deletes what it built as soon as it has run, so a link
-    is made to it in time; on a busy machine that may take more than one trial."""
+    """The program of the copy, built unproved, or None."""
     program = os.path.join(copy, "program")
     with contextlib.suppress(FileNotFoundError):
         os.remove(program)
-    return program if any(build(copy, program) for _ in range(3)) else None
-
-
-def build(copy, to):
-    """Builds the program of the copy in a trial, and answers whether there was time for a link to it."""
-    crate = crate_of("calculator", copy)
-    with tempfile.TemporaryDirectory(dir=copy) as room:
-        trial = subprocess.Popen(
-            words_of_trial(crate, "--stdin", os.devnull, "--arg", "run"), cwd=crate.folder,
-            env={**os.environ, "TMPDIR": room}, stdin=subprocess.DEVNULL, stdout=subprocess.DEVNULL,
-            stderr=subprocess.DEVNULL,
-        )
-        while trial.poll() is None and not os.path.exists(to):
-            for program in glob.glob(os.path.join(room, "*", "program")):
-                with contextlib.suppress(FileNotFoundError):
-                    os.link(program, to)
-            time.sleep(0.001)
-        trial.wait()
-    return os.path.exists(to)
+    return program if build_unproved(crate_of("calculator", copy), program) else None
 
 
 def said_by(command, folder):

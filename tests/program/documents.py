@@ -20,12 +20,14 @@ def has_gnu_parallel():
 
 # A kit that proves nothing. While it builds the program, a source changes if $CHANGE says so.
 KIT = """#!/bin/sh
-case $1 in
-  run)
-    [ -z "$CHANGE" ] || echo >>../s2cell/src/lib.rt
-    mkdir -p out && printf '#!/bin/sh\necho proved\n' >out/calculator && chmod 755 out/calculator ;;
-  try) echo unproved ;;
-esac
+[ -z "$CHANGE" ] || echo >>../s2cell/src/lib.rt
+case $1 in run) mkdir -p out && printf '#!/bin/sh\necho proved\n' >out/calculator && chmod 755 out/calculator ;; esac
+"""
+# What stands for tools/unproved: it takes its time, and counts its builds.
+UNPROVED = """#!/bin/sh
+sleep 0.2
+echo >>"$COUNT"
+printf '#!/bin/sh\necho unproved; cat\n' >"$1" && chmod 755 "$1"
 """
 
 
@@ -39,7 +41,8 @@ class Launcher(unittest.TestCase):
         os.symlink(os.path.join(TOP, "s2calc"), self.link)
 
     def test_through_a_symbolic_link_and_from_another_folder(self):
-        done = subprocess.run([self.link, "cell", "1"], cwd=self.room, capture_output=True, timeout=60)
+        how = {"cwd": self.room, "env": {**os.environ, "S2CALC_QUIET": "1"}}
+        done = subprocess.run([self.link, "cell", "1"], capture_output=True, timeout=60, **how)
         self.assertEqual((done.returncode, done.stderr), (0, b""))
         self.assertEqual(done.stdout, b"cell 1 0/ level 0 face 0 leaves 0 1152921504606846975\n")
 
@@ -49,48 +52,118 @@ class Launcher(unittest.TestCase):
             os.makedirs(os.path.dirname(copy), exist_ok=True)
             shutil.copy(os.path.join(TOP, name), copy)
 
-    def test_a_source_that_changes_while_it_is_proved(self):
-        """Then the program is older than its sources, and not the one that is run; until all is proved again. A program
-        that isn't older stays, also where no kit is, if that is enough."""
-        self.copy("s2calc", "tools/launcher/launcher", "tools/prove", "tools/usage.sh", "crates.txt",
-                  "crates/s2cell/src/lib.rt")
+    def make_repository(self):
+        """Makes a repository of one source in the folder, with a kit, and answers how its commands are run."""
+        self.copy("s2calc", "tools/prove", "tools/usage.sh", "tools/sources.sh", "tools/sources.py",
+                  "tools/launcher/launcher", "tools/launcher/unbuilt",
+                  "VERSION", "KIT", "crates.txt", "crates/s2cell/src/lib.rt")
         with open(os.path.join(TOP, "crates.txt"), encoding="utf-8") as it:
             for line in it:
                 os.makedirs(os.path.join(self.room, "crates", re.match(r"\w+", line)[0]), exist_ok=True)
-        kit = os.path.join(self.room, "bin", "rt")
-        os.mkdir(os.path.dirname(kit))
-        with open(kit, "w", encoding="utf-8") as it:
-            it.write(KIT)
-        os.chmod(kit, 0o755)
-        how = {"cwd": self.room, "capture_output": True, "timeout": 60}
-        for change, answer in ("yes", b"unproved\n"), ("", b"proved\n"):
-            how["env"] = {"PATH": os.path.dirname(kit) + ":/usr/bin:/bin", "CHANGE": change}
+        for path, text in (("bin/rt", KIT), ("tools/unproved", UNPROVED)):
+            self.write(path, text)
+        return {"cwd": self.room, "capture_output": True, "timeout": 60, "text": True}
+
+    def write(self, path, text):
+        path = os.path.join(self.room, path)
+        os.makedirs(os.path.dirname(path), exist_ok=True)
+        with open(path, "w", encoding="utf-8") as it:
+            it.write(text)
+        os.chmod(path, 0o755)
+
+    def environment(self, has_kit=True, **more):
+        path = os.path.join(self.room, "bin") + ":/usr/bin:/bin" if has_kit else "/usr/bin:/bin"
+        return {"PATH": path, "COUNT": os.path.join(self.room, "count"), **more}
+
+    def builds(self):
+        with open(os.path.join(self.room, "count"), encoding="utf-8") as it:
+            return len(it.readlines())
+
+    def test_a_source_that_changes_while_it_is_proved(self):
+        """Then the program is older than its sources, and not the one that is run; until all is proved again. A program
+        that isn't older stays, also where no kit is."""
+        how = self.make_repository()
+        for change, answer in ("yes", "unproved\n"), ("", "proved\n"):
+            how["env"] = self.environment(CHANGE=change)
             subprocess.run(["tools/prove"], check=True, **how)
-            self.assertEqual(subprocess.run(["./s2calc", "cell", "1"], check=True, **how).stdout, answer)
-        how["env"] = {"PATH": "/usr/bin:/bin"}
+            done = subprocess.run(["./s2calc", "cell", "1"], check=True, input="", **how)
+            self.assertEqual(done.stdout, answer)
+        how["env"] = self.environment(has_kit=False)
         for source, status in ((None, 0), ("crates/s2cell/src/lib.rt", 2)):
             if source:
                 os.utime(os.path.join(self.room, source))
-            self.assertEqual(subprocess.run(["tools/prove", "--if-older"], check=False, **how).returncode, status)
+            self.assertEqual(subprocess.run(["tools/prove"], check=False, **how).returncode, status)
+
+    def test_the_program_of_the_release(self):
+        """It is run where it was proved from the sources that are here, and where no other can be had."""
+        how = self.make_repository()
+        how["env"] = self.environment(has_kit=False)
+        self.write("dist/s2calc", "#!/bin/sh\necho released\n")
+        sources = subprocess.run(["python3", "tools/sources.py"], check=True, **how).stdout.strip()
+        self.write("dist/README.md", f"- Sources: `{sources}`\n")
+        for has_kit in False, True:
+            how["env"] = self.environment(has_kit)
+            done = subprocess.run(["./s2calc", "run"], check=True, **how)
+            self.assertEqual((done.stdout, done.stderr), ("released\n", ""))
+        for path, text in ("crates/s2cell/src/lib.rt", "fn other() {}\n"), ("crates/s2cell/src/more.rt", ""):
+            self.write(path, text)
+            how["env"] = self.environment(has_kit=False)
+            done = subprocess.run(["./s2calc", "run"], check=True, **how)
+            self.assertEqual(done.stdout, "released\n")
+            self.assertIn("newer", done.stderr)
+            how["env"] = self.environment()
+            self.assertEqual(subprocess.run(["./s2calc"], check=True, input="", **how).stdout, "unproved\n")
+            os.remove(os.path.join(self.room, path))
+        self.copy("crates/s2cell/src/lib.rt")
+        done = subprocess.run(["./s2calc", "run"], check=True, **how)
+        self.assertEqual((done.stdout, done.stderr), ("released\n", ""))
+
+    def test_an_unproved_build_is_kept(self):
+        """It is made once, also by two calls at once, and says what it is; where it can't be kept it answers too."""
+        how = self.make_repository()
+        calls = [subprocess.Popen(["./s2calc", "run"], cwd=self.room, env=self.environment(), stdin=subprocess.PIPE,
+                                  stdout=subprocess.PIPE, stderr=subprocess.PIPE, text=True) for _ in range(2)]
+        for call in calls:
+            self.assertEqual(call.communicate("a script", timeout=60)[0], "unproved\na script")
+        self.assertEqual(self.builds(), 1)
+        note = "s2calc: not proved on this machine: tools/prove\n"
+        for more, notes in ({}, note), ({"S2CALC_QUIET": "1"}, ""):
+            done = subprocess.run(["./s2calc"], check=True, input="x", env=self.environment(**more), **how)
+            self.assertEqual((done.stdout, done.stderr), ("unproved\nx", notes))
+        self.assertEqual(self.builds(), 1)
+        self.write("bin/another", "the kit is another one\n")
+        subprocess.run(["./s2calc"], check=True, input="", env=self.environment(), **how)
+        self.assertEqual(self.builds(), 2)
+        shutil.rmtree(os.path.join(self.room, ".s2calc"))
+        self.write(".s2calc", "no folder\n")
+        for builds in 3, 4:
+            done = subprocess.run(["./s2calc"], check=True, input="x", env=self.environment(), **how)
+            self.assertEqual((done.stdout, self.builds()), ("unproved\nx", builds))
+            self.assertIn("can't be written", done.stderr)
 
     def test_where_no_program_and_no_kit_are(self):
-        self.copy("s2calc", "README.md", "crates/s2calc/src/command_line.rt")
-        with open(os.path.join(TOP, "README.md"), encoding="utf-8") as it:
-            readme = it.read()
-        kit = re.search(r"the kit `(rattle-kit-\w+ logic \w+)`", readme).group(1)
-        usage = re.search(r"^    \./s2calc run \[(?:.+\n)+", readme, re.M).group()
-        version = ran("--version")[1].decode()
-        whole = [version, usage, kit]
-        for words, status, answers in ((["--version"], 0, [version]), (["-V"], 0, [version]), (["--help"], 0, whole),
-                                       (["run", "-h"], 0, whole), (["draw", "--help"], 0, whole),
-                                       (["run"], 2, [kit]), (["cell", "1"], 2, [kit]), ([], 2, [kit])):
-            reader, writer = os.pipe()  # which stays open: nothing may wait for its end
-            with open(reader), open(writer):
-                done = subprocess.run([os.path.join(self.room, "s2calc"), *words], stdin=reader, stdout=subprocess.PIPE,
-                                      stderr=subprocess.STDOUT, env={"PATH": "/usr/bin:/bin"}, timeout=60, text=True)
-            self.assertEqual(done.returncode, status, words)
-            for answer in answers:
-                self.assertIn(answer, done.stdout)
+        self.make_repository()
+        with open(os.path.join(TOP, "KIT"), encoding="utf-8") as it:
+            kit = it.read().strip()
+        version, usage = ran("--version")[1].decode(), ran("--help")[1].decode()
+        for words, status, answer in ((["--version"], 0, version), (["-V"], 0, version), (["--help"], 0, usage),
+                                      (["help"], 0, usage), (["run", "-h"], 0, usage), (["draw", "--help"], 0, usage),
+                                      (["run"], 2, kit), (["cell", "1"], 2, kit), ([], 2, kit)):
+            for has_kit in (False, True) if words[:1] in (["--version"], ["--help"], ["help"]) else (False,):
+                reader, writer = os.pipe()  # which stays open: nothing may wait for its end
+                with open(reader), open(writer):
+                    done = subprocess.run(["./s2calc", *words], cwd=self.room, stdin=reader, stdout=subprocess.PIPE,
+                                          stderr=subprocess.STDOUT, env=self.environment(has_kit), timeout=60,
+                                          text=True)
+                self.assertEqual(done.returncode, status, words)
+                self.assertEqual(done.stdout if status == 0 else answer in done.stdout,
+                                 answer if status == 0 else True, words)
+
+    @unittest.skipUnless(shutil.which("rt"), "Rattle's kit is not there")
+    def test_the_kit_is_the_one_that_is_named(self):
+        with open(os.path.join(TOP, "KIT"), encoding="utf-8") as it:
+            self.assertEqual(it.read(), subprocess.run(["rt", "version"], capture_output=True, text=True,
+                                                       check=True, timeout=60).stdout)
 
 
 class Tools(unittest.TestCase):
