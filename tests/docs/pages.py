@@ -74,6 +74,7 @@ ERRORS = {
 # Where the version stands beside the file VERSION: a file, what comes before it and after it, and its form there.
 VERSIONS = [
     ("CHANGELOG.md", r"\A# .*\n+(?:## Unreleased\n+(?:- .*\n+)*)?## ", r"(?: |$)", "{0}.{1}.{2}"),
+    ("CITATION.cff", "\nversion: ", "\n", "{0}.{1}.{2}"),
     ("crates/s2calc/src/command_line.rt", r'\.version\("', '"', "{0}.{1}.{2}"),
     ("crates/s2union_c/src/cells.rt", r"fn s2u_version\(\) -> u32\n.*\n\{\n +", "\n", "{3}"),
     ("crates/s2union_c/include/s2union.h", '#define S2U_VERSION_TEXT "', '"', "{0}.{1}.{2}"),
