@@ -7,9 +7,9 @@ from pathlib import Path
 def tracked(top, *paths):
     """The files of a repository that git knows and that are there: those of these paths, or all if none is given. What
     tools/release made of them isn't among them."""
-    words = ["git", "ls-files", "-z", *paths, ":!dist"]
-    listed = subprocess.run(words, cwd=top, capture_output=True, text=True, check=True)
-    return [name for name in listed.stdout.split("\0")[:-1] if Path(top, name).is_file()]
+    listed = subprocess.run(["git", "ls-files", "-z", *paths], cwd=top, capture_output=True, text=True, check=True)
+    names = [name for name in listed.stdout.split("\0")[:-1] if not name.startswith("dist/")]
+    return [name for name in names if Path(top, name).is_file()]
 
 
 def copy_tracked(top, room, *paths):

@@ -7,7 +7,8 @@ calls another where it says so; each language has what docs/FROM_S2.md says it h
 error that the sources make, and no others; docs/CONCEPTS.md has the edges and numbers of cells of all levels;
 docs/README.md leads to each page; README.md has fewer than 10,000 bytes; what can't read the file VERSION has the
 version that it gives, and a page that names the kit names the one of the file KIT; CHANGELOG.md says nothing twice;
-a contract has a limit as a number only where docs/EXTENDING.md says so; each part that a text names after `tests/run` is one; each command of tools/ and bench/
+a contract has a limit as a number only where docs/EXTENDING.md says so; each part that a text names after `tests/run`
+is one; each command of tools/ and bench/
 prints its usage with --help, and does nothing else; and what is a command, a file whose name has no ending and which
 names its interpreter, is executable, and no other file is. The last line is 'N passed, M failed', where N counts the
 definitions, the links, the paths, the names, the calls, the errors, the levels, the places of the version, the

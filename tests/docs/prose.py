@@ -34,12 +34,12 @@ def has(form):
 
 
 HABITS = {
-    "'but for'": Habit(has(r"\b[Bb]ut for\b"), 6),
-    "'is no' and 'is none'": Habit(has(r"(?<![Tt]here )\b(?:is|are) (?:no|none)\b(?! (?:longer|more|less)\b)"), 11),
-    "begins with a free what, who, where or that": Habit(has(r"^(?:What|Whoever|Who|Where|That)\b(?!.*\?$)"), 33),
+    "'but for'": Habit(has(r"\b[Bb]ut for\b"), 0),
+    "'is no' and 'is none'": Habit(has(r"(?<![Tt]here )\b(?:is|are) (?:no|none)\b(?! (?:longer|more|less)\b)"), 3),
+    "begins with a free what, who, where or that": Habit(has(r"^(?:What|Whoever|Who|Where|That)\b(?!.*\?$)"), 9),
     "begins with a word that points back": Habit(
-        has(r"^(?:It|This|These|Those|They|So|Such|The same)\b"), 58),
-    f"more than {MOST_WORDS} words": Habit(lambda sentence: len(sentence.split()) > MOST_WORDS, 28),
+        has(r"^(?:(?:This|These|Those) (?:is|are|was|were|has|have|holds?|means?)|They|So|Such|The same)\b"), 38),
+    f"more than {MOST_WORDS} words": Habit(lambda sentence: len(sentence.split()) > MOST_WORDS, 12),
 }
 
 
