@@ -8,7 +8,7 @@ TOP = os.path.dirname(os.path.dirname(os.path.dirname(os.path.realpath(__file__)
 PROGRAM = os.environ.get("S2CALC", os.path.join(TOP, "crates/calculator/out/calculator"))
 LAUNCHER = os.path.join(TOP, "tools/launcher/launcher")
 FACE = b"ok 0 1\n"
-# The most that a call may take: some take minutes in the builds that tests/faults/bodies.py makes, which check all.
+# The most that a call may take, on a busy machine and by an unproved build.
 SECONDS = 1200
 
 
