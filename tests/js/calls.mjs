@@ -33,12 +33,13 @@ export class Given {
 
   /** The cells and all that contain them. */
   get ancestors() {
+    if (this.found) return this.found;
     const above = (id, level) => {
       const size = 4n ** BigInt(30 - level);
       return id / (2n * size) * (2n * size) + size;
     };
     const levels = Array.from({length: 31}, (_, level) => new Set(Array.from(this.cells, (id) => above(id, level))));
-    return BigUint64Array.from(levels.flatMap((ids) => [...ids])).sort();
+    return (this.found = BigUint64Array.from(levels.flatMap((ids) => [...ids])).sort());
   }
 }
 

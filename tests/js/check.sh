@@ -14,7 +14,7 @@ over_a_stand_in() { # the package as tools/page makes it, but with the stand-in 
 
 need node nodejs
 if [ "${1:-}" = --short ]; then
-  rounds=60 version=1.23.45 cells=9000
+  rounds=60 version=1.23.45 cells=3000
   need_packages
   step "the package, over a stand-in for its module" over_a_stand_in
 else

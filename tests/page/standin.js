@@ -109,8 +109,11 @@ function standIn() {
     const edges = [0n, ...joined(xs).flat(), 6n * FACE_SIZE];
     return edges.flatMap((edge, k) => (k % 2 ? [] : [[edge, edges[k + 1]]]));
   };
-  const isSame = (xs, ys) => xs.length === ys.length && xs.every((x, k) => x === ys[k]);
-  const isNormal = (ids) => ids.every(isCell) && isSame(normalForm(ids.map(runOf)), ids);
+  const above = (id) => (id & -(4n * low(id))) | (4n * low(id));
+  const endsFour = (ids, k) => k > 2 && low(ids[k]) < FACE_SIZE && [1, 2, 3].every(
+    (back) => above(ids[k - back]) === above(ids[k]));
+  const isNormal = (ids) => ids.every((id, k) =>
+    isCell(id) && (k === 0 || runOf(ids[k - 1])[1] <= runOf(id)[0]) && !endsFour(ids, k));
   const ofTwo = (operation) => (xs, nx, ys, ny, ...place) =>
     made(normalForm(operation(cellsAt(xs, nx).map(runOf), cellsAt(ys, ny).map(runOf))), BigUint64Array, ...place);
   const sizeOf = (runs) => runs.reduce((sum, [first, end]) => sum + end - first, 0n);
@@ -294,7 +297,8 @@ function standIn() {
   const signedWord = (word) => (typeof word === "bigint" ? BigInt.asIntN(64, word) : word);
   const passing = Object.entries(calls).map(
     ([name, call]) => [name, (...words) => signedWord(call(...words.map(unsignedWord)))]);
-  return {exports: {memory, __heap_base: {value: 1024n}, ...Object.fromEntries(passing)}};
+  const base = {value: 63n * 1024n}; // little is free, so that a short list lets the memory grow
+  return {exports: {memory, __heap_base: base, ...Object.fromEntries(passing)}};
 }
 
 WebAssembly.instantiate = async (bytes) => {
