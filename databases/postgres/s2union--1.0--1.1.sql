@@ -358,8 +358,8 @@ COMMENT ON OPERATOR && (s2union, s2union) IS 'whether they share a leaf';
 COMMENT ON OPERATOR && (s2union, bigint) IS 'whether they share a leaf';
 COMMENT ON OPERATOR && (bigint, s2union) IS 'whether they share a leaf';
 COMMENT ON FUNCTION s2_cells(s2union, integer, integer)
-  IS 'the cells, larger ones cut: each is of the next of the levels level, level + modulus, level + 2 modulus, .. and '
-  '30. Errors: a level outside 0 to 30, a modulus outside 1 to 3';
+  IS 'the cells, cut so that each is of level level, level + modulus, level + 2 modulus, .. or 30. Errors: a level '
+  'outside 0 to 30, a modulus outside 1 to 3';
 COMMENT ON AGGREGATE s2_union_agg(bigint) IS 'the union of all rows';
 COMMENT ON FUNCTION s2_version() IS 'the version of the code that is loaded';
 COMMENT ON FUNCTION s2_outer(integer, integer, integer, integer, integer, integer)

@@ -590,8 +590,8 @@ RETURNS bigint[]
 AS 'MODULE_PATHNAME', 's2union_cells_cut'
 LANGUAGE C IMMUTABLE STRICT PARALLEL SAFE COST 1000 SUPPORT s2union_support;
 COMMENT ON FUNCTION s2_cells(s2union, integer, integer)
-  IS 'the cells, larger ones cut: each is of the next of the levels level, level + modulus, level + 2 modulus, .. and '
-  '30. Errors: a level outside 0 to 30, a modulus outside 1 to 3';
+  IS 'the cells, cut so that each is of level level, level + modulus, level + 2 modulus, .. or 30. Errors: a level '
+  'outside 0 to 30, a modulus outside 1 to 3';
 
 CREATE FUNCTION s2_ancestors(region s2union)
 RETURNS bigint[]

@@ -221,7 +221,7 @@ class Catalogue(Tests):
         """Of each function and number of arguments: their names, and what the table of functions of a page says."""
         rows = {}
         text = (PAGES / page).read_text()
-        for calls, said in re.findall(r"^\| (`\w+\(.*?\)`(?:, `.*?`)*) \| (.*) \|$", text, re.M):
+        for calls, said in re.findall(r"^\| (`\w+\(.*?\)`(?:, `.*?`)*) \| (?:.* \| )?(.*) \|$", text, re.M):
             for name, names in re.findall(r"`(\w+)\((.*?)\)`", calls):
                 rows[name, len(names.split(",")) if names else 0] = (names, said)
         return rows
@@ -297,7 +297,8 @@ class Updates(unittest.TestCase):
             INSERT INTO regions SELECT k, s2_leaf(0, k * 1000000, k * 900000)::s2union, s2_leaf(0, k, k)
                 FROM generate_series(1, 999) k;
             CREATE INDEX ON regions USING gin (region);
-            CREATE INDEX ON regions (leaf);
+            CREATE INDEX ON regions (leaf); CREATE INDEX ON regions (region);
+            CREATE INDEX ON regions USING hash (region);
             CREATE INDEX regions_level ON regions (s2_level(leaf));
             CREATE VIEW counts AS SELECT s2_count(region) AS n FROM regions WHERE region @> s2_leaf(0, 1000000, 900000);
             CREATE VIEW tiles AS SELECT s2_parent(leaf, 24) AS tile FROM regions WHERE NOT s2_contains(region, '04');
