@@ -1,7 +1,7 @@
 """Only the library knows about cells: the C of an extension has no shift, no mask and no modulus.
 
-no_arithmetic.py FILE: prints what it finds. Flags in capitals, the alignment of blocks and the version of Python's API
-are permitted."""
+no_arithmetic.py FILE: prints what it finds. Flags in capitals, the alignment of blocks, the buckets of a hash and the
+version of Python's API are permitted."""
 
 import re
 import sys
@@ -11,7 +11,7 @@ ARITHMETIC = re.compile(
     r"<<|>>|~|\^|[&|%]=|__builtin|\b0[xX][0-9a-fA-F]{3,}|[\w)\]](?:(?:&(?!&)|\|(?!\|)|%)[\w(]|\s+[&|%]\s)"
 )
 FLAGS = re.compile(r"\b[A-Z][A-Z0-9_]+(?:\s*\|\s*[A-Z][A-Z0-9_]+)+\b")
-ALIGNED = re.compile(r"% (?:ALIGNMENT|sizeof\(uint64_t\))|^#define Py_LIMITED_API .*$", re.M)
+ALIGNED = re.compile(r"% (?:ALIGNMENT|BUCKETS|sizeof\(uint64_t\))|^#define Py_LIMITED_API .*$", re.M)
 
 
 def main(path):

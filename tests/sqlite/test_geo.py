@@ -8,6 +8,7 @@ import sqlite3
 import unittest
 
 from places import MIDDLES, POINTS
+from test_sqlite import NO_CELLS
 
 EXTENSION = os.path.join(os.path.dirname(os.environ["S2UNION_SQLITE"]), "mod_s2union_geo.so")
 
@@ -61,6 +62,15 @@ class Points(unittest.TestCase):
             with self.subTest(call=call), self.assertRaises(sqlite3.OperationalError) as caught:
                 self.said(call, *values)
             self.assertEqual(str(caught.exception), wanted)
+
+    def test_cells_that_there_are_not(self):
+        """Asked of each function that SQLite lists."""
+        names = {name for name, in self.db.execute("SELECT name FROM pragma_function_list WHERE name LIKE 's2%'")}
+        for name in names - {"s2_leaf_at"}:
+            for wrong in NO_CELLS:
+                with self.assertRaisesRegex(sqlite3.OperationalError, "^s2: not a cell: "):
+                    self.said(f"{name}(?)", wrong)
+        self.assertEqual(len(names), 3)
 
     def test_an_index(self):
         """The functions are deterministic, so an index and a generated column may have them."""
