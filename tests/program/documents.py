@@ -1,13 +1,14 @@
 """The program answers what README.md and docs/ show; and the script s2calc at the top runs it."""
 import os
 import re
+import shlex
 import shutil
 import subprocess
 import tempfile
 import unittest
 
-from model import REASONS
-from process import PROGRAM, TOP, ran
+from process import LAUNCHER, PROGRAM, TOP, launched, ran
+import prompt  # which process finds
 
 
 def has_gnu_parallel():
@@ -218,29 +219,69 @@ class Documents(unittest.TestCase):
                 self.assertEqual(ran("run", "--explain", script=script.encode(), cwd=folder)[2].decode(), notes)
         self.assertEqual(len(shown), 1)
 
-    def test_the_reason_of_each_refusal(self):
-        section = self.texts["docs/SCRIPT.md"].split("### Why")[1].split("\n## ")[0]
-        shown = dict(re.findall(r"^\| `([a-z-]+)` \| `(.*?)` \|$", section, re.M))
-        self.assertEqual(shown, {**REASONS, "memory": "out of memory"})
+    def test_each_error(self):
+        """Each example of the table of errors is answered so, and all errors of a command are in the table."""
+        section = self.texts["docs/SCRIPT.md"].partition("\n## Errors\n")[2].partition("\n### ")[0]
+        rows = re.findall(r"^\| `([a-z-]+)` \| [^|]+ \| (?:`(.*?)` )?\| [^|]*\|$", section, re.M)
+        with tempfile.TemporaryDirectory() as folder:
+            os.mkdir(os.path.join(folder, "folder"))
+            with open(os.path.join(folder, "bad"), "wb") as it:
+                it.write(b"bad")
+            ran("run", script=b"add a 1\nadd a 3\ndump deep\n", cwd=folder)
+            for name, example in rows:
+                with self.subTest(name=name):
+                    wanted = b"error %s\n" % name.encode() if example else b""
+                    self.assertEqual(ran("run", "--depth", "1", script=example.encode(), cwd=folder)[1], wanted)
+        self.assertEqual({name for name, example in rows if not example}, {"memory", "line"})
+        of_commands = {error for name in prompt.COMMANDS for error in self.help_on(name)[1]}
+        self.assertEqual({name for name, _ in rows}, of_commands | {"line"})
 
-    def test_help_pictures_and_usage_faults(self):
+    def test_what_other_commands_print(self):
+        shown = re.findall(r"```text\n\$ (printf .*\| \./s2calc .*)\n((?:.*\n)*?)```", self.texts["docs/SCRIPT.md"])
+        for command, text in shown:
+            with tempfile.TemporaryDirectory() as folder:
+                os.symlink(LAUNCHER, os.path.join(folder, "s2calc"))
+                done = subprocess.run(command, shell=True, cwd=folder, env={"S2CALC_PROGRAM": PROGRAM}, text=True,
+                                      stdout=subprocess.PIPE, check=True, timeout=60)
+                self.assertEqual(done.stdout, text)
+        self.assertEqual(len(shown), 1)
+
+    def test_calls_pictures_and_usage_faults(self):
         shown = 0
         for words, text in re.findall(r"```text\n\$ \./s2calc ([^<\n]*)\n(.*?)```", self.texts["docs/SCRIPT.md"], re.S):
             words, _, rest = words.partition(" | ")
-            status, out, error = ran(*words.split(), cwd=TOP)
+            status, out, error = launched(*shlex.split(words), cwd=TOP)
             with self.subTest(words=words):
                 if rest:
                     out = subprocess.run(rest, shell=True, input=out, stdout=subprocess.PIPE, check=True).stdout
                 self.assertEqual((out + error).decode(), text)
-                self.assertEqual(status, 1 if out.startswith(b"error") else 2 if error else 0)
+                self.assertEqual(status, 2 if error else 0)
                 shown += 1
-        self.assertEqual(shown, 7)
+        self.assertEqual(shown, 5)
 
-    def test_each_command_has_an_example(self):
+    def test_each_option(self):
+        """The page has each option that the help has."""
+        for command in ("run", "check", "draw", "cells"):
+            for option in re.findall(r"^ +(?:-\w, )?(--?\w[\w-]*)", launched(command, "--help")[1].decode(), re.M):
+                if option != "--help":
+                    self.assertRegex(self.texts["docs/SCRIPT.md"], f"`{option}\\b")
+
+    def help_on(self, name):
+        """The form, the errors and the example of a command, as the prompt has them."""
+        form, _, errors, example = prompt.help_on(PROGRAM, name).splitlines()
+        return form, errors.removeprefix("errors: ").split(", "), example.removeprefix("example: ")
+
+    def test_each_command(self):
+        """The tables have the commands with their forms, errors and examples as the prompt has them, and each command
+        is in a session."""
         text = self.texts["docs/SCRIPT.md"]
-        tables = text[text.index("## Edits"):text.index("## Refusals")]
-        firsts = re.findall(r"^\| (`.*?) \|", tables, re.M)
-        commands = {form.split()[0] for first in firsts for form in re.findall(r"`(.*?)`", first)}
+        tables = text[text.index("## Commands"):text.index("## The prompt")]
+        rows = re.findall(r"^\| `([^`]*)` \| .* \| ([^|]*?) ?\| `([^`]*)` \|$", tables, re.M)
+        for form, errors, example in rows:
+            its_form, its_errors, its_example = self.help_on(form.split()[0])
+            its_errors = ", ".join(f"`{error}`" for error in its_errors if error != "syntax")
+            self.assertEqual((form, errors, example), (its_form, its_errors, its_example))
+        commands = {form.split()[0] for form, _, _ in rows}
         scripts = "".join(re.findall(r"<<'SCRIPT'\n(.*?)SCRIPT\n", text, re.S))
         with open(os.path.join(TOP, "crates/s2script/src/table.rt"), encoding="utf-8") as it:
             self.assertEqual(commands, set(re.findall(r'name == b"(\w+)"', it.read())))

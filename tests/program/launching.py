@@ -4,15 +4,12 @@ import os
 import random
 import re
 import subprocess
-import sys
 import tempfile
 import unittest
 
 import model
 from process import LAUNCHER, PROGRAM, TOP, first_line, launched, ran
-
-sys.path.append(os.path.dirname(LAUNCHER))
-import prompt  # noqa: E402  # pylint: disable=wrong-import-position
+import prompt  # which process finds
 
 SCRIPT = b"add a 04 0c\nshow a\ncuont a\n\nadd a zz\nsave a parks\nload b parks\ncount b"
 ENVIRONMENT = {"S2CALC_PROGRAM": PROGRAM, "PATH": "/usr/bin:/bin"}

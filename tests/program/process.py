@@ -2,11 +2,13 @@
 import os
 import socket
 import subprocess
+import sys
 import threading
 
 TOP = os.path.dirname(os.path.dirname(os.path.dirname(os.path.realpath(__file__))))
 PROGRAM = os.environ.get("S2CALC", os.path.join(TOP, "crates/calculator/out/calculator"))
 LAUNCHER = os.path.join(TOP, "tools/launcher/launcher")
+sys.path.append(os.path.dirname(LAUNCHER))  # whose modules tests import
 FACE = b"ok 0 1\n"
 # The most that a call may take, on a busy machine and by an unproved build.
 SECONDS = 1200

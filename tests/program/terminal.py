@@ -1,9 +1,9 @@
-"""A run with a prompt, over a pseudo-terminal: the session of docs/SCRIPT.md, and the keys that end one."""
+"""A run of the program with its own prompt, over a pseudo-terminal, and the keys that end one. tests/prompt is about
+the prompt that the launcher shows."""
 import errno
 import fcntl
 import os
 import pty
-import re
 import select
 import signal
 import subprocess
@@ -11,18 +11,16 @@ import termios
 import time
 import unittest
 
-from process import PROGRAM, TOP, ran
+from process import PROGRAM, ran
 
 PROMPT = b"s2calc> "
 
 
-def session_of_the_page():
-    """What is typed at each prompt of the page's session, and what is then shown."""
-    with open(os.path.join(TOP, "docs/SCRIPT.md"), encoding="utf-8") as it:
-        shown = re.search(r"^```console\n\$ s2calc run --prompt\n(.*?)^```$", it.read(), re.M | re.S)[1]
-    parts = shown.split("s2calc> ")
-    assert parts[0] == "" and parts[-1] == "\n", parts
-    return [part.partition("\n")[::2] for part in parts[1:-1]]
+LINES = [
+    ("add a 04 0c 14", "ok 0 3\n"),
+    ("cuont a", "line 2: error syntax: 'cuont' is not a command; did you mean 'count'?\nerror syntax\n"),
+    ("count a", "cells 3 leaves 864691128455135232\n"),
+]
 
 
 class Session:
@@ -64,10 +62,10 @@ class Session:
 
 
 class Terminal(unittest.TestCase):
-    def test_the_session_of_the_page(self):
+    def test_a_session(self):
         session = Session("run", "--prompt")
         self.assertEqual(session.shown(PROMPT), PROMPT)
-        for line, answer in session_of_the_page():
+        for line, answer in LINES:
             session.typed(line.encode() + b"\n")
             self.assertEqual(session.shown(PROMPT), f"{line}\n{answer}".encode() + PROMPT)
         session.typed(b"\x04")  # Ctrl-D
