@@ -249,6 +249,11 @@ class Identifiers(unittest.TestCase):
                      "{" + ",".join(map(str, signed)) + "}", "\ufeff" + "\n".join(map(str, signed))):
             self.assertEqual(b" ".join(launched("cells", input=text.encode())[1].split()).decode() + "\n", wanted)
 
+    def test_what_show_prints(self):
+        shown = ran("run", script=b"add a 04 3/021 5\nshow a\n")[1].partition(b"\n")[2]
+        commands = launched("cells", "--add", "b", input=shown)[1]
+        self.assertEqual(ran("run", script=commands + b"show b\n")[1].partition(b"\n")[2], shown)
+
     def test_digits_alone(self):
         """Up to 16 are a token, unless --decimal says that they are a number."""
         self.assertEqual(launched("cells", input=b"1 +1 10\n"), (0, b"1 0000000000000001 1\n", b""))

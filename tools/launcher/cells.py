@@ -11,8 +11,9 @@ Options:
   -h, --help     Print help
 
 A cell is a decimal number with a sign or of more than 16 digits, signed or not; a token (64c); or a debug text (3/021).
-Blanks, commas, semicolons, bars, quotes and brackets of all kinds may stand around cells. The tokens are in the order
-of the cells, in lines that a script takes. A word that is no cell ends it with status 1, and is named by its line.
+Blanks, commas, semicolons, bars, quotes and brackets of all kinds may stand around cells, and the last line of 'show',
+which is 'end', after them. The tokens are in the order of the cells, in lines that a script takes. The first word that
+isn't a cell is named by its line, and the status is 1.
 
 Example:
   $ sqlite3 world.db 'SELECT cell FROM towns' | s2calc cells --add a | s2calc run
@@ -52,7 +53,8 @@ def token(word, is_decimal):
 def tokens(lines, is_decimal):
     """The tokens of a text."""
     for number, line in enumerate(lines, 1):
-        for place, word in enumerate(WORD.findall(line), 1):
+        words = WORD.findall(line)
+        for place, word in enumerate(words if words != ["end"] else [], 1):
             found = token(word, is_decimal)
             if not found:
                 raise ValueError(f"line {number}, word {place}: {word!a} is not a cell")

@@ -7,6 +7,7 @@ lines by a pipe and writes its answers to standard output itself. Its own prompt
 is whole. So registers and history are the program's alone, and no key ends it but those that end the script.
 """
 import ctypes
+import difflib
 import functools
 import os
 import re
@@ -89,22 +90,10 @@ def help_on(program, name):
     return f"{form}\n    {does}\nerrors: {', '.join([*errors, 'syntax'])}\nexample: {COMMANDS[name][1]}"
 
 
-def is_near(word, name):
-    """Whether one begins with the other, or one edit leads from one to the other: a letter left out, put in or
-    replaced, or two neighbors exchanged."""
-    if word.startswith(name) or name.startswith(word):
-        return True
-    start = len(os.path.commonprefix([word, name]))
-    word, name = word[start:], name[start:]
-    end = len(os.path.commonprefix([word[::-1], name[::-1]]))
-    word, name = word[: len(word) - end], name[: len(name) - end]
-    return max(len(word), len(name)) == 1 or len(word) == 2 and word == name[::-1]
-
-
 def near(word, names):
     """The question whether one of the names is meant, or nothing."""
     word = word.strip(".:\\/;()?!").lower()
-    found = [name for name in names if word and is_near(word, name)]
+    found = [name for name in names if word and name.startswith(word)] or difflib.get_close_matches(word, names, 3, 0.7)
     return f"; did you mean {', '.join(map(repr, found))}?" if found else ""
 
 
