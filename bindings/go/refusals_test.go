@@ -86,7 +86,7 @@ func TestACellThatIsNone(t *testing.T) {
 				}
 			}
 		}
-		check(t, asked > 30, fmt.Sprintf("%d methods are found", asked))
+		check(t, asked >= 30, fmt.Sprintf("%d methods are found", asked))
 		panics(t, s2union.ErrNoCell, "IntersectionWithCellID", func() {
 			s2union.CellUnionFromIntersectionWithCellID(union, id)
 		})

@@ -224,6 +224,12 @@ python() {
 step "Python: against the model, and the module" python -m unittest -q test_library
 step "Python: the functions of its module in C" python -m unittest -q test_calls
 step "Python: the edges" python -m unittest -q test_edges
+without_memory() { # Python's memory is the C library's own
+  gcc -std=c11 -O2 "${strict[@]}" -fPIC -shared "$top/tests/refuse.c" -o "$work/refuse.so" &&
+    PYTHONMALLOC=malloc LD_PRELOAD=$work/refuse.so S2UNION_REFUSE=$work/refuse.so python -m unittest -q \
+      test_calls.WithoutMemory
+}
+step "Python: each allocation refused in turn" without_memory
 sanitized() ( # the module in C with the sanitizers, and what C itself gives for memory
   mkdir "$work/sanitized" && cp -r "$work/usr/lib/python/s2union" "$work/sanitized" &&
     gcc -std=gnu11 -O1 -g -fsanitize=address,undefined -fno-sanitize-recover -fPIC -shared -I"$(python_headers)" \

@@ -1,5 +1,6 @@
 """The functions of the module in C: what they refuse, what they leave behind, and the interpreter around them."""
 
+import ctypes
 import gc
 import inspect
 import os
@@ -170,7 +171,7 @@ class Taken(unittest.TestCase):
                 asked += 1
                 with self.assertRaisesRegex(ValueError, "released", msg=(name, place)):
                     getattr(calls, name)(*views)
-        self.assertGreater(asked, 40)
+        self.assertGreater(asked, 30)
 
     def test_an_iterable_that_raises(self):
         def cells():
@@ -240,6 +241,39 @@ class LeftBehind(unittest.TestCase):
                     is_refused(name, words)
                 for word, were in zip(watched, before):
                     self.assertLess(abs(sys.getrefcount(word) - were), 500, (name, word))
+
+
+@unittest.skipUnless("S2UNION_REFUSE" in os.environ, "tests/refuse.c is not loaded before the C library")
+class WithoutMemory(unittest.TestCase):
+    def test_each_allocation_refused_in_turn(self):
+        """Python's own too: a call answers what it would have, or raises MemoryError, and keeps nothing."""
+        library = ctypes.CDLL(os.environ["S2UNION_REFUSE"])
+        asked = 0
+
+        def answer(call, words, turn, wanted):
+            found = wanted
+            try:
+                library.refuse_memory(turn)
+                found = call(*words)
+            except MemoryError:
+                pass
+            allocations = library.refuse_memory(0)
+            self.assertEqual(found, wanted, (call, turn))
+            return allocations
+
+        for name, words in TAKEN.items():
+            call = getattr(calls, name)
+            wanted = call(*words)
+            allocations = answer(call, words, 0, wanted)
+            asked += allocations
+            for turn in range(1, allocations + 1):
+                for _ in range(3):  # these may fill what Python keeps
+                    answer(call, words, turn, wanted)
+                before = library.blocks_taken()
+                for _ in range(10):
+                    answer(call, words, turn, wanted)
+                self.assertLess(library.blocks_taken() - before, 10, (name, turn))
+        self.assertGreater(asked, 100)
 
 
 class Around(unittest.TestCase):
