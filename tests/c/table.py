@@ -63,7 +63,7 @@ MISTAKES = [
             "static PyObject* py_square_of(", "static PyObject* py_square(", "_library.c has to have it"),
     Mistake("a text of another refusal in JavaScript", "bindings/page/core.js", '[-2]: "out of memory"',
             '[-2]: "not a cell"'),
-    Mistake("another number of a status in Java", "bindings/java/s2union/Calls.java", "NO_CELL = -3", "NO_CELL = -4"),
+    Mistake("another number of a status in Java", "bindings/java/s2union/Refusal.java", "NO_CELL = -3", "NO_CELL = -4"),
     Mistake("the number of another call in Java", "bindings/java/s2union/Calls.java", " CONTAINS_CELL = 2,",
             " CONTAINS_CELL = 3,"),
     Mistake("a text of another refusal in Java", "bindings/java/s2union/Refusal.java",
