@@ -212,6 +212,9 @@ def ends_of_parts(counts, room):
     for words, wanted in ((), "7"), (["9"], "9"), (["x", "9"], "x 9"):
         done, said = ended("its words", "gate", f'[ "$*" = "{wanted}" ] && echo 1 passed, 0 failed', words)
         counts.tell(f"a part with 7 as its last word that is given {words}", done.passed == 1, said.getvalue())
+    table = "a                      3 passed    0 failed      1.5 s      0.2 s of processor time\n"
+    runs = module.of_table(["a", "b"], f"{table}3 passed, 0 failed\n")
+    counts.tell("a part beside the others without a row", (runs["a"].passed, runs["b"].failed) == (3, 1), str(runs))
     done = subprocess.run([TOP / "tests" / "run", "no-such-part"], capture_output=True, text=True, check=False)
     counts.tell("a part that isn't there", done.returncode == 1 and "no part has the name" in done.stderr, done.stderr)
 
