@@ -3,6 +3,7 @@ help, and `cells`."""
 import os
 import random
 import re
+import shutil
 import subprocess
 import tempfile
 import unittest
@@ -65,6 +66,21 @@ class TheProgram(unittest.TestCase):
                 self.assertTrue(os.path.samefile(f"/proc/{process.pid}/exe", os.path.realpath(PROGRAM)))
                 process.stdin.close()
                 self.assertEqual(process.wait(60), 0)
+
+    def test_as_it_is_installed(self):
+        """A link in a folder of the PATH leads to the launcher, beside which the program is."""
+        with tempfile.TemporaryDirectory() as room:
+            shutil.copytree(os.path.dirname(LAUNCHER), os.path.join(room, "libexec"))
+            os.symlink(PROGRAM, os.path.join(room, "libexec", "s2calc"))
+            os.mkdir(os.path.join(room, "bin"))
+            os.symlink("../libexec/launcher", os.path.join(room, "bin", "s2calc"))
+            environment = {"PATH": f"{room}/bin:/usr/bin:/bin"}
+            for words, text in (["run"], SCRIPT), (["cells"], b"5180949494577750587"), (["help", "count"], b""):
+                done = subprocess.run(["s2calc", *words], input=text, cwd=room, env=environment, capture_output=True,
+                                      check=False, timeout=60)
+                with tempfile.TemporaryDirectory() as other:
+                    self.assertEqual((done.returncode, done.stdout, done.stderr),
+                                     launched(*words, input=text, cwd=other))
 
     def test_where_no_program_is(self):
         missing = {"S2CALC_PROGRAM": "/dev/null/x"}

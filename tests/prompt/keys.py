@@ -292,12 +292,12 @@ class Keys(unittest.TestCase):
         self.assertIn("\ns2calc: the program was ended by signal 9\n", self.shown(session, pexpect.EOF))
         session.close()
         self.assertEqual(session.exitstatus, 137)
-        shell = self.spawned("sh", "-c", f"{LAUNCHER} run >/dev/full")
-        self.shown(shell)
-        shell.send("count a\r")
-        self.assertIn("\ns2calc: output\n", self.shown(shell, pexpect.EOF))
-        shell.close()
-        self.assertEqual(shell.exitstatus, 2)
+        for output in (">/dev/full", ">&-"):
+            shell = self.spawned("sh", "-c", f"{LAUNCHER} run {output}")
+            shell.send("count a\r")
+            self.assertIn("\ns2calc: output\n", self.shown(shell, pexpect.EOF))
+            shell.close()
+            self.assertEqual(shell.exitstatus, 2)
 
     def test_the_terminal_goes_away(self):
         """In the middle of a line. Then the program ends too."""
