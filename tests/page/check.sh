@@ -30,7 +30,7 @@ nothing_lost() { [ -s "$work/copy/crates.txt" ] && ! lost_crates; }
 step "each crate that the module needs" nothing_lost
 in_browser() { # the library's module for Python answers beside the page
   PYTHONPATH=$work/usr/lib/python PYTHONDONTWRITEBYTECODE=1 \
-    timeout 600 /usr/bin/python3 "$top/tests/page/browser.py" "$@"
+    timeout 1200 /usr/bin/python3 "$top/tests/page/browser.py" "$@"
 }
 
 if [ "${1:-}" = --short ]; then
