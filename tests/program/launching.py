@@ -1,9 +1,11 @@
 """The launcher: through pipes and files the program's bytes and no process more; scripts in files and in words, paths,
 help, and `cells`."""
+import contextlib
 import os
 import random
 import re
 import shutil
+import sqlite3
 import subprocess
 import tempfile
 import unittest
@@ -259,10 +261,11 @@ class Identifiers(unittest.TestCase):
         numbers = [number for number, _ in self.cells if number >= 10**16][:200]
         signed = [number - (1 << 64) if number >> 63 else number for number in numbers]
         wanted = " ".join(f"{number:016x}".rstrip("0") for number in numbers) + "\n"
-        rows = subprocess.run(["sqlite3", "-json", ":memory:", f"VALUES {', '.join(f'({it})' for it in signed)}"],
-                              capture_output=True, check=True).stdout.replace(b'"column1":', b"")
-        for text in (str(numbers), str(signed), str(set(numbers[:1])) * 0 + str(tuple(numbers)), rows.decode(),
-                     "{" + ",".join(map(str, signed)) + "}", "\ufeff" + "\n".join(map(str, signed))):
+        values = ", ".join(f"({it})" for it in signed)
+        with contextlib.closing(sqlite3.connect(":memory:")) as database:
+            rows = database.execute(f"SELECT json_group_array(column1) FROM (VALUES {values})").fetchone()[0]
+        for text in (str(numbers), str(signed), str(tuple(numbers)), rows, "{" + ",".join(map(str, signed)) + "}",
+                     "\ufeff" + "\n".join(map(str, signed))):
             self.assertEqual(b" ".join(launched("cells", input=text.encode())[1].split()).decode() + "\n", wanted)
 
     def test_what_show_prints(self):
