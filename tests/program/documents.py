@@ -82,7 +82,7 @@ class Launcher(unittest.TestCase):
 
     def test_a_source_that_changes_while_it_is_proved(self):
         """Then the program is older than its sources, and not the one that is run; until all is proved again. A program
-        that isn't older stays, also where no kit is."""
+        that isn't older stays, also where no kit is; so does one whose sources were only written anew."""
         how = self.make_repository()
         for change, answer in ("yes", "unproved\n"), ("", "proved\n"):
             how["env"] = self.environment(CHANGE=change)
@@ -90,9 +90,9 @@ class Launcher(unittest.TestCase):
             done = subprocess.run(["./s2calc", "cell", "1"], check=True, input="", **how)
             self.assertEqual(done.stdout, answer)
         how["env"] = self.environment(has_kit=False)
-        for source, status in ((None, 0), ("crates/s2cell/src/lib.rt", 2)):
-            if source:
-                os.utime(os.path.join(self.room, source))
+        source = os.path.join(self.room, "crates/s2cell/src/lib.rt")
+        for change, status in (lambda: None, 0), (lambda: os.utime(source), 0), (lambda: self.write(source, "//\n"), 2):
+            change()
             self.assertEqual(subprocess.run(["tools/prove"], check=False, **how).returncode, status)
 
     def test_the_program_of_the_release(self):
