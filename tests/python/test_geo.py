@@ -306,10 +306,11 @@ class Cover(unittest.TestCase):
 
     def test_progress_on_a_terminal(self):
         ours, theirs = pty.openpty()
-        with os.fdopen(ours, "rb", buffering=0) as terminal, os.fdopen(theirs, "wb"):
-            done = said(*self.words([("a", SQUARE), ("b", SQUARE)]), stderr=theirs)
-            shown = terminal.read(1000).decode()
-        self.assertEqual((done.returncode, shown), (0, "\r0 of 2 features\r1 of 2 features\r\x1b[K"))
+        with os.fdopen(ours, "rb", buffering=0) as terminal, os.fdopen(theirs, "wb", buffering=0) as ends:
+            done = said(*self.words([("a", SQUARE), ("b", SQUARE)]), stderr=ends)
+            ends.write(b".")  # that is the end
+            shown = b"".join(iter(lambda: terminal.read(1), b"."))
+        self.assertEqual((done.returncode, shown), (0, b"\r0 of 2 features\r1 of 2 features\r\x1b[K"))
         self.assertRegex(done.stdout, "^2 features, .*; left: none\n$")
 
 
