@@ -17,7 +17,7 @@ SKIPPED = re.compile(r" *(?:\||#|<)|    ")
 ITEM = re.compile(r" *(?:[-*]|\d+\.) +")
 LINK = re.compile(r"!?\[([^\]]*)\]\([^)]*\)")
 CODE = re.compile(r"`[^`\n]*`")
-END = re.compile(r"(?<=[.!?])[)\"*]*\s+(?=[\"(*]*[A-Z<])")
+END = re.compile(r"(?<=[.!?])[)\"*]*\s+(?=[\"(*]*[A-Z<0-9]|\*\*)")
 MOST_WORDS = 40
 
 
@@ -35,11 +35,11 @@ def has(form):
 
 HABITS = {
     "'but for'": Habit(has(r"\b[Bb]ut for\b"), 0),
-    "'is no' and 'is none'": Habit(has(r"(?<![Tt]here )\b(?:is|are) (?:no|none)\b(?! (?:longer|more|less)\b)"), 3),
-    "begins with a free what, who, where or that": Habit(has(r"^(?:What|Whoever|Who|Where|That)\b(?!.*\?$)"), 9),
+    "'is no' and 'is none'": Habit(has(r"(?<![Tt]here )\b(?:is|are) (?:no|none)\b(?! (?:longer|more|less)\b)"), 0),
+    "begins with a free what, who, where or that": Habit(has(r"^(?:What|Whoever|Who|Where|That)\b(?!.*\?$)"), 0),
     "begins with a word that points back": Habit(
-        has(r"^(?:(?:This|These|Those) (?:is|are|was|were|has|have|holds?|means?)|They|So|Such|The same)\b"), 38),
-    f"more than {MOST_WORDS} words": Habit(lambda sentence: len(sentence.split()) > MOST_WORDS, 12),
+        has(r"^(?:(?:This|These|Those) (?:is|are|was|were|has|have|holds?|means?)|They|So|Such|The same)\b"), 35),
+    f"more than {MOST_WORDS} words": Habit(lambda sentence: len(sentence.split()) > MOST_WORDS, 5),
 }
 
 
