@@ -40,7 +40,7 @@ function shapesOf(it) {
     case "Polygon": return [areaOf(it.coordinates)];
     case "MultiPolygon": return listed(it.coordinates).map(areaOf);
     case "LineString": return [{lines: [it.coordinates], isArea: false}];
-    case "MultiLineString": return [{lines: listed(it.coordinates), isArea: false}];
+    case "MultiLineString": return listed(it.coordinates).map((line) => ({lines: [line], isArea: false}));
     case "Point": return [{lines: [[it.coordinates]], isArea: false}];
     case "MultiPoint": return [{lines: listed(it.coordinates).map((position) => [position]), isArea: false}];
     default: throw new Error("it is no GeoJSON");

@@ -709,6 +709,15 @@ class Trial:
         """Each of many shapes is covered by itself, so their union is hardly larger than they are."""
         self.many_small_polygons(2_500)
 
+    def test_many_short_lines(self):
+        """So is each of many lines."""
+        self.open()
+        lines = [ring[:2] for (ring,) in triangles(self.choice, 2_500)[0]]
+        self.drop("many", json.dumps({"type": "MultiLineString", "coordinates": lines}).encode())
+        union = Union.from_bytes(self.last())
+        assert all(union.contains_cells(leaves(*zip(*sum(lines, []))).tolist()))
+        assert union.leaf_count() < 6 * 4**30 / 10**4, (union.leaf_count() / 6 / 4**30, self.status())
+
     @slow
     def test_a_great_many_small_polygons(self):
         self.many_small_polygons(20_000)
