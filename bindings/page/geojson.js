@@ -185,10 +185,11 @@ function squaresOf(shape, most, tell) {
  * have as the polygons. `tell` takes how much is done, up to 1.
  */
 function coveringOf(core, geojson, tell = () => {}) {
-  const shapes = shapesOf(geojson);
-  if (shapes.length > MOST_SHAPES) throw new Error(`there are more than ${MOST_SHAPES} shapes`);
-  shapes.forEach(({lines}) => lines.forEach((line) => listed(line).forEach(checked)));
-  const points = shapes.flatMap(({lines}) => lines.filter((line) => line.length === 1).flat());
+  const all = shapesOf(geojson);
+  all.forEach(({lines}) => lines.forEach((line) => listed(line).forEach(checked)));
+  const points = all.flatMap(({lines}) => lines.filter((line) => line.length === 1).flat());
+  const shapes = all.filter(({lines}) => lines.some((line) => line.length > 1));
+  if (shapes.length > MOST_SHAPES) throw new Error(`there are more than ${MOST_SHAPES} polygons and lines`);
   const lists = [BigUint64Array.from(points, ([longitude, latitude]) => leafOf(core, longitude, latitude)).sort()];
   const idOf = ({face, level, i, j}) =>
     core.parent(core.leafAt(face, i * 2 ** (30 - level), j * 2 ** (30 - level)), level);

@@ -735,10 +735,14 @@ class Trial:
         assert "cells at borders are of level 1" in self.status(), self.status()
 
     def test_too_many_shapes(self):
-        """They are refused before any is covered."""
+        """They are refused before any is covered; points are no such shapes."""
         self.begin()
         self.drop("many", json.dumps({"type": "MultiPolygon", "coordinates": [[[[0, 0], [0, 1]]]] * 100_001}).encode())
-        assert self.status() == "many: refused: there are more than 100000 shapes" and self.count() == 2, self.status()
+        said = "many: refused: there are more than 100000 polygons and lines"
+        assert self.status() == said and self.count() == 2, self.status()
+        points = [{"type": "Point", "coordinates": [2.35, 48.86]}] * 100_001
+        self.drop("points", json.dumps({"type": "GeometryCollection", "geometries": points}).encode())
+        assert self.last() == Union(leaves([2.35], [48.86]).tolist()).to_bytes(), self.status()
 
     def test_stopping(self):
         """While GeoJSON is covered the page answers; if that is stopped, nothing is changed, and all goes on."""
