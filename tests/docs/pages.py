@@ -263,7 +263,7 @@ def unexplained():
 
 def unlisted():
     """The number of pages in docs/, and those to which their index doesn't lead."""
-    names = [name.removeprefix("docs/") for name in tracked(ROOT, "docs/*.md")]
+    names = [page.name for page in pages() if page.parent == ROOT / "docs"]
     links = {link for link, _ in LINK.findall((ROOT / "docs" / "README.md").read_text())}
     return len(names), [name for name in names if name not in links | {"README.md"}]
 
