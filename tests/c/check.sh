@@ -257,12 +257,8 @@ done
 tutorial() { # its first part, which needs no other package
   python "$top/tests/docs/documented.py" --shell "$top/docs/TUTORIAL.md" "## Part 2: an hour"
 }
-export S2CALC=${S2CALC:-$top/crates/calculator/out/calculator}
-if [ -x "$S2CALC" ]; then
-  step "Python and s2calc: docs/TUTORIAL.md, Part 1" tutorial
-else
-  echo "       the calculator isn't built: docs/TUTORIAL.md is not tested"
-fi
+export S2CALC=${S2CALC:-$top/s2calc} S2CALC_QUIET=1
+step "Python and s2calc: docs/TUTORIAL.md, Part 1" tutorial
 step "Python: s2union_geo, points, polygons and maps" python -m unittest -q test_geo
 without_numpy() {
   python -c 'import sys, unittest

@@ -146,7 +146,7 @@ class Launcher(unittest.TestCase):
         self.make_repository()
         with open(os.path.join(TOP, "KIT"), encoding="utf-8") as it:
             kit = it.read().strip()
-        version, usage = ran("--version")[1].decode(), ran("--help")[1].decode()
+        version, usage = ran("--version")[1].decode(), launched("--help")[1].decode()
         for words, status, answer in ((["--version"], 0, version), (["-V"], 0, version), (["--help"], 0, usage),
                                       (["help"], 0, usage), (["run", "-h"], 0, usage), (["draw", "--help"], 0, usage),
                                       (["run"], 2, kit), (["cell", "1"], 2, kit), ([], 2, kit)):
