@@ -114,7 +114,7 @@ class Scripts(unittest.TestCase):
         """It is opened once."""
         path = os.path.join(self.room, "pipe")
         os.mkfifo(path)
-        with subprocess.Popen([LAUNCHER, "run", path], env=ENVIRONMENT, stdout=subprocess.PIPE) as process:
+        with subprocess.Popen([LAUNCHER, "run", path], **self.how, stdout=subprocess.PIPE) as process:
             with open(path, "wb") as it:
                 it.write(SCRIPT)
             self.assertEqual(process.stdout.read(), ran("run", script=SCRIPT, cwd=self.room)[1])
