@@ -136,7 +136,7 @@ def is_there(page, path):
     crate, _, name = path.partition("/")
     places = [(ROOT, path), (ROOT / "crates", path), (page.parent, path),
               (ROOT / "crates" / crate, f"mutants/{name}.edit")]
-    return any(next(folder.glob(it.replace("NAME", "*")), None) for folder, it in places)
+    return any(next(folder.glob(it.replace("NAME", "*").replace("VERSION", "*")), None) for folder, it in places)
 
 
 def names_in_links():
