@@ -35,12 +35,12 @@ class TheProgram(unittest.TestCase):
                      "run --limit 0", "run --limit", "run --dir", "run --dir=", "run --colour", "run --prompt --prompt",
                      "run --limit -5", "run --lim 5", "cell 64c", "cell X", "cell", "cell -h", "check parks", "check",
                      "check --dir . parks", "draw --cells 1 3/021", "draw --curve --cells 1 -- f", "draw --help",
-                     "draw a b", "--version", "-V", "ru", "-- run", "help cell", "help draw", "help help", "--x"):
+                     "--version", "-V", "ru", "-- run", "help cell", "help draw", "help help", "--x"):
             with self.subTest(line=line):
                 wanted, found = self.both(*line.split(), input=SCRIPT)
                 self.assertEqual(found, wanted)
         for words in ([], [""], ["run", "--dir", "no such"], ["cell", " 3/021 "], ["cell", "$(x) `x` *"], ["cell", ""],
-                      ["cell", b"\xff"], ["run", "--dir", b"\xff"], ["draw", "--cells", "0/0 ", "*"]):
+                      ["cell", b"\xff"], ["run", "--dir", b"\xff"]):
             with self.subTest(words=words):
                 wanted, found = self.both(*words, input=SCRIPT)
                 self.assertEqual(found, wanted)
@@ -152,9 +152,26 @@ class Scripts(unittest.TestCase):
         paths = [f"docs/pictures/{name}.outer" for name in ("land", "lakes")]
         self.assertEqual(launched("draw", "--fit", *paths, cwd=TOP, env=ENVIRONMENT), both)
         self.assertEqual(launched("draw", *paths, "--fit", cwd=TOP, env=ENVIRONMENT), both)
-        for words in (["check", "--dir", "docs", "pictures/land.outer"], ["draw", paths[0], "README.md"],
-                      ["check", "docs/"], ["draw", "a/x", "b/x"], ["check", "docs/-x"], ["check", "/"]):
+        for words in (["check", "--dir", "docs", "pictures/land.outer"], ["check", "docs/"], ["check", "docs/-x"],
+                      ["check", "/"]):
             self.assertEqual(launched(*words, cwd=TOP, env=ENVIRONMENT), ran(*words, cwd=TOP), words)
+
+    def test_a_picture_that_can_not_be_made(self):
+        """Standard output stays empty, and standard error has the answer of the program, with the word it is of."""
+        for words, wrong in ((["nope"], "nope"), (["land.outer", "nope", "none"], "nope"), (["--fit", "a", "b"], "a"),
+                             (["README.md/"], "README.md/"), (["./land.outer", "./none"], "none"), (["a/x", "b/x"], "a/x"),
+                             (["--dir", "/", "land.outer"], "land.outer"),
+                             (["--cells", "1", "zz", "2"], "zz"), (["--curve", "--cells", "0/0 ", "*"], "0/0 ")):
+            with self.subTest(words=words):
+                status, out, error = launched("draw", *words, cwd=PICTURES, env=ENVIRONMENT)
+                self.assertEqual((status, out), (1, b""))
+                last = error.decode().splitlines()[-1]
+                self.assertEqual(last.rpartition(": ")[0], f"s2calc: {wrong}")
+                self.assertRegex(last.rpartition(": ")[2], "^error (name|missing|file|format|cell)$")
+        with open("/dev/full", "wb") as full:
+            done = subprocess.run([LAUNCHER, "draw", "land.outer"], cwd=PICTURES, env=ENVIRONMENT, stdout=full,
+                                  stderr=subprocess.PIPE, check=False, timeout=60)
+        self.assertEqual((done.returncode, done.stderr), (2, b"s2calc: output\n"))
 
 
 class Help(unittest.TestCase):
