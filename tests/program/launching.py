@@ -159,8 +159,8 @@ class Scripts(unittest.TestCase):
     def test_a_picture_that_can_not_be_made(self):
         """Standard output stays empty, and standard error has the answer of the program, with the word it is of."""
         for words, wrong in ((["nope"], "nope"), (["land.outer", "nope", "none"], "nope"), (["--fit", "a", "b"], "a"),
-                             (["README.md/"], "README.md/"), (["./land.outer", "./none"], "none"), (["a/x", "b/x"], "a/x"),
-                             (["--dir", "/", "land.outer"], "land.outer"),
+                             (["README.md/"], "README.md/"), (["./land.outer", "./none"], "none"),
+                             (["a/x", "b/x"], "a/x"), (["--dir", "/", "land.outer"], "land.outer"),
                              (["--cells", "1", "zz", "2"], "zz"), (["--curve", "--cells", "0/0 ", "*"], "0/0 ")):
             with self.subTest(words=words):
                 status, out, error = launched("draw", *words, cwd=PICTURES, env=ENVIRONMENT)
