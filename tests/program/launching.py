@@ -142,6 +142,23 @@ class Scripts(unittest.TestCase):
             pass
         self.assertIn(b"s2calc run script", launched("script", **self.how)[2])
 
+    def test_explained_cells(self):
+        """The answer is the program's; the identifier, or the reason, is on standard error."""
+        numbers = random.Random(31)
+        words = ["1", "b", "0000000000000001", "bfffffffffffffff", "0/00"]
+        words += [f"{numbers.randrange(6)}/{''.join(numbers.choices('0123', k=level))}" for level in range(31)]
+        for word in words:
+            status, out, error = launched("cell", "--explain", word)
+            self.assertEqual((status, out), ran("cell", word)[:2])
+            number = int(out.split()[1].ljust(16, b"0"), 16)
+            signed = number - (number >> 63 << 64)
+            self.assertEqual(error.decode(), f"identifier {number}, with a sign {signed}\n")
+        for word, reason in (("zz", "is not a cell (a token or a debug text)"), ("X", "is not a cell"),
+                             ("10789722008133304320", "it is the identifier of the cell 95bccb")):
+            status, out, error = launched("cell", "--explain", word)
+            self.assertEqual((status, out), (1, b"error cell\n"))
+            self.assertIn(reason, error.decode())
+
     def test_paths(self):
         """If all files are in one folder, it is that of the run."""
         land = ran("check", "--dir", PICTURES, "land.outer")
