@@ -38,8 +38,8 @@ HABITS = {
     "'is no' and 'is none'": Habit(has(r"(?<![Tt]here )\b(?:is|are) (?:no|none)\b(?! (?:longer|more|less)\b)"), 0),
     "begins with a free what, who, where or that": Habit(has(r"^(?:What|Whoever|Who|Where|That)\b(?!.*\?$)"), 0),
     "begins with a word that points back": Habit(
-        has(r"^(?:(?:This|These|Those) (?:is|are|was|were|has|have|holds?|means?)|They|So|Such|The same)\b"), 35),
-    f"more than {MOST_WORDS} words": Habit(lambda sentence: len(sentence.split()) > MOST_WORDS, 5),
+        has(r"^(?:(?:This|These|Those) (?:is|are|was|were|has|have|holds?|means?)|They|So|Such|The same)\b"), 1),
+    f"more than {MOST_WORDS} words": Habit(lambda sentence: len(sentence.split()) > MOST_WORDS, 2),
 }
 
 
