@@ -107,6 +107,12 @@ class Keys(unittest.TestCase):
             self.assertEqual(shown.replace("count a\n", ""), "cells 0 ")
             self.assertEqual(self.status(session, END if words[1] == "--no-prompt" else ""), 0)
 
+    def test_a_folder_that_is_not_there(self):
+        session = self.started("run", "--dir", "nowhere")
+        self.assertIn("s2calc: there is no folder 'nowhere' for the files of this session\n", session.banner)
+        self.assertEqual(self.answered(session, "save a x").splitlines()[0], "error file")
+        self.assertNotIn("there is no folder", self.started("run", "--dir=.").banner)
+
     def test_usage_faults_have_no_banner(self):
         session = self.spawned(LAUNCHER, "run", "--limit", "0")
         self.assertTrue(self.shown(session, pexpect.EOF).startswith("s2calc: usage\nerror: invalid value '0'"))

@@ -313,7 +313,10 @@ def main(path, *options):
     program = Program(path, options)
     version = subprocess.run([path, "--version"], stdout=subprocess.PIPE, check=True).stdout.decode().strip()
     print(f"{version}: 'help' for help, Ctrl-D to leave", flush=True)
-    for line in Keyboard(readline, program, folder_of(options)).lines():
+    folder = folder_of(options)
+    if not os.path.isdir(folder):
+        say(f"there is no folder '{folder}' for the files of this session")
+    for line in Keyboard(readline, program, folder).lines():
         words = line.split()
         if words in (["quit"], ["exit"]):
             break
