@@ -227,7 +227,7 @@ class Help(unittest.TestCase):
         return re.findall(rb"^error (.*)$", ran("run", script=" ".join(words).encode())[1], re.M)[0].decode()
 
     def test_errors_that_words_do_not_tell(self):
-        """Each of them comes of some script, but for memory that runs out, and no other is said."""
+        """Each of them comes of some script, and no other is said. One exception: memory that runs out."""
         lines = {
             "too-many": ["add a 1 3", "add a 1\nremove a 1c", "add a 1\nkeep a 04 14", "add a 1\nadd b 3\nunion a b",
                          "add a 1\nadd b 1c\nsubtract a b", "range a 1 3", "outer a 30 0 0 4 0 0",

@@ -240,7 +240,7 @@ class Keyboard:
             os.killpg(self.program.child.pid, signal.SIGCONT)
 
     def lines(self):
-        """The lines that are typed, up to Ctrl-D. What is pasted may have several."""
+        """The lines that are typed, up to Ctrl-D. A paste may have several."""
         while True:
             try:
                 text = input(PROMPT)

@@ -22,7 +22,7 @@ def range_of(what: str) -> str:
 
 
 def degrees_of(value: Any, what: str) -> Any:
-    """Longitudes or latitudes as an array of float64. What is no number, or out of range, is refused by its place."""
+    """Longitudes or latitudes as an array of float64. One that isn't a number in range is an error with its place."""
     given = numpy.asarray(value)
     if given.dtype.kind not in "iuf" and given.size:
         kind = given.flat[0]
