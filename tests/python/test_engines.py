@@ -28,7 +28,7 @@ local-infile
 CLICKHOUSE = """<yandex>
 <logger><level>error</level><console>1</console></logger>
 <listen_host>127.0.0.1</listen_host><tcp_port>{port}</tcp_port>
-<path>{work}/clickhouse/</path><tmp_path>{work}/clickhouse/tmp/</tmp_path><mark_cache_size>1000000</mark_cache_size>
+<path>{work}/clickhouse/</path><tmp_path>{work}/clickhouse/part/</tmp_path><mark_cache_size>1000000</mark_cache_size>
 <users_config>{work}/clickhouse.xml</users_config>
 <default_profile>default</default_profile><default_database>default</default_database>
 <profiles><default/></profiles><quotas><default/></quotas>
