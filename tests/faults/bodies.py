@@ -6,10 +6,12 @@ Each file tests/faults/let-through/NAME.edit names a test, and has the form of t
 is one of tests/program, or if the file names a crate, the title of a row of that crate's table. Each mutant is built
 unproved, in a copy of the repository, and its test has to fail. All these tests and rows have to pass there without a
 mutant. `.ci/run` tries those that were asked for (--asked), some of them built together: NAME+NAME, where no mistake of
-one can be seen in the row of the other. The last line is 'N passed, M failed'.
+one can be seen in the row of the other. The last line is 'N passed, M failed'. Those that were refused on this machine,
+of the same sources by the same tests, aren't tried again, unless they are named.
 """
 import collections
 import contextlib
+import functools
 import itertools
 import os
 import re
@@ -27,9 +29,11 @@ ASKED = [
     "run_ends_at_once",
 ]
 sys.path += [os.path.join(TOP, "tests"), os.path.join(TOP, "tests", "mutants"), os.path.join(TOP, "tools")]
-from checks import copy_tracked  # noqa: E402
+import verdicts  # noqa: E402
+from checks import copy_tracked, tracked  # noqa: E402
 from mutant_texts import CRATE, TEST, make  # noqa: E402
 from over_gate import build_unproved, crate_of, words_of_trial  # noqa: E402
+from sources import sum_of_sources  # noqa: E402
 
 
 def built(copy):
@@ -61,6 +65,14 @@ class Mutant:
         crate = CRATE.search(text)
         self.crate, self.test = crate and crate[1], TEST.search(text)[1]
 
+    @functools.cached_property
+    def verdict(self):
+        """The name of the verdict that it is refused: by the program and its tests, or the crate and its rows."""
+        of_program = ["tests/*.py", "tests/program", "tests/peer", "tests/python"]
+        of = [f"crates/{self.crate}/stdin"] if self.crate else of_program
+        files = [self.file, __file__, *(os.path.join(TOP, name) for name in tracked(TOP, *of))]
+        return verdicts.name_of(files, sum_of_sources(self.crate or "calculator"))
+
     def is_refused(self, said):
         """Whether the mutant's test ran and failed."""
         test = re.escape(self.test)  # whose name may be the beginning of another's
@@ -68,7 +80,9 @@ class Mutant:
         found = re.search(rf"^{failure}", said, re.M)
         other = "NOT TRIED: not built" if said == "not built" else "NOT REFUSED"
         print(f"{self.name}: {f'refused by {self.test}' if found else other}", flush=True)
-        if not found:
+        if found:
+            verdicts.keep(self.verdict)
+        else:
             print(said[-2000:])
         return bool(found)
 
@@ -109,9 +123,13 @@ def pass_without_a_mutant(copy, mutants):
 
 
 def main():
-    names = [it for it in sys.argv[1:] if it != "--asked"] or (ASKED if sys.argv[1:] else [])
-    names = names or sorted(name.removesuffix(".edit") for name in os.listdir(FOLDER))
+    named = [it for it in sys.argv[1:] if it != "--asked"]
+    names = named or (ASKED if sys.argv[1:] else sorted(it.removesuffix(".edit") for it in os.listdir(FOLDER)))
     groups = [[Mutant(name) for name in group.split("+")] for group in names]
+    known = [] if named else [group for group in groups if all(verdicts.is_kept(it.verdict) for it in group)]
+    for mutant in itertools.chain(*known):
+        print(f"{mutant.name}: refused by {mutant.test}, as is known of the same sources", flush=True)
+    groups = [group for group in groups if group not in known]
     of_one = collections.defaultdict(list)
     for mutant in itertools.chain(*groups):
         of_one[mutant.crate].append(mutant)
@@ -121,7 +139,7 @@ def main():
             return 1
         refused = sum(tried(copy, group) for group in groups)
     left = sum(map(len, groups)) - refused
-    print(f"{refused} passed, {left} failed")
+    print(f"{refused + sum(map(len, known))} passed, {left} failed")
     return left > 0
 
 

@@ -9,11 +9,13 @@ function, with the whole crate. The next check of the copy begins with what this
 `.ci/run` tries the gravest, which say so. --all tries all. Then, and if mutants are named, their functions have to be
 proved without them, since `rt ci` may not have judged these sources. The last line is 'N passed, M failed'. A mutant
 whose check was killed, or judged nothing, was not tried: that is another thing than one that isn't refused, and fails
-too.
+too. That a mutant was refused is kept on this machine, by the sources of its crate and of those below it, the kit and
+what is here; it isn't tried again if all of this is the same, unless it is named.
 """
 import collections
 import concurrent.futures
 import copy
+import functools
 import os
 import re
 import resource
@@ -26,7 +28,9 @@ from pathlib import Path
 from mutant_texts import ALWAYS, FUNCTION, all_functions, functions_at, functions_of, make, misfit
 
 sys.path.insert(0, str(Path(__file__).resolve().parents[2] / "tools"))
+import verdicts  # noqa: E402
 from over_gate import TOP, crate_of, has_libraries, words_of_check  # noqa: E402
+from sources import sum_of_sources  # noqa: E402
 
 ENDED = re.compile(r"^only=\d+ (?:proved|holes)=\d+$")
 HOLE = """use Rattle.{crate}.proofs.{path}.Statement.{{statement}}
@@ -42,6 +46,8 @@ OPEN = re.compile(r"^fn \S+: (?:not proved|no proof)\b")
 UNREAD = re.compile(r"(?:\./)?(?:src|specs)/\S+?:\d+:\d+: error: (?:(?!`[^`]*`: )|.*(?:is not in scope|has no field|"
                     r"is no name|operand is missing|expected the end|cannot continue))")
 REFUSED, NOT_REFUSED, NOT_TRIED = "refused", "NOT REFUSED", "NOT TRIED"
+# What tries a mutant, whose verdict is another's if it changes.
+TRIED_BY = [Path(__file__), Path(__file__).with_name("mutant_texts.py"), Path(TOP, "tools", "over_gate.py")]
 
 
 class Mutant:
@@ -55,7 +61,19 @@ class Mutant:
 
     def says(self, verdict, more=""):
         print(f"{self.crate}/{self.name}: {verdict}{more}", flush=True)
+        if verdict == REFUSED:
+            verdicts.keep(self.verdict)
         return verdict
+
+    @functools.cached_property
+    def verdict(self):
+        """The name of the verdict that it is refused."""
+        return verdicts.name_of([self.file, *TRIED_BY], self.crate, sources_of(self.crate))
+
+
+@functools.cache
+def sources_of(crate):
+    return sum_of_sources(crate)
 
 
 def mutants():
@@ -226,13 +244,15 @@ def words_of(crates):
     return words
 
 
-def tried(chosen, is_proved=False):
+def tried(chosen, is_proved=False, takes_kept=True):
     """What was found of each of these mutants, counted; each crate's are tried beside those of others. The crates are
     proved without them, or the functions have to be asked. One that can't be tried would keep those of its crate from
     being checked together."""
     crates, found = collections.defaultdict(list), []
     for mutant in chosen:
-        if why := misfit(mutant.file, mutant.folder):
+        if takes_kept and verdicts.is_kept(mutant.verdict):
+            found.append(mutant.says(REFUSED, ", as is known of the same sources"))
+        elif why := misfit(mutant.file, mutant.folder):
             found.append(mutant.says(NOT_TRIED, f": {why}"))
         else:
             crates[mutant.crate].append(mutant)
@@ -264,7 +284,7 @@ def named(names):
 def main():
     names = [it for it in sys.argv[1:] if it != "--all"]
     if names:
-        found = tried(named(names))
+        found = tried(named(names), takes_kept=False)
     elif sys.argv[1:]:
         found = tried(mutants())
     else:
