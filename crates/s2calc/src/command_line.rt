@@ -152,78 +152,181 @@ fn text(alloc: Global, matches: &ArgMatches<'_>, id: &str) -> Result<String, All
 
 /// The program with its commands.
 fn command<'a>(alloc: Global) -> Result<Command<'a>, AllocError> {
-    Command::new(alloc, "s2calc")
+    let command = Command::new(alloc, "s2calc")
         .bin_name("s2calc")?
         .about(ABOUT)
         .after_help(AFTER)
         .version("1.1.0")
-        .subcommand_required(true)
-        .subcommand(run_command(alloc)?)?
-        .subcommand(cell_command(alloc)?)?
-        .subcommand(check_command(alloc)?)?
-        .subcommand(draw_command(alloc)?)
+        .subcommand_required(true);
+    with_commands(
+        alloc,
+        command,
+        &[
+            CommandName::Run,
+            CommandName::Cell,
+            CommandName::Check,
+            CommandName::Draw,
+        ],
+    )
 }
 
-/// The command `run`.
-fn run_command<'a>(alloc: Global) -> Result<Command<'a>, AllocError> {
-    Command::new(alloc, "run")
-        .about("Answers the script on standard input")
-        .after_help(HELP)
-        .arg(number(
+/// A command.
+#[derive(Clone, Copy)]
+enum CommandName {
+    Run,
+    Cell,
+    Check,
+    Draw,
+}
+
+/// An argument.
+#[derive(Clone, Copy)]
+enum ArgumentName {
+    Limit,
+    Depth,
+    Dir,
+    DirOfFiles,
+    Explain,
+    Prompt,
+    Cell,
+    File,
+    Cells,
+    Curve,
+    Fit,
+    Files,
+}
+
+/// A command with more commands.
+fn with_commands<'a>(
+    alloc: Global,
+    command: Command<'a>,
+    names: &[CommandName],
+) -> Result<Command<'a>, AllocError> {
+    let mut command = command;
+    for named in names {
+        command = command.subcommand(command_of(alloc, *named)?)?;
+    }
+    Ok(command)
+}
+
+fn command_of<'a>(alloc: Global, named: CommandName) -> Result<Command<'a>, AllocError> {
+    match named {
+        CommandName::Run => run_command(alloc),
+        CommandName::Cell => cell_command(alloc),
+        CommandName::Check => check_command(alloc),
+        CommandName::Draw => draw_command(alloc),
+    }
+}
+
+/// A command with more arguments.
+fn with_arguments<'a>(
+    alloc: Global,
+    command: Command<'a>,
+    names: &[ArgumentName],
+) -> Result<Command<'a>, AllocError> {
+    let mut command = command;
+    for named in names {
+        command = command.arg(arg_of(alloc, *named)?)?;
+    }
+    Ok(command)
+}
+
+fn arg_of<'a>(alloc: Global, named: ArgumentName) -> Result<Arg<'a>, AllocError> {
+    match named {
+        ArgumentName::Limit => Ok(number(
             alloc,
             "limit",
             MOST_CELLS as i64,
             "10000",
             "The most cells of a register, 1 to 1000000",
-        ))?
-        .arg(number(
+        )),
+        ArgumentName::Depth => Ok(number(
             alloc,
             "depth",
             MOST_STATES as i64,
             "100",
             "The most states that undo can go back, 1 to 10000",
-        ))?
-        .arg(dir(alloc))?
-        .arg(explain(alloc))?
-        .arg(prompt(alloc))
+        )),
+        ArgumentName::Dir => Ok(dir(alloc)),
+        ArgumentName::DirOfFiles => dir(alloc).conflicts_with("cells"),
+        ArgumentName::Explain => Ok(explain(alloc)),
+        ArgumentName::Prompt => Ok(prompt(alloc)),
+        ArgumentName::Cell => Ok(word(
+            alloc,
+            "CELL",
+            "The token (64c) or the debug text (3/021) of a cell",
+        )),
+        ArgumentName::File => Ok(word(alloc, "FILE", "The name of a file in the folder")),
+        ArgumentName::Cells => Ok(cells(alloc)),
+        ArgumentName::Curve => Ok(curve(alloc)),
+        ArgumentName::Fit => fit(alloc),
+        ArgumentName::Files => Ok(files(alloc)),
+    }
+}
+
+/// The command `run`.
+fn run_command<'a>(alloc: Global) -> Result<Command<'a>, AllocError> {
+    let command = Command::new(alloc, "run")
+        .about("Answers the script on standard input")
+        .after_help(HELP);
+    with_arguments(
+        alloc,
+        command,
+        &[
+            ArgumentName::Limit,
+            ArgumentName::Depth,
+            ArgumentName::Dir,
+            ArgumentName::Explain,
+            ArgumentName::Prompt,
+        ],
+    )
 }
 
 /// The command `cell`.
 fn cell_command<'a>(alloc: Global) -> Result<Command<'a>, AllocError> {
-    Command::new(alloc, "cell")
-        .about("Tells what is known of a cell")
-        .arg(word(
-            alloc,
-            "CELL",
-            "The token (64c) or the debug text (3/021) of a cell",
-        ))
+    let command = Command::new(alloc, "cell").about("Tells what is known of a cell");
+    with_arguments(alloc, command, &[ArgumentName::Cell])
 }
 
 /// The command `check`.
 fn check_command<'a>(alloc: Global) -> Result<Command<'a>, AllocError> {
-    Command::new(alloc, "check")
-        .about("Tells how many cells and leaves a union file has")
-        .arg(dir(alloc))?
-        .arg(word(alloc, "FILE", "The name of a file in the folder"))
+    let command = Command::new(alloc, "check").about(
+        "Tells how many cells and leaves a union file has",
+    );
+    with_arguments(alloc, command, &[ArgumentName::Dir, ArgumentName::File])
 }
 
 /// The command `draw`. Either files or cells are required.
 fn draw_command<'a>(alloc: Global) -> Result<Command<'a>, AllocError> {
-    let drawn = ArgGroup::new(alloc, "drawn").arg("FILE")?.arg("cells")?;
-    Command::new(alloc, "draw")
+    let command = Command::new(alloc, "draw")
         .about("Draws union files, or cells, as an SVG image")
-        .after_help(PICTURE)
-        .arg(dir(alloc).conflicts_with("cells")?)?
-        .arg(cells(alloc))?
-        .arg(curve(alloc))?
-        .arg(fit(alloc)?)?
-        .arg(
-            Arg::new(alloc, "FILE")
-                .help("The name of a file in the folder; of several, each has its own color")
-                .num_args(1..)
-                .action(ArgAction::Set),
-        )?
-        .group(drawn.required(true))
+        .after_help(PICTURE);
+    let command = with_arguments(
+        alloc,
+        command,
+        &[
+            ArgumentName::DirOfFiles,
+            ArgumentName::Cells,
+            ArgumentName::Curve,
+            ArgumentName::Fit,
+            ArgumentName::Files,
+        ],
+    )?;
+    command.group(drawn(alloc)?)
+}
+
+/// What is drawn.
+fn drawn<'a>(alloc: Global) -> Result<ArgGroup<'a>, AllocError> {
+    let drawn = ArgGroup::new(alloc, "drawn").arg("FILE")?.arg("cells")?;
+    Ok(drawn.required(true))
+}
+
+/// The files to draw.
+fn files<'a>(alloc: Global) -> Arg<'a> {
+    Arg::new(alloc, "FILE")
+        .help("The name of a file in the folder; of several, each has its own color")
+        .num_args(1..)
+        .action(ArgAction::Set)
 }
 
 /// The cells to draw.
