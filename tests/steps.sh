@@ -34,10 +34,13 @@ finish() {
   exit
 }
 
-install_packages() {
+install_packages() { # one run after the other, since `apt-get update` doesn't wait for another
   local as_root=()
   [ "$(id -u)" -eq 0 ] || as_root=(sudo -n)
-  "${as_root[@]}" apt-get update && "${as_root[@]}" apt-get install -y --no-install-recommends "$@"
+  (
+    flock 9 && "${as_root[@]}" apt-get update &&
+      "${as_root[@]}" apt-get -o DPkg::Lock::Timeout=600 install -y --no-install-recommends "$@"
+  ) 9>"/tmp/s2union-packages.$(id -u)"
 }
 
 # ---- what is needed: need_packages installs the Debian packages whose parts these miss

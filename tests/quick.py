@@ -1,0 +1,71 @@
+#!/usr/bin/env python3
+"""The tests that need no proof, for who just came: tests/run --tier quick.
+
+The calculator and both programs of rows are built unproved, side by side. The rows have to have their answers, and the
+program has to pass its tests and SCRIPTS random scripts (tests/quick.py SCRIPTS). The gate asks all of this again of
+the programs that are proved. The last line is 'N passed, M failed'.
+"""
+import os
+import re
+import subprocess
+import sys
+import tempfile
+from concurrent.futures import ThreadPoolExecutor
+
+TOP = os.path.dirname(os.path.dirname(os.path.realpath(__file__)))
+ROWS = ("library_rows", "script_rows")
+
+
+def built(crate, room):
+    """The program of a crate."""
+    program = os.path.join(room, crate)
+    subprocess.run([os.path.join(TOP, "tools", "unproved"), program, crate], stdin=subprocess.DEVNULL, check=True)
+    return program
+
+
+def rows(crate, room):
+    """How many rows of a crate's table passed and failed."""
+    program, folder = built(crate, room), os.path.join(TOP, "crates", crate)
+    with open(os.path.join(folder, "stdin"), "rb") as table:
+        done = subprocess.run([program], stdin=table, cwd=room, capture_output=True, check=False)
+    with open(os.path.join(folder, "stdout"), "rb") as wanted:
+        is_well = done.stdout == wanted.read()
+    said = done.stdout.decode(errors="replace")
+    count = re.search(r"^(\d+) rows have their answers$", said, re.M)
+    if not is_well:
+        print(f"{crate}: {said[-2000:]}{done.stderr.decode(errors='replace')[-2000:]}")
+    return int(count[1]) if count else 0, int(not is_well)
+
+
+def counted(command, program):
+    """How many checks a command counts that passed and failed, of this program."""
+    done = subprocess.run([sys.executable, *command], cwd=TOP, env={**os.environ, "S2CALC": program},
+                          stdin=subprocess.DEVNULL, capture_output=True, text=True, errors="replace", check=False)
+    last = done.stdout.rstrip().rpartition("\n")[2]
+    found = re.fullmatch(r"(\d+) passed, (\d+) failed", last)
+    passed, failed = map(int, found.groups()) if found else (0, 1)
+    if failed or done.returncode:
+        print(done.stdout[-4000:] + done.stderr[-4000:])
+    return passed, max(failed, int(done.returncode != 0))
+
+
+def main():
+    with tempfile.TemporaryDirectory() as room, ThreadPoolExecutor(4) as pool:
+        counts = {crate: pool.submit(rows, crate, room) for crate in ROWS}
+        try:
+            program = built("calculator", room)
+            counts["the program"] = pool.submit(counted, ["tests/program/__main__.py", program], program)
+            counts["random scripts"] = pool.submit(counted, ["tests/peer/scripts.py", *sys.argv[1:2]], program)
+            counts = {name: it.result() for name, it in counts.items()}
+        except subprocess.CalledProcessError as error:
+            print(f"{' '.join(error.cmd)}: not built")
+            counts = {"the builds": (0, 1)}
+    for name, (passed, failed) in counts.items():
+        print(f"{name}: {passed} passed, {failed} failed")
+    passed, failed = map(sum, zip(*counts.values()))
+    print(f"{passed} passed, {failed} failed")
+    return failed > 0
+
+
+if __name__ == "__main__":
+    sys.exit(main())
