@@ -6,10 +6,10 @@ import struct
 import sys
 
 TOP = os.path.dirname(os.path.dirname(os.path.dirname(os.path.abspath(__file__))))
-sys.path.insert(0, os.path.join(TOP, "tests/peer"))
+sys.path[:0] = [os.path.join(TOP, "tests/peer"), os.path.join(TOP, "tests/program")]
 import model
+from process import PROGRAM
 
-PROGRAM = os.path.join(TOP, "crates/calculator/out/calculator")
 LIMIT, DEPTH = 10_000, 3  # the oldest states are dropped
 WRITERS, READERS = ("save", "dump"), ("load", "restore")
 EDITS = ("add", "remove", "keep", "clear", "copy", "union", "intersect", "subtract", "range")

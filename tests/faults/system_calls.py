@@ -5,10 +5,13 @@ In each run one call of the proved program fails: a read or a write of the scrip
 opening, the look at or the closing of a file. In some runs each read of the script and each write of answers transfers
 a few bytes. Answers, status, standard error and files must be what docs/SCRIPT.md says of such a failure;
 tests/peer/model.py says what all other lines do. Each kind of call has to fail at least once, so that none passes by
-tests/refuse.c. In one run each file becomes a device just before it is opened. The last line is 'N passed, M failed'.
+tests/refuse.c. Then the same with all calls of the kind from one on, as on a disk that goes on failing: such a run
+comes to an end, and tries nothing again and again. In one run each file becomes a device just before it is opened. The
+last line is 'N passed, M failed'.
 """
 import collections
 import errno
+import functools
 import resource
 import signal
 import sys
@@ -40,6 +43,13 @@ MODES = [
     (5, {"write": [errno.ENOSPC, 0]}),
 ]
 
+# The same for all calls from one on. None is interrupted for ever: those are tried again.
+LASTING = [
+    (0, {**{kind: [errno.EIO] for kind in ERRORS}, "write": [errno.EIO, 0]}),
+    (61, {"read": [errno.EIO]}),
+]
+LAST = 1 << 30
+
 
 def is_file_command(line):
     """Whether a line reads or writes a file. A line whose file name is refused doesn't."""
@@ -62,11 +72,57 @@ def is_right(ended, call, before, error):
     return is_told and any(way.leaves(ended.files) for way in ways_through(LINES, ended.answers, 1))
 
 
+def is_lasting_right(ended, call, before):
+    """Whether the run in which this call and all later ones of its kind failed is what docs/SCRIPT.md says. If all
+    writes fail, so does that of standard error."""
+    if call.kind == "write" and call.file == 1:
+        return is_cut_off(ended) and (ended.status, ended.error) == (2, b"")
+    if call.kind == "write":
+        first = first_with_file(before)
+        return ended[:4] == (2, ANSWERS[:before], b"", {**STEPS[first].model.files, name_in(LINES[first]): b""})
+    is_input = call.kind == "read"
+    done = lines_in(ended.read()) if is_input else len(LINES)
+    is_for_file = call.file not in (0, 1) and call.kind not in ("close", "lseek")
+    first = first_with_file(before) if is_for_file else done
+    answers, files = lasting(call.kind, first, done)
+    return ended[:4] == (1 + is_input, answers, b"s2calc: input\n" * is_input, files)
+
+
+@functools.cache
+def lasting(kind, first, done):
+    """The answers of the first lines that were done, and their files, if all calls of a kind fail from one line on."""
+    way, answers = STEPS[first].copy(), ANSWERS[: STEPS[first].at]
+    for line in LINES[first:done]:
+        if is_file_command(line) and makes(kind, line, way.model.files):
+            answer, way = way.refused("file")
+        else:
+            answer = way.carry_out(line)
+        answers += answer
+    return answers, way.model.files
+
+
+def makes(kind, line, files):
+    """Whether a line with a file makes a call of this kind for it, over these files."""
+    is_read = line.split()[0].decode() in READERS
+    is_there = not is_read or name_in(line) in files
+    return {"statx": True, "open": is_there, "read": is_read and is_there}[kind]
+
+
+def name_in(line):
+    """The file of a line with a file."""
+    return line.split()[-1].decode()
+
+
+def first_with_file(before):
+    """The number of the line with a file whose answer begins there."""
+    return next(n for n, line in enumerate(LINES) if STEPS[n].at == before and is_file_command(line))
+
+
 def refusal_after(kind, error, before):
     """How a line with a file is refused if a call for the file fails, or None if it is answered as if nothing had."""
     if kind in ("close", "lseek") or (error == errno.EINTR and kind in ("read", "write", "open")):
         return None
-    line = next(line for line, step in zip(LINES, STEPS) if step.at == before and is_file_command(line))
+    line = LINES[first_with_file(before)]
     is_read = line.split()[0].decode() in READERS
     if error == errno.ENOENT and not is_read and kind == "statx":
         return None
@@ -107,6 +163,20 @@ def is_prompt(ended):
                 return False
             is_between = True
     return out == len(ANSWERS) and read == len(SCRIPT) and next(with_files, None) is None
+
+
+def makes_few_calls(ended):
+    """Whether the script is read at once, and the answers before and of each line with a file are written at once. For
+    such a line there is a look, an opening, a look at what was opened if it is read, and a closing; and it is read by
+    pieces that grow."""
+    with_files = sum(bool(is_file_command(line)) for line in LINES)
+    counts = collections.Counter((call.kind, min(call.file, 2)) for call in ended.calls)
+    return (
+        counts["read", 0] == 2 and counts["write", 1] <= 2 * with_files + 1
+        and counts["statx", -1] <= 2 * with_files and counts["open", -1] <= with_files
+        and counts["close", 2] == counts["open", -1] and counts["write", 2] <= with_files
+        and counts["read", 2] <= 6 * with_files
+    )
 
 
 class Cut(model.Calculator):
@@ -160,14 +230,16 @@ def is_looked_at_again(refusing):
     return ended[:2] == (1, b"error file\n" * 2) and len(opened) == 2 and not read
 
 
-def failures(refusing):
-    """Each call that is made to fail, the bytes of answers before it, its error, and the run in which it fails."""
-    for piece, ways in MODES:
+def failures(refusing, modes, last=0):
+    """Each call that is made to fail, the bytes of answers before it, its error, and the run in which it fails, with
+    those up to the last one."""
+    for piece, ways in modes:
         seen, before = collections.Counter(), 0
         for call in refusing.run(piece=piece).calls:
             seen[call.kind] += 1
             for error in ways.get(call.kind, []):
-                ended = refusing.run(f"{call.kind} {seen[call.kind]} {seen[call.kind]} {error}", piece)
+                first = seen[call.kind]
+                ended = refusing.run(f"{call.kind} {first} {max(first, last)} {error}", piece)
                 yield call, before, error, ended
             before += call.answer if call[:2] == ("write", 1) else 0
 
@@ -186,13 +258,17 @@ def main():
     with tempfile.TemporaryDirectory() as room:
         refusing = Refusing(room)
         left = set(MET)
-        for call, before, error, ended in failures(refusing):
+        for call, before, error, ended in failures(refusing, MODES):
             left.discard((call.kind, call.file in (0, 1)))
             is_well = is_right(ended, call, before, error)
             tell(f"{call.kind}: status {ended.status}", is_well, call, error, ended.answers[before:][:100])
+        for call, before, error, ended in failures(refusing, LASTING, LAST):
+            is_well = is_lasting_right(ended, call, before)
+            tell(f"{call.kind} from one on: status {ended.status}", is_well, call, error, ended.answers[before:][:100])
         tell("kinds of calls that are all there", not left, left)
         for piece in (0, 61):
             tell("answers that are out in time", is_prompt(refusing.run(piece=piece)))
+        tell("few calls", makes_few_calls(refusing.run()))
         for most in (0, 1, 9, 16, 17, 25, 100, 700, 1000):
             tell("files of few bytes", is_cut_right(refusing, most), most)
         tell("notes before a read that fails", is_explained(refusing))

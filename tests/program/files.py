@@ -68,6 +68,13 @@ class UnionFiles(unittest.TestCase):
         self.answers("add a 3\nload b link\nsave a link\nload b file\n", "ok 0 1\nerror missing\nok\nok 0 1\n")
         self.assertTrue(os.path.islink(self.path("link")))
 
+    def test_a_file_of_which_each_read_fails(self):
+        os.symlink("/proc/self/mem", self.path("f"))  # A regular file, whose first bytes can't be read.
+        script = b"add a 3\nload a f\nrestore f\nshow a\n"
+        done = ran("run", "--dir", self.folder, script=script, timeout=60)
+        self.assertEqual(done, (1, FACE + b"error file\n" * 2 + b"3\nend\n", b""))
+        self.checks("f", "error file")
+
     def test_a_file_in_the_place_of_the_folder(self):
         self.folder = self.path("f")
         open(self.folder, "wb").close()

@@ -18,7 +18,8 @@ def ran(*words, script=b"", **how):
     """The status, standard output and standard error of a run of the program."""
     how.setdefault("input", script)
     how.setdefault("stdout", subprocess.PIPE)
-    done = subprocess.run([PROGRAM, *words], stderr=subprocess.PIPE, timeout=SECONDS, **how)
+    how.setdefault("timeout", SECONDS)
+    done = subprocess.run([PROGRAM, *words], stderr=subprocess.PIPE, **how)
     return done.returncode, done.stdout, done.stderr
 
 

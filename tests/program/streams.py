@@ -100,6 +100,17 @@ class Streams(unittest.TestCase):
             program.kill()
             program.communicate()
 
+    def test_a_script_that_fits_is_one_read_and_its_answers_are_one_write(self):
+        # Such a socket gives a message to one read, and makes one of each write.
+        ours, its = socket.socketpair(socket.AF_UNIX, socket.SOCK_SEQPACKET)
+        with ours, its:
+            ours.send(b"clear a\n" * 8000)
+            ours.shutdown(socket.SHUT_WR)
+            status, _, error = ran("run", input=None, stdin=its, stdout=its)
+            its.close()
+            self.assertEqual((status, error), (0, b""))
+            self.assertEqual(list(iter(lambda: ours.recv(1 << 17), b"")), [b"ok 0 0\n" * 8000])
+
 
 class Terminal(unittest.TestCase):
     def test_each_answer_comes_before_the_next_line_is_typed(self):
