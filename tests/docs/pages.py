@@ -64,7 +64,7 @@ ERRORS = {
     "Go": (["bindings/go/library.go"], r"^\t(Err\w+) +Error\b"),
     "Rust": (["bindings/rust/src/error.rs"], r"^    ([A-Z]\w+)(?: \{|\(\w+\),|,)$"),
     "Python": (["bindings/python/s2union/*.[cp]*", "bindings/python/s2union_geo/[!_]*.py"],
-               r"raise (\w+)\(|PyExc_(\w+)"),
+               r"raise (\w+)\(|PyExc_(\w+)|^class (?!UnionFile)(\w+Error)\((?!Exception)"),
     "JavaScript": (["bindings/js/*.js", "bindings/page/core.js"], r"throw new (\w+)\("),
     "Java": (["bindings/java/s2union/*.java"], r"throw new (\w+)\("),
     "PostgreSQL": (["databases/postgres/*.c"], r"ERRCODE_(\w+)"),

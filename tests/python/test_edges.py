@@ -10,7 +10,7 @@ from s2union import Union, UnionFile
 
 LACKING = {"leaves", "compare"}
 NO_ANSWER = {"parent", "children", "next", "previous", "common_ancestor"}  # what is refused by no answer elsewhere
-FAULTS = {text: name for name, (_, text) in edges.REFUSALS.items()} | {"the level is below the cell's own": "argument"}
+NAMES = {int(status): name for name, (status, _) in edges.REFUSALS.items()}
 
 
 def cell(text):
@@ -128,11 +128,9 @@ ASK = {
 
 
 def refusal(call, error):
-    """The name of what was refused, and its place if the row has one."""
-    said = str(error)
-    name = next((name for text, name in FAULTS.items() if said.startswith(text)), None)
-    name = name or ("argument" if "out of range" in said or said.startswith("a leaf has no children: ") else said)
-    place = re.search(r"at place (\d+)", said)
+    """The name of what was refused, by its exception, and its place if the row has one."""
+    name = NAMES.get(getattr(error, "status", 0), str(error))
+    place = re.search(r"at place (\d+)", str(error))
     return "none" if call in NO_ANSWER and name == "argument" else f"!{name} {place[1]}" if place else f"!{name}"
 
 

@@ -458,10 +458,11 @@ class TheModule(unittest.TestCase):
         self.assertEqual((a[0], a[-1]), (s2union.from_token("04"), s2union.from_token("14")))
         self.assertEqual((a[1:], list(reversed(a))), (list(a)[1:], list(a)[::-1]))
         self.assertRaises(IndexError, lambda: a[3])
-        self.assertEqual(repr(a), "<Union of 3 cells: 04 0c 14>")
+        self.assertEqual(repr(a), "<CellUnion of 3 cells: 04 0c 14>")
         tokens = [model.token(model.identifier(2, 5 * k)) for k in range(9)]
-        self.assertEqual(repr(Union.from_tokens(" ".join(tokens[:8]))), f"<Union of 8 cells: {' '.join(tokens[:8])}>")
-        shown = f"<Union of 9 cells: {' '.join(tokens[:8])} and 1 more>"
+        eight = Union.from_tokens(" ".join(tokens[:8]))
+        self.assertEqual(repr(eight), f"<CellUnion of 8 cells: {' '.join(tokens[:8])}>")
+        shown = f"<CellUnion of 9 cells: {' '.join(tokens[:8])} and 1 more>"
         self.assertEqual(repr(Union.from_tokens(" ".join(tokens))), shown)
         self.assertEqual((a.issubset(Union([FACE])), Union([FACE]).issubset(a)), (True, False))
         self.assertEqual((a.issuperset(Union([FACE])), Union([FACE]).issuperset(a)), (False, True))
@@ -473,10 +474,10 @@ class TheModule(unittest.TestCase):
 
     def test_texts_for_a_person(self):
         few = Union(range(1, 4 * 8 + 1, 4))
-        self.assertEqual(repr(few), "<Union of 8 cells: " + " ".join(few.tokens()) + ">")
+        self.assertEqual(repr(few), "<CellUnion of 8 cells: " + " ".join(few.tokens()) + ">")
         more = Union(range(1, 4 * 9 + 1, 4))
-        self.assertEqual(repr(more), "<Union of 9 cells: " + " ".join(few.tokens()) + " and 1 more>")
-        self.assertEqual(repr(Union()), "<Union of 0 cells: >")
+        self.assertEqual(repr(more), "<CellUnion of 9 cells: " + " ".join(few.tokens()) + " and 1 more>")
+        self.assertEqual(repr(Union()), "<CellUnion of 0 cells: >")
 
     def test_subsets_both_ways(self):
         part, whole, other = Union.from_tokens("04"), Union.from_tokens("04 0c"), Union.from_tokens("14")
@@ -616,7 +617,7 @@ class TheModule(unittest.TestCase):
             with self.assertRaisesRegex(ValueError, "not a cell at place 1: 0x2$"):
                 getattr(s2union, name)([FACE, 2, 0], *more)
             self.assertRaises(TypeError, getattr(s2union, name), ["x"], *more)
-        with self.assertRaisesRegex(ValueError, "the level is below the cell's own at place 2: 0x1000000000000000$"):
+        with self.assertRaisesRegex(ValueError, "level 1 is deeper than the cell 1, which is of level 0, at place 2$"):
             s2union.parents(cells, 1)
         for level, error in ((31, ValueError), (-1, ValueError), ("1", TypeError), (True, TypeError)):
             self.assertRaises(error, s2union.parents, [], level)
@@ -678,7 +679,7 @@ class TheModule(unittest.TestCase):
         self.assertRaises(TypeError, file.contains_cells, ["x"])
         self.assertEqual((file.contains_cells([]), file.intersects_cells(())), ([], []))
         for question in (file.contains, file.intersects):
-            self.assertRaisesRegex(TypeError, "a UnionFile is wanted, not Union", question, file.union())
+            self.assertRaisesRegex(TypeError, "a UnionFile is wanted, not CellUnion", question, file.union())
 
     @unittest.skipUnless(numpy, "numpy is not installed")
     def test_answers_are_a_mask_for_numpy(self):
@@ -715,6 +716,32 @@ class TheModule(unittest.TestCase):
             self.assertEqual("".join(frame[a.contains_cells(column)].name), "ace")
             self.assertEqual("".join(frame[a.intersects_cells(column)].name), "acde")
         self.assertEqual((Union(frame.leaf), Union(pandas.Series(cells, dtype="uint64"))), (Union(cells), Union(cells)))
+
+    def test_errors_by_their_kinds(self):
+        file = Union.from_tokens("04").to_bytes()
+        for kind, base, call in (
+                (s2union.NotACellError, ValueError, lambda: s2union.level(2)),
+                (s2union.NotACellError, ValueError, lambda: s2union.level(2**64)),
+                (s2union.OutOfRangeError, ValueError, lambda: s2union.parent(FACE, 1)),
+                (s2union.OutOfRangeError, ValueError, lambda: s2union.child(FACE, 4)),
+                (s2union.TooManyCellsError, ValueError, lambda: Union([FACE]).denormalised(3, most=1)),
+                (s2union.NotNormalizedError, ValueError, lambda: UnionFile(model.file([3, 1]))),
+                (s2union.OutOfMemoryError, MemoryError, lambda: Union([FACE]).denormalised(30)),
+                (s2union.FileShortError, ValueError, lambda: UnionFile(file[:-1])),
+                (s2union.FileVersionError, ValueError, lambda: Union.from_bytes(b"x" + file)),
+                (s2union.FileTrailingError, ValueError, lambda: Union.from_bytes(file + b"x")),
+                (s2union.FileCellError, ValueError, lambda: Union.from_bytes(model.file([2]))),
+                (s2union.UnknownStatusError, ValueError, lambda: s2union._refuse(-99))):
+            with self.assertRaises(s2union.S2UnionError) as refusal:
+                call()
+            found = refusal.exception
+            self.assertEqual((type(found), isinstance(found, base)), (kind, True))
+            self.assertEqual(issubclass(kind, s2union.UnionFileError), kind.__name__.startswith("File"))
+            self.assertEqual((kind.__module__, type(pickle.loads(pickle.dumps(found)))), ("s2union", kind))
+
+    def test_other_names(self):
+        self.assertIs(s2union.Union, s2union.CellUnion)
+        self.assertIs(Union.denormalized, Union.denormalised)
 
     def test_ids_hand_out_nothing_that_can_be_changed(self):
         a = Union.from_tokens("04 0c 14")

@@ -1,23 +1,24 @@
 """Unions of S2 cells, proved.
 
-A `Union` is a set of leaf cells of the sphere, kept as the one normalized list of cells that covers it. It is
+A `CellUnion` is a set of leaf cells of the sphere, kept as the one normalized list of cells that covers it. It is
 immutable, and works like a set:
 
->>> from s2union import Union, from_token
->>> a = Union.from_tokens(["04", "0c", "14", "1c"])   # four siblings are their parent
+>>> from s2union import CellUnion, from_token
+>>> a = CellUnion.from_tokens(["04", "0c", "14", "1c"])   # four siblings are their parent
 >>> a.tokens()
 ['1']
->>> b = a - Union.from_tokens(["14"])
+>>> b = a - CellUnion.from_tokens(["14"])
 >>> b.tokens()
 ['04', '0c', '1c']
 >>> b < a, a | b == a, a & b == b, from_token("14") in b
 (True, True, True, False)
 
 Cells are their identifiers, as `int`. Where a cell is taken, its 64 bits may also be a signed number, as databases have
-them; cells that are given back are not signed. All work is done by the library libs2union, whose every call is proved;
-this module turns its statuses into exceptions and does no arithmetic on cells. The library is looked for at
-$S2UNION_LIBRARY, beside this module, in the two folders above it, and in the system's own places. What a call takes is
-looked at in `_library`, which is written in C.
+them; cells that are given back are not signed. A value that is wrong raises a subclass of `S2UnionError`, which is a
+`ValueError` or a `MemoryError` too; one of a wrong type raises `TypeError`. All work is done by the library
+libs2union, whose every call is proved; this module turns its statuses into exceptions and does no arithmetic on cells.
+The library is looked for at $S2UNION_LIBRARY, beside this module, in the two folders above it, and in the system's own
+places. What a call takes is looked at in `_library`, which is written in C.
 """
 
 from __future__ import annotations
@@ -30,13 +31,19 @@ from itertools import accumulate as _accumulate
 from typing import TYPE_CHECKING, Any, Iterable, Iterator, NoReturn, overload
 
 from . import _library
+from ._errors import (
+    FileCellError, FileShortError, FileTrailingError, FileVersionError, NotACellError, NotNormalizedError,
+    OutOfMemoryError, OutOfRangeError, S2UnionError, TooManyCellsError, UnionFileError, UnknownStatusError,
+)
 
 if TYPE_CHECKING:
+    from mmap import mmap
     from typing import Callable, Protocol, SupportsIndex, TypeVar
 
+    import numpy as np
     import numpy.typing as npt
 
-    Self = TypeVar("Self", bound="Union")
+    Self = TypeVar("Self", bound="CellUnion")
 
     class Array(Protocol):
         """An array of numpy, or what is made one, such as a column of pandas."""
@@ -44,11 +51,15 @@ if TYPE_CHECKING:
         def __array__(self, *arguments: Any, **options: Any) -> Any: ...
 
     Cells = Iterable[SupportsIndex] | Array
+    Bytes = bytes | bytearray | memoryview | mmap | _array[Any] | Array
 
-__all__ = ["Union", "UnionFile", "version", "is_cell", "level", "face", "parent", "child", "range_min", "range_max",
-           "size", "next_cell", "previous_cell", "common_ancestor", "contains", "intersects", "from_face_ij", "square",
-           "token", "from_token", "debug", "from_debug", "tokens", "from_tokens", "to_signed", "levels", "parents",
-           "range_mins", "range_maxes", "token_fields", "from_points", "is_union"]
+__all__ = ["CellUnion", "Union", "UnionFile", "version", "is_cell", "level", "face", "parent", "child", "range_min",
+           "range_max", "size", "next_cell", "previous_cell", "common_ancestor", "contains", "intersects",
+           "from_face_ij", "square", "token", "from_token", "debug", "from_debug", "tokens", "from_tokens", "to_signed",
+           "levels", "parents", "range_mins", "range_maxes", "token_fields", "from_points", "is_union",
+           "S2UnionError", "NotACellError", "NotNormalizedError", "OutOfRangeError", "TooManyCellsError",
+           "OutOfMemoryError", "UnionFileError", "FileShortError", "FileVersionError", "FileTrailingError",
+           "FileCellError", "UnknownStatusError"]
 
 __version__ = "1.1.0"
 
@@ -56,20 +67,84 @@ def _refuse(status: int, what: str = "") -> NoReturn:
     _library.refuse(status, what)
 
 
+def _deeper(wanted: SupportsIndex, cell: SupportsIndex) -> str:
+    """What is said of a level at which a cell has no ancestor."""
+    return f"level {wanted} is deeper than the cell {_library.token(cell)}, which is of level {_library.level(cell)}"
+
+
 def version() -> tuple[int, int, int]:
-    """The version of the library, as a tuple."""
+    """The version of the library that runs.
+
+    .. versionadded:: 0.1
+
+    Returns
+    -------
+    tuple of int
+        Major, minor, patch.
+
+    Examples
+    --------
+    >>> version() >= (1, 1, 0)
+    True
+    """
     number = _library.version()
     return number // 10000, number // 100 % 100, number % 100
 
 
 def is_cell(cell: SupportsIndex) -> bool:
-    """Whether the number is the identifier of a cell."""
+    """Whether a number is the identifier of a cell.
+
+    .. versionadded:: 0.1
+
+    Parameters
+    ----------
+    cell : int
+        Any number of 64 bits, with a sign or without.
+
+    Returns
+    -------
+    bool
+        True if it is. Of a number that 64 bits don't hold there is no answer.
+
+    Raises
+    ------
+    NotACellError
+        The number has more than 64 bits.
+
+    Notes
+    -----
+    S2: ``S2CellId::is_valid``.
+
+    Examples
+    --------
+    >>> is_cell(0x0400000000000000), is_cell(0)
+    (True, False)
+    """
     return _library.is_cell(cell)
 
 
 def to_signed(cell: SupportsIndex) -> int:
     """The cell as the signed number of the same 64 bits, as a BIGINT of a database has it.
 
+    .. versionadded:: 0.1
+
+    Parameters
+    ----------
+    cell : int
+        A cell: its 64 bits, with a sign or without.
+
+    Returns
+    -------
+    int
+        -2**63 to 2**63 - 1.
+
+    Raises
+    ------
+    NotACellError
+        A number is the identifier of no cell.
+
+    Examples
+    --------
     >>> to_signed(from_token("89c25")), level(to_signed(from_token("89c25")))
     (-8520159584101335040, 8)
     """
@@ -77,87 +152,510 @@ def to_signed(cell: SupportsIndex) -> int:
 
 
 def level(cell: SupportsIndex) -> int:
-    """The level of a cell, 0 (a face) to 30 (a leaf)."""
+    """The level of a cell.
+
+    .. versionadded:: 0.1
+
+    Parameters
+    ----------
+    cell : int
+        A cell: its 64 bits, with a sign or without.
+
+    Returns
+    -------
+    int
+        0 (a face) to 30 (a leaf).
+
+    Raises
+    ------
+    NotACellError
+        A number is the identifier of no cell.
+
+    Notes
+    -----
+    S2: ``S2CellId::level``.
+
+    Examples
+    --------
+    >>> level(from_token("89c25"))
+    8
+    """
     return _library.level(cell)
 
 
 def face(cell: SupportsIndex) -> int:
-    """The face of a cell, 0 to 5."""
+    """The face of a cell.
+
+    .. versionadded:: 0.1
+
+    Parameters
+    ----------
+    cell : int
+        A cell: its 64 bits, with a sign or without.
+
+    Returns
+    -------
+    int
+        0 to 5.
+
+    Raises
+    ------
+    NotACellError
+        A number is the identifier of no cell.
+
+    Notes
+    -----
+    S2: ``S2CellId::face``.
+
+    Examples
+    --------
+    >>> face(from_token("89c25"))
+    4
+    """
     return _library.face(cell)
 
 
 def parent(cell: SupportsIndex, level: SupportsIndex | None = None) -> int:
-    """The cell of this level that contains the cell; without a level, of the level above its own."""
+    """The cell of a level that contains the cell; without a level, of the next coarser level.
+
+    .. versionadded:: 0.1
+
+    Parameters
+    ----------
+    cell : int
+        A cell: its 64 bits, with a sign or without.
+    level : int, optional
+        0 to the cell's own level. The next coarser level, if it is left out.
+
+    Returns
+    -------
+    int
+        The ancestor; the cell itself at its own level.
+
+    Raises
+    ------
+    NotACellError
+        A number is the identifier of no cell.
+    OutOfRangeError
+        The level is not from 0 to 30, or is deeper than the cell's own; or the cell is a face, and no level is given.
+
+    Notes
+    -----
+    S2: ``S2CellId::parent``.
+
+    Examples
+    --------
+    >>> token(parent(from_token("89c25"), 5)), token(parent(from_token("89c25")))
+    ('89c4', '89c24')
+    >>> parent(from_token("04"), 9)
+    Traceback (most recent call last):
+        ...
+    s2union.OutOfRangeError: level 9 is deeper than the cell 04, which is of level 1
+    """
     wanted = _library.level(cell) - 1 if level is None else level
     if level is None and wanted == -1:
-        raise ValueError(f"a face has no parent: {_library.bits(cell):#x}")
+        raise OutOfRangeError(f"a face has no parent: {_library.bits(cell):#x}")
     found = _library.parent(cell, wanted)
     if found is None:
-        raise ValueError(f"the level is below the cell's own: {wanted}, of {_library.bits(cell):#x}")
+        raise OutOfRangeError(_deeper(wanted, cell))
     return found
 
 
 def child(cell: SupportsIndex, number: SupportsIndex) -> int:
-    """The child of a cell with this number, 0 to 3 along the curve."""
+    """The child of a cell with this number.
+
+    .. versionadded:: 0.1
+
+    Parameters
+    ----------
+    cell : int
+        A cell: its 64 bits, with a sign or without.
+    number : int
+        0 to 3, along the curve.
+
+    Returns
+    -------
+    int
+        The child, one level deeper.
+
+    Raises
+    ------
+    NotACellError
+        A number is the identifier of no cell.
+    OutOfRangeError
+        The number is not from 0 to 3, or the cell is a leaf.
+
+    Notes
+    -----
+    S2: ``S2CellId::child``.
+
+    Examples
+    --------
+    >>> token(child(from_token("1"), 2))
+    '14'
+    """
     found = _library.child(cell, number)
     if found is None:
-        raise ValueError(f"a leaf has no children: {_library.bits(cell):#x}")
+        raise OutOfRangeError(f"a leaf has no children: {_library.bits(cell):#x}")
     return found
 
 
 def range_min(cell: SupportsIndex) -> int:
-    """The first leaf of a cell: `other` is in `cell` exactly if `range_min(cell) <= other <= range_max(cell)`."""
+    """The first leaf of a cell: `other` is in `cell` if `range_min(cell) <= other <= range_max(cell)`.
+
+    .. versionadded:: 0.1
+
+    Parameters
+    ----------
+    cell : int
+        A cell: its 64 bits, with a sign or without.
+
+    Returns
+    -------
+    int
+        A leaf.
+
+    Raises
+    ------
+    NotACellError
+        A number is the identifier of no cell.
+
+    Notes
+    -----
+    S2: ``S2CellId::range_min``.
+
+    Examples
+    --------
+    >>> token(range_min(from_token("04")))
+    '0000000000000001'
+    """
     return _library.range_min(cell)
 
 
 def range_max(cell: SupportsIndex) -> int:
-    """The last leaf of a cell."""
+    """The last leaf of a cell.
+
+    .. versionadded:: 0.1
+
+    Parameters
+    ----------
+    cell : int
+        A cell: its 64 bits, with a sign or without.
+
+    Returns
+    -------
+    int
+        A leaf.
+
+    Raises
+    ------
+    NotACellError
+        A number is the identifier of no cell.
+
+    Notes
+    -----
+    S2: ``S2CellId::range_max``.
+
+    Examples
+    --------
+    >>> token(range_max(from_token("04")))
+    '07ffffffffffffff'
+    """
     return _library.range_max(cell)
 
 
 def size(cell: SupportsIndex) -> int:
-    """How many leaves a cell has."""
+    """How many leaves a cell has.
+
+    .. versionadded:: 0.1
+
+    Parameters
+    ----------
+    cell : int
+        A cell: its 64 bits, with a sign or without.
+
+    Returns
+    -------
+    int
+        4**(30 - level), 1 to 4**30.
+
+    Raises
+    ------
+    NotACellError
+        A number is the identifier of no cell.
+
+    Notes
+    -----
+    S2: ``S2CellUnion::LeafCellsCovered of one cell``.
+
+    Examples
+    --------
+    >>> size(from_token("04")) == 4**29
+    True
+    """
     return _library.size(cell)
 
 
 def next_cell(cell: SupportsIndex) -> int | None:
-    """The next cell of the same level, across faces, or None."""
+    """The next cell of the same level, across faces.
+
+    .. versionadded:: 0.1
+
+    Parameters
+    ----------
+    cell : int
+        A cell: its 64 bits, with a sign or without.
+
+    Returns
+    -------
+    int or None
+        None after the last cell of its level.
+
+    Raises
+    ------
+    NotACellError
+        A number is the identifier of no cell.
+
+    Notes
+    -----
+    S2: ``S2CellId::next``.
+
+    Examples
+    --------
+    >>> token(next_cell(from_token("1c"))), next_cell(from_token("b"))
+    ('24', None)
+    """
     return _library.next_cell(cell)
 
 
 def previous_cell(cell: SupportsIndex) -> int | None:
-    """The cell of the same level before it, across faces, or None."""
+    """The cell of the same level before it, across faces.
+
+    .. versionadded:: 0.1
+
+    Parameters
+    ----------
+    cell : int
+        A cell: its 64 bits, with a sign or without.
+
+    Returns
+    -------
+    int or None
+        None before the first cell of its level.
+
+    Raises
+    ------
+    NotACellError
+        A number is the identifier of no cell.
+
+    Notes
+    -----
+    S2: ``S2CellId::prev``.
+
+    Examples
+    --------
+    >>> token(previous_cell(from_token("24"))), previous_cell(from_token("1"))
+    ('1c', None)
+    """
     return _library.previous_cell(cell)
 
 
 def common_ancestor(a: SupportsIndex, b: SupportsIndex) -> int | None:
-    """The smallest cell that contains both, or None if they lie on two faces."""
+    """The smallest cell that contains both.
+
+    .. versionadded:: 0.1
+
+    Parameters
+    ----------
+    a : int
+        A cell.
+    b : int
+        A cell, as `a`.
+
+    Returns
+    -------
+    int or None
+        None if they lie on two faces.
+
+    Raises
+    ------
+    NotACellError
+        A number is the identifier of no cell.
+
+    Notes
+    -----
+    S2: ``S2CellId::GetCommonAncestorLevel``.
+
+    Examples
+    --------
+    >>> token(common_ancestor(from_token("04"), from_token("14")))
+    '1'
+    """
     return _library.common_ancestor(a, b)
 
 
 def contains(whole: SupportsIndex, part: SupportsIndex) -> bool:
-    """Whether one cell contains another."""
+    """Whether all leaves of one cell are in another.
+
+    .. versionadded:: 0.1
+
+    Parameters
+    ----------
+    whole : int
+        The cell that may contain the other.
+    part : int
+        The cell that may lie in it.
+
+    Returns
+    -------
+    bool
+        True also of a cell and itself.
+
+    Raises
+    ------
+    NotACellError
+        A number is the identifier of no cell.
+
+    Notes
+    -----
+    S2: ``S2CellId::contains``.
+
+    Examples
+    --------
+    >>> contains(from_token("1"), from_token("04"))
+    True
+    """
     return _library.cell_contains(whole, part)
 
 
 def intersects(a: SupportsIndex, b: SupportsIndex) -> bool:
-    """Whether two cells share a leaf."""
+    """Whether two cells share a leaf.
+
+    .. versionadded:: 0.1
+
+    Parameters
+    ----------
+    a : int
+        A cell.
+    b : int
+        A cell, as `a`.
+
+    Returns
+    -------
+    bool
+        True if one contains the other.
+
+    Raises
+    ------
+    NotACellError
+        A number is the identifier of no cell.
+
+    Notes
+    -----
+    S2: ``S2CellId::intersects``.
+
+    Examples
+    --------
+    >>> intersects(from_token("04"), from_token("14"))
+    False
+    """
     return _library.cell_intersects(a, b)
 
 
 def from_face_ij(face: SupportsIndex, i: SupportsIndex, j: SupportsIndex) -> int:
-    """The leaf at a place of a face."""
+    """The leaf at a place of a face. `s2union_geo.leaf` takes degrees.
+
+    .. versionadded:: 0.1
+
+    Parameters
+    ----------
+    face : int
+        0 to 5.
+    i : int
+        The first coordinate, 0 to 2**30 - 1.
+    j : int
+        The second coordinate, 0 to 2**30 - 1.
+
+    Returns
+    -------
+    int
+        A leaf.
+
+    Raises
+    ------
+    OutOfRangeError
+        The face or a coordinate is out of range.
+
+    Notes
+    -----
+    S2: ``S2CellId::FromFaceIJ``.
+
+    Examples
+    --------
+    >>> token(from_face_ij(0, 0, 0))
+    '0000000000000001'
+    """
     return _library.from_face_ij(face, i, j)
 
 
 def square(cell: SupportsIndex) -> tuple[int, int, int, int]:
-    """The face, the least coordinates i and j, and the side of a cell, in leaves."""
+    """The square of a cell on its face.
+
+    .. versionadded:: 0.1
+
+    Parameters
+    ----------
+    cell : int
+        A cell: its 64 bits, with a sign or without.
+
+    Returns
+    -------
+    tuple of int
+        The face, the least coordinates i and j, and the side, in leaves: 0 to 5, 0 to 2**30 - 1 twice, 1 to 2**30.
+
+    Raises
+    ------
+    NotACellError
+        A number is the identifier of no cell.
+
+    Notes
+    -----
+    S2: ``S2CellId::ToFaceIJOrientation``.
+
+    Examples
+    --------
+    >>> square(from_token("14")) == (0, 2**29, 2**29, 2**29)
+    True
+    """
     return _library.square_of(cell)
 
 
 def token(cell: SupportsIndex) -> str:
     """The token of a cell: its identifier in hexadecimal without the zeros at its end.
 
+    .. versionadded:: 0.1
+
+    Parameters
+    ----------
+    cell : int
+        A cell: its 64 bits, with a sign or without.
+
+    Returns
+    -------
+    str
+        1 to 16 digits, in lower case.
+
+    Raises
+    ------
+    NotACellError
+        A number is the identifier of no cell.
+
+    Notes
+    -----
+    S2: ``S2CellId::ToToken``.
+
+    Examples
+    --------
     >>> token(0x0c00000000000000)
     '0c'
     """
@@ -165,13 +663,67 @@ def token(cell: SupportsIndex) -> str:
 
 
 def from_token(text: str | bytes) -> int:
-    """The cell of a token, in either case."""
+    """The cell of a token.
+
+    .. versionadded:: 0.1
+
+    Parameters
+    ----------
+    text : str or bytes
+        At most 16 hexadecimal digits, in either case.
+
+    Returns
+    -------
+    int
+        The cell.
+
+    Raises
+    ------
+    NotACellError
+        The text is the token of no cell.
+
+    Notes
+    -----
+    S2: ``S2CellId::FromToken``.
+
+    Examples
+    --------
+    >>> from_token("0C") == 0x0c00000000000000
+    True
+    >>> from_token("xyz")
+    Traceback (most recent call last):
+        ...
+    s2union.NotACellError: not a cell: 'xyz'
+    """
     return _library.from_token(text)
 
 
 def debug(cell: SupportsIndex) -> str:
-    """The debug text of a cell.
+    """The debug text of a cell: its face, a slash, and a digit for each level.
 
+    .. versionadded:: 0.1
+
+    Parameters
+    ----------
+    cell : int
+        A cell: its 64 bits, with a sign or without.
+
+    Returns
+    -------
+    str
+        2 to 32 characters.
+
+    Raises
+    ------
+    NotACellError
+        A number is the identifier of no cell.
+
+    Notes
+    -----
+    S2: ``S2CellId::ToString``.
+
+    Examples
+    --------
     >>> debug(from_token("0c"))
     '0/1'
     """
@@ -179,21 +731,69 @@ def debug(cell: SupportsIndex) -> str:
 
 
 def from_debug(text: str | bytes) -> int:
-    """The cell with a debug text."""
+    """The cell with a debug text.
+
+    .. versionadded:: 0.1
+
+    Parameters
+    ----------
+    text : str or bytes
+        A face, a slash, and digits from 0 to 3.
+
+    Returns
+    -------
+    int
+        The cell.
+
+    Raises
+    ------
+    NotACellError
+        The text is the debug text of no cell.
+
+    Notes
+    -----
+    S2: ``S2CellId::FromDebugString``.
+
+    Examples
+    --------
+    >>> token(from_debug("0/1"))
+    '0c'
+    """
     return _library.from_debug(text)
 
 
 @overload
-def levels(cells: Array) -> npt.NDArray[Any]: ...
+def levels(cells: Array) -> npt.NDArray[np.uint8]: ...
 @overload
 def levels(cells: Iterable[SupportsIndex]) -> list[int]: ...
 
 
 def levels(cells: Any) -> Any:
-    """The levels of many cells in one call, in their order: a list, or for an array of numpy or a column of pandas, an
-    array. So it is with `parents`, `range_mins` and `range_maxes`, whose cells are signed in an array if the given ones
-    are.
+    """The levels of many cells in one call, in their order.
 
+    .. versionadded:: 0.2
+
+    Parameters
+    ----------
+    cells : iterable of int, or array of 64-bit integers
+        Cells: any iterable, a buffer of 64-bit integers, an array of numpy, a column of pandas, polars or pyarrow.
+
+    Returns
+    -------
+    list of int, or array of uint8
+        A list; an array if an array of numpy or a column is given.
+
+    Raises
+    ------
+    NotACellError
+        A number is the identifier of no cell; the message has its place.
+
+    Notes
+    -----
+    S2: ``S2CellId::level``.
+
+    Examples
+    --------
     >>> levels([0x1000000000000000, 0x0400000000000000])
     [0, 1]
     """
@@ -201,47 +801,170 @@ def levels(cells: Any) -> Any:
 
 
 @overload
-def parents(cells: Array, level: SupportsIndex) -> npt.NDArray[Any]: ...
+def parents(cells: npt.NDArray[np.int64], level: SupportsIndex) -> npt.NDArray[np.int64]: ...  # type: ignore[misc]
+@overload
+def parents(cells: npt.NDArray[np.uint64], level: SupportsIndex) -> npt.NDArray[np.uint64]: ...  # type: ignore[misc]
+@overload
+def parents(cells: Array, level: SupportsIndex) -> npt.NDArray[np.uint64] | npt.NDArray[np.int64]: ...
 @overload
 def parents(cells: Iterable[SupportsIndex], level: SupportsIndex) -> list[int]: ...
 
 
 def parents(cells: Any, level: SupportsIndex) -> Any:
-    """The cells of one level that contain the cells, in one call; ValueError if the level is below a cell's own."""
-    return _relatives(cells, _found(*_library.parents(_given(cells), level)))
+    """The cells of one level that contain the cells, in one call.
+
+    .. versionadded:: 0.2
+
+    Parameters
+    ----------
+    cells : iterable of int, or array of 64-bit integers
+        Cells: any iterable, a buffer of 64-bit integers, an array of numpy, a column of pandas, polars or pyarrow.
+    level : int
+        0 (a face) to 30 (a leaf).
+
+    Returns
+    -------
+    list of int, or array of uint64 or int64
+        A list; an array if an array or column is given, signed if that is.
+
+    Raises
+    ------
+    NotACellError
+        A number is the identifier of no cell; the message has its place.
+    OutOfRangeError
+        The level is not from 0 to 30, or is deeper than a cell's own: the message has its place.
+
+    Notes
+    -----
+    S2: ``S2CellId::parent``.
+
+    Examples
+    --------
+    >>> [token(cell) for cell in parents([from_token("04"), from_token("89c25")], 0)]
+    ['1', '9']
+    """
+    return _relatives(cells, _found(*_library.parents(_given(cells), level), level))
 
 
 @overload
-def range_mins(cells: Array) -> npt.NDArray[Any]: ...
+def range_mins(cells: npt.NDArray[np.int64]) -> npt.NDArray[np.int64]: ...  # type: ignore[misc]
+@overload
+def range_mins(cells: npt.NDArray[np.uint64]) -> npt.NDArray[np.uint64]: ...  # type: ignore[misc]
+@overload
+def range_mins(cells: Array) -> npt.NDArray[np.uint64] | npt.NDArray[np.int64]: ...
 @overload
 def range_mins(cells: Iterable[SupportsIndex]) -> list[int]: ...
 
 
 def range_mins(cells: Any) -> Any:
-    """The first leaves of many cells, in one call."""
+    """The first leaves of many cells, in one call.
+
+    .. versionadded:: 0.2
+
+    Parameters
+    ----------
+    cells : iterable of int, or array of 64-bit integers
+        Cells: any iterable, a buffer of 64-bit integers, an array of numpy, a column of pandas, polars or pyarrow.
+
+    Returns
+    -------
+    list of int, or array of uint64 or int64
+        A list; an array if an array or column is given, signed if that is.
+
+    Raises
+    ------
+    NotACellError
+        A number is the identifier of no cell; the message has its place.
+
+    Notes
+    -----
+    S2: ``S2CellId::range_min``.
+
+    Examples
+    --------
+    >>> range_mins([from_token("04")]) == [range_min(from_token("04"))]
+    True
+    """
     return _relatives(cells, _found(*_library.range_mins(_given(cells))))
 
 
 @overload
-def range_maxes(cells: Array) -> npt.NDArray[Any]: ...
+def range_maxes(cells: npt.NDArray[np.int64]) -> npt.NDArray[np.int64]: ...  # type: ignore[misc]
+@overload
+def range_maxes(cells: npt.NDArray[np.uint64]) -> npt.NDArray[np.uint64]: ...  # type: ignore[misc]
+@overload
+def range_maxes(cells: Array) -> npt.NDArray[np.uint64] | npt.NDArray[np.int64]: ...
 @overload
 def range_maxes(cells: Iterable[SupportsIndex]) -> list[int]: ...
 
 
 def range_maxes(cells: Any) -> Any:
-    """The last leaves of many cells, in one call."""
+    """The last leaves of many cells, in one call.
+
+    .. versionadded:: 0.2
+
+    Parameters
+    ----------
+    cells : iterable of int, or array of 64-bit integers
+        Cells: any iterable, a buffer of 64-bit integers, an array of numpy, a column of pandas, polars or pyarrow.
+
+    Returns
+    -------
+    list of int, or array of uint64 or int64
+        A list; an array if an array or column is given, signed if that is.
+
+    Raises
+    ------
+    NotACellError
+        A number is the identifier of no cell; the message has its place.
+
+    Notes
+    -----
+    S2: ``S2CellId::range_max``.
+
+    Examples
+    --------
+    >>> range_maxes([from_token("04")]) == [range_max(from_token("04"))]
+    True
+    """
     return _relatives(cells, _found(*_library.range_maxes(_given(cells))))
 
 
 @overload
-def token_fields(cells: Array) -> npt.NDArray[Any]: ...
+def token_fields(cells: Array) -> npt.NDArray[np.bytes_]: ...
 @overload
 def token_fields(cells: Iterable[SupportsIndex]) -> list[bytes]: ...
 
 
 def token_fields(cells: Any) -> Any:
-    """The tokens of many cells in one call, as bytes: a list, or for an array of numpy or a column of pandas, an array
-    of texts of at most 16 bytes, which is made more quickly than the list that `tokens` gives."""
+    """The tokens of many cells in one call, as bytes, which is quicker for an array than the list that `tokens` gives.
+
+    .. versionadded:: 0.2
+
+    Parameters
+    ----------
+    cells : iterable of int, or array of 64-bit integers
+        Cells: any iterable, a buffer of 64-bit integers, an array of numpy, a column of pandas, polars or pyarrow.
+
+    Returns
+    -------
+    list of bytes, or array of S16
+        A list; for an array, an array of texts of at most 16 bytes.
+
+    Raises
+    ------
+    NotACellError
+        A number is the identifier of no cell; the message has its place.
+
+    Notes
+    -----
+    S2: ``S2CellId::ToToken``.
+
+    Examples
+    --------
+    >>> token_fields([from_token("0c")])
+    [b'0c']
+    """
     width = _library.MOST_TOKEN
     fields = _found(*_library.token_fields(_given(cells)))
     if _is_array(cells):
@@ -251,14 +974,43 @@ def token_fields(cells: Any) -> Any:
 
 
 @overload
-def from_points(face: Array, i: Array, j: Array) -> npt.NDArray[Any]: ...
+def from_points(face: Array, i: Array, j: Array) -> npt.NDArray[np.uint64]: ...
 @overload
 def from_points(face: Iterable[SupportsIndex], i: Iterable[SupportsIndex], j: Iterable[SupportsIndex]) -> list[int]: ...
 
 
 def from_points(face: Any, i: Any, j: Any) -> Any:
-    """The leaves at many places of faces, in one call: a list, or for arrays of numpy or columns of pandas, an array.
+    """The leaves at many places of faces, in one call. `s2union_geo.leaves` takes degrees.
 
+    .. versionadded:: 0.2
+
+    Parameters
+    ----------
+    face : iterable or array of int
+        0 to 5, for each point.
+    i : iterable or array of int
+        0 to 2**30 - 1, as many.
+    j : iterable or array of int
+        0 to 2**30 - 1, as many.
+
+    Returns
+    -------
+    list of int, or array of uint64
+        A list; an array if `face` is an array or column.
+
+    Raises
+    ------
+    OutOfRangeError
+        A number is out of range: of arrays, the message has its place.
+    ValueError
+        There are not as many of each.
+
+    Notes
+    -----
+    S2: ``S2CellId::FromFaceIJ``.
+
+    Examples
+    --------
     >>> from_points([0, 5], [0, 1], [0, 2]) == [from_face_ij(0, 0, 0), from_face_ij(5, 1, 2)]
     True
     """
@@ -291,7 +1043,7 @@ def _column_of(numbers: Any, most: int, what: str) -> _array[int]:
         raise TypeError(f"{what} is an int, not of {given.ndim} dimensions and the type {given.dtype}")
     if given.size and (given.min() < 0 or given.max() > most):
         place = numpy.argmax((given < 0) | (given > most))
-        raise ValueError(f"{what} is out of range at place {place}: {given[place]}")
+        raise OutOfRangeError(f"{what} is out of range at place {place}: {given[place]}")
     column = _array("I")
     column.frombytes(given.astype(numpy.uint32).tobytes())
     return column
@@ -299,14 +1051,16 @@ def _column_of(numbers: Any, most: int, what: str) -> _array[int]:
 
 def _given(cells: Any) -> bytes | memoryview:
     """Cells for a call that has an entry for each, where they lie: it copies them while it reads them."""
-    return cells._ids if isinstance(cells, Union) else _ids_of(cells)
+    return cells._ids if isinstance(cells, CellUnion) else _ids_of(cells)
 
 
-def _found(entries: bytearray, place: int, cell: int) -> bytearray:
-    """The entries of cells; but if one has none, its place is the first of those, and it is refused."""
+def _found(entries: bytearray, place: int, cell: int, level: SupportsIndex = 0) -> bytearray:
+    """The entries of cells; but if one has none, which may be at the level, its place is the first of those, and it is
+    refused."""
     if place >= 0:
-        what = "the level is below the cell's own" if _library.is_cell(cell) else "not a cell"
-        raise ValueError(f"{what} at place {place}: {cell:#x}")
+        if _library.is_cell(cell):
+            raise OutOfRangeError(f"{_deeper(level, cell)}, at place {place}")
+        raise NotACellError(f"not a cell at place {place}: {cell:#x}")
     return entries
 
 
@@ -330,6 +1084,29 @@ def _relatives(cells: Any, found: bytearray) -> Any:
 def tokens(cells: Iterable[SupportsIndex] | Array) -> list[str]:
     """The tokens of many cells in one call, in their order.
 
+    .. versionadded:: 0.1
+
+    Parameters
+    ----------
+    cells : iterable of int, or array of 64-bit integers
+        Cells: any iterable, a buffer of 64-bit integers, an array of numpy, a column of pandas, polars or pyarrow.
+
+    Returns
+    -------
+    list of str
+        A token for each.
+
+    Raises
+    ------
+    NotACellError
+        A number is the identifier of no cell; the message has its place.
+
+    Notes
+    -----
+    S2: ``S2CellId::ToToken``.
+
+    Examples
+    --------
     >>> tokens([0x1c00000000000000, 0x0400000000000000])
     ['1c', '04']
     """
@@ -337,15 +1114,64 @@ def tokens(cells: Iterable[SupportsIndex] | Array) -> list[str]:
 
 
 def from_tokens(text: str | bytes | Iterable[str]) -> list[int]:
-    """The cells that a text names in one call, in its order: words with blanks, tabs, line ends or commas between them,
-    each a token or a debug text. Or the cells of an iterable of tokens."""
+    """The cells that a text names in one call, in its order and each time that it names one.
+
+    .. versionadded:: 0.1
+
+    Parameters
+    ----------
+    text : str, bytes, or iterable of str
+        Words with blanks, tabs, line ends or commas between them, each a token or a debug text; or an iterable of
+        tokens.
+
+    Returns
+    -------
+    list of int
+        The cells.
+
+    Raises
+    ------
+    NotACellError
+        A word names no cell: the message has it and its place.
+
+    Notes
+    -----
+    S2: ``S2CellId::FromToken``.
+
+    Examples
+    --------
+    >>> from_tokens("1c, 0/0") == [from_token("1c"), from_token("04")]
+    True
+    """
     return _cells_in(_named(text)).tolist()
 
 
 def is_union(cells: Iterable[SupportsIndex] | Array) -> bool:
-    """Whether these are the cells of a union, in its order: `Union(cells)` has just these then. False also if a number
-    is that of no cell.
+    """Whether these are the cells of a union, in its order: `CellUnion(cells)` has just these then.
 
+    .. versionadded:: 1.0
+
+    Parameters
+    ----------
+    cells : iterable of int, or array of 64-bit integers
+        Cells: any iterable, a buffer of 64-bit integers, an array of numpy, a column of pandas, polars or pyarrow.
+
+    Returns
+    -------
+    bool
+        False also if a number is the identifier of no cell.
+
+    Raises
+    ------
+    NotACellError
+        A number of an iterable has more than 64 bits.
+
+    Notes
+    -----
+    S2: ``S2CellUnion::IsNormalized``.
+
+    Examples
+    --------
     >>> is_union([0x0400000000000000, 0x0c00000000000000]), is_union([0x0c00000000000000, 0x0400000000000000])
     (True, False)
     """
@@ -388,7 +1214,7 @@ def _ids_of(cells: Any) -> bytes | memoryview:
 
 def _read(cells: Any) -> bytes:
     """Cells for a call that only reads them: those of a union in place, and a copy of others."""
-    if isinstance(cells, Union):
+    if isinstance(cells, CellUnion):
         return cells._ids
     ids = _ids_of(cells)
     return ids if isinstance(ids, bytes) else ids.tobytes()
@@ -428,25 +1254,44 @@ def _unchanging(view: memoryview) -> memoryview | bytes:
 class UnionFile:
     """A union file that answers questions in place, as in a mapped file or a row of a table: nothing is copied.
 
-    The bytes are checked once to be the file that `Union.to_bytes` writes for some union, unless `checked` is true. If
-    they are not, or no longer, a question raises ValueError or its answer means nothing. No thread and no process may
-    write them during a call, and while the object exists none may cut a mapped file.
+    The bytes are checked once to be the file that `CellUnion.to_bytes` writes for some union. If they are not, or no
+    longer, a question raises `UnionFileError` or its answer means nothing. No thread and no process may write them
+    during a call, and while the object exists none may cut a mapped file. Pickles and deep copies have bytes of their
+    own.
 
-    >>> file = UnionFile(Union.from_tokens(["04", "0c"]).to_bytes())
+    .. versionadded:: 0.1
+
+    Parameters
+    ----------
+    data : bytes, or a buffer without gaps
+        The bytes of a union file: bytes, a bytearray, a mapped file, a memoryview.
+    checked : bool, optional
+        Whether they were checked before, so that it is not done again: then any answer may be given of another file.
+
+    Raises
+    ------
+    NotNormalizedError
+        The cells of the file are not normalized: `CellUnion.from_bytes` takes it.
+    UnionFileError
+        The bytes are no union file.
+    TypeError
+        Something else than bytes is given, or the object is made twice.
+
+    Examples
+    --------
+    >>> file = UnionFile(CellUnion.from_tokens(["04", "0c"]).to_bytes())
     >>> len(file), from_token("04") in file, from_token("14") in file
     (2, True, False)
-
-    Pickles and deep copies have bytes of their own.
     """
 
     __slots__ = ("_bytes", "_size")
 
-    def __init__(self, data: Any, checked: bool = False) -> None:
+    def __init__(self, data: Bytes, checked: bool = False) -> None:
         view = _bytes_in(data)
         if hasattr(self, "_bytes"):  # which a call may be reading
             raise TypeError("a UnionFile is made once")
         if not checked and _library.file_check(view) == 0:
-            raise ValueError("the cells of the file are not normalized: Union.from_bytes takes it")
+            raise NotNormalizedError("the cells of the file are not normalized: CellUnion.from_bytes takes it")
         self._size = _library.file_count(view)
         self._bytes = view
 
@@ -476,59 +1321,303 @@ class UnionFile:
         return _library.file_cell(self._bytes, place)
 
     def __contains__(self, cell: SupportsIndex) -> bool:
-        """Whether all leaves of a cell are in the union."""
+        """Whether all leaves of a cell are in the union: `cell in file`. It takes log n steps.
+
+        .. versionadded:: 0.1
+
+        Parameters
+        ----------
+        cell : int
+            A cell: its 64 bits, with a sign or without.
+
+        Returns
+        -------
+        bool
+            True if it is so.
+
+        Raises
+        ------
+        NotACellError
+            A number is the identifier of no cell.
+        UnionFileError
+            The bytes were changed since they were checked, and are no union file.
+
+        Notes
+        -----
+        S2: ``S2CellUnion::Contains``.
+
+        Examples
+        --------
+        >>> from_token("0401") in UnionFile(CellUnion.from_tokens("04").to_bytes())
+        True
+        """
         return _library.file_contains_cell(self._bytes, cell)
 
     def intersects_cell(self, cell: SupportsIndex) -> bool:
-        """Whether the union has a leaf of a cell."""
+        """Whether the union has a leaf of a cell. It takes log n steps.
+
+        .. versionadded:: 0.1
+
+        Parameters
+        ----------
+        cell : int
+            A cell: its 64 bits, with a sign or without.
+
+        Returns
+        -------
+        bool
+            True if it is so.
+
+        Raises
+        ------
+        NotACellError
+            A number is the identifier of no cell.
+        UnionFileError
+            The bytes were changed since they were checked, and are no union file.
+
+        Notes
+        -----
+        S2: ``S2CellUnion::Intersects``.
+
+        Examples
+        --------
+        >>> UnionFile(CellUnion.from_tokens("0401").to_bytes()).intersects_cell(from_token("04"))
+        True
+        """
         return _library.file_intersects_cell(self._bytes, cell)
 
     def _ask_each(self, call: Callable[..., bool], cells: Any) -> Any:
         return _answers(cells, bytearray(call(self._bytes, cell) for cell in _cells_in(_read(cells))))
 
     @overload
-    def contains_cells(self, cells: Array) -> npt.NDArray[Any]: ...
+    def contains_cells(self, cells: Array) -> npt.NDArray[np.bool_]: ...
     @overload
     def contains_cells(self, cells: Iterable[SupportsIndex]) -> list[bool]: ...
 
     def contains_cells(self, cells: Any) -> Any:
-        """Whether the union has all leaves of each cell in turn, as `Union.contains_cells`. Each is asked in a call of
-        its own: `union()` is quicker for many."""
+        """Whether the union has all leaves of each cell in turn. Each is asked in a call of its own: `union()` is
+        quicker for many.
+
+        .. versionadded:: 0.1
+
+        Parameters
+        ----------
+        cells : iterable of int, or array of 64-bit integers
+            Cells: any iterable, a buffer of 64-bit integers, an array of numpy, a column of pandas, polars or
+            pyarrow.
+
+        Returns
+        -------
+        list of bool, or array of bool
+            A list; for an array of numpy or a column, an array.
+
+        Raises
+        ------
+        NotACellError
+            A number is the identifier of no cell; the message has its place.
+        UnionFileError
+            The bytes were changed since they were checked, and are no union file.
+
+        Notes
+        -----
+        S2: ``S2CellUnion::Contains``.
+
+        Examples
+        --------
+        >>> UnionFile(CellUnion.from_tokens("04").to_bytes()).contains_cells([from_token("0401"), from_token("14")])
+        [True, False]
+        """
         return self._ask_each(_library.file_contains_cell, cells)
 
     @overload
-    def intersects_cells(self, cells: Array) -> npt.NDArray[Any]: ...
+    def intersects_cells(self, cells: Array) -> npt.NDArray[np.bool_]: ...
     @overload
     def intersects_cells(self, cells: Iterable[SupportsIndex]) -> list[bool]: ...
 
     def intersects_cells(self, cells: Any) -> Any:
-        """Whether the union has a leaf of each cell in turn, as `contains_cells`."""
+        """Whether the union has a leaf of each cell in turn, as `contains_cells`.
+
+        .. versionadded:: 0.1
+
+        Parameters
+        ----------
+        cells : iterable of int, or array of 64-bit integers
+            Cells: any iterable, a buffer of 64-bit integers, an array of numpy, a column of pandas, polars or
+            pyarrow.
+
+        Returns
+        -------
+        list of bool, or array of bool
+            A list; for an array of numpy or a column, an array.
+
+        Raises
+        ------
+        NotACellError
+            A number is the identifier of no cell; the message has its place.
+        UnionFileError
+            The bytes were changed since they were checked, and are no union file.
+
+        Notes
+        -----
+        S2: ``S2CellUnion::Intersects``.
+
+        Examples
+        --------
+        >>> UnionFile(CellUnion.from_tokens("0401").to_bytes()).intersects_cells([from_token("04")])
+        [True]
+        """
         return self._ask_each(_library.file_intersects_cell, cells)
 
     def leaf_count(self) -> int:
-        """How many leaves the union has."""
+        """How many leaves the union has. It takes n steps.
+
+        .. versionadded:: 0.1
+
+        Returns
+        -------
+        int
+            0 to 6 * 4**30.
+
+        Raises
+        ------
+        UnionFileError
+            The bytes were changed since they were checked, and are no union file.
+
+        Notes
+        -----
+        S2: ``S2CellUnion::LeafCellsCovered``.
+
+        Examples
+        --------
+        >>> UnionFile(CellUnion.from_tokens("04").to_bytes()).leaf_count() == 4**29
+        True
+        """
         return _library.file_leaf_count(self._bytes)
 
     def contains(self, other: UnionFile) -> bool:
-        """Whether the union has all leaves of the union in another file."""
+        """Whether the union has all leaves of the union in another file.
+
+        .. versionadded:: 0.1
+
+        Parameters
+        ----------
+        other : UnionFile
+            The other file.
+
+        Returns
+        -------
+        bool
+            True if it has.
+
+        Raises
+        ------
+        TypeError
+            The other is no UnionFile.
+        UnionFileError
+            The bytes were changed since they were checked, and are no union file.
+
+        Notes
+        -----
+        S2: ``S2CellUnion::Contains``.
+
+        Examples
+        --------
+        >>> a, b = (UnionFile(CellUnion.from_tokens(text).to_bytes()) for text in ("1", "04"))
+        >>> a.contains(b), b.contains(a)
+        (True, False)
+        """
         return _library.file_contains(self._bytes, _wanted(UnionFile, other)._bytes)
 
     def intersects(self, other: UnionFile) -> bool:
-        """Whether the unions of two files share a leaf."""
+        """Whether the unions of two files share a leaf.
+
+        .. versionadded:: 0.1
+
+        Parameters
+        ----------
+        other : UnionFile
+            The other file.
+
+        Returns
+        -------
+        bool
+            True if they do.
+
+        Raises
+        ------
+        TypeError
+            The other is no UnionFile.
+        UnionFileError
+            The bytes were changed since they were checked, and are no union file.
+
+        Notes
+        -----
+        S2: ``S2CellUnion::Intersects``.
+
+        Examples
+        --------
+        >>> a, b = (UnionFile(CellUnion.from_tokens(text).to_bytes()) for text in ("1", "04"))
+        >>> a.intersects(b)
+        True
+        """
         return _library.file_intersects(self._bytes, _wanted(UnionFile, other)._bytes)
 
     def ancestors(self) -> list[int]:
-        """The cells of the union and all their ancestors, as Union.ancestors."""
+        """The cells of the union and all their ancestors, as `CellUnion.ancestors`.
+
+        .. versionadded:: 0.1
+
+        Returns
+        -------
+        list of int
+            At most 31 for each cell.
+
+        Raises
+        ------
+        UnionFileError
+            The bytes were changed since they were checked, and are no union file.
+        OutOfMemoryError
+            There is no memory for the result.
+
+        Examples
+        --------
+        >>> tokens(UnionFile(CellUnion.from_tokens("04").to_bytes()).ancestors())
+        ['04', '1']
+        """
         return _cells_in(_library.file_ancestors("", 2 * self._size, _unchanging(self._bytes))).tolist()
 
-    def union(self) -> Union:
-        """The union itself, copied."""
-        return Union._holding(_library.decode("", self._size, _unchanging(self._bytes)))
+    def union(self) -> CellUnion:
+        """The union itself, copied.
+
+        .. versionadded:: 0.1
+
+        Returns
+        -------
+        CellUnion
+            The union.
+
+        Raises
+        ------
+        UnionFileError
+            The bytes were changed since they were checked, and are no union file.
+        OutOfMemoryError
+            There is no memory for the result.
+
+        Notes
+        -----
+        S2: ``S2CellUnion::Decode``.
+
+        Examples
+        --------
+        >>> UnionFile(CellUnion.from_tokens("04").to_bytes()).union()
+        <CellUnion of 1 cells: 04>
+        """
+        return CellUnion._holding(_library.decode("", self._size, _unchanging(self._bytes)))
 
 
-def _union_of(cells: Any) -> Union:
+def _union_of(cells: Any) -> CellUnion:
     """A union itself, or the union of an iterable or a buffer of cells."""
-    return cells if isinstance(cells, Union) else Union(cells)
+    return cells if isinstance(cells, CellUnion) else CellUnion(cells)
 
 
 def _wanted(kind: type, other: Any) -> Any:
@@ -537,11 +1626,42 @@ def _wanted(kind: type, other: Any) -> Any:
     return other
 
 
-class Union:
+class CellUnion:
     """An immutable set of leaf cells, as the one normalized list of cells that covers it.
 
-    `Union(cells)` takes any iterable of cells, in any order, or a buffer of 64-bit integers, as numpy's uint64 or
-    int64.
+    It is a `collections.abc.Set` of leaves with the operators ``|``, ``&``, ``-``, ``^``, ``~``, ``<=``, ``<``, ``==``,
+    and as a sequence it has its cells, ascending: ``len(union)``, ``union[0]``, ``for cell in union``. Equal unions
+    have equal hashes.
+
+    .. versionadded:: 1.2
+       Up to 1.1 the name was `Union`, which stays.
+
+    Parameters
+    ----------
+    cells : iterable of int, buffer or array of 64-bit integers, optional
+        Cells in any order, repeated, or inside one another. Of a buffer or an array nothing is copied but the union.
+
+    Raises
+    ------
+    NotACellError
+        A number is the identifier of no cell; the message has its place.
+    TypeError
+        Something is no int, or the buffer has other numbers than integers of 64 bits.
+    OutOfMemoryError
+        There is no memory for the union.
+
+    Notes
+    -----
+    S2: ``S2CellUnion``.
+
+    Examples
+    --------
+    >>> CellUnion([0x0c00000000000000, 0x0400000000000000, 0x0c00000000000000])
+    <CellUnion of 2 cells: 04 0c>
+    >>> CellUnion([0x0400000000000000, 2])
+    Traceback (most recent call last):
+        ...
+    s2union.NotACellError: not a cell at place 1: 0x2
     """
 
     __slots__ = ("_ids", "_hash")  # _ids are the identifiers' own bytes
@@ -550,7 +1670,7 @@ class Union:
     _hash: int | None
 
     def __new__(cls: type[Self], cells: Iterable[SupportsIndex] | Array = ()) -> Self:
-        return cls._holding(cells._ids if isinstance(cells, Union) else _library.normalise(_ids_of(cells)))
+        return cls._holding(cells._ids if isinstance(cells, CellUnion) else _library.normalise(_ids_of(cells)))
 
     def __init__(self, *_: Any, **__: Any) -> None:
         """Does nothing: `__new__` makes the union, and a second call must not change it."""
@@ -564,17 +1684,44 @@ class Union:
         return self
 
     def __setattr__(self, name: str, value: object) -> None:
-        raise AttributeError("a Union is immutable")
+        raise AttributeError("a CellUnion is immutable")
 
     def __delattr__(self, name: str) -> None:
-        raise AttributeError("a Union is immutable")
+        raise AttributeError("a CellUnion is immutable")
 
     @classmethod
     def of(cls: type[Self], unions: Iterable[Cells]) -> Self:
-        """The leaves of any of many unions, or iterables of cells, in one call.
+        """The leaves of any of many unions, in one call, which merges them in pairs.
 
-        >>> Union.of([Union.from_tokens("04 0c"), Union(), Union.from_tokens("14"), Union.from_tokens("1c")]).tokens()
-        ['1']
+        .. versionadded:: 0.1
+
+        Parameters
+        ----------
+        unions : iterable of CellUnion or cells
+            The unions, or what is made one.
+
+        Returns
+        -------
+        CellUnion
+            The union of all; the empty one of none.
+
+        Raises
+        ------
+        NotACellError
+            A number among cells is the identifier of no cell.
+        TypeError
+            Something among them is no int.
+        OutOfMemoryError
+            There is no memory for the result.
+
+        Notes
+        -----
+        S2: ``S2CellUnion::Union``.
+
+        Examples
+        --------
+        >>> CellUnion.of([CellUnion.from_tokens(text) for text in ("04 0c", "", "14", "1c")])
+        <CellUnion of 1 cells: 1>
         """
         lists = [_union_of(union)._ids for union in unions]
         ends = _array("Q", _accumulate(len(ids) // 8 for ids in lists))
@@ -582,19 +1729,109 @@ class Union:
 
     @classmethod
     def from_tokens(cls: type[Self], tokens: str | bytes | Iterable[str]) -> Self:
-        """The union of the cells with these tokens: a str with blanks, tabs, line ends or commas between them, which
-        may have debug texts too, or an iterable of tokens."""
+        """The union of the cells that a text names, as the function `from_tokens` reads it.
+
+        .. versionadded:: 0.1
+
+        Parameters
+        ----------
+        tokens : str, bytes, or iterable of str
+            Words with blanks, tabs, line ends or commas between them, each a token or a debug text; or an iterable of
+            tokens.
+
+        Returns
+        -------
+        CellUnion
+            Their union.
+
+        Raises
+        ------
+        NotACellError
+            A word names no cell: the message has it and its place.
+
+        Examples
+        --------
+        >>> CellUnion.from_tokens("0c 04").tokens()
+        ['04', '0c']
+        """
         return cls._holding(_library.normalise(_named(tokens)))
 
     @classmethod
     def from_range(cls: type[Self], first: SupportsIndex, last: SupportsIndex) -> Self:
-        """All leaves from the first of one cell to the last of another, also across faces."""
+        """All leaves from the first of one cell to the last of another, also across faces.
+
+        .. versionadded:: 0.1
+
+        Parameters
+        ----------
+        first : int
+            The cell that the range begins with.
+        last : int
+            The cell that it ends with, which is in it.
+
+        Returns
+        -------
+        CellUnion
+            At most 184 cells.
+
+        Raises
+        ------
+        NotACellError
+            A number is the identifier of no cell.
+        OutOfRangeError
+            The last leaf of `last` comes before the first of `first`.
+        OutOfMemoryError
+            There is no memory for the result.
+
+        Notes
+        -----
+        S2: ``S2CellUnion::FromMinMax``.
+
+        Examples
+        --------
+        >>> CellUnion.from_range(from_token("0c"), from_token("3")).tokens()
+        ['0c', '14', '1c', '3']
+        """
         what = f"{_library.bits(first):#x} comes after {_library.bits(last):#x}"
         return cls._holding(_library.range_(what, _library.MOST_RANGE, first, last))
 
     @classmethod
-    def from_bytes(cls: type[Self], data: Any) -> Self:
-        """The union in a union file, whose cells may be in any order."""
+    def from_bytes(cls: type[Self], data: Bytes) -> Self:
+        """The union in a union file, whose cells may be in any order.
+
+        .. versionadded:: 0.1
+
+        Parameters
+        ----------
+        data : bytes, or a buffer without gaps
+            The bytes of a union file: bytes, a bytearray, a mapped file, a memoryview.
+
+        Returns
+        -------
+        CellUnion
+            The union.
+
+        Raises
+        ------
+        UnionFileError
+            The bytes are no union file: bytes are missing or too many, the version is not 1, or a number is the
+            identifier of no cell.
+        OutOfMemoryError
+            There is no memory for the result.
+
+        Notes
+        -----
+        S2: ``S2CellUnion::Decode``.
+
+        Examples
+        --------
+        >>> CellUnion.from_bytes(CellUnion.from_tokens("04").to_bytes())
+        <CellUnion of 1 cells: 04>
+        >>> CellUnion.from_bytes(b"no file")
+        Traceback (most recent call last):
+            ...
+        s2union.FileVersionError: union file: unknown version: 7 bytes
+        """
         view = _bytes_in(data)
         room = max(view.nbytes - 9, 0) // 8
         return cls._holding(_library.decode(f"{view.nbytes} bytes", room, _unchanging(view)))
@@ -603,20 +1840,122 @@ class Union:
     def covering(cls: type[Self], face: SupportsIndex, i0: SupportsIndex, i1: SupportsIndex, j0: SupportsIndex,
                  j1: SupportsIndex, level: SupportsIndex, inner: bool = False,
                  most: SupportsIndex = _library.MOST_COVERING) -> Self:
-        """The cells of a level that share a leaf with a rectangle of a face (with `inner`, that lie in it)."""
+        """The cells of a level that share a leaf with a rectangle of a face; with `inner`, those that lie in it.
+
+        .. versionadded:: 0.1
+
+        Parameters
+        ----------
+        face : int
+            0 to 5.
+        i0 : int
+            The least first coordinate, 0 to 2**30 - 1.
+        i1 : int
+            The greatest, which is in it, `i0` to 2**30 - 1.
+        j0 : int
+            The least second coordinate, 0 to 2**30 - 1.
+        j1 : int
+            The greatest, which is in it, `j0` to 2**30 - 1.
+        level : int
+            0 (a face) to 30 (a leaf).
+        inner : bool
+            Whether to take only the cells that lie in the rectangle.
+        most : int
+            The most cells that it may have: at most 1,000,000, which it is if it is left out.
+
+        Returns
+        -------
+        CellUnion
+            The cells, normalized.
+
+        Raises
+        ------
+        OutOfRangeError
+            A face, coordinate or level is out of range, or an end comes before its begin.
+        TooManyCellsError
+            There would be more than `most` cells.
+        OutOfMemoryError
+            There is no memory for the result.
+
+        Examples
+        --------
+        >>> CellUnion.covering(0, 0, 2**30 - 1, 0, 0, level=1).tokens()
+        ['04', '1c']
+        """
         call = _library.inner if inner else _library.outer
         bounds = (face, i0, i1, j0, j1)
         return cls._holding(call(_shown(bounds, level, most), 64, bounds, level, most))
 
     def outer(self: Self, level: SupportsIndex, most: SupportsIndex = _library.MOST_COVERING,
               rectangle: Iterable[SupportsIndex] | None = None) -> Self:
-        """The cells of a level that share a leaf with the union; with a rectangle (face, i0, i1, j0, j1), those that
-        share a leaf with what the two share."""
+        """The cells of a level that share a leaf with the union, or with what it shares with a rectangle.
+
+        .. versionadded:: 0.1
+
+        Parameters
+        ----------
+        level : int
+            0 (a face) to 30 (a leaf).
+        most : int
+            The most cells that it may have: at most 1,000,000, which it is if it is left out.
+        rectangle : iterable of 5 int, optional
+            A rectangle of a face: (face, i0, i1, j0, j1), with both ends of i and of j in it.
+
+        Returns
+        -------
+        CellUnion
+            The cells, normalized.
+
+        Raises
+        ------
+        OutOfRangeError
+            A face, coordinate or level is out of range, or an end comes before its begin.
+        TooManyCellsError
+            There would be more than `most` cells.
+        OutOfMemoryError
+            There is no memory for the result.
+
+        Examples
+        --------
+        >>> CellUnion.from_tokens("0401").outer(1).tokens()
+        ['04']
+        """
         return self._covered(_library.outer_of, _library.outer_in, rectangle, level, most)
 
     def inner(self: Self, level: SupportsIndex, most: SupportsIndex = _library.MOST_COVERING,
               rectangle: Iterable[SupportsIndex] | None = None) -> Self:
-        """The cells of a level that lie in the union; with a rectangle, as `outer`, those that lie in both."""
+        """The cells of a level that lie in the union, or in what it shares with a rectangle.
+
+        .. versionadded:: 0.1
+
+        Parameters
+        ----------
+        level : int
+            0 (a face) to 30 (a leaf).
+        most : int
+            The most cells that it may have: at most 1,000,000, which it is if it is left out.
+        rectangle : iterable of 5 int, optional
+            A rectangle of a face: (face, i0, i1, j0, j1), with both ends of i and of j in it.
+
+        Returns
+        -------
+        CellUnion
+            The cells, normalized.
+
+        Raises
+        ------
+        OutOfRangeError
+            A face, coordinate or level is out of range, or an end comes before its begin.
+        TooManyCellsError
+            There would be more than `most` cells.
+        OutOfMemoryError
+            There is no memory for the result.
+
+        Examples
+        --------
+        >>> CellUnion.from_tokens("04 1401").inner(1).tokens()
+        ['04']
+        """
         return self._covered(_library.inner_of, _library.inner_in, rectangle, level, most)
 
     def _covered(self: Self, whole: Callable[..., bytes], part: Callable[..., bytes],
@@ -628,7 +1967,29 @@ class Union:
         return self._holding(part(_shown(bounds, level, most), 64, self._ids, bounds, level, most))
 
     def to_bytes(self) -> bytes:
-        """The union file: the bytes that S2's own S2CellUnion::Encode writes. Equal unions have equal files."""
+        """The union file: the bytes that S2's own S2CellUnion::Encode writes. Equal unions have equal files.
+
+        .. versionadded:: 0.1
+
+        Returns
+        -------
+        bytes
+            9 + 8 * len(self) bytes.
+
+        Raises
+        ------
+        OutOfMemoryError
+            There is no memory for the result.
+
+        Notes
+        -----
+        S2: ``S2CellUnion::Encode``.
+
+        Examples
+        --------
+        >>> CellUnion.from_tokens("04").to_bytes().hex()
+        '0101000000000000000000000000000004'
+        """
         return _library.encode("", 9 + len(self._ids), self._ids)
 
     __bytes__ = to_bytes
@@ -649,7 +2010,29 @@ class Union:
         return made
 
     def tokens(self) -> list[str]:
-        """The tokens of the cells."""
+        """The tokens of the cells.
+
+        .. versionadded:: 0.1
+
+        Returns
+        -------
+        list of str
+            In the order of the cells.
+
+        Raises
+        ------
+        OutOfMemoryError
+            There is no memory for the result.
+
+        Notes
+        -----
+        S2: ``S2CellId::ToToken``.
+
+        Examples
+        --------
+        >>> CellUnion.from_tokens("1c 14").tokens()
+        ['14', '1c']
+        """
         return _library.tokens(self._ids).split()
 
     # ---- as a collection of cells
@@ -674,7 +2057,24 @@ class Union:
 
     @property
     def ids(self) -> memoryview:
-        """The cells as a read-only memoryview of unsigned 64-bit integers, without a copy."""
+        """The cells as a read-only memoryview of unsigned 64-bit integers, without a copy.
+
+        .. versionadded:: 0.1
+
+        Returns
+        -------
+        memoryview
+            The format is ``Q``.
+
+        Notes
+        -----
+        S2: ``S2CellUnion::cell_ids``.
+
+        Examples
+        --------
+        >>> CellUnion.from_tokens("1c 14").ids.tolist() == [0x1400000000000000, 0x1c00000000000000]
+        True
+        """
         return _cells_in(self._ids)
 
     @property
@@ -684,7 +2084,7 @@ class Union:
     # ---- as a set of leaves
 
     def __eq__(self, other: object) -> bool:
-        if not isinstance(other, Union):
+        if not isinstance(other, CellUnion):
             return NotImplemented
         return self._ids == other._ids
 
@@ -694,62 +2094,211 @@ class Union:
         return self._hash  # type: ignore[return-value]
 
     def __contains__(self, cell: SupportsIndex) -> bool:
-        """Whether all leaves of a cell are in the union."""
+        """Whether all leaves of a cell are in the union: `cell in union`. It takes log n steps.
+
+        .. versionadded:: 0.1
+
+        Parameters
+        ----------
+        cell : int
+            A cell: its 64 bits, with a sign or without.
+
+        Returns
+        -------
+        bool
+            True if they are.
+
+        Raises
+        ------
+        NotACellError
+            A number is the identifier of no cell.
+
+        Notes
+        -----
+        S2: ``S2CellUnion::Contains``.
+
+        Examples
+        --------
+        >>> from_token("0401") in CellUnion.from_tokens("04")
+        True
+        """
         return _library.contains_cell(self._ids, cell)
 
     def intersects_cell(self, cell: SupportsIndex) -> bool:
-        """Whether the union has a leaf of a cell."""
+        """Whether the union has a leaf of a cell. It takes log n steps.
+
+        .. versionadded:: 0.1
+
+        Parameters
+        ----------
+        cell : int
+            A cell: its 64 bits, with a sign or without.
+
+        Returns
+        -------
+        bool
+            True if it has one.
+
+        Raises
+        ------
+        NotACellError
+            A number is the identifier of no cell.
+
+        Notes
+        -----
+        S2: ``S2CellUnion::Intersects``.
+
+        Examples
+        --------
+        >>> CellUnion.from_tokens("0401").intersects_cell(from_token("04"))
+        True
+        """
         return _library.intersects_cell(self._ids, cell)
 
     def cells_at(self, cell: SupportsIndex) -> list[int]:
-        """The cells of the union that share a leaf with a cell."""
+        """The cells of the union that share a leaf with a cell. It takes log n steps.
+
+        .. versionadded:: 0.1
+
+        Parameters
+        ----------
+        cell : int
+            A cell: its 64 bits, with a sign or without.
+
+        Returns
+        -------
+        list of int
+            In ascending order.
+
+        Raises
+        ------
+        NotACellError
+            A number is the identifier of no cell.
+
+        Examples
+        --------
+        >>> tokens(CellUnion.from_tokens("04 0c 3").cells_at(from_token("1")))
+        ['04', '0c']
+        """
         first, count = _library.cells_at(self._ids, cell)
         return self[first:first + count]
 
     @overload
-    def contains_cells(self, cells: Array) -> npt.NDArray[Any]: ...
+    def contains_cells(self, cells: Array) -> npt.NDArray[np.bool_]: ...
     @overload
     def contains_cells(self, cells: Iterable[SupportsIndex]) -> list[bool]: ...
 
     def contains_cells(self, cells: Any) -> Any:
-        """Whether the union has all leaves of each cell in turn: a list of bool, or for an array of numpy or a column
-        of pandas, an array of bool. Both are a mask for pandas."""
+        """Whether the union has all leaves of each cell in turn, in one call, which is quickest if they ascend.
+
+        .. versionadded:: 0.1
+
+        Parameters
+        ----------
+        cells : iterable of int, or array of 64-bit integers
+            Cells: any iterable, a buffer of 64-bit integers, an array of numpy, a column of pandas, polars or
+            pyarrow.
+
+        Returns
+        -------
+        list of bool, or array of bool
+            A list; for an array of numpy or a column, an array. Both are a mask for pandas.
+
+        Raises
+        ------
+        NotACellError
+            A number is the identifier of no cell; the message has its place.
+
+        Notes
+        -----
+        S2: ``S2CellUnion::Contains``.
+
+        Examples
+        --------
+        >>> CellUnion.from_tokens("04").contains_cells([from_token("0401"), from_token("14")])
+        [True, False]
+        """
         return _answers(cells, _found(*_library.contains_cells(self._ids, _given(cells))))
 
     @overload
-    def intersects_cells(self, cells: Array) -> npt.NDArray[Any]: ...
+    def intersects_cells(self, cells: Array) -> npt.NDArray[np.bool_]: ...
     @overload
     def intersects_cells(self, cells: Iterable[SupportsIndex]) -> list[bool]: ...
 
     def intersects_cells(self, cells: Any) -> Any:
-        """Whether the union has a leaf of each cell in turn, as `contains_cells`."""
+        """Whether the union has a leaf of each cell in turn, in one call, which is quickest if they ascend.
+
+        .. versionadded:: 0.1
+
+        Parameters
+        ----------
+        cells : iterable of int, or array of 64-bit integers
+            Cells: any iterable, a buffer of 64-bit integers, an array of numpy, a column of pandas, polars or
+            pyarrow.
+
+        Returns
+        -------
+        list of bool, or array of bool
+            A list; for an array of numpy or a column, an array. Both are a mask for pandas.
+
+        Raises
+        ------
+        NotACellError
+            A number is the identifier of no cell; the message has its place.
+
+        Notes
+        -----
+        S2: ``S2CellUnion::Intersects``.
+
+        Examples
+        --------
+        >>> CellUnion.from_tokens("0401").intersects_cells([from_token("04"), from_token("14")])
+        [True, False]
+        """
         return _answers(cells, _found(*_library.intersects_cells(self._ids, _given(cells))))
 
     def leaf_count(self) -> int:
-        """How many leaves the union has, out of 6 * 4**30."""
+        """How many leaves the union has. It takes n steps.
+
+        .. versionadded:: 0.1
+
+        Returns
+        -------
+        int
+            0 to 6 * 4**30.
+
+        Notes
+        -----
+        S2: ``S2CellUnion::LeafCellsCovered``.
+
+        Examples
+        --------
+        >>> CellUnion.from_tokens("1").leaf_count() == 4**30
+        True
+        """
         return _library.leaf_count(self._ids)
 
-    def _with(self: Self, call: Callable[..., bytes], other: Union, room: int) -> Self:
+    def _with(self: Self, call: Callable[..., bytes], other: CellUnion, room: int) -> Self:
         return self._holding(call("", room, self._ids, other._ids))
 
-    def __or__(self: Self, other: Union) -> Self:
-        if not isinstance(other, Union):
+    def __or__(self: Self, other: CellUnion) -> Self:
+        if not isinstance(other, CellUnion):
             return NotImplemented
         return self._with(_library.union, other, len(self) + len(other))
 
-    def __and__(self: Self, other: Union) -> Self:
-        if not isinstance(other, Union):
+    def __and__(self: Self, other: CellUnion) -> Self:
+        if not isinstance(other, CellUnion):
             return NotImplemented
         # Twice the shorter one nearly always suffices, and the longer one may be much longer.
         return self._with(_library.intersection, other, 2 * min(len(self), len(other)))
 
-    def __sub__(self: Self, other: Union) -> Self:
-        if not isinstance(other, Union):
+    def __sub__(self: Self, other: CellUnion) -> Self:
+        if not isinstance(other, CellUnion):
             return NotImplemented
         return self._with(_library.difference, other, len(self) + min(len(self), len(other)) + 90)
 
-    def __xor__(self: Self, other: Union) -> Self:
-        if not isinstance(other, Union):
+    def __xor__(self: Self, other: CellUnion) -> Self:
+        if not isinstance(other, CellUnion):
             return NotImplemented
         return self._with(_library.symmetric_difference, other, len(self) + len(other) + 90)
 
@@ -757,91 +2306,394 @@ class Union:
         return self.complement()
 
     def union(self: Self, *others: Cells) -> Self:
-        """The leaves of the union and of all others: unions or iterables of cells, here and in the methods below."""
-        return self | others[0] if len(others) == 1 and isinstance(others[0], Union) else self.of((self, *others))
+        """The leaves of the union and of all others; `|` of two unions.
+
+        .. versionadded:: 0.1
+
+        Parameters
+        ----------
+        *others : CellUnion, or cells
+            Unions, or iterables or arrays of cells, which are made unions.
+
+        Returns
+        -------
+        CellUnion
+            Their union.
+
+        Raises
+        ------
+        NotACellError
+            A number among cells is the identifier of no cell.
+        TypeError
+            Something among them is no int.
+        OutOfMemoryError
+            There is no memory for the result.
+
+        Notes
+        -----
+        S2: ``S2CellUnion::Union``.
+
+        Examples
+        --------
+        >>> CellUnion.from_tokens("04").union([from_token("0c")], CellUnion.from_tokens("14 1c")).tokens()
+        ['1']
+        """
+        return self | others[0] if len(others) == 1 and isinstance(others[0], CellUnion) else self.of((self, *others))
 
     def intersection(self: Self, *others: Cells) -> Self:
-        """The leaves that the union and all others have."""
+        """The leaves that the union and all others have; `&` of two unions.
+
+        .. versionadded:: 0.1
+
+        Parameters
+        ----------
+        *others : CellUnion, or cells
+            Unions, or iterables or arrays of cells, which are made unions.
+
+        Returns
+        -------
+        CellUnion
+            What they share.
+
+        Raises
+        ------
+        NotACellError
+            A number among cells is the identifier of no cell.
+        TypeError
+            Something among them is no int.
+        OutOfMemoryError
+            There is no memory for the result.
+
+        Notes
+        -----
+        S2: ``S2CellUnion::Intersection``.
+
+        Examples
+        --------
+        >>> CellUnion.from_tokens("1").intersection(CellUnion.from_tokens("04 3")).tokens()
+        ['04']
+        """
         both = self
         for other in others:
             both = both & _union_of(other)
         return both
 
     def difference(self: Self, *others: Cells) -> Self:
-        """The leaves of the union that none of the others has."""
-        return self - Union.of(others)
+        """The leaves of the union that none of the others has; `-` of two unions.
+
+        .. versionadded:: 0.1
+
+        Parameters
+        ----------
+        *others : CellUnion, or cells
+            Unions, or iterables or arrays of cells, which are made unions.
+
+        Returns
+        -------
+        CellUnion
+            What is left.
+
+        Raises
+        ------
+        NotACellError
+            A number among cells is the identifier of no cell.
+        TypeError
+            Something among them is no int.
+        OutOfMemoryError
+            There is no memory for the result.
+
+        Notes
+        -----
+        S2: ``S2CellUnion::Difference``.
+
+        Examples
+        --------
+        >>> CellUnion.from_tokens("1").difference(CellUnion.from_tokens("14")).tokens()
+        ['04', '0c', '1c']
+        """
+        return self - CellUnion.of(others)
 
     def symmetric_difference(self: Self, other: Cells) -> Self:
-        """The leaves that one of two unions has, and the other hasn't."""
+        """The leaves that one of two unions has, and the other hasn't; `^` of two unions.
+
+        .. versionadded:: 0.1
+
+        Parameters
+        ----------
+        other : CellUnion, or cells
+            A union, or an iterable or array of cells, which are made one.
+
+        Returns
+        -------
+        CellUnion
+            What only one has.
+
+        Raises
+        ------
+        NotACellError
+            A number among cells is the identifier of no cell.
+        TypeError
+            Something among them is no int.
+        OutOfMemoryError
+            There is no memory for the result.
+
+        Examples
+        --------
+        >>> CellUnion.from_tokens("04 0c").symmetric_difference(CellUnion.from_tokens("0c 14")).tokens()
+        ['04', '14']
+        """
         return self ^ _union_of(other)
 
     def complement(self: Self) -> Self:
-        """The leaves of the sphere that the union doesn't have.
+        """The leaves of the sphere that the union doesn't have; `~` of the union.
 
-        >>> (~Union.from_tokens("04 0c 1c")).tokens()
+        .. versionadded:: 1.1
+
+        Returns
+        -------
+        CellUnion
+            The rest of the six faces.
+
+        Raises
+        ------
+        OutOfMemoryError
+            There is no memory for the result.
+
+        Notes
+        -----
+        S2: ``S2CellUnion::WholeSphere().Difference``.
+
+        Examples
+        --------
+        >>> (~CellUnion.from_tokens("04 0c 1c")).tokens()
         ['14', '3', '5', '7', '9', 'b']
         """
         return self._holding(_library.complement("", 2 * len(self) + 90, self._ids))
 
-    def __ge__(self, other: Union) -> bool:
-        if not isinstance(other, Union):
+    def __ge__(self, other: CellUnion) -> bool:
+        if not isinstance(other, CellUnion):
             return NotImplemented
         return _library.contains(self._ids, other._ids)
 
-    def __le__(self, other: Union) -> bool:
-        if not isinstance(other, Union):
+    def __le__(self, other: CellUnion) -> bool:
+        if not isinstance(other, CellUnion):
             return NotImplemented
         return other.__ge__(self)
 
-    def __gt__(self, other: Union) -> bool:
-        if not isinstance(other, Union):
+    def __gt__(self, other: CellUnion) -> bool:
+        if not isinstance(other, CellUnion):
             return NotImplemented
         return self >= other and self != other
 
-    def __lt__(self, other: Union) -> bool:
-        if not isinstance(other, Union):
+    def __lt__(self, other: CellUnion) -> bool:
+        if not isinstance(other, CellUnion):
             return NotImplemented
         return other.__gt__(self)
 
     def intersects(self, other: Cells) -> bool:
-        """Whether two unions share a leaf."""
+        """Whether two unions share a leaf.
+
+        .. versionadded:: 0.1
+
+        Parameters
+        ----------
+        other : CellUnion, or cells
+            A union, or an iterable or array of cells, which are made one.
+
+        Returns
+        -------
+        bool
+            True if they do.
+
+        Raises
+        ------
+        NotACellError
+            A number among cells is the identifier of no cell.
+        TypeError
+            Something among them is no int.
+
+        Notes
+        -----
+        S2: ``S2CellUnion::Intersects``.
+
+        Examples
+        --------
+        >>> CellUnion.from_tokens("04").intersects(CellUnion.from_tokens("1"))
+        True
+        """
         return _library.intersects(self._ids, _union_of(other)._ids)
 
     def isdisjoint(self, other: Cells) -> bool:
-        """Whether two unions share no leaf."""
+        """Whether two unions share no leaf.
+
+        .. versionadded:: 0.1
+
+        Parameters
+        ----------
+        other : CellUnion, or cells
+            A union, or an iterable or array of cells, which are made one.
+
+        Returns
+        -------
+        bool
+            True if they don't.
+
+        Raises
+        ------
+        NotACellError
+            A number among cells is the identifier of no cell.
+        TypeError
+            Something among them is no int.
+
+        Examples
+        --------
+        >>> CellUnion.from_tokens("04").isdisjoint(CellUnion.from_tokens("1"))
+        False
+        """
         return not self.intersects(other)
 
     def issubset(self, other: Cells) -> bool:
-        """Whether all leaves of the union are in another."""
+        """Whether all leaves of the union are in another; `<=` of two unions.
+
+        .. versionadded:: 0.1
+
+        Parameters
+        ----------
+        other : CellUnion, or cells
+            A union, or an iterable or array of cells, which are made one.
+
+        Returns
+        -------
+        bool
+            True also of equal unions.
+
+        Raises
+        ------
+        NotACellError
+            A number among cells is the identifier of no cell.
+        TypeError
+            Something among them is no int.
+
+        Examples
+        --------
+        >>> CellUnion.from_tokens("04").issubset(CellUnion.from_tokens("1"))
+        True
+        """
         return self <= _union_of(other)
 
     def issuperset(self, other: Cells) -> bool:
-        """Whether all leaves of another union are in this one."""
+        """Whether all leaves of another union are in this one; `>=` of two unions.
+
+        .. versionadded:: 0.1
+
+        Parameters
+        ----------
+        other : CellUnion, or cells
+            A union, or an iterable or array of cells, which are made one.
+
+        Returns
+        -------
+        bool
+            True also of equal unions.
+
+        Raises
+        ------
+        NotACellError
+            A number among cells is the identifier of no cell.
+        TypeError
+            Something among them is no int.
+
+        Notes
+        -----
+        S2: ``S2CellUnion::Contains``.
+
+        Examples
+        --------
+        >>> CellUnion.from_tokens("1").issuperset(CellUnion.from_tokens("04"))
+        True
+        """
         return self >= _union_of(other)
 
     def denormalised(self, min_level: SupportsIndex, modulus: SupportsIndex = 1,
                      most: SupportsIndex | None = None) -> list[int]:
-        """The cells, each cut to the least level that is at least its own and is `min_level` or above it by a multiple
-        of `modulus` (1 to 3); to leaves if there is none. ValueError if there are more than `most`; a face has 4**30
-        leaves."""
+        """The cells, each cut to the least level that is not coarser than its own and is `min_level`, or deeper than it
+        by a multiple of `modulus`; to leaves if there is none.
+
+        .. versionadded:: 0.1
+
+        Parameters
+        ----------
+        min_level : int
+            0 to 30.
+        modulus : int
+            1 to 3.
+        most : int, optional
+            The most cells that the list may have, or any number, if it is left out. A face has 4**30 leaves.
+
+        Returns
+        -------
+        list of int
+            Ascending.
+
+        Raises
+        ------
+        OutOfRangeError
+            The level or the modulus is out of range.
+        TooManyCellsError
+            There would be more than `most` cells.
+        OutOfMemoryError
+            There is no memory for the result.
+
+        Notes
+        -----
+        S2: ``S2CellUnion::Denormalize``.
+
+        Examples
+        --------
+        >>> tokens(CellUnion.from_tokens("1").denormalised(1))
+        ['04', '0c', '14', '1c']
+        """
         need = _library.denormalised_len(self._ids, min_level, modulus)
         if most is not None and need > _library.number(most, 2**64 - 1, "most"):
-            raise ValueError(f"too many cells: {need}")
+            raise TooManyCellsError(f"too many cells: {need}")
         return _cells_in(_library.denormalised("", need, self._ids, min_level, modulus)).tolist()
 
+    denormalized = denormalised
+
     def ancestors(self) -> list[int]:
-        """The cells and all their ancestors, ascending: the keys of an index. Two unions share a leaf exactly if a cell
-        of one is among the ancestors of the other."""
+        """The cells and all their ancestors, ascending: the keys of an index. Two unions share a leaf if, and only
+        if, a cell of one is among the ancestors of the other.
+
+        .. versionadded:: 0.1
+
+        Returns
+        -------
+        list of int
+            At most 31 for each cell.
+
+        Raises
+        ------
+        OutOfMemoryError
+            There is no memory for the result.
+
+        Examples
+        --------
+        >>> tokens(CellUnion.from_tokens("04").ancestors())
+        ['04', '1']
+        """
         return _cells_in(_library.ancestors("", 2 * len(self) + 30, self._ids)).tolist()
 
     def __repr__(self) -> str:
         shown = [_library.token(cell) for cell in self.ids[:8]]
         more = f" and {len(self) - 8} more" if len(self) > 8 else ""
-        return f"<Union of {len(self)} cells: {' '.join(shown)}{more}>"
+        return f"<CellUnion of {len(self)} cells: {' '.join(shown)}{more}>"
 
 
-_Set.register(Union)
+_Set.register(CellUnion)
+
+Union = CellUnion
+"""The name of `CellUnion` up to 1.1, which stays. It hides that of `typing`."""
 
 
-def _unpickled(data: bytes, kind: type[Union] = Union) -> Union:
+def _unpickled(data: bytes, kind: type[CellUnion] = CellUnion) -> CellUnion:
     return kind.from_bytes(data)

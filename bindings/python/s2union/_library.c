@@ -13,6 +13,7 @@
 
 #include <dlfcn.h>
 #include <inttypes.h>
+#include <stdarg.h>
 #include <stdbool.h>
 #include <stdio.h>
 #include <string.h>
@@ -52,6 +53,19 @@ typedef struct Room {
   void* at;
   size_t n, unit;
 } Room;
+
+/* Raises the exception of a status, which _errors.py has, with a text. */
+static PyObject* raise_refusal(int32_t status, const char* format, ...) {
+  PyObject *errors = PyImport_ImportModule("s2union._errors"), *kind = NULL;
+  va_list words;
+  if (errors) kind = PyObject_CallMethod(errors, "of_status", "i", (int)status);
+  va_start(words, format);
+  if (kind) PyErr_FormatV(kind, format, words);
+  va_end(words);
+  Py_XDECREF(kind);
+  Py_XDECREF(errors);
+  return NULL;
+}
 
 /* ---- what is given */
 
@@ -119,7 +133,7 @@ static bool as_number(PyObject* given, const char* what, uint64_t least, uint64_
   PyObject* index = is_int ? given : index_of(given, what);
   if (!index) return false;
   bool fits = bits_of(index, number, &is_below) && !is_below && least <= *number && *number <= most;
-  if (!fits) PyErr_Format(PyExc_ValueError, "%s is out of range: %S", what, index);
+  if (!fits) raise_refusal(S2U_ARGUMENT, "%s is out of range: %S", what, index);
   if (!is_int) Py_DECREF(index);
   return fits;
 }
@@ -130,7 +144,7 @@ static bool as_cell(PyObject* given, uint64_t* bits) {
   PyObject* index = is_int ? given : index_of(given, "a cell");
   if (!index) return false;
   bool fits = bits_of(index, bits, &is_below);
-  if (!fits) PyErr_Format(PyExc_ValueError, "a cell is out of range: %S", index);
+  if (!fits) raise_refusal(S2U_NO_CELL, "a cell is out of range: %S", index);
   if (!is_int) Py_DECREF(index);
   return fits;
 }
@@ -206,7 +220,7 @@ static bool as_rect(PyObject* given, s2u_rect* rect) {
 static bool take(Room* room, uint64_t n, size_t unit) {
   *room = (Room){n < PY_SSIZE_T_MAX / unit ? PyMem_Malloc(n ? n * unit : 1) : NULL, (size_t)n, unit};
   if (!room->at)
-    PyErr_Format(PyExc_MemoryError, "s2union: out of memory: %llu numbers are wanted", (unsigned long long)n);
+    raise_refusal(S2U_MEMORY, "s2union: out of memory: %llu numbers are wanted", (unsigned long long)n);
   return room->at != NULL;
 }
 
@@ -238,20 +252,16 @@ static bool is_cell(PyObject* module, uint64_t number);
 
 /* A refusal, and what was refused, if that is said. */
 static PyObject* refused(int32_t status, PyObject* what) {
-  bool is_memory = status == S2U_MEMORY, is_said = what && PyObject_IsTrue(what) == 1;
-  PyObject* kind = is_memory ? PyExc_MemoryError : PyExc_ValueError;
-  const char *head = is_memory ? "s2union: " : "", *text = s2u_status_text(status);
-  if (is_said) PyErr_Format(kind, "%s%s: %S", head, text, what);
-  else PyErr_Format(kind, "%s%s", head, text);
-  return NULL;
+  bool is_said = what && PyObject_IsTrue(what) == 1;
+  const char *head = status == S2U_MEMORY ? "s2union: " : "", *text = s2u_status_text(status);
+  return is_said ? raise_refusal(status, "%s%s: %S", head, text, what) : raise_refusal(status, "%s%s", head, text);
 }
 
 static PyObject* refused_number(uint64_t number, const size_t* place) {
   char at[40] = "", shown[20];
   if (place) snprintf(at, sizeof at, " at place %zu", *place);
   snprintf(shown, sizeof shown, "%#" PRIx64, number);
-  PyErr_Format(PyExc_ValueError, "%s%s: %s", s2u_status_text(S2U_NO_CELL), at, number ? shown : "0x0");
-  return NULL;
+  return raise_refusal(S2U_NO_CELL, "%s%s: %s", s2u_status_text(S2U_NO_CELL), at, number ? shown : "0x0");
 }
 
 /* A refusal of a call that was given these numbers for cells: the first that is none is named. */
@@ -285,7 +295,7 @@ static PyObject* refused_word(const List* text, size_t place) {
   size_t most = text->n - place < 32 ? text->n - place : 32, n = 0;
   while (n < most && !memchr(BLANKS, word[n], sizeof BLANKS - 1)) n++;
   PyObject* bytes = PyBytes_FromStringAndSize(word, (Py_ssize_t)n);
-  if (bytes) PyErr_Format(PyExc_ValueError, "%s: %R at place %zu", s2u_status_text(S2U_NO_CELL), bytes, place);
+  if (bytes) raise_refusal(S2U_NO_CELL, "%s: %R at place %zu", s2u_status_text(S2U_NO_CELL), bytes, place);
   Py_XDECREF(bytes);
   return NULL;
 }
@@ -387,8 +397,7 @@ static PyObject* cell_of(from_text* call, PyObject* given) {
   int32_t status = call(text.at, text.n, &id);
   Py_DECREF(bytes);
   if (status == S2U_OK) return PyLong_FromUnsignedLongLong(id);
-  PyErr_Format(PyExc_ValueError, "%s: %R", s2u_status_text(status), given);
-  return NULL;
+  return raise_refusal(status, "%s: %R", s2u_status_text(status), given);
 }
 
 static PyObject* py_from_token(PyObject* module, PyObject* given) { return cell_of(LIBRARY(from_token), given); }

@@ -1,0 +1,129 @@
+"""What a call raises for a value that it refuses: an exception for each status of the library, under one base class.
+
+Each is also the exception of Python's own that such a value raises elsewhere: a ValueError, or a MemoryError. A value of
+a wrong type is a TypeError of Python, and a place that a union doesn't have an IndexError.
+"""
+
+from __future__ import annotations
+
+__all__ = ["S2UnionError", "NotACellError", "NotNormalizedError", "OutOfRangeError", "TooManyCellsError",
+           "OutOfMemoryError", "UnionFileError", "FileShortError", "FileVersionError", "FileTrailingError",
+           "FileCellError", "UnknownStatusError"]
+
+
+class S2UnionError(Exception):
+    """The base of all that calls of this package refuse.
+
+    .. versionadded:: 1.2
+    """
+
+    status: int = 0
+    """The status of s2union.h, below 0: the same for each exception of one class."""
+
+
+class NotACellError(S2UnionError, ValueError):
+    """A number is the identifier of no cell, or a text names none.
+
+    .. versionadded:: 1.2
+    """
+
+    status = -3
+
+
+class NotNormalizedError(S2UnionError, ValueError):
+    """The cells of a union file are not normalized: `CellUnion.from_bytes` takes it.
+
+    .. versionadded:: 1.2
+    """
+
+    status = -4
+
+
+class OutOfRangeError(S2UnionError, ValueError):
+    """A level, face, coordinate, modulus, child's number or place is out of range, or a range ends before it begins.
+
+    .. versionadded:: 1.2
+    """
+
+    status = -5
+
+
+class TooManyCellsError(S2UnionError, ValueError):
+    """The result would have more cells than are allowed.
+
+    .. versionadded:: 1.2
+    """
+
+    status = -6
+
+
+class OutOfMemoryError(S2UnionError, MemoryError):
+    """There is no memory for the result.
+
+    .. versionadded:: 1.2
+    """
+
+    status = -2
+
+
+class UnionFileError(S2UnionError, ValueError):
+    """Bytes are no union file; its subclasses say why.
+
+    .. versionadded:: 1.2
+    """
+
+
+class FileShortError(UnionFileError):
+    """Bytes of the file are missing.
+
+    .. versionadded:: 1.2
+    """
+
+    status = -10
+
+
+class FileVersionError(UnionFileError):
+    """The first byte of the file is not 1.
+
+    .. versionadded:: 1.2
+    """
+
+    status = -11
+
+
+class FileTrailingError(UnionFileError):
+    """Bytes follow the last cell of the file.
+
+    .. versionadded:: 1.2
+    """
+
+    status = -12
+
+
+class FileCellError(UnionFileError):
+    """A number in the file is the identifier of no cell.
+
+    .. versionadded:: 1.2
+    """
+
+    status = -13
+
+
+class UnknownStatusError(S2UnionError, ValueError):
+    """A status of a later version of the library.
+
+    .. versionadded:: 1.2
+    """
+
+
+_KINDS = {kind.status: kind for kind in (
+    NotACellError, NotNormalizedError, OutOfRangeError, TooManyCellsError, OutOfMemoryError, FileShortError,
+    FileVersionError, FileTrailingError, FileCellError)}
+
+for _kind in (S2UnionError, UnionFileError, UnknownStatusError, *_KINDS.values()):
+    _kind.__module__ = "s2union"  # where they are found
+
+
+def of_status(status: int) -> type[S2UnionError]:
+    """The exception of a status. One that this version doesn't know is a ValueError too."""
+    return _KINDS.get(status, UnknownStatusError)
