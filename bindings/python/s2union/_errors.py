@@ -1,7 +1,7 @@
-"""What a call raises for a value that it refuses: an exception for each status of the library, under one base class.
+"""What a call raises for a value that it refuses: an exception for each status of the library, under one base.
 
-Each is also the exception of Python's own that such a value raises elsewhere: a ValueError, or a MemoryError. A value of
-a wrong type is a TypeError of Python, and a place that a union doesn't have an IndexError.
+Each is also the exception of Python's own that such a value raises elsewhere: a ValueError, or a MemoryError. A value
+of a wrong type is a TypeError of Python, and a place that a union doesn't have an IndexError.
 """
 
 from __future__ import annotations
