@@ -39,6 +39,16 @@ final class Refusals {
     } catch (Refusal refusal) {
       check(refusal.status() == status && refusal.place() == place && refusal.getMessage().equals(words),
           refusal + " " + refusal.status() + " " + refusal.place() + ", not " + words);
+      check(statusOf(refusal.kind()) == status, refusal.kind() + " of " + status);
+    }
+  }
+
+  /** The status that has the name of a kind. */
+  private static int statusOf(Refusal.Kind kind) {
+    try {
+      return Refusal.class.getField(kind.name()).getInt(null);
+    } catch (ReflectiveOperationException error) {
+      return 0;
     }
   }
 

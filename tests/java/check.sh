@@ -30,6 +30,14 @@ compiled() { # with the class of the page
     javac -Xlint:all -Werror -cp "$jar" -d "$work/tests" "$tests"/*.java "$work/Region.java"
 }
 step "compile the tests" compiled
+commented() { javadoc -quiet -Xdoclint:all -Werror -d "$work/reference" "$top"/bindings/java/s2union/*.java; }
+step "javadoc, each warning an error" commented
+by_comments() {
+  mkdir "$work/examples" && /usr/bin/python3 "$top/tests/docs/examples.py" java "$top"/bindings/java/s2union/*.java \
+    >"$work/examples/Examples.java" && javac -cp "$jar" -d "$work/tests" "$work/examples/Examples.java" &&
+    by_java -cp "$jar:$work/tests" Examples
+}
+step "the examples of its comments" by_comments
 questions() { PYTHONDONTWRITEBYTECODE=1 /usr/bin/python3 "$top/tests/python/vectors.py" >"$work/vectors"; }
 step "questions" questions
 by_java() { # WORD..: nothing may stay in the folder for temporary files

@@ -1,7 +1,60 @@
 package s2union;
 
-/** A refusal of the library, with its words, its status in s2union.h, and the place that it reports. */
+/**
+ * A refusal of the library, with its words, its kind, and the place that it reports. Out of memory is an
+ * {@link OutOfMemoryError}.
+ *
+ * <pre>{@code
+ * try {
+ *   return CellUnion.decode(bytes);
+ * } catch (Refusal refusal) {
+ *   if (refusal.kind() == Refusal.Kind.FILE_SHORT) return readOn();
+ *   throw refusal;
+ * }
+ * }</pre>
+ *
+ * @since 1.1
+ */
 public final class Refusal extends IllegalArgumentException {
+  /**
+   * What was refused, by the name that it has in s2union.h.
+   *
+   * @since 1.2
+   */
+  public enum Kind {
+    /** A number is not a cell, or a text names none. */
+    NO_CELL(-3),
+    /** A list is not normalized. */
+    NO_UNION(-4),
+    /** A level, coordinate, modulus or place is out of range. */
+    ARGUMENT(-5),
+    /** The result would have more cells than are allowed, or than an array can have. */
+    MANY(-6),
+    /** Bytes of a file are missing. */
+    FILE_SHORT(-10),
+    /** The first byte of a file is not 1. */
+    FILE_VERSION(-11),
+    /** Bytes follow the last cell of a file. */
+    FILE_TRAILING(-12),
+    /** A number in a file is not a cell. */
+    FILE_CELL(-13),
+    /** What a later version of the library refuses. */
+    OTHER(0);
+
+    private final int status;
+
+    Kind(int status) {
+      this.status = status;
+    }
+
+    private static Kind of(int status) {
+      for (Kind kind : values()) {
+        if (kind.status == status) return kind;
+      }
+      return OTHER;
+    }
+  }
+
   /** A number is not a cell, or a text names none. */
   public static final int NO_CELL = -3;
   /** A list is not normalized. */
@@ -20,7 +73,9 @@ public final class Refusal extends IllegalArgumentException {
   public static final int FILE_CELL = -13;
 
   private static final long serialVersionUID = 1;
+  /** The status of s2union.h. */
   private final int status;
+  /** The place that the library reports, or 0. */
   private final long place;
 
   Refusal(int status, long place) {
@@ -44,12 +99,33 @@ public final class Refusal extends IllegalArgumentException {
     }
   }
 
-  /** Which one: the status of s2union.h, a constant of this class. */
+  /**
+   * What was refused, for a {@code switch}.
+   *
+   * @return a kind, never null
+   * @since 1.2
+   */
+  public Kind kind() {
+    return Kind.of(status);
+  }
+
+  /**
+   * What was refused, as a number.
+   *
+   * @return the status of s2union.h, a constant of this class
+   * @since 1.1
+   */
   public int status() {
     return status;
   }
 
-  /** The place of the first number, or of the first byte of a text, that is wrong; else 0. */
+  /**
+   * The place of the first number of a list that is wrong, or of the byte at which the first wrong word of a text
+   * begins.
+   *
+   * @return 0 or more; 0 where one number or level is refused
+   * @since 1.1
+   */
   public long place() {
     return place;
   }

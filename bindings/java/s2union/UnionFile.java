@@ -1,19 +1,49 @@
 package s2union;
 
-/** The bytes of a union file, which answer as they are. Each question copies a file of more than 1,000,000 bytes. */
+/**
+ * The bytes of a union file, which answer as they are. Each question copies a file of more than 1,000,000 bytes. If the
+ * bytes are changed after the check, a question throws a {@link Refusal} of a FILE kind, or its answer means nothing.
+ *
+ * @since 1.1
+ */
 public final class UnionFile {
   private final byte[] bytes;
 
   /**
-   * Checks the bytes once: they must be the file that `encode` makes of some union. The array itself is kept, so it
-   * must not be changed.
+   * Checks the bytes once: they must be the file that {@code encode} makes of some union. They are kept, and must not
+   * be changed.
+   * S2: {@code S2CellUnion::Decode}.
+   *
+   * <pre>{@code
+   * new UnionFile(CellUnion.fromTokens("04").encode()).size() // 1
+   * }</pre>
+   *
+   * @param bytes the bytes of a file
+   * @throws Refusal {@link Refusal.Kind#NO_UNION} if the cells of the file are not normalized: {@code decode} takes
+   *     it, or {@link Refusal.Kind#FILE_SHORT} if bytes are missing, or {@link Refusal.Kind#FILE_VERSION} if the
+   *     first byte is not 1, or {@link Refusal.Kind#FILE_TRAILING} if bytes follow the last cell, or {@link
+   *     Refusal.Kind#FILE_CELL} if a number in it is no cell
+   * @since 1.1
    */
   public UnionFile(byte[] bytes) {
     if (!check(bytes)) throw new Refusal(Refusal.NO_UNION, 0);
     this.bytes = bytes;
   }
 
-  /** Whether it is the file that `encode` makes. One that only `decode` takes answers false, and others are refused. */
+  /**
+   * Whether bytes are the file that {@code encode} makes of some union.
+   *
+   * <pre>{@code
+   * UnionFile.check(CellUnion.fromTokens("04").encode()) // true
+   * }</pre>
+   *
+   * @param bytes the bytes of a file
+   * @return true if they are; false of a file that only {@code decode} takes
+   * @throws Refusal {@link Refusal.Kind#FILE_SHORT} if bytes are missing, or {@link Refusal.Kind#FILE_VERSION} if the
+   *     first byte is not 1, or {@link Refusal.Kind#FILE_TRAILING} if bytes follow the last cell, or {@link
+   *     Refusal.Kind#FILE_CELL} if a number in it is no cell
+   * @since 1.1
+   */
   public static boolean check(byte[] bytes) {
     return Calls.checked(Calls.askFile(Calls.FILE_CHECK, bytes, null, 0, new long[1]), 0) == 1;
   }
@@ -28,47 +58,146 @@ public final class UnionFile {
     return Calls.checked(Calls.askFile(call, bytes, others, cell, new long[1]), 0) == 1;
   }
 
-  /** How many cells it has. */
+  /**
+   * How many cells it has.
+   * S2: {@code S2CellUnion::num_cells}.
+   *
+   * <pre>{@code
+   * new UnionFile(CellUnion.fromTokens("04 0c").encode()).size() // 2
+   * }</pre>
+   *
+   * @return 0 or more
+   * @since 1.1
+   */
   public int size() {
     return (int) number(Calls.FILE_COUNT, 0);
   }
 
-  /** The cell at a place, from 0 to size() - 1; others are refused. */
+  /**
+   * The cell at a place.
+   * S2: {@code S2CellUnion::cell_id}.
+   *
+   * <pre>{@code
+   * CellId.toToken(new UnionFile(CellUnion.fromTokens("04 0c").encode()).cellId(1)) // 0c
+   * }</pre>
+   *
+   * @param place 0 to one less than the size
+   * @return the cell
+   * @throws Refusal {@link Refusal.Kind#ARGUMENT} if there is no such place
+   * @since 1.1
+   */
   public long cellId(int place) {
     return number(Calls.FILE_CELL, place);
   }
 
-  /** How many leaves it has. */
+  /**
+   * How many leaves it has. It takes n steps.
+   * S2: {@code S2CellUnion::LeafCellsCovered}.
+   *
+   * <pre>{@code
+   * new UnionFile(CellUnion.fromTokens("1").encode()).leafCellsCovered() == 1L << 60 // true
+   * }</pre>
+   *
+   * @return 0 to 6 * 4^30
+   * @since 1.1
+   */
   public long leafCellsCovered() {
     return number(Calls.FILE_LEAF_COUNT, 0);
   }
 
-  /** Whether all leaves of the cell are in it. */
+  /**
+   * Whether all leaves of a cell are in it.
+   * S2: {@code S2CellUnion::Contains}.
+   *
+   * <pre>{@code
+   * new UnionFile(CellUnion.fromTokens("04").encode()).contains(CellId.fromToken("0401")) // true
+   * }</pre>
+   *
+   * @param cell a cell
+   * @return true if they are
+   * @throws Refusal {@link Refusal.Kind#NO_CELL} if the number is no cell
+   * @since 1.1
+   */
   public boolean contains(long cell) {
     return asks(Calls.FILE_CONTAINS_CELL, null, cell);
   }
 
-  /** Whether it shares a leaf with the cell. */
+  /**
+   * Whether it shares a leaf with a cell.
+   * S2: {@code S2CellUnion::Intersects}.
+   *
+   * <pre>{@code
+   * new UnionFile(CellUnion.fromTokens("0401").encode()).intersects(CellId.fromToken("04")) // true
+   * }</pre>
+   *
+   * @param cell a cell
+   * @return true if it does
+   * @throws Refusal {@link Refusal.Kind#NO_CELL} if the number is no cell
+   * @since 1.1
+   */
   public boolean intersects(long cell) {
     return asks(Calls.FILE_INTERSECTS_CELL, null, cell);
   }
 
-  /** Whether all leaves of the other are in it. */
+  /**
+   * Whether all leaves of the other are in it.
+   * S2: {@code S2CellUnion::Contains}.
+   *
+   * <pre>{@code
+   * new UnionFile(CellUnion.fromTokens("1").encode())
+   *     .contains(new UnionFile(CellUnion.fromTokens("04").encode())) // true
+   * }</pre>
+   *
+   * @param other the other
+   * @return true if they are
+   * @since 1.1
+   */
   public boolean contains(UnionFile other) {
     return asks(Calls.FILE_CONTAINS, other.bytes, 0);
   }
 
-  /** Whether they share a leaf. */
+  /**
+   * Whether they share a leaf.
+   * S2: {@code S2CellUnion::Intersects}.
+   *
+   * <pre>{@code
+   * new UnionFile(CellUnion.fromTokens("1").encode())
+   *     .intersects(new UnionFile(CellUnion.fromTokens("04").encode())) // true
+   * }</pre>
+   *
+   * @param other the other
+   * @return true if they do
+   * @since 1.1
+   */
   public boolean intersects(UnionFile other) {
     return asks(Calls.FILE_INTERSECTS, other.bytes, 0);
   }
 
-  /** Its cells and all their ancestors, ascending: the keys of an index. */
+  /**
+   * Its cells and all their ancestors, ascending: the keys of an index.
+   *
+   * <pre>{@code
+   * new UnionFile(CellUnion.fromTokens("04").encode()).ancestors().length // 2
+   * }</pre>
+   *
+   * @return at most 31 for each cell
+   * @since 1.1
+   */
   public long[] ancestors() {
     return Calls.read(Calls.FILE_ANCESTORS, bytes, bytes.length / 4);
   }
 
-  /** The union of its cells. */
+  /**
+   * The union of its cells, copied.
+   * S2: {@code S2CellUnion::Decode}.
+   *
+   * <pre>{@code
+   * new UnionFile(CellUnion.fromTokens("04").encode()).toUnion() // 04
+   * }</pre>
+   *
+   * @return the union
+   * @since 1.1
+   */
   public CellUnion toUnion() {
     return CellUnion.decode(bytes);
   }
