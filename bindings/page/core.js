@@ -24,14 +24,20 @@ const FAULTS = {
   [-12]: "union file: bytes after the last cell",
   [-13]: "union file: a number that is not a cell",
 };
+const KINDS = {[-1]: "ROOM", [-2]: "MEMORY", [-3]: "NO_CELL", [-4]: "NO_UNION", [-5]: "ARGUMENT",
+  [-6]: "MANY", [-10]: "FILE_SHORT", [-11]: "FILE_VERSION", [-12]: "FILE_TRAILING", [-13]: "FILE_CELL"};
 
 const HEAD_SIZE = 9;
 const PAGE_SIZE = 65536;
 
-/** A refusal of the library: its status, and the place that it reports. */
+/** A refusal of the library: its kind, its status, and the place that it reports. */
 class Refusal extends Error {
+  /** The kinds, each by its name. */
+  static Kind = Object.freeze(Object.fromEntries([...Object.values(KINDS), "OTHER"].map((kind) => [kind, kind])));
+
   constructor(status, place) {
     super(FAULTS[status] ?? `unknown refusal ${status}`);
+    this.kind = KINDS[status] ?? "OTHER";
     this.status = status;
     this.place = place;
   }

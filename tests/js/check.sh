@@ -20,6 +20,7 @@ if [ "${1:-}" = --short ]; then
 else
   rounds=300 version=$(cat "$top/VERSION") cells=200000
   need wasm-opt binaryen
+  need tsc node-typescript
   need_packages
   step "tools/page" "$top/tools/page" "$work/page" --jobs 1
 fi
@@ -37,6 +38,11 @@ by_name() { # the page's program, in a package that has ours
     diff "$work/program/wanted" "$work/program/said"
 }
 step "docs/JS.md" by_name
+by_comments() {
+  /usr/bin/python3 "$top/tests/docs/examples.py" js "$package/s2union.d.ts" >"$work/examples.mjs" &&
+    node "$work/examples.mjs" "$module"
+}
+step "the examples of its types" by_comments
 step "its types have its names, and what calls answer" node "$tests/types.mjs" "$package"
 if command -v tsc >/dev/null; then
   step "its types, by TypeScript" tsc --noEmit --strict --target es2022 "$package/s2union.d.ts"

@@ -51,9 +51,12 @@ function withoutMemory(place, action) {
   return times;
 }
 
+const KINDS = {[-3]: "NO_CELL", [-4]: "NO_UNION", [-5]: "ARGUMENT", [-6]: "MANY", [-10]: "FILE_SHORT",
+  [-11]: "FILE_VERSION", [-12]: "FILE_TRAILING", [-13]: "FILE_CELL"};
+
 function refused(status, place, words, action, name = `${action}`) {
   assert.throws(action, (error) => error instanceof Refusal && error instanceof Error && error.status === status &&
-    error.place === place && error.message === words, name);
+    error.kind === Refusal.Kind[KINDS[status]] && error.place === place && error.message === words, name);
 }
 const noCell = (place, action, name) => refused(-3, place, "not a cell", action, name);
 const outOfRange = (action, place = 0, name = undefined) => refused(-5, place, "argument out of range", action, name);

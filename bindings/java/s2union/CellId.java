@@ -156,7 +156,7 @@ public final class CellId {
 
   /**
    * How many leaves a cell has.
-   * S2: {@code S2CellUnion::LeafCellsCovered of one cell}.
+   * S2: {@code S2CellUnion::LeafCellsCovered} of one cell.
    *
    * <pre>{@code
    * CellId.leafCellsCovered(CellId.fromToken("04")) == 1L << 58 // true

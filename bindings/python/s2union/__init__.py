@@ -386,7 +386,7 @@ def size(cell: SupportsIndex) -> int:
 
     Notes
     -----
-    S2: ``S2CellUnion::LeafCellsCovered of one cell``.
+    S2: ``S2CellUnion::LeafCellsCovered`` of one cell.
 
     Examples
     --------
