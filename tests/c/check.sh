@@ -98,6 +98,7 @@ program() { # NAME LIBRARY FLAGS..: builds a test and runs it
   gcc -std=c11 -D_DEFAULT_SOURCE -O2 "${strict[@]}" "$@" -I"$include" "$tests/$name.c" "$library" -lpthread \
     -o "$work/$name" && timeout 300 "$work/$name"
 }
+step "an example of each call" program examples "$static"
 step "traps" program traps "$static"
 step "traps, under the sanitizers" program traps "$static" -fsanitize=address,undefined -fno-sanitize-recover
 refusing() { # what refuses them is built without the sanitizer, which takes memory before it is ready

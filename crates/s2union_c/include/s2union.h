@@ -1,4 +1,5 @@
-/* s2union.h: unions of S2 cells for C, C++ and any language that calls C.
+/** @file s2union.h
+ * Unions of S2 cells for C, C++ and any language that calls C.
  *
  * A union is a set of leaf cells of the sphere, kept as the one normalized list of cells that covers it: ascending, no
  * two cells share a leaf, no four are the children of one cell. Two unions are the same set exactly if they are the
@@ -60,198 +61,715 @@
 #include <stddef.h>
 #include <stdint.h>
 
+/** The major version of this file. */
 #define S2U_VERSION_MAJOR 1
+/** The minor version of this file. */
 #define S2U_VERSION_MINOR 1
+/** The third number of the version of this file. */
 #define S2U_VERSION_PATCH 0
+/** The version of this file as a text. */
 #define S2U_VERSION_TEXT "1.1.0"
+/** The version of this file as a number, 10203 of 1.2.3. */
 #define S2U_VERSION (S2U_VERSION_MAJOR * 10000 + S2U_VERSION_MINOR * 100 + S2U_VERSION_PATCH)
 
 #ifdef __cplusplus
 extern "C" {
 #endif
 
-/* The statuses. */
+/** The statuses. */
 enum {
-  S2U_OK = 0,
-  S2U_ROOM = -1,           /* the result is longer than room; *len says how long */
-  S2U_MEMORY = -2,         /* out of memory */
-  S2U_NO_CELL = -3,        /* a number is not the identifier of a cell, or a text names none */
-  S2U_NO_UNION = -4,       /* a list is not normalized; since 1.0 for callers that check: no call answers it */
-  S2U_ARGUMENT = -5,       /* a level, coordinate, modulus or order out of range */
-  S2U_MANY = -6,           /* the result would have more cells than `most` */
-  S2U_FILE_SHORT = -10,    /* bytes of the file are missing */
-  S2U_FILE_VERSION = -11,  /* the first byte is not 1 */
-  S2U_FILE_TRAILING = -12, /* bytes follow the last identifier */
-  S2U_FILE_CELL = -13      /* an identifier in the file is that of no cell */
+  S2U_OK = 0,              /**< the call has answered */
+  S2U_ROOM = -1,           /**< the result is longer than room; *len says how long */
+  S2U_MEMORY = -2,         /**< out of memory */
+  S2U_NO_CELL = -3,        /**< a number is not the identifier of a cell, or a text names none */
+  S2U_NO_UNION = -4,       /**< a list is not normalized; since 1.0 for callers that check: no call answers it */
+  S2U_ARGUMENT = -5,       /**< a level, coordinate, modulus or order out of range */
+  S2U_MANY = -6,           /**< the result would have more cells than `most` */
+  S2U_FILE_SHORT = -10,    /**< bytes of the file are missing */
+  S2U_FILE_VERSION = -11,  /**< the first byte is not 1 */
+  S2U_FILE_TRAILING = -12, /**< bytes follow the last identifier */
+  S2U_FILE_CELL = -13      /**< an identifier in the file is that of no cell */
 };
 
-/* The least coordinates and the side, in leaves, of a cell's square on its face. */
+/** The least coordinates and the side, in leaves, of a cell's square on its face. @since 0.1 */
 typedef struct s2u_square {
-  uint32_t face, i, j, size;
+  uint32_t face; /**< 0 to 5 */
+  uint32_t i;    /**< the least first coordinate */
+  uint32_t j;    /**< the least second coordinate */
+  uint32_t size; /**< the side, 1 to 2^30 */
 } s2u_square;
 
-/* The leaves of a face (0 to 5) with i0 <= i <= i1 and j0 <= j <= j1, all below 2^30. */
+/** The leaves of a face (0 to 5) with i0 <= i <= i1 and j0 <= j <= j1, all below 2^30. @since 0.1 */
 typedef struct s2u_rect {
-  uint32_t face, i0, i1, j0, j1;
+  uint32_t face; /**< 0 to 5 */
+  uint32_t i0;   /**< the least first coordinate */
+  uint32_t i1;   /**< the greatest first coordinate, which is in it */
+  uint32_t j0;   /**< the least second coordinate */
+  uint32_t j1;   /**< the greatest second coordinate, which is in it */
 } s2u_rect;
 
-/* A leaf's face (0 to 5) and its coordinates there, below 2^30. */
+/** A leaf's face (0 to 5) and its coordinates there, below 2^30. @since 0.2 */
 typedef struct s2u_point {
-  uint32_t face, i, j;
+  uint32_t face; /**< 0 to 5 */
+  uint32_t i;    /**< the first coordinate */
+  uint32_t j;    /**< the second coordinate */
 } s2u_point;
 
 /* ---- the library ------------------------------------------------------------------------------------------------- */
 
-uint32_t s2u_version(void); /* [pure] S2U_VERSION of the library that runs */
+/** @name The library
+ * @{ */
+
+/** [pure] The version of the library that runs.
+ * @return S2U_VERSION of that library
+ * @since 0.1
+ * @snippet examples.c s2u_version
+ */
+uint32_t s2u_version(void);
+
+/** @} */
 
 /* ---- cells: all [pure], all for every number --------------------------------------------------------------------- */
 
-int32_t s2u_is_cell(uint64_t id); /* 1 or 0. S2CellId::is_valid */
-int32_t s2u_level(uint64_t id);   /* 0 (a face) to 30 (a leaf), or S2U_NO_CELL */
-int32_t s2u_face(uint64_t id);    /* 0 to 5, or S2U_NO_CELL */
+/** @name Cells: all [pure], all for every number
+ * @{ */
 
-/* The cell of this level that contains the cell; at its own level, itself. 0: not a cell, or a deeper level. */
+/** [pure] Whether a number is the identifier of a cell.
+ * @param id any number
+ * @return 1 or 0
+ * @s2{S2CellId::is_valid}
+ * @since 0.1
+ * @snippet examples.c s2u_is_cell
+ */
+int32_t s2u_is_cell(uint64_t id);
+
+/** [pure] The level of a cell.
+ * @param id any number
+ * @return 0 (a face) to 30 (a leaf)
+ * @retval S2U_NO_CELL the number is not the identifier of a cell
+ * @s2{S2CellId::level}
+ * @since 0.1
+ * @snippet examples.c s2u_level
+ */
+int32_t s2u_level(uint64_t id);
+
+/** [pure] The face of a cell.
+ * @param id any number
+ * @return 0 to 5
+ * @retval S2U_NO_CELL the number is not the identifier of a cell
+ * @s2{S2CellId::face}
+ * @since 0.1
+ * @snippet examples.c s2u_face
+ */
+int32_t s2u_face(uint64_t id);
+
+/** [pure] The cell of a level that contains the cell; at its own level, itself.
+ * @param id any number
+ * @param level 0 (a face) to 30 (a leaf)
+ * @return the cell; 0 if id is not a cell, or the level is deeper than its own or above 30
+ * @s2{S2CellId::parent}
+ * @since 0.1
+ * @snippet examples.c s2u_parent
+ */
 uint64_t s2u_parent(uint64_t id, uint32_t level);
-/* The child, 0 to 3 along the curve. 0: not a cell, a leaf, or a child above 3. */
+
+/** [pure] The child of a cell along the curve.
+ * @param id any number
+ * @param child 0 to 3
+ * @return the child; 0 if id is not a cell or a leaf, or the child is above 3
+ * @s2{S2CellId::child}
+ * @since 0.1
+ * @snippet examples.c s2u_child
+ */
 uint64_t s2u_child(uint64_t id, uint32_t child);
-/* The first and the last leaf of the cell, 0 if it is not a cell. A cell is in another exactly if its identifier lies
- * between these, both included: `WHERE cell BETWEEN range_min AND range_max`. Both have the sign bit of the cell, so
- * the same holds for signed numbers, as databases have them; then the order of cells is not kept (faces 3 and 4). */
+
+/** [pure] The first leaf of a cell.
+ * A cell is in another if, and only if, its identifier lies from the first to the last leaf of that, both included:
+ * `WHERE cell BETWEEN range_min AND range_max`. Both have the sign bit of the cell, so the same holds for signed
+ * numbers, as databases have them; then the order of cells is not kept (faces 3 and 4).
+ * @param id any number
+ * @return a leaf; 0 if id is not a cell
+ * @s2{S2CellId::range_min}
+ * @since 0.1
+ * @snippet examples.c s2u_range_min
+ */
 uint64_t s2u_range_min(uint64_t id);
+
+/** [pure] The last leaf of a cell.
+ * @param id any number
+ * @return a leaf; 0 if id is not a cell
+ * @s2{S2CellId::range_max}
+ * @since 0.1
+ * @snippet examples.c s2u_range_max
+ */
 uint64_t s2u_range_max(uint64_t id);
-uint64_t s2u_size(uint64_t id);                           /* how many leaves it has, 1 to 4^30; 0: not a cell */
-uint64_t s2u_next(uint64_t id);                           /* the next of its level, across faces; 0 after the last */
-uint64_t s2u_prev(uint64_t id);                           /* the one before; 0 before the first */
-/* The smallest cell that holds both; 0: they are on two faces, or one is not a cell. */
+
+/** [pure] How many leaves a cell has.
+ * @param id any number
+ * @return 4^(30 - level), 1 to 4^30; 0 if id is not a cell
+ * @s2{S2CellUnion::LeafCellsCovered} of one cell
+ * @since 0.1
+ * @snippet examples.c s2u_size
+ */
+uint64_t s2u_size(uint64_t id);
+
+/** [pure] The next cell of its level along the curve, across faces.
+ * @param id any number
+ * @return the cell; 0 after the last, and if id is not a cell
+ * @s2{S2CellId::next}
+ * @since 0.1
+ * @snippet examples.c s2u_next
+ */
+uint64_t s2u_next(uint64_t id);
+
+/** [pure] The cell of its level before it along the curve, across faces.
+ * @param id any number
+ * @return the cell; 0 before the first, and if id is not a cell
+ * @s2{S2CellId::prev}
+ * @since 0.1
+ * @snippet examples.c s2u_prev
+ */
+uint64_t s2u_prev(uint64_t id);
+
+/** [pure] The smallest cell that contains both.
+ * @param a,b any numbers
+ * @return the cell; 0 if they are on two faces, or one is not a cell
+ * @s2{S2CellId::GetCommonAncestorLevel}
+ * @since 0.1
+ * @snippet examples.c s2u_common_ancestor
+ */
 uint64_t s2u_common_ancestor(uint64_t a, uint64_t b);
-int32_t s2u_cell_contains(uint64_t whole, uint64_t part); /* 1, 0 or S2U_NO_CELL */
-int32_t s2u_cell_intersects(uint64_t a, uint64_t b);      /* 1, 0 or S2U_NO_CELL */
-/* The leaf at a place; 0: a face above 5, or i or j of 2^30 or more. */
+
+/** [pure] Whether all leaves of a part are in a whole; a cell contains itself.
+ * @param whole,part any numbers
+ * @return 1 or 0
+ * @retval S2U_NO_CELL the number is not the identifier of a cell
+ * @s2{S2CellId::contains}
+ * @since 0.1
+ * @snippet examples.c s2u_cell_contains
+ */
+int32_t s2u_cell_contains(uint64_t whole, uint64_t part);
+
+/** [pure] Whether two cells share a leaf.
+ * @param a,b any numbers
+ * @return 1 or 0
+ * @retval S2U_NO_CELL the number is not the identifier of a cell
+ * @s2{S2CellId::intersects}
+ * @since 0.1
+ * @snippet examples.c s2u_cell_intersects
+ */
+int32_t s2u_cell_intersects(uint64_t a, uint64_t b);
+
+/** [pure] The leaf at a place of a face.
+ * @param face 0 to 5
+ * @param i,j below 2^30
+ * @return a leaf; 0 if the face is above 5, or i or j is 2^30 or more
+ * @s2{S2CellId::FromFaceIJ}
+ * @since 0.1
+ * @snippet examples.c s2u_from_face_ij
+ */
 uint64_t s2u_from_face_ij(uint32_t face, uint32_t i, uint32_t j);
-int32_t s2u_square_of(uint64_t id, s2u_square* square);   /* S2U_OK or S2U_NO_CELL (square is then not touched) */
+
+/** [pure] The square of a cell on its face.
+ * @param id any number
+ * @param square the result; a refusal doesn't touch it
+ * @return S2U_OK
+ * @retval S2U_NO_CELL the number is not the identifier of a cell
+ * @s2{S2CellId::ToFaceIJOrientation}
+ * @since 0.1
+ * @snippet examples.c s2u_square_of
+ */
+int32_t s2u_square_of(uint64_t id, s2u_square* square);
+
+/** @} */
 
 /* ---- texts: all [pure] ------------------------------------------------------------------------------------------- */
 
-#define S2U_MOST_TOKEN 16 /* bytes of a token, without a NUL, which no call writes or reads */
+/** @name Texts: all [pure]
+ * @{ */
+
+/** The bytes of a token, without a NUL, which no call writes or reads. */
+#define S2U_MOST_TOKEN 16
+
+/** The most bytes of a debug text. */
 #define S2U_MOST_DEBUG 32
 
-/* The token of a cell ("89c25"): its identifier in hexadecimal without the zeros at its end. S2U_ROOM, S2U_NO_CELL. */
+/** [pure] The token of a cell ("89c25"): its identifier in hexadecimal without the zeros at its end.
+ * At most S2U_MOST_TOKEN bytes.
+ * @param id any number
+ * @param text,room,len the result, how many bytes it has room for, and how many it has
+ * @return S2U_OK
+ * @retval S2U_ROOM room is too small; len says what is needed
+ * @retval S2U_NO_CELL the number is not the identifier of a cell
+ * @s2{S2CellId::ToToken}
+ * @since 0.1
+ * @snippet examples.c s2u_token
+ */
 int32_t s2u_token(uint64_t id, char* text, size_t room, size_t* len);
-/* The cell of a token in either case: S2U_OK, or S2U_NO_CELL (and *id is 0). */
+
+/** [pure] The cell of a token, in either case.
+ * @param text,n a text, and how many bytes it has
+ * @param id the cell; 0 if there is none
+ * @return S2U_OK
+ * @retval S2U_NO_CELL the text is the token of no cell
+ * @s2{S2CellId::FromToken}
+ * @since 0.1
+ * @snippet examples.c s2u_from_token
+ */
 int32_t s2u_from_token(const char* text, size_t n, uint64_t* id);
-/* The same for debug texts ("4/032212"). */
+
+/** [pure] The debug text of a cell ("4/032212"): its face, a slash, and a digit for each level.
+ * At most S2U_MOST_DEBUG bytes.
+ * @param id any number
+ * @param text,room,len the result, how many bytes it has room for, and how many it has
+ * @return S2U_OK
+ * @retval S2U_ROOM room is too small; len says what is needed
+ * @retval S2U_NO_CELL the number is not the identifier of a cell
+ * @s2{S2CellId::ToString}
+ * @since 0.1
+ * @snippet examples.c s2u_debug
+ */
 int32_t s2u_debug(uint64_t id, char* text, size_t room, size_t* len);
+
+/** [pure] The cell of a debug text.
+ * @param text,n a text, and how many bytes it has
+ * @param id the cell; 0 if there is none
+ * @return S2U_OK
+ * @retval S2U_NO_CELL the text is the debug text of no cell
+ * @s2{S2CellId::FromDebugString}
+ * @since 0.1
+ * @snippet examples.c s2u_from_debug
+ */
 int32_t s2u_from_debug(const char* text, size_t n, uint64_t* id);
 
-/* The tokens of the cells of a list, one blank between two: at most S2U_MOST_TOKENS(n) bytes. S2U_ROOM, S2U_NO_CELL,
- * S2U_MANY (2^64 bytes or more, which takes 10^18 cells). Two passes. */
+/** The most bytes that s2u_tokens writes of n cells. */
 #define S2U_MOST_TOKENS(n) (UINT64_C(17) * (n))
+
+/** [pure] The tokens of the cells of a list, one blank between two.
+ * At most S2U_MOST_TOKENS(n) bytes. Two passes.
+ * @param ids,n any numbers, and how many they are
+ * @param text,room,len the result, how many bytes it has room for, and how many it has
+ * @return S2U_OK
+ * @retval S2U_ROOM room is too small; len says what is needed
+ * @retval S2U_NO_CELL a number is not the identifier of a cell
+ * @retval S2U_MANY 2^64 bytes or more, which takes 10^18 cells
+ * @s2{S2CellId::ToToken}
+ * @since 0.1
+ * @snippet examples.c s2u_tokens
+ */
 int32_t s2u_tokens(const uint64_t* ids, size_t n, char* text, size_t room, size_t* len);
-/* The cells that a text names, in its order and each time that it names one: words with blanks, tabs, line ends or
- * commas between them, each a token or a debug text. At most S2U_MOST_NAMED(n) cells. S2U_ROOM. S2U_NO_CELL: a word
- * names none, *len is the place in the text where the first such word begins, and out is not touched. Two passes. */
+/** The most cells that a text of n bytes names. */
 #define S2U_MOST_NAMED(n) ((n) / 2 + (n) % 2)
+
+/** [pure] The cells that a text names, in its order and each time that it names one.
+ * At most S2U_MOST_NAMED(n) cells. Two passes.
+ * @param text,n words with blanks, tabs, line ends or commas between them, each a token or a debug text, and how many
+ *   bytes they have
+ * @param out,room,len the result, how many cells it has room for, and how many it has
+ * @return S2U_OK
+ * @retval S2U_ROOM room is too small; len says what is needed
+ * @retval S2U_NO_CELL a word names none: *len is the place in the text where the first such word begins, and out is
+ *   not touched
+ * @s2{S2CellId::FromToken}
+ * @since 0.1
+ * @snippet examples.c s2u_from_tokens
+ */
 int32_t s2u_from_tokens(const char* text, size_t n, uint64_t* out, size_t room, size_t* len);
 
-/* ---- many cells at once: all [pure], all for every number -----------------------------------------------------------
+/** @} */
+
+/* ---- many cells at once: all [pure], all for every number -------------------------------------------------------- */
+
+/** @name Many cells at once: all [pure], all for every number
  *
  * Entry k is what the call for one cell answers for ids[k]. S2U_OK, and *bad is the first k that has no answer; n if
- * each has one. S2U_ROOM: room is too small for n entries; nothing is written, and *bad is n. n steps. */
+ * each has one. S2U_ROOM: room is too small for n entries; nothing is written, and *bad is n. n steps.
+ * @{ */
 
-/* The cells of this level that contain the cells. 0: not a cell, or a deeper level. */
+/** [pure] The cells of a level that contain the cells; 0 for a number that is not a cell, or whose own level is
+ * coarser.
+ * @param ids,n any numbers, and how many they are
+ * @param level 0 (a face) to 30 (a leaf)
+ * @param out,room the entries, and how many there is room for
+ * @param bad the first k whose entry has no answer; n if each has one
+ * @return S2U_OK
+ * @retval S2U_ROOM room is too small for n entries; nothing is written, and bad is n
+ * @s2{S2CellId::parent}
+ * @since 0.2
+ * @snippet examples.c s2u_parents
+ */
 int32_t s2u_parents(const uint64_t* ids, size_t n, uint32_t level, uint64_t* out, size_t room, size_t* bad);
-/* The first and the last leaves. 0: not a cell. */
+
+/** [pure] The first leaves of cells; 0 for a number that is not a cell.
+ * @param ids,n any numbers, and how many they are
+ * @param out,room the entries, and how many there is room for
+ * @param bad the first k whose entry has no answer; n if each has one
+ * @return S2U_OK
+ * @retval S2U_ROOM room is too small for n entries; nothing is written, and bad is n
+ * @s2{S2CellId::range_min}
+ * @since 0.2
+ * @snippet examples.c s2u_range_mins
+ */
 int32_t s2u_range_mins(const uint64_t* ids, size_t n, uint64_t* out, size_t room, size_t* bad);
+
+/** [pure] The last leaves of cells; 0 for a number that is not a cell.
+ * @param ids,n any numbers, and how many they are
+ * @param out,room the entries, and how many there is room for
+ * @param bad the first k whose entry has no answer; n if each has one
+ * @return S2U_OK
+ * @retval S2U_ROOM room is too small for n entries; nothing is written, and bad is n
+ * @s2{S2CellId::range_max}
+ * @since 0.2
+ * @snippet examples.c s2u_range_maxes
+ */
 int32_t s2u_range_maxes(const uint64_t* ids, size_t n, uint64_t* out, size_t room, size_t* bad);
-#define S2U_NO_LEVEL 255 /* the entry of a number that is not a cell */
+/** The entry of a number that is not a cell. */
+#define S2U_NO_LEVEL 255
+
+/** [pure] The levels of cells; S2U_NO_LEVEL for a number that is not a cell.
+ * @param ids,n any numbers, and how many they are
+ * @param out,room the entries, and how many there is room for
+ * @param bad the first k whose entry has no answer; n if each has one
+ * @return S2U_OK
+ * @retval S2U_ROOM room is too small for n entries; nothing is written, and bad is n
+ * @s2{S2CellId::level}
+ * @since 0.2
+ * @snippet examples.c s2u_levels
+ */
 int32_t s2u_levels(const uint64_t* ids, size_t n, uint8_t* out, size_t room, size_t* bad);
-/* The tokens, each in S2U_MOST_TOKEN bytes, with zeros after it; zeros alone: not a cell. room is in bytes. */
+
+/** [pure] The tokens of cells, each in S2U_MOST_TOKEN bytes, with zeros after it; zeros alone for a number that is
+ * not a cell.
+ * @param ids,n any numbers, and how many they are
+ * @param text,room the entries, and how many bytes there is room for
+ * @param bad the first k whose entry has no answer; n if each has one
+ * @return S2U_OK
+ * @retval S2U_ROOM room is too small for n entries; nothing is written, and bad is n
+ * @s2{S2CellId::ToToken}
+ * @since 0.2
+ * @snippet examples.c s2u_token_fields
+ */
 int32_t s2u_token_fields(const uint64_t* ids, size_t n, char* text, size_t room, size_t* bad);
-/* The leaves at points. 0: a face above 5, or i or j of 2^30 or more. */
+
+/** [pure] The leaves at points; 0 for a point on no face.
+ * @param points,n points, and how many they are: the face 0 to 5, i and j below 2^30
+ * @param out,room the entries, and how many there is room for
+ * @param bad the first k whose entry has no answer; n if each has one
+ * @return S2U_OK
+ * @retval S2U_ROOM room is too small for n entries; nothing is written, and bad is n
+ * @s2{S2CellId::FromFaceIJ}
+ * @since 0.2
+ * @snippet examples.c s2u_from_points
+ */
 int32_t s2u_from_points(const s2u_point* points, size_t n, uint64_t* out, size_t room, size_t* bad);
 
-/* ---- questions about a union: all [pure], in place, without a copy --------------------------------------------------
- *
- * If the list is not a union, the answer means nothing: 0 or 1, places in the list, any count of leaves. */
+/** @} */
 
-int32_t s2u_is_union(const uint64_t* ids, size_t n);                       /* 1 or 0. n steps */
-/* How many leaves the union has: of a union at most 6 * 4^30, which an int64_t holds. n steps. */
+/* ---- questions about a union: all [pure], in place, without a copy ----------------------------------------------- */
+
+/** @name Questions about a union: all [pure], in place, without a copy
+ *
+ * If the list is not a union, the answer means nothing: 0 or 1, places in the list, any count of leaves.
+ * @{ */
+
+/** [pure] Whether a list is that of a union: ascending cells, no two that share a leaf, no four that make one. N
+ * steps.
+ * @param ids,n any numbers, and how many they are
+ * @return 1 or 0
+ * @s2{S2CellUnion::IsNormalized}
+ * @since 0.1
+ * @snippet examples.c s2u_is_union
+ */
+int32_t s2u_is_union(const uint64_t* ids, size_t n);
+
+/** [pure] How many leaves the union has. N steps.
+ * @param ids,n a union, and how many cells it has
+ * @return of a union at most 6 * 4^30, which an int64_t holds
+ * @s2{S2CellUnion::LeafCellsCovered}
+ * @since 0.1
+ * @snippet examples.c s2u_leaf_count
+ */
 uint64_t s2u_leaf_count(const uint64_t* ids, size_t n);
-int32_t s2u_contains_cell(const uint64_t* ids, size_t n, uint64_t cell);   /* 1, 0 or S2U_NO_CELL. log n steps */
-int32_t s2u_intersects_cell(const uint64_t* ids, size_t n, uint64_t cell); /* the same: whether they share a leaf */
-/* The cells of the union that share a leaf with the cell: ids[*first .. *first + *count). If there are none, *first is
- * how many cells come before the cell. log n steps. */
+
+/** [pure] Whether all leaves of a cell are in the union. Log n steps.
+ * @param ids,n a union, and how many cells it has
+ * @param cell any number
+ * @return 1 or 0
+ * @retval S2U_NO_CELL the number is not the identifier of a cell
+ * @s2{S2CellUnion::Contains}
+ * @since 0.1
+ * @snippet examples.c s2u_contains_cell
+ */
+int32_t s2u_contains_cell(const uint64_t* ids, size_t n, uint64_t cell);
+
+/** [pure] Whether the union shares a leaf with a cell. Log n steps.
+ * @param ids,n a union, and how many cells it has
+ * @param cell any number
+ * @return 1 or 0
+ * @retval S2U_NO_CELL the number is not the identifier of a cell
+ * @s2{S2CellUnion::Intersects}
+ * @since 0.1
+ * @snippet examples.c s2u_intersects_cell
+ */
+int32_t s2u_intersects_cell(const uint64_t* ids, size_t n, uint64_t cell);
+
+/** [pure] The cells of the union that share a leaf with a cell: ids[*first .. *first + *count). Log n steps.
+ * @param ids,n a union, and how many cells it has
+ * @param cell any number
+ * @param first the place of the first; if there are none, how many cells come before the cell
+ * @param count how many they are
+ * @return S2U_OK
+ * @retval S2U_NO_CELL the number is not the identifier of a cell
+ * @since 0.1
+ * @snippet examples.c s2u_cells_at
+ */
 int32_t s2u_cells_at(const uint64_t* ids, size_t n, uint64_t cell, size_t* first, size_t* count);
-/* answers[k] is 1 or 0 for cells[k], k below m. S2U_NO_CELL: one is not a cell, and *bad is the first such k; else *bad
- * is m. S2U_ROOM: room is less than m. After a refusal answers is not touched. A search begins at the place of the one
- * before, so cells in order are quickest; cells whose places are far apart are searched four at once. */
+
+/** [pure] Whether all leaves of each cell are in the union.
+ * A search begins at the place of the one before, so cells in order are quickest; cells whose places are far apart
+ * are searched four at once.
+ * @param ids,n a union, and how many cells it has
+ * @param cells,m any numbers, and how many they are
+ * @param answers,room 1 or 0 for each, and how many there is room for
+ * @param bad the first k for which cells[k] is not a cell; else m
+ * @return S2U_OK
+ * @retval S2U_NO_CELL one is not a cell; answers is not touched
+ * @retval S2U_ROOM room is less than m; answers is not touched
+ * @s2{S2CellUnion::Contains}
+ * @since 0.1
+ * @snippet examples.c s2u_contains_cells
+ */
 int32_t s2u_contains_cells(const uint64_t* ids, size_t n, const uint64_t* cells, size_t m, uint8_t* answers,
                            size_t room, size_t* bad);
+
+/** [pure] Whether the union shares a leaf with each cell, as s2u_contains_cells.
+ * @param ids,n a union, and how many cells it has
+ * @param cells,m any numbers, and how many they are
+ * @param answers,room 1 or 0 for each, and how many there is room for
+ * @param bad the first k for which cells[k] is not a cell; else m
+ * @return S2U_OK
+ * @retval S2U_NO_CELL one is not a cell; answers is not touched
+ * @retval S2U_ROOM room is less than m; answers is not touched
+ * @s2{S2CellUnion::Intersects}
+ * @since 0.1
+ * @snippet examples.c s2u_intersects_cells
+ */
 int32_t s2u_intersects_cells(const uint64_t* ids, size_t n, const uint64_t* cells, size_t m, uint8_t* answers,
                              size_t room, size_t* bad);
-/* 1 if all leaves of ys are in xs, else 0; and 1 if they share a leaf, else 0. */
+
+/** [pure] Whether all leaves of ys are in xs.
+ * @param xs,nx a union, and how many cells it has
+ * @param ys,ny another, likewise
+ * @return 1 or 0
+ * @s2{S2CellUnion::Contains}
+ * @since 0.1
+ * @snippet examples.c s2u_contains
+ */
 int32_t s2u_contains(const uint64_t* xs, size_t nx, const uint64_t* ys, size_t ny);
+
+/** [pure] Whether two unions share a leaf.
+ * @param xs,nx a union, and how many cells it has
+ * @param ys,ny another, likewise
+ * @return 1 or 0
+ * @s2{S2CellUnion::Intersects}
+ * @since 0.1
+ * @snippet examples.c s2u_intersects
+ */
 int32_t s2u_intersects(const uint64_t* xs, size_t nx, const uint64_t* ys, size_t ny);
-/* -1, 0 or 1: the order of lists, element by element and then by length. No refusal. A total order, for B-trees. */
+
+/** [pure] The order of lists, element by element and then by length: a total order, for B-trees.
+ * @param xs,nx any numbers, and how many they are
+ * @param ys,ny others, likewise
+ * @return -1, 0 or 1; there is no refusal
+ * @since 0.1
+ * @snippet examples.c s2u_compare
+ */
 int32_t s2u_compare(const uint64_t* xs, size_t nx, const uint64_t* ys, size_t ny);
+
+/** @} */
 
 /* ---- making unions ----------------------------------------------------------------------------------------------- */
 
-/* [pure] Normalizes a list of cells in place; they may be in any order, repeated, or inside one another. *len is then
- * the new length, at most n; what the list holds after that has no meaning. S2U_NO_CELL: a number is not a cell; the
- * list is not touched and *len is the place of the first one that is not. n log n steps, n if it is in order. */
+/** @name Making unions
+ * @{ */
+
+/** [pure] Normalizes a list of cells in place; they may be in any order, repeated, or inside one another. N log n
+ * steps, n if the list is in order.
+ * @param ids,n the cells, and how many they are; then the union, and after it what has no meaning
+ * @param len how many cells the union has, at most n; of a refusal, the place of the first number that is not a cell
+ * @return S2U_OK
+ * @retval S2U_NO_CELL a number is not the identifier of a cell; the list is not touched
+ * @s2{S2CellUnion::Normalize}
+ * @since 0.1
+ * @snippet examples.c s2u_normalise
+ */
 int32_t s2u_normalise(uint64_t* ids, size_t n, size_t* len);
 
-/* [pure] The union of many lists of cells, which lie one after another in ids: each ends before the place that is next
- * in `ends`, where the next begins, and the last one ends with ids. Lists that ascend, as unions do, are merged in
- * pairs: n steps for each doubling of their number. Others are sorted first, and short ones together. `work` is room
- * for at least 2 n numbers, and means nothing afterward. S2U_ROOM (at most n cells; nothing is written to out),
- * S2U_ARGUMENT: `ends` descends or does not end with n, or work is too short; S2U_NO_CELL: *len is the place of the
- * first number that is not a cell. */
+/** [pure] The union of many lists of cells, which lie one after another in ids: each ends before the place that is
+ * next in `ends`, where the next begins, and the last one ends with ids.
+ * Lists that ascend, as unions do, are merged in pairs: n steps for each doubling of their number. Others are sorted
+ * first, and short ones together.
+ * @param ids,n the cells, and how many they are
+ * @param ends,lists where each list ends, and how many lists there are
+ * @param work,work_room room for at least 2 n numbers, and how many it has; it means nothing afterward
+ * @param out,room,len the result, how many cells it has room for, and how many it has
+ * @return S2U_OK
+ * @retval S2U_ROOM room is too small, at most n are needed; nothing is written to out
+ * @retval S2U_ARGUMENT `ends` descends or does not end with n, or work is too short
+ * @retval S2U_NO_CELL *len is the place of the first number that is not a cell
+ * @s2{S2CellUnion::Union}
+ * @since 1.0
+ * @snippet examples.c s2u_union_of_many
+ */
 int32_t s2u_union_of_many(const uint64_t* ids, size_t n, const size_t* ends, size_t lists, uint64_t* work,
                           size_t work_room, uint64_t* out, size_t room, size_t* len);
 
-/* [pure] S2U_ROOM. At most nx + ny cells, but for differences. Of lists that are not unions: at most
- * 512 (nx + ny) steps. */
+/** [pure] The leaves of either.
+ * At most nx + ny cells. Of lists that are not unions: at most 512 (nx + ny) steps.
+ * @param xs,nx a union, and how many cells it has
+ * @param ys,ny another, likewise
+ * @param out,room,len the result, how many cells it has room for, and how many it has
+ * @return S2U_OK
+ * @retval S2U_ROOM room is too small; len says what is needed
+ * @s2{S2CellUnion::Union}
+ * @since 0.1
+ * @snippet examples.c s2u_union
+ */
 int32_t s2u_union(const uint64_t* xs, size_t nx, const uint64_t* ys, size_t ny, uint64_t* out,
                   size_t room, size_t* len);
+
+/** [pure] The leaves that both have.
+ * At most nx + ny cells. Of lists that are not unions: at most 512 (nx + ny) steps.
+ * @param xs,nx a union, and how many cells it has
+ * @param ys,ny another, likewise
+ * @param out,room,len the result, how many cells it has room for, and how many it has
+ * @return S2U_OK
+ * @retval S2U_ROOM room is too small; len says what is needed
+ * @s2{S2CellUnion::Intersection}
+ * @since 0.1
+ * @snippet examples.c s2u_intersection
+ */
 int32_t s2u_intersection(const uint64_t* xs, size_t nx, const uint64_t* ys, size_t ny, uint64_t* out,
                          size_t room, size_t* len);
-/* At most S2U_MOST_DIFFERENCE cells (a leaf taken out of a face leaves 90); nearly always less than nx + ny. */
+/** The most cells of a difference. */
 #define S2U_MOST_DIFFERENCE(nx, ny) ((nx) + UINT64_C(90) * (ny))
+
+/** [pure] The leaves of xs that ys doesn't have.
+ * At most S2U_MOST_DIFFERENCE(nx, ny) cells (a leaf taken out of a face leaves 90); nearly always less than nx + ny.
+ * Of lists that are not unions: at most 512 (nx + ny) steps.
+ * @param xs,nx a union, and how many cells it has
+ * @param ys,ny another, likewise
+ * @param out,room,len the result, how many cells it has room for, and how many it has
+ * @return S2U_OK
+ * @retval S2U_ROOM room is too small; len says what is needed
+ * @s2{S2CellUnion::Difference}
+ * @since 0.1
+ * @snippet examples.c s2u_difference
+ */
 int32_t s2u_difference(const uint64_t* xs, size_t nx, const uint64_t* ys, size_t ny, uint64_t* out,
                        size_t room, size_t* len);
-/* The leaves that exactly one of them has. At most S2U_MOST_SYMMETRIC_DIFFERENCE cells; nearly always at most nx + ny.
- * One step for each cell of both. */
+/** The most cells of a symmetric difference. */
 #define S2U_MOST_SYMMETRIC_DIFFERENCE(nx, ny) (UINT64_C(90) * (nx) + UINT64_C(90) * (ny))
+
+/** [pure] The leaves that only one of them has.
+ * At most S2U_MOST_SYMMETRIC_DIFFERENCE(nx, ny) cells; nearly always at most nx + ny. One step for each cell of both.
+ * Of lists that are not unions: at most 512 (nx + ny) steps.
+ * @param xs,nx a union, and how many cells it has
+ * @param ys,ny another, likewise
+ * @param out,room,len the result, how many cells it has room for, and how many it has
+ * @return S2U_OK
+ * @retval S2U_ROOM room is too small; len says what is needed
+ * @since 1.1
+ * @snippet examples.c s2u_symmetric_difference
+ */
 int32_t s2u_symmetric_difference(const uint64_t* xs, size_t nx, const uint64_t* ys, size_t ny, uint64_t* out,
                                  size_t room, size_t* len);
 
-/* [pure] The leaves of the six faces that a union doesn't have. S2U_ROOM. At most S2U_MOST_COMPLEMENT(n) cells.
- * n steps. */
+/** The most cells of a complement. */
 #define S2U_MOST_COMPLEMENT(n) (6 + UINT64_C(90) * (n))
+
+/** [pure] The leaves of the six faces that a union doesn't have. N steps.
+ * At most S2U_MOST_COMPLEMENT(n) cells.
+ * @param ids,n a union, and how many cells it has
+ * @param out,room,len the result, how many cells it has room for, and how many it has
+ * @return S2U_OK
+ * @retval S2U_ROOM room is too small; len says what is needed
+ * @s2{S2CellUnion::WholeSphere().Difference}
+ * @since 1.1
+ * @snippet examples.c s2u_complement
+ */
 int32_t s2u_complement(const uint64_t* ids, size_t n, uint64_t* out, size_t room, size_t* len);
 
-/* All leaves from the first of `first` to the last of `last`, also across faces. S2U_ROOM, S2U_MEMORY, S2U_NO_CELL,
- * S2U_ARGUMENT (the last leaf comes before the first). */
+/** The most cells of a range. */
 #define S2U_MOST_RANGE 184
+
+/** All leaves from the first of one cell to the last of another, also across faces.
+ * At most S2U_MOST_RANGE cells.
+ * @param first,last any numbers
+ * @param out,room,len the result, how many cells it has room for, and how many it has
+ * @return S2U_OK
+ * @retval S2U_ROOM room is too small; len says what is needed
+ * @retval S2U_MEMORY out of memory; nothing has changed
+ * @retval S2U_NO_CELL one is not the identifier of a cell
+ * @retval S2U_ARGUMENT the last leaf comes before the first
+ * @s2{S2CellUnion::FromMinMax}
+ * @since 0.1
+ * @snippet examples.c s2u_range
+ */
 int32_t s2u_range(uint64_t first, uint64_t last, uint64_t* out, size_t room, size_t* len);
 
-/* [pure] The cells of a union, each cut to the least level that is at least its own and `min` and min plus a multiple
- * of `modulus` (1 to 3); to leaves if there is none. Ask for the length first: a face has 4^30 leaves. S2U_ARGUMENT,
- * S2U_ROOM. n steps, and one for each cell that is written. A number that is not a cell is cut into nothing. Of lists
- * that are not unions: any length, and 2^64 - 1 if it would be greater. */
+/** [pure] How many cells s2u_denormalised writes. N steps.
+ * @param ids,n a union, and how many cells it has
+ * @param min a level, 0 to 30
+ * @param modulus 1 to 3
+ * @param len how many; 2^64 - 1 if it would be greater, which it is of no union
+ * @return S2U_OK
+ * @retval S2U_ARGUMENT min is above 30, or modulus is not 1 to 3
+ * @s2{S2CellUnion::Denormalize}
+ * @since 0.1
+ * @snippet examples.c s2u_denormalised_len
+ */
 int32_t s2u_denormalised_len(const uint64_t* ids, size_t n, uint32_t min, uint32_t modulus, uint64_t* len);
+
+/** [pure] The cells of a union, each cut to the least level that is not coarser than its own and is `min`, or deeper
+ * than it by a multiple of `modulus`; to leaves if there is none. N steps, and one for each cell that is written.
+ * Ask s2u_denormalised_len first: a face has 4^30 leaves. A number that is not a cell is cut into nothing. Of lists
+ * that are not unions: any length.
+ * @param ids,n a union, and how many cells it has
+ * @param min a level, 0 to 30
+ * @param modulus 1 to 3
+ * @param out,room,len the result, how many cells it has room for, and how many it has
+ * @return S2U_OK
+ * @retval S2U_ARGUMENT min is above 30, or modulus is not 1 to 3
+ * @retval S2U_ROOM room is too small; len says what is needed
+ * @s2{S2CellUnion::Denormalize}
+ * @since 0.1
+ * @snippet examples.c s2u_denormalised
+ */
 int32_t s2u_denormalised(const uint64_t* ids, size_t n, uint32_t min, uint32_t modulus, uint64_t* out, size_t room,
                          size_t* len);
 
-/* [pure] The cells of a union and all their ancestors, ascending, each once. Two unions share a leaf exactly if a cell
- * of one is among the cells and ancestors of the other: the law of every inverted index over cells, proved. S2U_ROOM.
- * At most S2U_MOST_ANCESTORS(n), of any list. A number that is not a cell is passed over. */
+/** The most cells and ancestors of n cells. */
 #define S2U_MOST_ANCESTORS(n) (UINT64_C(31) * (n))
+
+/** [pure] The cells of a union and all their ancestors, ascending, each once.
+ * Two unions share a leaf if, and only if, a cell of one is among the cells and ancestors of the other: the law of
+ * every inverted index over cells, proved. At most S2U_MOST_ANCESTORS(n), of any list. A number that is not a cell is
+ * passed over.
+ * @param ids,n a union, and how many cells it has
+ * @param out,room,len the result, how many cells it has room for, and how many it has
+ * @return S2U_OK
+ * @retval S2U_ROOM room is too small; len says what is needed
+ * @since 0.1
+ * @snippet examples.c s2u_ancestors
+ */
 int32_t s2u_ancestors(const uint64_t* ids, size_t n, uint64_t* out, size_t room, size_t* len);
 
-/* ---- coverings at one level -----------------------------------------------------------------------------------------
+/** @} */
+
+/* ---- coverings at one level -------------------------------------------------------------------------------------- */
+
+/** @name Coverings at one level
  *
  * The outer covering: the cells of the level that share a leaf with the region, normalized; the inner: those that lie
  * in it. S2U_ROOM, S2U_MEMORY, S2U_ARGUMENT, S2U_MANY if it would have more than `most` cells (which bounds the list on
@@ -265,66 +783,327 @@ int32_t s2u_ancestors(const uint64_t* ids, size_t n, uint64_t* out, size_t room,
  * s2u_outer_in and s2u_inner_in cover what a union and a rectangle share. Of the union they read the cells that share a
  * leaf with one of the at most four cells around the rectangle, which are less than twice as wide as it is long. These
  * are found in log n steps. Memory is taken for those that have a leaf in the rectangle. `out` is touched by S2U_OK
- * alone. Of a list that is no union they cover some union. */
+ * alone. Of a list that is no union they cover some union.
+ * @{ */
+/** The most cells of a covering. */
 #define S2U_MOST_COVERING 1000000
+
+/** The cells of a level that share a leaf with a rectangle, normalized.
+ * @param bounds the rectangle: the face 0 to 5, coordinates below 2^30, both ends in it
+ * @param level 0 (a face) to 30 (a leaf)
+ * @param most the most cells that the result may have
+ * @param out,room,len the result, how many cells it has room for, and how many it has
+ * @return S2U_OK
+ * @retval S2U_ROOM room is too small; len says what is needed
+ * @retval S2U_MEMORY out of memory; nothing has changed
+ * @retval S2U_ARGUMENT a face, coordinate or level is out of range, or an end comes before its begin
+ * @retval S2U_MANY there would be more than most cells, or than S2U_MOST_COVERING
+ * @since 0.1
+ * @snippet examples.c s2u_outer
+ */
 int32_t s2u_outer(const s2u_rect* bounds, uint32_t level, size_t most, uint64_t* out, size_t room, size_t* len);
+
+/** The cells of a level that lie in a rectangle, normalized.
+ * @param bounds the rectangle: the face 0 to 5, coordinates below 2^30, both ends in it
+ * @param level 0 (a face) to 30 (a leaf)
+ * @param most the most cells that the result may have
+ * @param out,room,len the result, how many cells it has room for, and how many it has
+ * @return S2U_OK
+ * @retval S2U_ROOM room is too small; len says what is needed
+ * @retval S2U_MEMORY out of memory; nothing has changed
+ * @retval S2U_ARGUMENT a face, coordinate or level is out of range, or an end comes before its begin
+ * @retval S2U_MANY there would be more than most cells, or than S2U_MOST_COVERING
+ * @since 0.1
+ * @snippet examples.c s2u_inner
+ */
 int32_t s2u_inner(const s2u_rect* bounds, uint32_t level, size_t most, uint64_t* out, size_t room, size_t* len);
+
+/** [pure] The cells of a level that share a leaf with a union, normalized.
+ * One pass over the union, in which the cells in one cell of the level are passed by a search. The covering has no
+ * more cells than the union; if that has more than `most`, it is counted first. Of a list that is no union, `out` may
+ * have been written when S2U_MANY is answered.
+ * @param ids,n a union, and how many cells it has
+ * @param level 0 (a face) to 30 (a leaf)
+ * @param most the most cells that the result may have
+ * @param out,room,len the result, how many cells it has room for, and how many it has
+ * @return S2U_OK
+ * @retval S2U_ROOM room is too small; len says what is needed
+ * @retval S2U_ARGUMENT the level is above 30
+ * @retval S2U_MANY there would be more than most cells, or than S2U_MOST_COVERING
+ * @since 0.1
+ * @snippet examples.c s2u_outer_of
+ */
 int32_t s2u_outer_of(const uint64_t* ids, size_t n, uint32_t level, size_t most, uint64_t* out, size_t room,
                      size_t* len);
+
+/** [pure] The cells of a level that lie in a union, normalized; as s2u_outer_of.
+ * @param ids,n a union, and how many cells it has
+ * @param level 0 (a face) to 30 (a leaf)
+ * @param most the most cells that the result may have
+ * @param out,room,len the result, how many cells it has room for, and how many it has
+ * @return S2U_OK
+ * @retval S2U_ROOM room is too small; len says what is needed
+ * @retval S2U_ARGUMENT the level is above 30
+ * @retval S2U_MANY there would be more than most cells, or than S2U_MOST_COVERING
+ * @since 0.1
+ * @snippet examples.c s2u_inner_of
+ */
 int32_t s2u_inner_of(const uint64_t* ids, size_t n, uint32_t level, size_t most, uint64_t* out, size_t room,
                      size_t* len);
+
+/** The cells of a level that share a leaf with what a union and a rectangle share, normalized.
+ * Of the union it reads the cells that share a leaf with one of the at most four cells around the rectangle, which
+ * are less than twice as wide as it is long. These are found in log n steps. Memory is taken for those that have a
+ * leaf in the rectangle. `out` is touched by S2U_OK alone. Of a list that is no union it covers some union.
+ * @param ids,n a union, and how many cells it has
+ * @param bounds the rectangle: the face 0 to 5, coordinates below 2^30, both ends in it
+ * @param level 0 (a face) to 30 (a leaf)
+ * @param most the most cells that the result may have
+ * @param out,room,len the result, how many cells it has room for, and how many it has
+ * @return S2U_OK
+ * @retval S2U_ROOM room is too small; len says what is needed
+ * @retval S2U_MEMORY out of memory; nothing has changed
+ * @retval S2U_ARGUMENT a face, coordinate or level is out of range, or an end comes before its begin
+ * @retval S2U_MANY there would be more than most cells, or than S2U_MOST_COVERING
+ * @since 1.0
+ * @snippet examples.c s2u_outer_in
+ */
 int32_t s2u_outer_in(const uint64_t* ids, size_t n, const s2u_rect* bounds, uint32_t level, size_t most, uint64_t* out,
                      size_t room, size_t* len);
+
+/** The cells of a level that lie in what a union and a rectangle share, normalized; as s2u_outer_in.
+ * @param ids,n a union, and how many cells it has
+ * @param bounds the rectangle: the face 0 to 5, coordinates below 2^30, both ends in it
+ * @param level 0 (a face) to 30 (a leaf)
+ * @param most the most cells that the result may have
+ * @param out,room,len the result, how many cells it has room for, and how many it has
+ * @return S2U_OK
+ * @retval S2U_ROOM room is too small; len says what is needed
+ * @retval S2U_MEMORY out of memory; nothing has changed
+ * @retval S2U_ARGUMENT a face, coordinate or level is out of range, or an end comes before its begin
+ * @retval S2U_MANY there would be more than most cells, or than S2U_MOST_COVERING
+ * @since 1.0
+ * @snippet examples.c s2u_inner_in
+ */
 int32_t s2u_inner_in(const uint64_t* ids, size_t n, const s2u_rect* bounds, uint32_t level, size_t most, uint64_t* out,
                      size_t room, size_t* len);
 
-/* ---- files ----------------------------------------------------------------------------------------------------------
+/** @} */
+
+/* ---- files ------------------------------------------------------------------------------------------------------- */
+
+/** @name Files
  *
  * The bytes that S2's own S2CellUnion::Encode writes in C++, Go and Java: the byte 1, the number of cells in eight
  * bytes, and eight bytes for each, the lowest first. One union has one file: encode is a function of the set, so files
  * may be compared, hashed and used as keys. Any number of cells (S2's decoders take 1,000,000 unless asked
- * otherwise). */
+ * otherwise).
+ * @{ */
 
-#define S2U_FILE_SIZE(n) (9 + UINT64_C(8) * (n)) /* exactly */
+/** The bytes of the file of n cells, exactly. */
+#define S2U_FILE_SIZE(n) (9 + UINT64_C(8) * (n))
+
+/** The most cells of a file of so many bytes. */
 #define S2U_MOST_IN_FILE(bytes) ((bytes) < 9 ? 0 : ((bytes) - 9) / 8)
 
-/* [pure] S2U_ROOM. S2U_FILE_SIZE(n) bytes of any list: it writes the numbers as they are. */
+/** [pure] The file of a union.
+ * S2U_FILE_SIZE(n) bytes of any list: it writes the numbers as they are.
+ * @param ids,n any numbers, and how many they are
+ * @param out,room,len the file, how many bytes it has room for, and how many it has
+ * @return S2U_OK
+ * @retval S2U_ROOM room is too small; len says what is needed
+ * @s2{S2CellUnion::Encode}
+ * @since 0.1
+ * @snippet examples.c s2u_encode
+ */
 int32_t s2u_encode(const uint64_t* ids, size_t n, uint8_t* out, size_t room, size_t* len);
-/* Takes cells in any order and answers the union. S2U_ROOM, S2U_FILE_* (the first check that fails), S2U_MEMORY. If
- * the cells are not a union already, they are normalized in out, if it has room for S2U_MOST_IN_FILE(n) of them: what
- * out[*len .. S2U_MOST_IN_FILE(n)) holds then means nothing. Only if it has less room, the call takes memory. */
+
+/** The union in a file, whose cells may be in any order.
+ * The first check that fails is answered. If the cells are not a union already, they are normalized in out, if it has
+ * room for S2U_MOST_IN_FILE(n) of them: what out[*len .. S2U_MOST_IN_FILE(n)) holds then means nothing. Only if it
+ * has less room, the call takes memory.
+ * @param bytes,n a file at any address, and how many bytes it has
+ * @param out,room,len the result, how many cells it has room for, and how many it has
+ * @return S2U_OK
+ * @retval S2U_ROOM room is too small; len says what is needed
+ * @retval S2U_FILE_SHORT bytes are missing
+ * @retval S2U_FILE_VERSION the first byte is not 1
+ * @retval S2U_FILE_TRAILING bytes follow the last cell
+ * @retval S2U_FILE_CELL a number in the file is not the identifier of a cell
+ * @retval S2U_MEMORY out of memory; nothing has changed
+ * @s2{S2CellUnion::Decode}
+ * @since 0.1
+ * @snippet examples.c s2u_decode
+ */
 int32_t s2u_decode(const uint8_t* bytes, size_t n, uint64_t* out, size_t room, size_t* len);
-/* [pure] 1: the file that encode writes of some union; 0: another file that decode takes; else S2U_FILE_*. n steps. */
+
+/** [pure] Whether bytes are the file that s2u_encode writes of some union. N steps.
+ * @param bytes,n a file at any address, and how many bytes it has
+ * @return 1 if they are; 0 of another file that s2u_decode takes
+ * @retval S2U_FILE_SHORT bytes are missing
+ * @retval S2U_FILE_VERSION the first byte is not 1
+ * @retval S2U_FILE_TRAILING bytes follow the last cell
+ * @retval S2U_FILE_CELL a number in the file is not the identifier of a cell
+ * @since 0.1
+ * @snippet examples.c s2u_file_check
+ */
 int32_t s2u_file_check(const uint8_t* bytes, size_t n);
 
-/* Questions of a file that lies in a row of a table, at any address: [pure], no copy. The frame is checked
- * (S2U_FILE_*); that it is encode's own is not (s2u_file_check does: once, when it comes in), and else 0 or 1 means
- * nothing. */
+/** [pure] How many cells a file has.
+ * @param bytes,n a file at any address, and how many bytes it has
+ * @param count how many
+ * @return S2U_OK
+ * @retval S2U_FILE_SHORT bytes are missing
+ * @retval S2U_FILE_VERSION the first byte is not 1
+ * @retval S2U_FILE_TRAILING bytes follow the last cell
+ * @s2{S2CellUnion::num_cells}
+ * @since 0.1
+ * @snippet examples.c s2u_file_count
+ */
 int32_t s2u_file_count(const uint8_t* bytes, size_t n, uint64_t* count);
-int32_t s2u_file_leaf_count(const uint8_t* bytes, size_t n, uint64_t* leaves);   /* n steps */
-int32_t s2u_file_cell(const uint8_t* bytes, size_t n, uint64_t k, uint64_t* id); /* S2U_ARGUMENT: k is too great */
-int32_t s2u_file_contains_cell(const uint8_t* bytes, size_t n, uint64_t cell);   /* log n steps; S2U_NO_CELL */
-int32_t s2u_file_intersects_cell(const uint8_t* bytes, size_t n, uint64_t cell); /* log n steps; S2U_NO_CELL */
-/* 1 if all leaves of ys are in xs, else 0; and 1 if they share a leaf, else 0. */
+
+/** [pure] How many leaves the union in a file has. N steps.
+ * @param bytes,n a file at any address, and how many bytes it has
+ * @param leaves how many
+ * @return S2U_OK
+ * @retval S2U_FILE_SHORT bytes are missing
+ * @retval S2U_FILE_VERSION the first byte is not 1
+ * @retval S2U_FILE_TRAILING bytes follow the last cell
+ * @s2{S2CellUnion::LeafCellsCovered}
+ * @since 0.1
+ * @snippet examples.c s2u_file_leaf_count
+ */
+int32_t s2u_file_leaf_count(const uint8_t* bytes, size_t n, uint64_t* leaves);
+
+/** [pure] The cell at a place of a file.
+ * @param bytes,n a file at any address, and how many bytes it has
+ * @param k below the number of cells
+ * @param id the cell
+ * @return S2U_OK
+ * @retval S2U_FILE_SHORT bytes are missing
+ * @retval S2U_FILE_VERSION the first byte is not 1
+ * @retval S2U_FILE_TRAILING bytes follow the last cell
+ * @retval S2U_ARGUMENT k is too great
+ * @s2{S2CellUnion::cell_id}
+ * @since 0.1
+ * @snippet examples.c s2u_file_cell
+ */
+int32_t s2u_file_cell(const uint8_t* bytes, size_t n, uint64_t k, uint64_t* id);
+
+/** [pure] Whether all leaves of a cell are in the union in a file. Log n steps.
+ * @param bytes,n a file at any address, and how many bytes it has
+ * @param cell any number
+ * @return 1 or 0
+ * @retval S2U_FILE_SHORT bytes are missing
+ * @retval S2U_FILE_VERSION the first byte is not 1
+ * @retval S2U_FILE_TRAILING bytes follow the last cell
+ * @retval S2U_NO_CELL the number is not the identifier of a cell
+ * @s2{S2CellUnion::Contains}
+ * @since 0.1
+ * @snippet examples.c s2u_file_contains_cell
+ */
+int32_t s2u_file_contains_cell(const uint8_t* bytes, size_t n, uint64_t cell);
+
+/** [pure] Whether the union in a file shares a leaf with a cell. Log n steps.
+ * @param bytes,n a file at any address, and how many bytes it has
+ * @param cell any number
+ * @return 1 or 0
+ * @retval S2U_FILE_SHORT bytes are missing
+ * @retval S2U_FILE_VERSION the first byte is not 1
+ * @retval S2U_FILE_TRAILING bytes follow the last cell
+ * @retval S2U_NO_CELL the number is not the identifier of a cell
+ * @s2{S2CellUnion::Intersects}
+ * @since 0.1
+ * @snippet examples.c s2u_file_intersects_cell
+ */
+int32_t s2u_file_intersects_cell(const uint8_t* bytes, size_t n, uint64_t cell);
+
+/** [pure] Whether all leaves of the union in ys are in that in xs.
+ * @param xs,nx a file, and how many bytes it has
+ * @param ys,ny another, likewise
+ * @return 1 or 0
+ * @retval S2U_FILE_SHORT bytes are missing
+ * @retval S2U_FILE_VERSION the first byte is not 1
+ * @retval S2U_FILE_TRAILING bytes follow the last cell
+ * @s2{S2CellUnion::Contains}
+ * @since 0.1
+ * @snippet examples.c s2u_file_contains
+ */
 int32_t s2u_file_contains(const uint8_t* xs, size_t nx, const uint8_t* ys, size_t ny);
+
+/** [pure] Whether the unions in two files share a leaf.
+ * @param xs,nx a file, and how many bytes it has
+ * @param ys,ny another, likewise
+ * @return 1 or 0
+ * @retval S2U_FILE_SHORT bytes are missing
+ * @retval S2U_FILE_VERSION the first byte is not 1
+ * @retval S2U_FILE_TRAILING bytes follow the last cell
+ * @s2{S2CellUnion::Intersects}
+ * @since 0.1
+ * @snippet examples.c s2u_file_intersects
+ */
 int32_t s2u_file_intersects(const uint8_t* xs, size_t nx, const uint8_t* ys, size_t ny);
-/* s2u_ancestors of the union in a file, with no copy of it. S2U_FILE_* of the frame, S2U_ROOM. */
+
+/** [pure] s2u_ancestors of the union in a file, with no copy of it.
+ * @param bytes,n a file at any address, and how many bytes it has
+ * @param out,room,len the result, how many cells it has room for, and how many it has
+ * @return S2U_OK
+ * @retval S2U_FILE_SHORT bytes are missing
+ * @retval S2U_FILE_VERSION the first byte is not 1
+ * @retval S2U_FILE_TRAILING bytes follow the last cell
+ * @retval S2U_ROOM room is too small; len says what is needed
+ * @since 0.1
+ * @snippet examples.c s2u_file_ancestors
+ */
 int32_t s2u_file_ancestors(const uint8_t* bytes, size_t n, uint64_t* out, size_t room, size_t* len);
 
-/* ---- memory for a host that has its own -----------------------------------------------------------------------------
+/** @} */
+
+/* ---- memory for a host that has its own -------------------------------------------------------------------------- */
+
+/** @name Memory for a host that has its own
  *
  * Link libs2union_noheap.a in place of libs2union.a and define these three. They must not jump out of the call (not by
  * longjmp for a host's error either). `size` may be 0: any address will do. A block whose size is divisible by 16 (8)
- * is aligned to 16 (8). `ok` is 1, or 0 for out of memory; `at` is never NULL. */
+ * is aligned to 16 (8). `ok` is 1, or 0 for out of memory; `at` is never NULL.
+ * @{ */
+
+/** A block of memory: ok is 1, or 0 for out of memory, and at its place. @since 0.1 */
 typedef struct s2u_block {
-  uint64_t ok;
-  void* at;
+  uint64_t ok; /**< 1, or 0 for out of memory */
+  void* at;    /**< the place, never NULL */
 } s2u_block;
+
+/** Takes a block of memory. The host defines it.
+ * @param size how many bytes, 0 or more
+ * @param align a power of two
+ * @return the block
+ * @since 0.1
+ */
 s2u_block s2u_heap_take(size_t size, size_t align);
+
+/** Takes a larger block in place of one, and keeps what that held. The host defines it.
+ * @param at,old_size,align the block, as it was taken
+ * @param size how many bytes, more than old_size
+ * @return the block
+ * @since 0.1
+ */
 s2u_block s2u_heap_grow(void* at, size_t old_size, size_t size, size_t align);
+
+/** Gives a block back. The host defines it.
+ * @param at a block
+ * @since 0.1
+ */
 void s2u_heap_give_back(void* at);
 
-/* A text for a status, for messages. */
+/** @} */
+
+/** A text for a status, for messages.
+ * @param status any number
+ * @return a text that lasts
+ * @since 0.1
+ * @snippet examples.c s2u_status_text
+ */
 static inline const char* s2u_status_text(int32_t status) {
   switch (status) {
     case S2U_ROOM: return "too little room";
