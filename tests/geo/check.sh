@@ -11,7 +11,7 @@ export S2CALC=${S2CALC:-$top/crates/calculator/out/calculator}
 [ -x "$S2CALC" ] || { echo "there is no program: tools/prove builds it"; failed=1; finish; }
 
 . "$top/tests/geo/countries.sh"
-need_countries make time sqlite3 libsqlite3-dev
+need_countries make time sqlite3 libsqlite3-dev gdal-bin python3-qgis qgis-providers
 . "$top/tests/postgres/server.sh"
 
 # ---- what the pages take as installed: the library, both extensions, a server

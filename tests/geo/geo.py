@@ -1,18 +1,23 @@
 """What docs/GEO.md shows, and that it is S2's: leaves, coverings and corners beside S2's own and plain polygons."""
 import json
+import os
 import subprocess
+import sys
 import unittest
 from math import atan, cos, degrees, radians, sin
 from pathlib import Path
 from random import Random
 
+import geopandas
 import numpy
 import page
 import pywraps2 as s2
+import s2union_geo.frames
 from earth import points_of_the_sphere
 from s2union import Union, from_tokens, to_signed, tokens
-from s2union_geo import coverings, leaves, points
+from s2union_geo import area, boundary, coverings, leaves, points, to_geojson
 from s2union_geo.geojson import rings
+from s2union_geo.sphere import sphere
 from shapely.geometry import Point, shape
 from shapely.prepared import prep
 from which import covering, features_of, which
@@ -163,6 +168,98 @@ SQL
         with open(self.file("countries/France.outer"), "rb") as it:
             union = Union.from_bytes(it.read())
         self.assertEqual([feature["properties"]["cell"] for feature in features], union.tokens())
+
+    def union(self, name):
+        with open(self.file(name), "rb") as it:
+            return Union.from_bytes(it.read())
+
+    def test_areas_and_boundaries_are_s2s(self):
+        """Of all coverings of countries, and of unions with a face, a pole and corners that touch."""
+        source = os.path.join(page.TOP, "tests", "geo", "outline.cc")
+        self.output(f"c++ -std=c++17 -O2 {source} -o world/outline -ls2 -Wl,--as-needed /usr/lib/*/libabsl_*.so "
+                    "-lcrypto")
+        made = {f"made.{k}": text for k, text in enumerate(("1", "5", "04 0c 1c", "04 14", "5c", "1 44", ""))}
+        for name, text in made.items():
+            Path(self.file(name)).write_bytes(Union.from_tokens(text).to_bytes())
+        names = [*made, *(f"countries/{name}" for name in sorted(os.listdir(self.file("countries"))))]
+        lines = iter(subprocess.run([self.file("outline"), *map(self.file, names)], stdout=subprocess.PIPE, text=True,
+                                    check=True).stdout.splitlines())
+        for name in names:
+            with self.subTest(name=name):
+                union, (wanted, count) = self.union(name), next(lines).split()
+                wanted = float(wanted) * 6371.01**2
+                self.assertLessEqual(abs(area(union) - wanted), 1e-9 * wanted)
+                theirs = [corners_of(numpy.array(next(lines).split(), float).reshape(-1, 2)) for _ in range(int(count))]
+                ours = [corners_of(numpy.array(line)) for line in boundary(union)["coordinates"]]
+                self.assertEqual((len(ours), set(ours)), (len(theirs), set(theirs)))
+
+    def test_gdal_reads_union_files(self):
+        """Each covering of a country is a layer with its cells, which go through GeoPackage; and what is no union."""
+        folder, = s2union_geo.__path__
+        surroundings = {**os.environ, "GDAL_PYTHON_DRIVER_PATH": folder}
+
+        def gdal(*words):
+            return subprocess.run(words, env=surroundings, stdout=subprocess.PIPE, stderr=subprocess.STDOUT, text=True)
+
+        for name in sorted(os.listdir(self.file("countries")))[::16]:
+            done = gdal("ogr2ogr", "-f", "GeoJSON", "-lco", "COORDINATE_PRECISION=15", "/vsistdout/",
+                        self.file(f"countries/{name}"))
+            found, union = json.loads(done.stdout)["features"], self.union(f"countries/{name}")
+            with self.subTest(name=name):
+                self.assertEqual(Union(cell["properties"]["cell"] for cell in found), union)
+                for feature, wanted in zip(found, to_geojson(union)["features"]):
+                    self.assertEqual(feature["properties"]["token"], wanted["properties"]["cell"])
+                    ring, other = (numpy.array(it["geometry"]["coordinates"][0]) for it in (feature, wanted))
+                    self.assertLess(numpy.abs(ring - other).max(), 1e-12)
+        for name, content, said in (("no_cell", b"\1" + (1).to_bytes(8, "little") + b"\2" + bytes(7), "not a cell"),
+                                    ("short", b"\1" + (2).to_bytes(8, "little") + bytes(8), "Unable to open"),
+                                    ("none", b"", "Unable to open")):
+            Path(self.file(name)).write_bytes(content)
+            self.assertIn(said, gdal("ogrinfo", self.file(name)).stdout)
+        drawn = [sys.executable, os.path.join(page.TOP, "tests", "geo", "qgis_map.py"),
+                 self.file("countries/France.outer")]
+        self.assertEqual(gdal(*drawn).stdout.splitlines()[-1], "155 EPSG:4326 token cell level, drawn")
+
+    def test_frames_join_as_polygons_do(self):
+        """100,000 points and the countries, in degrees and in meters: the pairs that shapely finds, all of them."""
+        longitude, latitude = points_of_the_sphere(100000)
+        places = geopandas.GeoDataFrame(geometry=geopandas.points_from_xy(longitude, latitude), crs=4326)
+        countries = geopandas.read_file(self.file("countries.geojson"))
+        self.assertEqual(places.s2.leaves().tolist(), leaves(longitude, latitude).view("int64").tolist())
+        wanted = set()
+        for row, country in countries.geometry.items():
+            west, south, east, north = country.bounds
+            near = numpy.flatnonzero((west <= longitude) & (longitude <= east) & (south <= latitude)
+                                     & (latitude <= north))
+            exact = prep(country)
+            wanted |= {(row, point) for point in near.tolist() if exact.contains(Point(longitude[point],
+                                                                                       latitude[point]))}
+        found = countries.s2.sjoin(places, 50)
+        self.assertEqual(sorted(zip(found.region, found.point)), sorted(wanted))
+        print(f"{len(wanted)} pairs of a country and a point", file=sys.stderr)
+
+    def test_frames_that_need_care(self):
+        """Points and polygons that are missing, a polygon across the date line, one that is refused, and meters."""
+        ring = [[170, -5], [190, -5], [190, 5], [170, 5], [170, -5]]
+        wide = geopandas.GeoDataFrame(geometry=[shape({"type": "Polygon", "coordinates": [ring]}), None], crs=4326,
+                                      index=["wide", "none"])
+        places = geopandas.GeoDataFrame(geometry=[Point(-175, 0), Point(169.999, 0), None, Point(180, 4.9999), Point()],
+                                        crs=4326, index=list("abcde"))
+        self.assertEqual(wide.s2.sjoin(places).values.tolist(), [["wide", "a"], ["wide", "d"]])
+        self.assertEqual(wide.s2.sjoin(places[2:3]).values.tolist(), [])
+        self.assertEqual(wide[1:].s2.sjoin(places).values.tolist(), [])
+        meters = places[:2].to_crs(3857)
+        self.assertEqual(wide.s2.sjoin(meters).values.tolist(), [["wide", "a"]])
+        self.assertEqual(len(meters.s2.leaves()), 2)
+        crossed = [[0, 0], [10, 10], [10, 0], [0, 10], [0, 0]]
+        wrong = geopandas.GeoDataFrame(geometry=[shape({"type": "Polygon", "coordinates": [crossed]})], index=["it"])
+        with self.assertRaisesRegex(ValueError, "^row 'it': polygon 0: ring 0 crosses or touches itself"):
+            wrong.s2.coverings()
+
+
+def corners_of(positions):
+    """The corners of a line, as points of the sphere, in no order."""
+    return frozenset(map(tuple, (numpy.round(sphere(*positions.T), 9) + 0.0).T.tolist()))
 
 
 if __name__ == "__main__":

@@ -15,14 +15,17 @@ from random import Random
 
 import numpy
 import s2union_geo
-from s2union import Union, from_face_ij, from_token, level, tokens
-from s2union_geo import covering, coverings, interior, leaf, leaves, points, read_geojson, to_geojson
+from s2union import Union, from_face_ij, from_token, level, parent, square, tokens
+from s2union_geo import (area, boundary, covering, coverings, interior, leaf, leaves, points, read_geojson,
+                         to_geojson)
 from s2union_geo.__main__ import main
+from s2union_geo import outlines
 from s2union_geo.geojson import rings
 from s2union_geo.sphere import geographic, on_cube
 
 from places import MIDDLES, POINTS
 
+SIDE = 2**24  # of a cell of level 6, in leaves
 SQUARE = [[0, 0], [10, 0], [10, 10], [0, 10], [0, 0]]
 
 
@@ -215,6 +218,48 @@ class Maps(unittest.TestCase):
         found = to_geojson(Union.from_tokens("1 5"))["features"]
         self.assertEqual([feature["properties"]["cell"] for feature in found], "04 0c 14 1c 44 4c 54 5c".split())
 
+    def test_areas(self):
+        """A face is a sixth of the sphere, and the area of a union is that of its parts."""
+        sphere = 4 * math.pi * 6371.01**2
+        self.assertAlmostEqual(area(Union.from_tokens("3")) * 6 / sphere, 1, places=13)
+        random = Random(11)
+        for _ in range(20):
+            union = Union(parent(from_face_ij(random.randrange(6), *random.choices(range(2**30), k=2)), k)
+                          for k in range(2, 30))
+            self.assertAlmostEqual((area(union) + area(~union)) / sphere, 1, places=13)
+        cell = from_token("47e66e1d9")  # small enough to be flat
+        parts = [area(Union([part])) for part in Union([cell]).denormalised(20)]
+        self.assertAlmostEqual(area(Union([cell])) / sum(parts), 1, places=12)
+
+    def test_boundaries(self):
+        """The sides of squares that have no square beside them, with the square on the left; and the boundary of the
+        complement, which goes the other way."""
+        random = Random(12)
+        for _ in range(20):
+            union = Union(parent(from_face_ij(4, *random.choices(range(2**28, 3 * 2**28), k=2)), random.randrange(3, 7))
+                          for _ in range(random.randrange(1, 40)))
+            squares = {(i // SIDE, j // SIDE) for _, i, j, _ in map(square, union.denormalised(6))}
+            wanted = {((i + a, j + b), (i + c, j + d)) for i, j in squares
+                      for (x, y), a, b, c, d in (((0, -1), 0, 0, 1, 0), ((1, 0), 1, 0, 1, 1), ((0, 1), 1, 1, 0, 1),
+                                                 ((-1, 0), 0, 1, 0, 0)) if (i + x, j + y) not in squares}
+            with self.subTest(union=union.tokens()):
+                found = sides(union)
+                self.assertEqual({tuple((32 - z // (2 * SIDE), 32 + x // (2 * SIDE)) for x, _, z in side)
+                                  for side in found}, wanted)
+                self.assertEqual({side[::-1] for side in sides(~union)}, found)
+                lines = boundary(union)["coordinates"]
+                self.assertTrue(all(line[0] == line[-1] and len(line) == 1 + len({*map(tuple, line)})
+                                    for line in lines))
+
+    def test_boundaries_around_poles_and_the_whole_sphere(self):
+        self.assertEqual(boundary(Union.from_tokens("1 3 5 7 9 b"))["coordinates"], [])
+        line, = boundary(Union.from_tokens("5"))["coordinates"]
+        self.assertEqual((line[-1][0] - line[0][0], line[-1][1] - line[0][1]), (360, 0))
+        line, = boundary(Union.from_tokens("5c"))["coordinates"]
+        ring, = rings([from_token("5c")])
+        self.assertEqual({(round(x % 360, 9), round(y, 9)) for x, y in line},
+                         {(round(x % 360, 9), round(y, 9)) for x, y in ring})
+
     def test_the_command_line(self):
         self.assertEqual(said("leaves", text="2.3522 48.8566 Paris\n\n0 90 North Pole\n").stdout,
                          "47e66e1d8f8be23b\n5000000000000001\n")
@@ -225,6 +270,18 @@ class Maps(unittest.TestCase):
             done = said(*words, text=text)
             self.assertEqual((done.returncode, done.stdout), (1, ""))
             self.assertRegex(done.stderr, wanted)
+
+
+def sides(union):
+    """The steps of the boundary of a union, in parts as long as the side of a cell of level 6, on a cube whose faces
+    are 2**30 from its middle."""
+    found = set()
+    for line in outlines._lines(union):
+        for start, end in zip(line, line[1:]):
+            count = max(abs(b - a) for a, b in zip(start, end)) // (2 * SIDE)
+            stops = [tuple(a + (b - a) * k // count for a, b in zip(start, end)) for k in range(count + 1)]
+            found |= set(zip(stops, stops[1:]))
+    return found
 
 
 def said(*words, text="", **options):

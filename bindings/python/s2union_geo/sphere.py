@@ -74,14 +74,19 @@ def face_ij(longitude: Any, latitude: Any) -> Any:
     return face, _place_on_face(u), _place_on_face(v)
 
 
-def on_cube(face: Any, i: Any, j: Any) -> Any:
-    """The points of the cube at the coordinates i and j of faces, in leaves: S2's projection, without its length."""
-    u, v = (numpy.where(s >= 0.5, 4 * s * s - 1, 1 - 4 * (1 - s) * (1 - s)) / 3 for s in (i / SIDE, j / SIDE))
-    one = numpy.ones_like(u)
+def on_axes(face: Any, u: Any, v: Any, one: Any) -> tuple[Any, Any, Any]:
+    """The points of a cube of which each face is as far as `one` from the middle, at u and v from the middles of its
+    faces."""
     x = numpy.choose(face, [one, -u, -u, -one, v, v])
     y = numpy.choose(face, [u, one, -v, -v, -one, u])
     z = numpy.choose(face, [v, v, one, -u, -u, -one])
     return x, y, z
+
+
+def on_cube(face: Any, i: Any, j: Any) -> Any:
+    """The points of the cube at the coordinates i and j of faces, in leaves: S2's projection, without its length."""
+    u, v = (numpy.where(s >= 0.5, 4 * s * s - 1, 1 - 4 * (1 - s) * (1 - s)) / 3 for s in (i / SIDE, j / SIDE))
+    return on_axes(face, u, v, numpy.ones_like(u))
 
 
 def squares_of(cells: Any) -> Any:
