@@ -12,7 +12,7 @@ const MOST_POLYGONS = 200_000;
 const STEP = 0.25;
 const STRIPES = 1024;
 const LEAST_LEVEL = 30;
-const radians = (degrees) => (degrees * Math.PI) / 180;
+const radians = (degrees) => degrees * (Math.PI / 180);
 
 /** The point of the sphere at a longitude and a latitude. */
 function pointOf(longitude, latitude) {
@@ -20,12 +20,19 @@ function pointOf(longitude, latitude) {
   return [across * Math.cos(radians(longitude)), across * Math.sin(radians(longitude)), Math.sin(radians(latitude))];
 }
 
-/** The leaf of a place. */
-function leafOf(core, longitude, latitude) {
+/** The face, i and j of the leaf of a place, as S2 has them: on the border of two leaves it takes the even one. */
+function leafPlace(longitude, latitude) {
   const found = [0, 0, 0];
   faceOf(...pointOf(longitude, latitude), found);
-  return core.leafAt(found[0], leafCoordinate(found[1]), leafCoordinate(found[2]));
+  const nearest = (s) => {
+    const place = SIDE * s - 0.5;
+    const below = Math.floor(place);
+    return Math.min(SIDE - 1, place - below === 0.5 ? below + (below & 1) : Math.round(place));
+  };
+  return [found[0], nearest(found[1]), nearest(found[2])];
 }
+
+const leafOf = (core, longitude, latitude) => core.leafAt(...leafPlace(longitude, latitude));
 
 // ---- in
 
@@ -181,10 +188,10 @@ function squaresOf(shape, most, tell) {
 /**
  * The union of cells that contains the shapes of GeoJSON, edges being straight on the map: a point's leaf, and the
  * cells that lie in a polygon or near a border. Each shape has its share of AT_BORDERS at its border, and no less than
- * LEAST_AT_BORDER. With it come the levels at borders, and about how many times as many leaves the cells of polygons
- * have as the polygons. `tell` takes how much is done, up to 1.
+ * LEAST_AT_BORDER or `atBorders`. With it come the levels at borders, and about how many times as many leaves the cells
+ * of polygons have as the polygons. `tell` takes how much is done, up to 1.
  */
-function coveringOf(core, geojson, tell = () => {}) {
+function coveringOf(core, geojson, tell = () => {}, atBorders = AT_BORDERS) {
   const all = shapesOf(geojson);
   all.forEach(({lines}) => lines.forEach((line) => listed(line).forEach(checked)));
   const points = all.flatMap(({lines}) => lines.filter((line) => line.length === 1).flat());
@@ -197,7 +204,7 @@ function coveringOf(core, geojson, tell = () => {}) {
 
   const lengths = shapes.map(lengthOf);
   const length = lengths.reduce((sum, it) => sum + it, 0) || 1;
-  const shares = lengths.map((it) => Math.max(LEAST_AT_BORDER, (AT_BORDERS * it) / length));
+  const shares = lengths.map((it) => Math.max(Math.min(LEAST_AT_BORDER, atBorders), (atBorders * it) / length));
   const whole = shares.reduce((sum, it) => sum + it, 0);
   const levels = new Set();
   let [done, most, leaves, own] = [0, 0, 0, 0];
@@ -231,38 +238,13 @@ function ringOf({face, i, j, size}) {
 }
 
 /** A union as a collection of its cells in GeoJSON. Faces are cut, since two of them have a pole inside. */
-function geojsonOf(core, name, union) {
+function collectionOf(core, properties, union) {
   if (union.length > MOST_POLYGONS) throw new Error("too many cells for GeoJSON");
   const features = Array.from(core.denormalised(union, 1, 1), (id) => ({
-    type: "Feature", properties: {name, cell: core.token(id)},
+    type: "Feature", properties: {...properties, cell: core.token(id)},
     geometry: {type: "Polygon", coordinates: [ringOf(core.square(id))]},
   }));
-  return JSON.stringify({type: "FeatureCollection", features});
+  return {type: "FeatureCollection", features};
 }
 
-// ---- words
-
-/**
- * A text whose decimal numbers are tokens: words of 17 digits and more, which no token has. Brackets and quotes, which
- * lists of other languages have, are blanks. The places stay.
- */
-function inTokens(text) {
-  const isWord = /(^|[\s,])(-?\d{17,20})(?=[\s,]|$)/g;
-  return text.replace(/[[\](){}"']/g, " ").replace(isWord, (all, before, word) => {
-    const id = BigInt(word);
-    const isOne = id < 2n ** 64n && id >= -(2n ** 63n);
-    return isOne ? before + unsigned(id).toString(16).padStart(16, "0").padEnd(word.length) : all;
-  });
-}
-
-/** The longitude and the latitude that a text has, the latitude first, or null. A minus may be that of typesetters. */
-function placeIn(text) {
-  const number = String.raw`([-+]?(?:\d+\.?\d*|\.\d+))°?`;
-  const found = new RegExp(String.raw`^\s*${number}\s*[\s,;]\s*${number}\s*$`).exec(text.replace(/[−–]/g, "-"));
-  if (!found) return null;
-  const [latitude, longitude] = [Number(found[1]), Number(found[2])];
-  if (!(Math.abs(latitude) <= 90 && Math.abs(longitude) <= 180)) {
-    throw new Error("a latitude is from -90 to 90, a longitude from -180 to 180");
-  }
-  return [longitude, latitude];
-}
+const geojsonOf = (core, name, union) => JSON.stringify(collectionOf(core, {name}, union));

@@ -5,10 +5,8 @@
 #include "fmgr.h"
 
 #pragma GCC visibility push(hidden)
-#include <s2union.h>
+#include <s2union_geo.h>
 #pragma GCC visibility pop
-
-#include "sphere.h"
 
 static double number_of(double number, double most, const char* what) {
   if (!(fabs(number) <= most)) /* nor is it NaN */
@@ -19,16 +17,14 @@ static double number_of(double number, double most, const char* what) {
 
 PG_FUNCTION_INFO_V1(s2_leaf_at);
 Datum s2_leaf_at(PG_FUNCTION_ARGS) {
-  double longitude = number_of(PG_GETARG_FLOAT8(0), MOST_LONGITUDE, "longitude");
-  double latitude = number_of(PG_GETARG_FLOAT8(1), MOST_LATITUDE, "latitude");
-  PG_RETURN_INT64((int64)leaf_at(longitude, latitude));
+  double longitude = number_of(PG_GETARG_FLOAT8(0), S2U_GEO_MOST_LONGITUDE, "longitude");
+  double latitude = number_of(PG_GETARG_FLOAT8(1), S2U_GEO_MOST_LATITUDE, "latitude");
+  PG_RETURN_INT64((int64)s2u_geo_leaf(longitude, latitude));
 }
 
 static void middle_of_cell(int64 cell, double* longitude, double* latitude) {
-  s2u_square square;
-  if (s2u_square_of((uint64_t)cell, &square) != S2U_OK)
+  if (s2u_geo_middle((uint64_t)cell, longitude, latitude) != S2U_OK)
     ereport(ERROR, errcode(ERRCODE_INVALID_PARAMETER_VALUE), errmsg("s2union: not a cell: " INT64_FORMAT, cell));
-  middle(square, longitude, latitude);
 }
 
 PG_FUNCTION_INFO_V1(s2_longitude);

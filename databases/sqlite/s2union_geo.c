@@ -1,8 +1,8 @@
 /* Points in degrees for unions of S2 cells in SQLite. docs/GEO.md says what each function does. */
 #include <s2union.h>
 #include <sqlite3ext.h>
+#include <s2union_geo.h>
 #include <string.h>
-#include "sphere.h"
 SQLITE_EXTENSION_INIT1
 
 static void refuse(sqlite3_context* c, const char* what, sqlite3_value* v) {
@@ -21,9 +21,9 @@ static int is_number(sqlite3_value* v, double most) { /* SQLite has no NaN: it i
 
 static void leaf_at_function(sqlite3_context* c, int n, sqlite3_value** v) {
   if (sqlite3_value_type(v[0]) == SQLITE_NULL || sqlite3_value_type(v[1]) == SQLITE_NULL) return;
-  if (!is_number(v[0], MOST_LONGITUDE)) refuse(c, "a longitude is a number from -540 to 540", v[0]);
-  else if (!is_number(v[1], MOST_LATITUDE)) refuse(c, "a latitude is a number from -90 to 90", v[1]);
-  else sqlite3_result_int64(c, (sqlite3_int64)leaf_at(sqlite3_value_double(v[0]), sqlite3_value_double(v[1])));
+  if (!is_number(v[0], S2U_GEO_MOST_LONGITUDE)) refuse(c, "a longitude is a number from -540 to 540", v[0]);
+  else if (!is_number(v[1], S2U_GEO_MOST_LATITUDE)) refuse(c, "a latitude is a number from -90 to 90", v[1]);
+  else sqlite3_result_int64(c, (sqlite3_int64)s2u_geo_leaf(sqlite3_value_double(v[0]), sqlite3_value_double(v[1])));
 }
 
 /* A cell is an INTEGER or a TEXT, as in the extension s2union. */
@@ -40,17 +40,13 @@ static int32_t cell_of(sqlite3_value* v, uint64_t* cell) {
 
 static void coordinate(sqlite3_context* c, sqlite3_value* v, int is_latitude) {
   uint64_t cell;
-  s2u_square square;
   double longitude, latitude;
   if (sqlite3_value_type(v) == SQLITE_NULL) return;
   int32_t status = cell_of(v, &cell);
-  if (status == S2U_OK) status = s2u_square_of(cell, &square);
+  if (status == S2U_OK) status = s2u_geo_middle(cell, &longitude, &latitude);
   if (status == S2U_MEMORY) sqlite3_result_error_nomem(c);
   else if (status != S2U_OK) refuse(c, "not a cell", v);
-  else {
-    middle(square, &longitude, &latitude);
-    sqlite3_result_double(c, is_latitude ? latitude : longitude);
-  }
+  else sqlite3_result_double(c, is_latitude ? latitude : longitude);
 }
 
 static void longitude_function(sqlite3_context* c, int n, sqlite3_value** v) { coordinate(c, v[0], 0); }

@@ -99,7 +99,6 @@ step "Python: docs/PYTHON.md" page PYTHON.md
 
 extension() { # FOLDER FLAGS..
   cp -r "$top/databases/sqlite" "$work/$1" && # all anew: what lies there may be for x86-64
-    cp "$top/databases/sphere.h" "$work/$1/" &&
     make -B -C "$work/$1" CC=aarch64-linux-gnu-gcc PREFIX="$arm" "${@:2}"
 }
 in_sqlite() { # FOLDER TEST..

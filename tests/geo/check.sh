@@ -11,6 +11,7 @@ export S2CALC=${S2CALC:-$top/crates/calculator/out/calculator}
 [ -x "$S2CALC" ] || { echo "there is no program: tools/prove builds it"; failed=1; finish; }
 
 . "$top/tests/geo/countries.sh"
+need node nodejs
 need_countries make time sqlite3 libsqlite3-dev gdal-bin python3-qgis qgis-providers
 . "$top/tests/postgres/server.sh"
 
@@ -19,7 +20,7 @@ need_countries make time sqlite3 libsqlite3-dev gdal-bin python3-qgis qgis-provi
 step "a copy of PostgreSQL $server" copied
 step "the extension for PostgreSQL" built build
 in_sqlite() {
-  cp "$top"/databases/{sphere.h,sqlite/{Makefile,*.c}} "$work/usr" && make -C "$work/usr" PREFIX="$work/usr" install
+  cp "$top"/databases/sqlite/{Makefile,*.c} "$work/usr" && make -C "$work/usr" PREFIX="$work/usr" install
 }
 step "the extension for SQLite" in_sqlite
 [ "$failed" -eq 0 ] || finish

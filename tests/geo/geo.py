@@ -1,6 +1,7 @@
 """What docs/GEO.md shows, and that it is S2's: leaves, coverings and corners beside S2's own and plain polygons."""
 import json
 import os
+import runpy
 import subprocess
 import sys
 import unittest
@@ -60,6 +61,19 @@ class Geo(page.Page):
             self.assertEqual([int(row[0]) for row in rows], signed)
             apart = numpy.abs(numpy.array([row[1:] for row in rows], float).T - back)
             self.assertLess(numpy.minimum(apart, 360 - apart).max(), 1e-12)
+
+        package = self.file("js")
+        stand_in = "".join(Path(page.TOP, path).read_text() for path in ("bindings/page/sphere.js",
+                                                                         "tests/page/standin.js"))
+        runpy.run_path(os.path.join(page.TOP, "tools", "page"))["make_package"](package, b"", stand_in)
+        Path(self.file("places.txt")).write_text(text)
+        subprocess.run(["node", os.path.join(page.TOP, "tests", "js", "geo.mjs"), package, self.file("places.txt"),
+                        self.file("leaves.txt")], check=True)
+        made = from_tokens(Path(self.file("leaves.txt")).read_text())
+        apart = numpy.flatnonzero(numpy.array(made, "uint64") != cells)
+        self.assertGreaterEqual(apart.min(initial=len(cells)), 1000000)  # on borders Node's own sines may differ
+        near = numpy.array(points([made[place] for place in apart])).reshape(2, -1)
+        self.assertLess(kilometers(longitude[apart], latitude[apart], *near).max(initial=0), 8e-6)
 
     def in_sqlite(self, points):
         rows = "".join(f"{k} {line}\n" for k, line in enumerate(points.splitlines()))

@@ -31,21 +31,46 @@ step "questions" questions
 step "against the model" node "$tests/vectors.mjs" "$module" "$work/vectors"
 step "what is refused, and what stays" node "$tests/refusals.mjs" "$module" "$version" "$cells"
 
-by_name() { # the page's program, in a package that has ours
-  mkdir -p "$work/program/node_modules" && cp -r "$package" "$work/program/node_modules/s2union" &&
-    block JS.md js >"$work/program/program.mjs" && block JS.md "text js" >"$work/program/wanted" &&
+places() { PYTHONPATH=$top/tests/python /usr/bin/python3 -B -c 'from places import POINTS
+for place in POINTS: print(*place)' >"$work/places"; }
+step "places, with the leaves that S2 has there" places
+step "points in degrees, and GeoJSON" node "$tests/geo.mjs" "$package" "$work/places"
+
+by_name() { # NAME: a program of the page, in a package that has ours
+  mkdir -p "$work/program/node_modules" && cp -rT "$package" "$work/program/node_modules/s2union" &&
+    block JS.md "js$1" >"$work/program/program.mjs" && block JS.md "text js$1" >"$work/program/wanted" &&
     [ -s "$work/program/wanted" ] && node "$work/program/program.mjs" >"$work/program/said" &&
     diff "$work/program/wanted" "$work/program/said"
 }
-step "docs/JS.md" by_name
+step "docs/JS.md" by_name ""
+step "docs/JS.md: points and GeoJSON" by_name " geo"
 by_comments() {
   /usr/bin/python3 "$top/tests/docs/examples.py" js "$package/s2union.d.ts" >"$work/examples.mjs" &&
     node "$work/examples.mjs" "$module"
 }
 step "the examples of its types" by_comments
+packed() ( # without a warning, with what it names
+  cd "$work" && npm pack --offline --loglevel warn "$package" >packed 2>&1 && ! grep -i warn packed &&
+    tar -tf "$(tail -1 packed)" | sed 's|^package/||' | sort | diff - <(ls "$package" | sort)
+)
+if command -v npm >/dev/null; then
+  step "npm pack" packed
+else
+  echo "       npm is not there: the package is not packed"
+fi
 step "its types have its names, and what calls answer" node "$tests/types.mjs" "$package"
 if command -v tsc >/dev/null; then
-  step "its types, by TypeScript" tsc --noEmit --strict --target es2022 "$package/s2union.d.ts"
+  found() { # HOW MODULE: by a program that has the package, in each way that TypeScript looks for it
+    (cd "$work/program" && cat >names.ts <<<'import {CellUnion, load} from "s2union";
+import {fromLngLat, toGeoJSON} from "s2union/geo";
+export const asked = load().then(() => toGeoJSON(new CellUnion([fromLngLat(1, 2)])).features.length);' &&
+      echo '{"type": "module"}' >package.json &&
+      tsc --noEmit --strict --target es2022 --moduleResolution "$1" --module "$2" names.ts)
+  }
+  step "its types, by TypeScript" tsc --noEmit --strict --target es2022 "$package"/{s2union,geo}.d.ts
+  [ "${1:-}" = --short ] || for way in "node es2022" "node16 node16" "nodenext nodenext"; do
+    step "its types, as TypeScript finds them by ${way% *}" found $way
+  done
 else
   echo "       tsc is not there (node-typescript): the types are not compiled"
 fi

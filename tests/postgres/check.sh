@@ -82,7 +82,7 @@ covered() {
   local sources=databases/postgres
   tests LargeQuestions &&
     /usr/bin/python3 "$top/tests/c/coverage.py" "$work/counted" rewritten.c=$sources/s2union.c \
-      planner.c=$sources/planner.c value.h=$sources/value.h geo.c=$sources/geo.c sphere.h=databases/sphere.h
+      planner.c=$sources/planner.c value.h=$sources/value.h geo.c=$sources/geo.c s2union_geo.h=bindings/c/s2union_geo.h
 }
 step "what these tests execute" covered
 in_one_session() { S2UNION_ONE_SESSION=yes again "$@"; }

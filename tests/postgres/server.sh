@@ -29,7 +29,6 @@ built() { # FOLDER FLAGS..: the extension as it is
   shift
   mkdir -p "$folder" &&
     cp -r "$top"/databases/postgres/{Makefile,*.c,*.h,*.control,*.sql,sql,expected} "$folder" &&
-    cp "$top/databases/sphere.h" "$folder" &&
     make -C "$folder" PREFIX="$work/usr" PG_CONFIG="$config" "$@"
 }
 
@@ -37,7 +36,7 @@ guarded() { # FOLDER SOURCES FLAGS..: the extension over the allocator of guarde
   local folder=$work/$1 sources=$2
   shift 2
   mkdir -p "$folder" && cp "$top"/databases/postgres/{Makefile,*.control,*.sql} "$folder" &&
-    cp "$sources"/{planner.c,geo.c,value.h} "$top/databases/sphere.h" "$folder" &&
+    cp "$sources"/{planner.c,geo.c,value.h} "$folder" &&
     cp "$top/tests/postgres/guarded.c" "$folder/s2union.c" &&
     sed -E 's/Datum ([a-z0-9_]+)\(PG_FUNCTION_ARGS\)/GUARDED(\1)/' "$sources/s2union.c" >"$folder/rewritten.c" &&
     make -C "$folder" PREFIX="$work/usr" PG_CONFIG="$config" "$@"

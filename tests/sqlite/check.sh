@@ -30,7 +30,7 @@ step "at most 510 lines of C" short
 build() { # FOLDER FLAGS..
   local folder=$work/$1
   shift
-  mkdir -p "$folder" && cp "$source"/{s2union.c,s2union_geo.c,Makefile} "$top/databases/sphere.h" "$folder" &&
+  mkdir -p "$folder" && cp "$source"/{s2union.c,s2union_geo.c,Makefile} "$folder" &&
     make -C "$folder" PREFIX="$work/usr" "$@"
 }
 step "build" build plain
@@ -96,7 +96,7 @@ covered() {
     "$work/memory" "$work/covered/"mod_s2union{,_geo} && documented covered &&
     "${sqlite[@]}" ".load $work/covered/mod_s2union sqlite3_sunion_init" &&
     /usr/bin/python3 "$top/tests/c/coverage.py" "$work/covered" s2union.c=databases/sqlite/s2union.c \
-      s2union_geo.c=databases/sqlite/s2union_geo.c sphere.h=databases/sphere.h
+      s2union_geo.c=databases/sqlite/s2union_geo.c s2union_geo.h=bindings/c/s2union_geo.h
 }
 step "what these tests execute" covered
 valgrind_run() { # the page shows errors, so sqlite3 ends with 1; all its calls have to be there

@@ -8,7 +8,7 @@
 build() { # FOLDER FLAGS..
   local folder=$1
   shift
-  mkdir -p "$folder" && cp "$work"/mutant/* "$top/databases/sphere.h" "$folder" &&
+  mkdir -p "$folder" && cp "$work"/mutant/* "$folder" &&
     make -C "$folder" -B PREFIX="$work/usr" "$@"
 }
 

@@ -4,8 +4,8 @@
 # gdal: DRIVER_DMD_LONGNAME = "Union of S2 cells, as S2CellUnion::Encode writes it"
 """Union files for GDAL 3.1 and later, and so for QGIS, ogr2ogr, geopandas and sf: a layer with a polygon for each cell.
 
-GDAL finds this file if GDAL_PYTHON_DRIVER_PATH names its folder. A layer has the fields `token`, `cell`, with a sign, and
-`level`, and the polygons of `to_geojson`. It can be read, not written. It is tested, not proved."""
+GDAL finds this file if GDAL_PYTHON_DRIVER_PATH names its folder. A layer has the fields `token`, `cell`, with a sign,
+and `level`, and the polygons of `to_geojson`. It can be read, not written. It is tested, not proved."""
 from pathlib import Path
 
 from gdal_python_driver import BaseDataset, BaseDriver, BaseLayer

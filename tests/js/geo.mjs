@@ -1,0 +1,93 @@
+// Points in degrees and GeoJSON of the package for JavaScript: geo.mjs FOLDER PLACES [LEAVES]. Each line of PLACES has a
+// longitude, a latitude and the token of the leaf that S2 has there. The last line is 'N passed, M failed'. With a file
+// for LEAVES the tokens go there, and nothing is tested.
+import assert from "node:assert/strict";
+import {readFileSync, writeFileSync} from "node:fs";
+import {join, resolve} from "node:path";
+import {pathToFileURL} from "node:url";
+
+const [folder, places, leaves] = process.argv.slice(2).map((name) => resolve(name));
+const {exports} = JSON.parse(readFileSync(join(folder, "package.json"), "utf8"));
+const imported = (name) => import(pathToFileURL(join(folder, exports[name].default)));
+const {CellUnion, Refusal, load, tokens, fromToken, level, token} = await imported(".");
+const geo = await imported("./geo");
+const rows = readFileSync(places, "utf8").trim().split("\n").map((line) => line.trim().split(" "));
+const positions = rows.map(([longitude, latitude]) => [Number(longitude), Number(latitude)]);
+const square = [[0, 0], [10, 0], [10, 10], [0, 10], [0, 0]];
+const polygon = {type: "Polygon", coordinates: [square]};
+
+const tests = {
+  "before load": () => assert.throws(() => geo.fromLngLat(0, 0), /await load/),
+  "the leaves of places are S2's": async () => {
+    await load();
+    assert.deepEqual(tokens(geo.fromLngLats(positions)), rows.map((row) => row[2]));
+    assert.deepEqual(positions.map((position) => token(geo.fromLngLat(...position))), rows.map((row) => row[2]));
+    assert.deepEqual(geo.fromLngLats([]), new BigUint64Array());
+  },
+  "the middle of a leaf is near": () => {
+    for (const [longitude, latitude] of positions) {
+      const [x, y] = geo.toLngLat(geo.fromLngLat(longitude, latitude));
+      assert.ok(Math.abs(y - latitude) < 1e-7);
+      assert.ok(Math.abs(latitude) > 89 || Math.abs((x - longitude + 540) % 360 - 180) < 2e-7);
+    }
+  },
+  "what is out of range, and what is no number": () => {
+    for (const [longitude, latitude] of [[541, 0], [0, 91], [NaN, 0], [0, -Infinity]]) {
+      assert.throws(() => geo.fromLngLat(longitude, latitude), RangeError);
+    }
+    assert.throws(() => geo.fromLngLat("1", 2), TypeError);
+    assert.throws(() => geo.fromLngLats([[1, 2], [3]]), TypeError);
+    assert.throws(() => geo.toLngLat(2n), Refusal);
+    assert.throws(() => geo.fromGeoJSON({type: "Nothing"}), /no GeoJSON/);
+    assert.throws(() => geo.fromGeoJSON("{"), SyntaxError);
+    assert.throws(() => geo.fromGeoJSON({type: "Point", coordinates: [0, 91]}), /out of range/);
+    assert.throws(() => geo.fromGeoJSON(polygon, 0), RangeError);
+    assert.throws(() => geo.toGeoJSON(CellUnion.fromTokens("1").denormalized(1)), TypeError);
+  },
+  "a covering has all points of a polygon, and few more with more cells": () => {
+    const sizes = [50, 1000].map((most) => {
+      const union = geo.fromGeoJSON(JSON.stringify({type: "Feature", geometry: polygon}), most);
+      for (let x = -2; x <= 12; x += 0.37) {
+        for (let y = -2; y <= 12; y += 0.41) {
+          const isIn = x >= 0 && x <= 10 && y >= 0 && y <= 10;
+          const isFar = x < -1 || x > 11 || y < -1 || y > 11;
+          const has = union.has(geo.fromLngLat(x, y));
+          assert.ok(isIn ? has : !(isFar && has && most === 1000), `${x} ${y}`);
+        }
+      }
+      return union.leafCount();
+    });
+    assert.ok(sizes[1] < sizes[0]);
+  },
+  "to GeoJSON and back": () => {
+    const union = CellUnion.fromTokens("47e7 47e1 64");
+    const made = geo.toGeoJSON(union, {name: "three"});
+    assert.deepEqual(made.features.map(({properties}) => properties),
+      Array.from(union, (cell) => ({name: "three", cell: token(cell)})));
+    for (const {geometry, properties: {cell}} of made.features) {
+      const back = geo.fromGeoJSON(geometry, 500);
+      assert.ok(back.isSupersetOf(new CellUnion([fromToken(cell)])) || level(fromToken(cell)) < 5);
+    }
+    assert.equal(geo.toGeoJSON(CellUnion.fromTokens("1 5")).features.length, 8);
+    assert.deepEqual(geo.toGeoJSON(new CellUnion()), {type: "FeatureCollection", features: []});
+    assert.throws(() => geo.toGeoJSON({denormalizedSize: () => 200_001n}), RangeError);
+  },
+};
+
+if (leaves) {
+  await load();
+  writeFileSync(leaves, `${tokens(geo.fromLngLats(positions)).join("\n")}\n`);
+} else {
+  let passed = 0;
+  for (const [name, test] of Object.entries(tests)) {
+    try {
+      await test();
+      passed++;
+    } catch (error) {
+      console.log(`${name}: ${error.stack}`);
+    }
+  }
+  const failed = Object.keys(tests).length - passed;
+  console.log(`${passed} passed, ${failed} failed`);
+  process.exitCode = failed ? 1 : 0;
+}
