@@ -307,7 +307,7 @@ def other_kits():
 
 def unknown_parts():
     """The number of parts that texts name after tests/run, and those that it doesn't have, as 'file: part'."""
-    parts = {"--tier", "gate", "full", "bench", *PART.findall((ROOT / "tests" / "run").read_text())}
+    parts = {"--tier", "quick", "gate", "full", "bench", *PART.findall((ROOT / "tests" / "run").read_text())}
     texts = {name: (ROOT / name).read_text(errors="replace") for name in tracked(ROOT)}
     named = [(name, word) for name, text in texts.items() for words in RUNS.findall(text) for word in words.split()]
     return len(named), [f"{name}: {word}" for name, word in named if word not in parts]

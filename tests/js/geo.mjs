@@ -1,6 +1,6 @@
-// Points in degrees and GeoJSON of the package for JavaScript: geo.mjs FOLDER PLACES [LEAVES]. Each line of PLACES has a
-// longitude, a latitude and the token of the leaf that S2 has there. The last line is 'N passed, M failed'. With a file
-// for LEAVES the tokens go there, and nothing is tested.
+// Points in degrees and GeoJSON of the package for JavaScript: geo.mjs FOLDER PLACES [LEAVES]. Each line of PLACES has
+// a longitude, a latitude and the token of the leaf that S2 has there. The last line is 'N passed, M failed'. With a
+// file for LEAVES the tokens go there, and nothing is tested.
 import assert from "node:assert/strict";
 import {readFileSync, writeFileSync} from "node:fs";
 import {join, resolve} from "node:path";
