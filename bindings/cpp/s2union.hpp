@@ -133,7 +133,7 @@ constexpr bool is_encoder<Out, std::void_t<decltype(std::declval<Out&>().Ensure(
 }  // namespace internal
 
 /// A set of leaves, as the one normalized list of cells that covers it. `Id` is uint64_t, or a class that has a cell's
-/// number alone, as S2CellId.
+/// number alone, as S2CellId. Equal unions have equal hashes by std::hash. @since 0.1
 template <class Id>
 class CellUnionOf {
   static_assert(sizeof(Id) == sizeof(uint64_t) && std::is_trivially_copyable_v<Id> && std::is_standard_layout_v<Id>,
@@ -783,6 +783,7 @@ using UnionFile = UnionFileOf<uint64_t>;
 }  // namespace throws, or aborts
 }  // namespace s2union
 
+/// @cond since doxygen can't place a specialization of another namespace
 /// Equal unions have equal hashes.
 template <class Id>
 struct std::hash<s2union::CellUnionOf<Id>> {
@@ -792,4 +793,5 @@ struct std::hash<s2union::CellUnionOf<Id>> {
     return std::hash<std::string_view>()({static_cast<const char*>(at), sizeof(uint64_t) * x.size()});
   }
 };
+/// @endcond
 #endif

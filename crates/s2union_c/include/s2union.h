@@ -903,7 +903,7 @@ int32_t s2u_inner_in(const uint64_t* ids, size_t n, const s2u_rect* bounds, uint
 /** The bytes of the file of n cells, exactly. */
 #define S2U_FILE_SIZE(n) (9 + UINT64_C(8) * (n))
 
-/** The most cells of a file with this many bytes. */
+/** The most cells of a file of this size in bytes. */
 #define S2U_MOST_IN_FILE(bytes) ((bytes) < 9 ? 0 : ((bytes) - 9) / 8)
 
 /** [pure] The file of a union.
