@@ -13,7 +13,7 @@ import (
 // ErrNoCell if it isn't, except String.
 type CellID uint64
 
-// CellIDFromToken is the cell of a token, in either case.
+// CellIDFromToken is the cell of a token, in either case. Since 0.2.
 func CellIDFromToken(token string) (CellID, error) {
 	var id C.uint64_t
 	at, n := placeOfText([]byte(token))
@@ -21,7 +21,7 @@ func CellIDFromToken(token string) (CellID, error) {
 	return CellID(id), refused(status)
 }
 
-// CellIDFromString is the cell of a debug text, such as "4/032212".
+// CellIDFromString is the cell of a debug text, such as "4/032212". Since 0.2.
 func CellIDFromString(text string) (CellID, error) {
 	var id C.uint64_t
 	at, n := placeOfText([]byte(text))
@@ -29,7 +29,7 @@ func CellIDFromString(text string) (CellID, error) {
 	return CellID(id), refused(status)
 }
 
-// CellIDFromFace is the cell of a whole face, 0 to 5.
+// CellIDFromFace is the cell of a whole face, 0 to 5. Since 0.2.
 func CellIDFromFace(face int) (CellID, error) {
 	leaf, err := CellIDFromFaceIJ(face, 0, 0)
 	if err != nil {
@@ -38,7 +38,7 @@ func CellIDFromFace(face int) (CellID, error) {
 	return leaf.Parent(0), nil
 }
 
-// CellIDFromFaceIJ is the leaf at a place of a face: i and j are below 2^30.
+// CellIDFromFaceIJ is the leaf at a place of a face: i and j are below 2^30. Since 0.2.
 func CellIDFromFaceIJ(face, i, j int) (CellID, error) {
 	id := C.s2u_from_face_ij(narrowed(face), narrowed(i), narrowed(j))
 	if id == 0 {
@@ -47,23 +47,23 @@ func CellIDFromFaceIJ(face, i, j int) (CellID, error) {
 	return CellID(id), nil
 }
 
-// IsValid is whether the number is the identifier of a cell.
+// IsValid is whether the number is the identifier of a cell. Since 0.2.
 func (id CellID) IsValid() bool { return answer(C.s2u_is_cell(C.uint64_t(id))) }
 
-// Level is 0 for a face, to 30 for a leaf.
+// Level is 0 for a face, to 30 for a leaf. Since 0.2.
 func (id CellID) Level() int { return number(C.s2u_level(C.uint64_t(id))) }
 
-// Face is 0 to 5.
+// Face is 0 to 5. Since 0.2.
 func (id CellID) Face() int { return number(C.s2u_face(C.uint64_t(id))) }
 
-// IsLeaf is whether the cell is at level 30.
+// IsLeaf is whether the cell is at level 30. Since 0.2.
 func (id CellID) IsLeaf() bool { return id.Level() == 30 }
 
-// IsFace is whether the cell is a whole face.
+// IsFace is whether the cell is a whole face. Since 0.2.
 func (id CellID) IsFace() bool { return id.Level() == 0 }
 
 // Parent is the cell of a level that contains the cell; at its own level, itself. It panics with ErrArgument if the
-// level is deeper.
+// level is deeper. Since 0.2.
 func (id CellID) Parent(level int) CellID {
 	parent := answerFor(C.s2u_parent(C.uint64_t(id), narrowed(level)), id)
 	if parent == 0 {
@@ -72,7 +72,7 @@ func (id CellID) Parent(level int) CellID {
 	return CellID(parent)
 }
 
-// Children are the four children along the curve. It panics with ErrArgument if the cell is a leaf.
+// Children are the four children along the curve. It panics with ErrArgument if the cell is a leaf. Since 0.2.
 func (id CellID) Children() [4]CellID {
 	var children [4]CellID
 	for k := range children {
@@ -86,38 +86,38 @@ func (id CellID) Children() [4]CellID {
 }
 
 // RangeMin is the first leaf of the cell: another cell is in it exactly if its number is not below RangeMin and not
-// above RangeMax.
+// above RangeMax. Since 0.2.
 func (id CellID) RangeMin() CellID { return CellID(answerFor(C.s2u_range_min(C.uint64_t(id)), id)) }
 
-// RangeMax is the last leaf of the cell.
+// RangeMax is the last leaf of the cell. Since 0.2.
 func (id CellID) RangeMax() CellID { return CellID(answerFor(C.s2u_range_max(C.uint64_t(id)), id)) }
 
-// LeafCellsCovered is how many leaves the cell has.
+// LeafCellsCovered is how many leaves the cell has. Since 0.2.
 func (id CellID) LeafCellsCovered() int64 { return int64(answerFor(C.s2u_size(C.uint64_t(id)), id)) }
 
-// Next is the next cell of the same level, across faces; 0, which is no cell, after the last one.
+// Next is the next cell of the same level, across faces; 0, which is no cell, after the last one. Since 0.2.
 func (id CellID) Next() CellID { return CellID(answerFor(C.s2u_next(C.uint64_t(id)), id)) }
 
-// Prev is the cell of the same level before it, across faces; 0, which is no cell, before the first one.
+// Prev is the cell of the same level before it, across faces; 0, which is no cell, before the first one. Since 0.2.
 func (id CellID) Prev() CellID { return CellID(answerFor(C.s2u_prev(C.uint64_t(id)), id)) }
 
-// Contains is whether all leaves of another cell are in the cell.
+// Contains is whether all leaves of another cell are in the cell. Since 0.2.
 func (id CellID) Contains(other CellID) bool {
 	return answer(C.s2u_cell_contains(C.uint64_t(id), C.uint64_t(other)))
 }
 
-// Intersects is whether two cells share a leaf.
+// Intersects is whether two cells share a leaf. Since 0.2.
 func (id CellID) Intersects(other CellID) bool {
 	return answer(C.s2u_cell_intersects(C.uint64_t(id), C.uint64_t(other)))
 }
 
-// CommonAncestor is the smallest cell that contains both; false if they are on two faces.
+// CommonAncestor is the smallest cell that contains both; false if they are on two faces. Since 0.2.
 func (id CellID) CommonAncestor(other CellID) (CellID, bool) {
 	ancestor := answerFor(C.s2u_common_ancestor(C.uint64_t(id), C.uint64_t(other)), id, other)
 	return CellID(ancestor), ancestor != 0
 }
 
-// CommonAncestorLevel is the level of CommonAncestor.
+// CommonAncestorLevel is the level of CommonAncestor. Since 0.2.
 func (id CellID) CommonAncestorLevel(other CellID) (level int, ok bool) {
 	if ancestor, ok := id.CommonAncestor(other); ok {
 		return ancestor.Level(), true
@@ -125,21 +125,21 @@ func (id CellID) CommonAncestorLevel(other CellID) (level int, ok bool) {
 	return 0, false
 }
 
-// Square is the face, the least coordinates and the side of the cell, in leaves.
+// Square is the face, the least coordinates and the side of the cell, in leaves. Since 0.2.
 func (id CellID) Square() (face, i, j, side int) {
 	var square C.s2u_square
 	answer(C.s2u_square_of(C.uint64_t(id), &square))
 	return int(square.face), int(square.i), int(square.j), int(square.size)
 }
 
-// ToToken is the identifier in hexadecimal without the zeros at its end.
+// ToToken is the identifier in hexadecimal without the zeros at its end. Since 0.2.
 func (id CellID) ToToken() string {
 	return string(text(C.S2U_MOST_TOKEN, func(out *C.char, room C.size_t, length *C.size_t) C.int32_t {
 		return C.s2u_token(C.uint64_t(id), out, room, length)
 	}))
 }
 
-// String is the debug text, such as "4/032212", or a text that says that the number is no cell.
+// String is the debug text, such as "4/032212", or a text that says that the number is no cell. Since 0.2.
 func (id CellID) String() string {
 	if !id.IsValid() {
 		return "Invalid: " + strconv.FormatUint(uint64(id), 16)
@@ -150,7 +150,7 @@ func (id CellID) String() string {
 }
 
 // MarshalText makes the token, so a cell is a text in JSON. ErrNoCell of a number that is not a cell. JavaScript and jq
-// round numbers above 2^53, so a number in JSON would become another cell there.
+// round numbers above 2^53, so a number in JSON would become another cell there. Since 1.0.
 func (id CellID) MarshalText() ([]byte, error) {
 	if err := id.checked(); err != nil {
 		return nil, err
@@ -158,11 +158,11 @@ func (id CellID) MarshalText() ([]byte, error) {
 	return []byte(id.ToToken()), nil
 }
 
-// UnmarshalText takes a token or a debug text. If there is an error, ErrNoCell, the cell stays as it was.
+// UnmarshalText takes a token or a debug text. If there is an error, ErrNoCell, the cell stays as it was. Since 1.0.
 func (id *CellID) UnmarshalText(text []byte) error { return id.scanText(string(text)) }
 
 // UnmarshalJSON takes a text as UnmarshalText does, and a number, as versions before 1.1 wrote it and as databases have
-// it. If another program has rounded the number, it may be another cell now; ErrNoCell if it is none.
+// it. If another program has rounded the number, it may be another cell now; ErrNoCell if it is none. Since 1.1.
 func (id *CellID) UnmarshalJSON(value []byte) error {
 	var text string
 	if string(value) == "null" {

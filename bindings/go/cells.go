@@ -17,7 +17,7 @@ type Point struct {
 type FacePoint = Point
 
 // Levels are the levels of many cells, in one call. A number that is no cell is refused with a PlaceError, here and in
-// the other calls for many cells.
+// the other calls for many cells. Since 0.2.
 func Levels(ids []CellID) ([]uint8, error) {
 	levels := make([]uint8, len(ids))
 	var bad C.size_t
@@ -28,28 +28,28 @@ func Levels(ids []CellID) ([]uint8, error) {
 }
 
 // Parents are the cells of a level that contain the cells, in one call. A PlaceError with ErrArgument: the level is
-// deeper than a cell's.
+// deeper than a cell's. Since 0.2.
 func Parents(ids []CellID, level int) ([]CellID, error) {
 	return each(ids, func(at *C.uint64_t, n C.size_t, out *C.uint64_t, room C.size_t, bad *C.size_t) C.int32_t {
 		return C.s2u_parents(at, n, narrowed(level), out, room, bad)
 	})
 }
 
-// RangeMins are the first leaves of many cells, in one call.
+// RangeMins are the first leaves of many cells, in one call. Since 0.2.
 func RangeMins(ids []CellID) ([]CellID, error) {
 	return each(ids, func(at *C.uint64_t, n C.size_t, out *C.uint64_t, room C.size_t, bad *C.size_t) C.int32_t {
 		return C.s2u_range_mins(at, n, out, room, bad)
 	})
 }
 
-// RangeMaxes are the last leaves of many cells, in one call.
+// RangeMaxes are the last leaves of many cells, in one call. Since 0.2.
 func RangeMaxes(ids []CellID) ([]CellID, error) {
 	return each(ids, func(at *C.uint64_t, n C.size_t, out *C.uint64_t, room C.size_t, bad *C.size_t) C.int32_t {
 		return C.s2u_range_maxes(at, n, out, room, bad)
 	})
 }
 
-// Tokens are the tokens of many cells, in one call.
+// Tokens are the tokens of many cells, in one call. Since 0.2.
 func Tokens(ids []CellID) ([]string, error) {
 	fields := make([]byte, C.S2U_MOST_TOKEN*len(ids))
 	var bad C.size_t
@@ -65,7 +65,7 @@ func Tokens(ids []CellID) ([]string, error) {
 
 // CellIDsFromTokens are the cells that a text names, in its order and each time that it names one: words with blanks,
 // tabs, line ends or commas between them, each a token or a debug text. A PlaceError has the place where the first word
-// begins that names no cell.
+// begins that names no cell. Since 1.0.
 func CellIDsFromTokens(words string) ([]CellID, error) { return named([]byte(words)) }
 
 // named are the cells that a text names.
@@ -82,7 +82,8 @@ func named(words []byte) ([]CellID, error) {
 	return trimmed(ids[:length]), nil
 }
 
-// CellIDsFromPoints are the leaves at many points, in one call. A PlaceError with ErrArgument: one is on no face.
+// CellIDsFromPoints are the leaves at many points, in one call. A PlaceError with ErrArgument: one is on no face. Since
+// 0.2.
 func CellIDsFromPoints(points []Point) ([]CellID, error) {
 	leaves := make([]CellID, len(points))
 	if len(points) == 0 {

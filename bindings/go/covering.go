@@ -13,7 +13,7 @@ const MostCovering = C.S2U_MOST_COVERING
 
 // Covering is the union of the cells of a level that share a leaf with the rectangle: not the best few cells of several
 // levels, as golang/geo's RegionCoverer finds them for regions of the sphere. ErrArgument, ErrMemory. ErrMany: there
-// would be more than `most` cells, or more than MostCovering.
+// would be more than `most` cells, or more than MostCovering. Since 0.2.
 func (rect Rect) Covering(level, most int) (CellUnion, error) {
 	corners := rect.corners()
 	return made(64, func(out *C.uint64_t, room C.size_t, length *C.size_t) C.int32_t {
@@ -21,7 +21,7 @@ func (rect Rect) Covering(level, most int) (CellUnion, error) {
 	})
 }
 
-// InteriorCovering is the union of the cells of a level that lie in the rectangle, as Covering.
+// InteriorCovering is the union of the cells of a level that lie in the rectangle, as Covering. Since 0.2.
 func (rect Rect) InteriorCovering(level, most int) (CellUnion, error) {
 	corners := rect.corners()
 	return made(64, func(out *C.uint64_t, room C.size_t, length *C.size_t) C.int32_t {
@@ -29,7 +29,7 @@ func (rect Rect) InteriorCovering(level, most int) (CellUnion, error) {
 	})
 }
 
-// Covering is the union of the cells of a level that share a leaf with the union, as that of a Rect.
+// Covering is the union of the cells of a level that share a leaf with the union, as that of a Rect. Since 0.2.
 func (cu CellUnion) Covering(level, most int) (CellUnion, error) {
 	at, n := place(cu.ids)
 	return made(len(cu.ids), func(out *C.uint64_t, room C.size_t, length *C.size_t) C.int32_t {
@@ -37,7 +37,7 @@ func (cu CellUnion) Covering(level, most int) (CellUnion, error) {
 	})
 }
 
-// InteriorCovering is the union of the cells of a level that lie in the union, as Covering.
+// InteriorCovering is the union of the cells of a level that lie in the union, as Covering. Since 0.2.
 func (cu CellUnion) InteriorCovering(level, most int) (CellUnion, error) {
 	at, n := place(cu.ids)
 	return made(len(cu.ids), func(out *C.uint64_t, room C.size_t, length *C.size_t) C.int32_t {
@@ -47,7 +47,7 @@ func (cu CellUnion) InteriorCovering(level, most int) (CellUnion, error) {
 
 // CoveringIn is the union of the cells of a level that share a leaf with what the union and a rectangle share, as
 // Covering of a Rect. Only the union's cells near the rectangle are read: those in at most four cells that are less
-// than twice as wide as it is long.
+// than twice as wide as it is long. Since 1.0.
 func (cu CellUnion) CoveringIn(rect Rect, level, most int) (CellUnion, error) {
 	at, n := place(cu.ids)
 	corners := rect.corners()
@@ -57,7 +57,7 @@ func (cu CellUnion) CoveringIn(rect Rect, level, most int) (CellUnion, error) {
 }
 
 // InteriorCoveringIn is the union of the cells of a level that lie in what the union and a rectangle share, as
-// CoveringIn.
+// CoveringIn. Since 1.0.
 func (cu CellUnion) InteriorCoveringIn(rect Rect, level, most int) (CellUnion, error) {
 	at, n := place(cu.ids)
 	corners := rect.corners()

@@ -12,7 +12,7 @@ type UnionFile struct {
 
 // NewUnionFile checks the bytes once: they must be the file that MarshalBinary makes of some union. ErrFileShort,
 // ErrFileVersion, ErrFileTrailing, ErrFileCell; ErrNotNormalized: UnmarshalBinary takes it. It takes as many steps as
-// there are cells.
+// there are cells. Since 0.2.
 func NewUnionFile(file []byte) (UnionFile, error) {
 	at, n := placeOfBytes(file)
 	switch status := C.s2u_file_check(at, n); status {
@@ -25,7 +25,7 @@ func NewUnionFile(file []byte) (UnionFile, error) {
 	}
 }
 
-// Len is the number of cells.
+// Len is the number of cells. Since 0.2.
 func (f UnionFile) Len() int {
 	at, n := placeOfBytes(f.file)
 	var count C.uint64_t
@@ -33,7 +33,7 @@ func (f UnionFile) Len() int {
 	return int(count)
 }
 
-// CellID is the cell at a place, in ascending order. It panics with ErrArgument if there is none.
+// CellID is the cell at a place, in ascending order. It panics with ErrArgument if there is none. Since 0.2.
 func (f UnionFile) CellID(place int) CellID {
 	at, n := placeOfBytes(f.file)
 	var id C.uint64_t
@@ -41,7 +41,7 @@ func (f UnionFile) CellID(place int) CellID {
 	return CellID(id)
 }
 
-// LeafCellsCovered is how many leaves the union has.
+// LeafCellsCovered is how many leaves the union has. Since 0.2.
 func (f UnionFile) LeafCellsCovered() int64 {
 	at, n := placeOfBytes(f.file)
 	var leaves C.uint64_t
@@ -49,33 +49,33 @@ func (f UnionFile) LeafCellsCovered() int64 {
 	return int64(leaves)
 }
 
-// ContainsCellID is whether the union has all leaves of a cell. It takes log n steps.
+// ContainsCellID is whether the union has all leaves of a cell. It takes log n steps. Since 0.2.
 func (f UnionFile) ContainsCellID(id CellID) bool {
 	at, n := placeOfBytes(f.file)
 	return answer(C.s2u_file_contains_cell(at, n, C.uint64_t(id)))
 }
 
-// IntersectsCellID is whether the union has a leaf of a cell. It takes log n steps.
+// IntersectsCellID is whether the union has a leaf of a cell. It takes log n steps. Since 0.2.
 func (f UnionFile) IntersectsCellID(id CellID) bool {
 	at, n := placeOfBytes(f.file)
 	return answer(C.s2u_file_intersects_cell(at, n, C.uint64_t(id)))
 }
 
-// Contains is whether the union has all leaves of the union in another file.
+// Contains is whether the union has all leaves of the union in another file. Since 0.2.
 func (f UnionFile) Contains(other UnionFile) bool {
 	xs, nx := placeOfBytes(f.file)
 	ys, ny := placeOfBytes(other.file)
 	return answer(C.s2u_file_contains(xs, nx, ys, ny))
 }
 
-// Intersects is whether the unions of two files share a leaf.
+// Intersects is whether the unions of two files share a leaf. Since 0.2.
 func (f UnionFile) Intersects(other UnionFile) bool {
 	xs, nx := placeOfBytes(f.file)
 	ys, ny := placeOfBytes(other.file)
 	return answer(C.s2u_file_intersects(xs, nx, ys, ny))
 }
 
-// Ancestors is that of the union.
+// Ancestors is that of the union. Since 0.2.
 func (f UnionFile) Ancestors() []CellID {
 	at, n := placeOfBytes(f.file)
 	return always(listed(len(f.file)/4+30, func(out *C.uint64_t, room C.size_t, length *C.size_t) C.int32_t {
@@ -83,7 +83,7 @@ func (f UnionFile) Ancestors() []CellID {
 	}))
 }
 
-// CellUnion is the union, copied.
+// CellUnion is the union, copied. Since 0.2.
 func (f UnionFile) CellUnion() CellUnion {
 	return always(unmarshalled(f.file))
 }

@@ -46,7 +46,7 @@ const (
 	ErrFileCell      Error = C.S2U_FILE_CELL     // an identifier in a file is that of no cell
 )
 
-// Error says in a few words what was refused.
+// Error says in a few words what was refused. Since 0.2.
 func (refusal Error) Error() string {
 	return "s2union: " + C.GoString(C.s2u_status_text(C.int32_t(refusal)))
 }
@@ -58,17 +58,18 @@ type PlaceError struct {
 	Refusal Error // ErrNoCell, or ErrArgument of Parents and CellIDsFromPoints
 }
 
+// Error says in a few words what was refused, and where. Since 0.2.
 func (refusal *PlaceError) Error() string {
 	return fmt.Sprintf("%v at place %d", refusal.Refusal, refusal.Place)
 }
 
-// Unwrap answers the refusal.
+// Unwrap answers the refusal. Since 0.2.
 func (refusal *PlaceError) Unwrap() error { return refusal.Refusal }
 
 // noCellAt is the refusal of what is no cell, at a place that a call has reported.
 func noCellAt(place C.size_t) error { return &PlaceError{int(place), ErrNoCell} }
 
-// Version is the version of the library that runs, as "1.0.0".
+// Version is the version of the library that runs, as "1.0.0". Since 0.2.
 func Version() string {
 	version := uint32(C.s2u_version())
 	return fmt.Sprintf("%d.%d.%d", version/10000, version/100%100, version%100)

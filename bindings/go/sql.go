@@ -5,7 +5,7 @@ import (
 	"fmt"
 )
 
-// Value is the cell as a database has it: a signed number of the same 64 bits. ErrNoCell.
+// Value is the cell as a database has it: a signed number of the same 64 bits. ErrNoCell. Since 1.1.
 func (id CellID) Value() (driver.Value, error) {
 	if err := id.checked(); err != nil {
 		return nil, err
@@ -14,7 +14,7 @@ func (id CellID) Value() (driver.Value, error) {
 }
 
 // Scan takes a cell from a column of a database: a number, or a text that is a token or a debug text. NULL and all else
-// is refused with an error that names it.
+// is refused with an error that names it. Since 1.1.
 func (id *CellID) Scan(value any) error {
 	switch given := value.(type) {
 	case int64:
@@ -42,11 +42,11 @@ func (id *CellID) scanText(text string) error {
 	return nil
 }
 
-// Value is the union file, as SQLite has a union, and as PostgreSQL takes it for one.
+// Value is the union file, as SQLite has a union, and as PostgreSQL takes it for one. Since 1.1.
 func (cu CellUnion) Value() (driver.Value, error) { return cu.MarshalBinary() }
 
 // Scan takes a union from a column of a database: its file, or a text of tokens, as PostgreSQL gives it. The first byte
-// tells which: no text begins with the byte 1. NULL and all else is refused with an error that names it.
+// tells which: no text begins with the byte 1. NULL and all else is refused with an error that names it. Since 1.1.
 func (cu *CellUnion) Scan(value any) error {
 	switch given := value.(type) {
 	case string:

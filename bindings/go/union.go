@@ -21,13 +21,13 @@ type CellUnion struct {
 }
 
 // NewCellUnion is the union of cells, in any order, repeated, or inside one another. It refuses numbers that are no
-// cells, with a PlaceError.
+// cells, with a PlaceError. Since 0.2.
 func NewCellUnion[N ID](ids ...N) (CellUnion, error) {
 	return normalized(append([]CellID(nil), sameBits[CellID](ids)...))
 }
 
 // CellUnionFromNormalized is the union whose cells these are, or ErrNotNormalized. It takes as many steps as there are
-// cells.
+// cells. Since 0.2.
 func CellUnionFromNormalized[N ID](ids ...N) (CellUnion, error) {
 	own := append([]CellID(nil), sameBits[CellID](ids)...) // which nobody writes while it is checked
 	if !isNormalized(own) {
@@ -36,11 +36,12 @@ func CellUnionFromNormalized[N ID](ids ...N) (CellUnion, error) {
 	return CellUnion{own}, nil
 }
 
-// CellUnionFromTokens is the union of the cells that a text names, as CellIDsFromTokens.
+// CellUnionFromTokens is the union of the cells that a text names, as CellIDsFromTokens. Since 0.2.
 func CellUnionFromTokens(words string) (CellUnion, error) { return unionNamed([]byte(words)) }
 
 // CellUnionFromRange is the union of the leaves from begin up to end, which is not one of them: a leaf, or the number
-// after the last leaf, as CellID.Next makes it in S2. ErrArgument: one is no leaf, or end comes first. ErrMemory.
+// after the last leaf, as CellID.Next makes it in S2. ErrArgument: one is no leaf, or end comes first. ErrMemory. Since
+// 0.2.
 func CellUnionFromRange(begin, end CellID) (CellUnion, error) {
 	const afterLastLeaf CellID = 0xc000000000000001 // S2's CellIDFromFace(5).ChildEndAtLevel(30), which is no cell
 	last := lastFace.RangeMax()
@@ -62,18 +63,18 @@ func CellUnionFromRange(begin, end CellID) (CellUnion, error) {
 }
 
 // RangeUnion is the union of all leaves from the first of one cell to the last of another, also across faces.
-// ErrNoCell; ErrArgument: the last leaf comes before the first; ErrMemory.
+// ErrNoCell; ErrArgument: the last leaf comes before the first; ErrMemory. Since 0.2.
 func RangeUnion(first, last CellID) (CellUnion, error) {
 	return made(C.S2U_MOST_RANGE, func(out *C.uint64_t, room C.size_t, length *C.size_t) C.int32_t {
 		return C.s2u_range(C.uint64_t(first), C.uint64_t(last), out, room, length)
 	})
 }
 
-// WholeSphere is the union of all leaves.
+// WholeSphere is the union of all leaves. Since 0.2.
 func WholeSphere() CellUnion { return always(RangeUnion(firstFace, lastFace)) }
 
 // CellUnionFromUnion is the union of any number of unions, in one call, which merges them in pairs. If there are more
-// than two, it takes memory for four times their cells.
+// than two, it takes memory for four times their cells. Since 0.2.
 func CellUnionFromUnion(unions ...CellUnion) CellUnion {
 	switch len(unions) {
 	case 0:
@@ -91,7 +92,7 @@ func CellUnionFromUnion(unions ...CellUnion) CellUnion {
 	}
 }
 
-// CellUnionFromIntersection is the union of the leaves that two unions share.
+// CellUnionFromIntersection is the union of the leaves that two unions share. Since 0.2.
 func CellUnionFromIntersection(x, y CellUnion) CellUnion {
 	// Twice the shorter one nearly always suffices, and the longer one may be much longer.
 	return x.with(y, 2*smaller(len(x.ids), len(y.ids)), func(xs *C.uint64_t, nx C.size_t, ys *C.uint64_t, ny C.size_t,
@@ -100,7 +101,7 @@ func CellUnionFromIntersection(x, y CellUnion) CellUnion {
 	})
 }
 
-// CellUnionFromIntersectionWithCellID is the union of the leaves of a cell that a union has.
+// CellUnionFromIntersectionWithCellID is the union of the leaves of a cell that a union has. Since 0.2.
 func CellUnionFromIntersectionWithCellID(x CellUnion, id CellID) CellUnion {
 	if x.ContainsCellID(id) {
 		return CellUnion{[]CellID{id}}
@@ -111,7 +112,7 @@ func CellUnionFromIntersectionWithCellID(x CellUnion, id CellID) CellUnion {
 // leavesOfAFace is how many cells remain of a face without one leaf.
 const leavesOfAFace = 90
 
-// CellUnionFromDifference is the union of the leaves of x that y doesn't have.
+// CellUnionFromDifference is the union of the leaves of x that y doesn't have. Since 0.2.
 func CellUnionFromDifference(x, y CellUnion) CellUnion {
 	room := len(x.ids) + smaller(len(x.ids), len(y.ids)) + leavesOfAFace
 	return x.with(y, room, func(xs *C.uint64_t, nx C.size_t, ys *C.uint64_t, ny C.size_t,
@@ -120,7 +121,7 @@ func CellUnionFromDifference(x, y CellUnion) CellUnion {
 	})
 }
 
-// CellUnionFromSymmetricDifference is the union of the leaves that exactly one of two unions has.
+// CellUnionFromSymmetricDifference is the union of the leaves that exactly one of two unions has. Since 1.1.
 func CellUnionFromSymmetricDifference(x, y CellUnion) CellUnion {
 	room := len(x.ids) + len(y.ids) + leavesOfAFace
 	return x.with(y, room, func(xs *C.uint64_t, nx C.size_t, ys *C.uint64_t, ny C.size_t,
@@ -129,7 +130,7 @@ func CellUnionFromSymmetricDifference(x, y CellUnion) CellUnion {
 	})
 }
 
-// CellUnionFromComplement is the union of the leaves of the sphere that a union doesn't have.
+// CellUnionFromComplement is the union of the leaves of the sphere that a union doesn't have. Since 1.1.
 func CellUnionFromComplement(x CellUnion) CellUnion {
 	at, n := place(x.ids)
 	return always(made(2*len(x.ids)+leavesOfAFace, func(out *C.uint64_t, room C.size_t, length *C.size_t) C.int32_t {
@@ -137,10 +138,10 @@ func CellUnionFromComplement(x CellUnion) CellUnion {
 	}))
 }
 
-// Len is the number of cells.
+// Len is the number of cells. Since 0.2.
 func (cu CellUnion) Len() int { return len(cu.ids) }
 
-// CellID is the cell at a place, in ascending order. It panics with ErrArgument if there is none.
+// CellID is the cell at a place, in ascending order. It panics with ErrArgument if there is none. Since 0.2.
 func (cu CellUnion) CellID(place int) CellID {
 	if place < 0 || place >= len(cu.ids) {
 		panic(ErrArgument)
@@ -148,42 +149,42 @@ func (cu CellUnion) CellID(place int) CellID {
 	return cu.ids[place]
 }
 
-// CellIDs is a new list of the cells, in ascending order.
+// CellIDs is a new list of the cells, in ascending order. Since 0.2.
 func (cu CellUnion) CellIDs() []CellID { return CellIDsAs[CellID](cu) }
 
-// CellIDsAs is a new list of the cells in another type, such as golang/geo's CellID or int64.
+// CellIDsAs is a new list of the cells in another type, such as golang/geo's CellID or int64. Since 0.2.
 func CellIDsAs[N ID](cu CellUnion) []N { return append([]N(nil), sameBits[N](cu.ids)...) }
 
-// IsValid is true: see IsNormalized for lists.
+// IsValid is true: see IsNormalized for lists. Since 0.2.
 func (cu CellUnion) IsValid() bool { return true }
 
-// IsNormalized is true: see the function for lists.
+// IsNormalized is true: see the function for lists. Since 0.2.
 func (cu CellUnion) IsNormalized() bool { return true }
 
-// Equal is whether two unions have the same leaves, and so the same cells.
+// Equal is whether two unions have the same leaves, and so the same cells. Since 0.2.
 func (cu CellUnion) Equal(other CellUnion) bool { return cu.Compare(other) == 0 }
 
 // Compare is -1, 0 or 1: the order of the lists of cells, cell by cell and then by length, to sort unions by. Which
-// union contains another has nothing to do with it.
+// union contains another has nothing to do with it. Since 1.0.
 func (cu CellUnion) Compare(other CellUnion) int {
 	xs, nx := place(cu.ids)
 	ys, ny := place(other.ids)
 	return int(C.s2u_compare(xs, nx, ys, ny))
 }
 
-// ContainsCellID is whether the union has all leaves of a cell. It takes log n steps.
+// ContainsCellID is whether the union has all leaves of a cell. It takes log n steps. Since 0.2.
 func (cu CellUnion) ContainsCellID(id CellID) bool {
 	at, n := place(cu.ids)
 	return answer(C.s2u_contains_cell(at, n, C.uint64_t(id)))
 }
 
-// IntersectsCellID is whether the union has a leaf of a cell. It takes log n steps.
+// IntersectsCellID is whether the union has a leaf of a cell. It takes log n steps. Since 0.2.
 func (cu CellUnion) IntersectsCellID(id CellID) bool {
 	at, n := place(cu.ids)
 	return answer(C.s2u_intersects_cell(at, n, C.uint64_t(id)))
 }
 
-// CellIDsAt is a new list of the cells of the union that share a leaf with a cell. It takes log n steps.
+// CellIDsAt is a new list of the cells of the union that share a leaf with a cell. It takes log n steps. Since 0.2.
 func (cu CellUnion) CellIDsAt(id CellID) []CellID {
 	at, n := place(cu.ids)
 	var first, count C.size_t
@@ -192,7 +193,7 @@ func (cu CellUnion) CellIDsAt(id CellID) []CellID {
 }
 
 // ContainsCellIDs is whether the union has all leaves of each cell in turn. Cells in ascending order are quickest. A
-// PlaceError has the place of the first number that is no cell.
+// PlaceError has the place of the first number that is no cell. Since 0.2.
 func (cu CellUnion) ContainsCellIDs(ids ...CellID) ([]bool, error) {
 	at, n := place(cu.ids)
 	return asked(ids, func(cells *C.uint64_t, m C.size_t, answers *C.uint8_t, bad *C.size_t) C.int32_t {
@@ -200,7 +201,7 @@ func (cu CellUnion) ContainsCellIDs(ids ...CellID) ([]bool, error) {
 	})
 }
 
-// IntersectsCellIDs is whether the union has a leaf of each cell in turn, as ContainsCellIDs.
+// IntersectsCellIDs is whether the union has a leaf of each cell in turn, as ContainsCellIDs. Since 0.2.
 func (cu CellUnion) IntersectsCellIDs(ids ...CellID) ([]bool, error) {
 	at, n := place(cu.ids)
 	return asked(ids, func(cells *C.uint64_t, m C.size_t, answers *C.uint8_t, bad *C.size_t) C.int32_t {
@@ -208,21 +209,21 @@ func (cu CellUnion) IntersectsCellIDs(ids ...CellID) ([]bool, error) {
 	})
 }
 
-// Contains is whether the union has all leaves of another one.
+// Contains is whether the union has all leaves of another one. Since 0.2.
 func (cu CellUnion) Contains(other CellUnion) bool {
 	xs, nx := place(cu.ids)
 	ys, ny := place(other.ids)
 	return answer(C.s2u_contains(xs, nx, ys, ny))
 }
 
-// Intersects is whether two unions share a leaf.
+// Intersects is whether two unions share a leaf. Since 0.2.
 func (cu CellUnion) Intersects(other CellUnion) bool {
 	xs, nx := place(cu.ids)
 	ys, ny := place(other.ids)
 	return answer(C.s2u_intersects(xs, nx, ys, ny))
 }
 
-// LeafCellsCovered is how many leaves the union has, of 6 * 4^30.
+// LeafCellsCovered is how many leaves the union has, of 6 * 4^30. Since 0.2.
 func (cu CellUnion) LeafCellsCovered() int64 {
 	at, n := place(cu.ids)
 	return int64(C.s2u_leaf_count(at, n))
@@ -231,7 +232,7 @@ func (cu CellUnion) LeafCellsCovered() int64 {
 // Denormalize is a new list of the cells, each cut to the least level that is at least its own and is minLevel or above
 // it by a multiple of levelMod, which is 1 to 3; to leaves if there is none. ErrArgument. ErrMany: there would be more
 // than most cells; a face has 4^30 leaves. So most bounds the memory, which has to be there: Go ends a program that
-// asks for more than there is. ErrMemory: no process has as much.
+// asks for more than there is. ErrMemory: no process has as much. Since 0.2.
 func (cu CellUnion) Denormalize(minLevel, levelMod, most int) ([]CellID, error) {
 	at, n := place(cu.ids)
 	min, mod := narrowed(minLevel), narrowed(levelMod)
@@ -251,7 +252,7 @@ func (cu CellUnion) Denormalize(minLevel, levelMod, most int) ([]CellID, error) 
 }
 
 // Ancestors is a new list of the cells and all their ancestors, ascending, each once: the keys of an index. Two unions
-// share a leaf exactly if a cell of one is among the ancestors of the other.
+// share a leaf exactly if a cell of one is among the ancestors of the other. Since 0.2.
 func (cu CellUnion) Ancestors() []CellID {
 	at, n := place(cu.ids)
 	return always(listed(2*len(cu.ids)+30, func(out *C.uint64_t, room C.size_t, length *C.size_t) C.int32_t {
@@ -259,7 +260,7 @@ func (cu CellUnion) Ancestors() []CellID {
 	}))
 }
 
-// String is the tokens of the cells, with blanks between them.
+// String is the tokens of the cells, with blanks between them. Since 0.2.
 func (cu CellUnion) String() string { return string(cu.tokens()) }
 
 func (cu CellUnion) tokens() []byte {
@@ -269,15 +270,15 @@ func (cu CellUnion) tokens() []byte {
 	})
 }
 
-// MarshalText makes the tokens of the cells, as String. So a union is a text in JSON.
+// MarshalText makes the tokens of the cells, as String. So a union is a text in JSON. Since 1.0.
 func (cu CellUnion) MarshalText() ([]byte, error) { return cu.tokens(), nil }
 
 // UnmarshalText makes the union that of the cells that a text names, as CellUnionFromTokens. If it is refused, the
-// union stays as it was.
+// union stays as it was. Since 1.0.
 func (cu *CellUnion) UnmarshalText(words []byte) error { return cu.become(unionNamed(words)) }
 
 // MarshalBinary makes the union file: the bytes that S2's own Encode writes in C++, Go and Java. Equal unions have
-// equal files.
+// equal files. Since 0.2.
 func (cu CellUnion) MarshalBinary() ([]byte, error) {
 	at, n := place(cu.ids)
 	file := make([]byte, sizeOfFile(len(cu.ids)))
@@ -290,10 +291,10 @@ func (cu CellUnion) MarshalBinary() ([]byte, error) {
 }
 
 // UnmarshalBinary makes the union that in a union file, whose cells may be in any order. If it is refused, the union
-// stays as it was.
+// stays as it was. Since 0.2.
 func (cu *CellUnion) UnmarshalBinary(file []byte) error { return cu.become(unmarshalled(file)) }
 
-// Encode writes the union file.
+// Encode writes the union file. Since 0.2.
 func (cu CellUnion) Encode(w io.Writer) error {
 	file, err := cu.MarshalBinary()
 	if err == nil {
@@ -304,7 +305,7 @@ func (cu CellUnion) Encode(w io.Writer) error {
 
 // Decode makes the union that in the union file which is read next; what follows it is not read. Refusals are those of
 // UnmarshalBinary, and errors of the reader: io.EOF if there is no file. An end of the reader within the file is
-// ErrFileShort.
+// ErrFileShort. Since 0.2.
 func (cu *CellUnion) Decode(r io.Reader) error {
 	var file bytes.Buffer
 	err := readMore(&file, r, int64(sizeOfFile(0)))
@@ -326,11 +327,11 @@ func (cu *CellUnion) Decode(r io.Reader) error {
 
 // ---- lists of cells
 
-// IsNormalized is whether these are the cells of a union. It takes as many steps as there are cells.
+// IsNormalized is whether these are the cells of a union. It takes as many steps as there are cells. Since 0.2.
 func IsNormalized[N ID](ids []N) bool { return isNormalized(sameBits[CellID](ids)) }
 
 // Normalize normalizes a list of cells in place, and answers what it has become. A PlaceError has the place of the
-// first number that is no cell, and then the list is as it was.
+// first number that is no cell, and then the list is as it was. Since 0.2.
 func Normalize[N ID](ids []N) ([]N, error) {
 	length, err := normalize(sameBits[CellID](ids))
 	if err != nil {

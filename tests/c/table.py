@@ -13,7 +13,7 @@ from typing import NamedTuple
 TOP = Path(__file__).resolve().parents[2]
 READ = ["tools/calls", "crates/s2union_c/src", "crates/s2union_c/include", "crates/s2cover/src/lib.rt",
         "bindings/rust/src", "bindings/python/s2union", "bindings/java/s2union", "bindings/java/s2union.c",
-        "bindings/page/core.js", "tests/c/calls.h"]
+        "bindings/page/core.js", "bindings/js/s2union.d.ts", "bindings/go", "tests/c/calls.h"]
 HEADER = "crates/s2union_c/include/s2union.h"
 
 
@@ -74,6 +74,29 @@ MISTAKES = [
             '"s2u_unite", [xs, ys]', "s2u_unite: no such export"),
     Mistake("a call of JavaScript that takes memory", "bindings/page/core.js", '"s2u_union", [xs, ys]',
             '"s2u_range", [xs, ys]'),
+    Mistake("an argument of the header without a word", HEADER, " * @param whole,part any numbers\n",
+            " * @param whole any numbers\n", "s2u_cell_contains: its comment lacks the argument part"),
+    Mistake("a call of the header without its version", HEADER,
+            " * @since 1.1\n * @snippet examples.c s2u_complement\n", " * @snippet examples.c s2u_complement\n", "s2u_complement: its comment lacks @since"),
+    Mistake("another status in the header", HEADER, "@retval S2U_MANY 2^64 bytes", "@retval S2U_MUCH 2^64 bytes",
+            "s2u_tokens: its comment lacks the status MUCH"),
+    Mistake("an error of the header that no language tells", HEADER, " * @s2{S2CellId::level}\n * @since 0.1",
+            " * @retval S2U_MANY never\n * @s2{S2CellId::level}\n * @since 0.1",
+            "Python: level: its comment lacks the error TooManyCellsError"),
+    Mistake("an argument of Python without a word", "bindings/python/s2union/__init__.py",
+            "    number : int\n        0 to 3, along the curve.\n", "",
+            "Python: child: its comment lacks the argument"),
+    Mistake("an example of Python left out", "bindings/python/s2union/__init__.py",
+            "    >>> face(from_token(\"89c25\"))\n    4\n", "", "Python: face: its comment lacks >>> "),
+    Mistake("an error of Java left out", "bindings/java/s2union/CellId.java",
+            "{@link Refusal.Kind#NO_CELL} if a word names no cell", "if a word names no cell",
+            "Java: CellId.fromTokens(String text): its comment lacks the error NO_CELL"),
+    Mistake("an argument of TypeScript without a word", "bindings/js/s2union.d.ts",
+            " * @param number - 0 to 3, along the curve\n", "", "TypeScript: child: its comment lacks @param number"),
+    Mistake("an error of Rust left out", "bindings/rust/src/cell.rs",
+            "    /// - [`Error::NoCell`]: the text is the token", "    /// - the text is the token", "from_token: its comment lacks the error NoCell"),
+    Mistake("a version of Go left out", "bindings/go/cell.go", "Face is 0 to 5. Since 0.2.", "Face is 0 to 5.",
+            "Go: cell: CellID.Face: its comment lacks Since"),
     Mistake("a list that JavaScript leaves out", "bindings/page/core.js", '"s2u_union", [xs, ys]', '"s2u_union", [xs]'),
 ]
 

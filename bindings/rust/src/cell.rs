@@ -37,7 +37,7 @@ pub struct Square {
 }
 
 impl CellId {
-    /// The cell with this number, if it is that of one: S2's `is_valid`.
+    /// The cell with this number, if it is that of one: S2's `is_valid`. Since 0.2.
     pub fn from_id(id: u64) -> Option<CellId> {
         if calls::is_cell(id) == 1 {
             CellId::made(id)
@@ -46,121 +46,137 @@ impl CellId {
         }
     }
 
-    /// The number of the cell.
+    /// The number of the cell. Since 0.2.
     pub fn id(self) -> u64 {
         self.0.get()
     }
 
-    /// The number of the same 64 bits with a sign, as databases have it. No cell can be read in two ways.
+    /// The number of the same 64 bits with a sign, as databases have it. No cell can be read in two ways. Since 0.2.
     pub fn signed(self) -> i64 {
         self.id() as i64
     }
 
-    /// The cell of a token, in either case. [`Error::NoCell`].
+    /// The cell of a token, in either case. Since 0.2.
+    ///
+    /// # Errors
+    ///
+    /// - [`Error::NoCell`]: the text is the token of no cell
     pub fn from_token(token: &str) -> Result<CellId, Error> {
         let mut id = 0;
         CellId::from_status(calls::from_token(token.as_bytes(), &mut id), id)
     }
 
-    /// The cell of a debug text, such as "4/032212". [`Error::NoCell`].
+    /// The cell of a debug text, such as "4/032212". Since 0.2.
+    ///
+    /// # Errors
+    ///
+    /// - [`Error::NoCell`]: the text is the debug text of no cell
     pub fn from_debug(text: &str) -> Result<CellId, Error> {
         let mut id = 0;
         CellId::from_status(calls::from_debug(text.as_bytes(), &mut id), id)
     }
 
-    /// The cell of a whole face, 0 to 5. [`Error::Argument`].
+    /// The cell of a whole face, 0 to 5. Since 0.2.
+    ///
+    /// # Errors
+    ///
+    /// - [`Error::Argument`]: the face is above 5
     pub fn from_face(face: u32) -> Result<CellId, Error> {
         CellId::from_face_ij(face, 0, 0)?.parent(0).ok_or(Error::Argument)
     }
 
-    /// The leaf at a place of a face; the coordinates are below 2^30. [`Error::Argument`].
+    /// The leaf at a place of a face; the coordinates are below 2^30. Since 0.2.
+    ///
+    /// # Errors
+    ///
+    /// - [`Error::Argument`]: the face is above 5, or a coordinate is 2^30 or more
     pub fn from_face_ij(face: u32, i: u32, j: u32) -> Result<CellId, Error> {
         CellId::made(calls::from_face_ij(face, i, j)).ok_or(Error::Argument)
     }
 
-    /// 0 for a face, to 30 for a leaf.
+    /// 0 for a face, to 30 for a leaf. Since 0.2.
     pub fn level(self) -> u32 {
         calls::level(self.id()).unsigned_abs()
     }
 
-    /// 0 to 5.
+    /// 0 to 5. Since 0.2.
     pub fn face(self) -> u32 {
         calls::face(self.id()).unsigned_abs()
     }
 
-    /// Whether the cell is at level 30.
+    /// Whether the cell is at level 30. Since 0.2.
     pub fn is_leaf(self) -> bool {
         self.level() == 30
     }
 
-    /// Whether the cell is a whole face.
+    /// Whether the cell is a whole face. Since 0.2.
     pub fn is_face(self) -> bool {
         self.level() == 0
     }
 
-    /// The cell of a level that contains the cell, which at its own level is itself; none at deeper levels.
+    /// The cell of a level that contains the cell, which at its own level is itself; none at deeper levels. Since 0.2.
     pub fn parent(self, level: u32) -> Option<CellId> {
         CellId::made(calls::parent(self.id(), level))
     }
 
-    /// The child with this number along the curve, 0 to 3; none of a leaf.
+    /// The child with this number along the curve, 0 to 3; none of a leaf. Since 0.2.
     pub fn child(self, number: u32) -> Option<CellId> {
         CellId::made(calls::child(self.id(), number))
     }
 
-    /// The first leaf of the cell: another cell is in it exactly if it lies from `range_min` to `range_max`.
+    /// The first leaf of the cell: another cell is in it exactly if it lies from `range_min` to `range_max`. Since 0.2.
     pub fn range_min(self) -> CellId {
         CellId::made(calls::range_min(self.id())).unwrap_or(self)
     }
 
-    /// The last leaf of the cell.
+    /// The last leaf of the cell. Since 0.2.
     pub fn range_max(self) -> CellId {
         CellId::made(calls::range_max(self.id())).unwrap_or(self)
     }
 
-    /// How many leaves the cell has.
+    /// How many leaves the cell has. Since 0.2.
     pub fn leaf_count(self) -> u64 {
         calls::size(self.id())
     }
 
-    /// The next cell of the same level, across faces.
+    /// The next cell of the same level, across faces. Since 0.2.
     pub fn next(self) -> Option<CellId> {
         CellId::made(calls::next(self.id()))
     }
 
-    /// The cell of the same level before it, across faces.
+    /// The cell of the same level before it, across faces. Since 0.2.
     pub fn prev(self) -> Option<CellId> {
         CellId::made(calls::prev(self.id()))
     }
 
-    /// Whether all leaves of another cell are in the cell.
+    /// Whether all leaves of another cell are in the cell. Since 0.2.
     pub fn contains(self, other: CellId) -> bool {
         calls::cell_contains(self.id(), other.id()) == 1
     }
 
-    /// Whether two cells share a leaf.
+    /// Whether two cells share a leaf. Since 0.2.
     pub fn intersects(self, other: CellId) -> bool {
         calls::cell_intersects(self.id(), other.id()) == 1
     }
 
-    /// The smallest cell that contains both; none if they are on two faces.
+    /// The smallest cell that contains both; none if they are on two faces. Since 0.2.
     pub fn common_ancestor(self, other: CellId) -> Option<CellId> {
         CellId::made(calls::common_ancestor(self.id(), other.id()))
     }
 
-    /// The square of the cell.
+    /// The square of the cell. Since 0.2.
     pub fn square(self) -> Square {
         let mut found = Square::default();
         calls::square_of(self.id(), &mut found);
         found
     }
 
-    /// The number in hexadecimal without the zeros at its end.
+    /// The number in hexadecimal without the zeros at its end. Since 0.2.
     pub fn token(self) -> String {
         text(lists::token(self.id()))
     }
 
-    /// The debug text, such as "4/032212".
+    /// The debug text, such as "4/032212". Since 0.2.
     pub fn debug(self) -> String {
         text(lists::debug(self.id()))
     }

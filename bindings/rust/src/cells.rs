@@ -32,27 +32,27 @@ pub type FacePoint = Point;
 /// # Ok::<(), s2union::Error>(())
 /// ```
 impl CellId {
-    /// The level of each cell.
+    /// The level of each cell. Since 0.2.
     pub fn levels(cells: &[CellId]) -> Vec<u8> {
         lists::levels(numbers(cells))
     }
 
-    /// The cell of a level that contains each cell; none if the level is deeper than its own.
+    /// The cell of a level that contains each cell; none if the level is deeper than its own. Since 0.2.
     pub fn parents(cells: &[CellId], level: u32) -> Vec<Option<CellId>> {
         lists::parents(numbers(cells), level).into_iter().map(CellId::made).collect()
     }
 
-    /// The first leaf of each cell.
+    /// The first leaf of each cell. Since 0.2.
     pub fn range_mins(cells: &[CellId]) -> Vec<CellId> {
         cells_of(lists::range_mins(numbers(cells)))
     }
 
-    /// The last leaf of each cell.
+    /// The last leaf of each cell. Since 0.2.
     pub fn range_maxes(cells: &[CellId]) -> Vec<CellId> {
         cells_of(lists::range_maxes(numbers(cells)))
     }
 
-    /// The token of each cell in 16 bytes, with zeros after it.
+    /// The token of each cell in 16 bytes, with zeros after it. Since 0.2.
     pub fn token_fields(cells: &[CellId]) -> Vec<[u8; calls::MOST_TOKEN]> {
         let text = lists::token_fields(numbers(cells));
         let mut fields = vec![[0; calls::MOST_TOKEN]; cells.len()];
@@ -63,8 +63,13 @@ impl CellId {
     }
 
     /// The cells that a text names, in its order and each time that it names one: words with blanks, tabs, line ends or
-    /// commas between them, each a token or a debug text. [`Error::NoCell`] has the place where the first word begins
-    /// that names none. [`Error::Memory`].
+    /// commas between them, each a token or a debug text. Since 1.0.
+    ///
+    /// # Errors
+    ///
+    /// - [`Error::NoCell`]: a word names no cell; `place` is where the first such word begins
+    ///
+    /// # Examples
     ///
     /// ```
     /// use s2union::{CellId, Error};
@@ -78,7 +83,7 @@ impl CellId {
         lists::from_tokens(text.as_bytes()).map(cells_of)
     }
 
-    /// The leaf at each point; none if it is on no face.
+    /// The leaf at each point; none if it is on no face. Since 0.2.
     pub fn from_points(points: &[Point]) -> Vec<Option<CellId>> {
         lists::from_points(points).into_iter().map(CellId::made).collect()
     }

@@ -32,32 +32,63 @@ pub struct Rect {
 }
 
 impl Rect {
-    /// The cells of a level that share a leaf with the rectangle. [`Error::Argument`], [`Error::Memory`].
-    /// [`Error::Many`]: there would be more than `most` cells, or more than [`MOST_COVERING`].
+    /// The cells of a level that share a leaf with the rectangle. Since 0.2.
+    ///
+    /// # Errors
+    ///
+    /// - [`Error::Memory`]: there is no memory
+    /// - [`Error::Argument`]: a face, coordinate or level is out of range, or an end comes before its begin
+    /// - [`Error::Many`]: there would be more than `most` cells, or than [`MOST_COVERING`](crate::MOST_COVERING)
     pub fn outer(&self, level: u32, most: usize) -> Result<CellUnion, Error> {
         CellUnion::made(lists::outer(self, level, most))
     }
 
-    /// The cells of a level that lie in the rectangle, as `outer`.
+    /// The cells of a level that lie in the rectangle, as `outer`. Since 0.2.
+    ///
+    /// # Errors
+    ///
+    /// - [`Error::Memory`]: there is no memory
+    /// - [`Error::Argument`]: a face, coordinate or level is out of range, or an end comes before its begin
+    /// - [`Error::Many`]: there would be more than `most` cells, or than [`MOST_COVERING`](crate::MOST_COVERING)
     pub fn inner(&self, level: u32, most: usize) -> Result<CellUnion, Error> {
         CellUnion::made(lists::inner(self, level, most))
     }
 }
 
 impl CellUnion {
-    /// The cells of a level that share a leaf with the union, as that of a [`Rect`].
+    /// The cells of a level that share a leaf with the union, as that of a [`Rect`]. Since 0.2.
+    ///
+    /// # Errors
+    ///
+    /// - [`Error::Argument`]: the level is above 30
+    /// - [`Error::Many`]: there would be more than `most` cells, or than [`MOST_COVERING`](crate::MOST_COVERING)
+    /// - [`Error::Memory`]: there is no memory
     pub fn outer(&self, level: u32, most: usize) -> Result<CellUnion, Error> {
         CellUnion::made(lists::outer_of(self.as_ref(), level, most))
     }
 
-    /// The cells of a level that lie in the union, as `outer`.
+    /// The cells of a level that lie in the union, as `outer`. Since 0.2.
+    ///
+    /// # Errors
+    ///
+    /// - [`Error::Argument`]: the level is above 30
+    /// - [`Error::Many`]: there would be more than `most` cells, or than [`MOST_COVERING`](crate::MOST_COVERING)
+    /// - [`Error::Memory`]: there is no memory
     pub fn inner(&self, level: u32, most: usize) -> Result<CellUnion, Error> {
         CellUnion::made(lists::inner_of(self.as_ref(), level, most))
     }
 
     /// The cells of a level that share a leaf with what the union and a rectangle share, as that of a [`Rect`]. Only
     /// the union's cells near the rectangle are read: those in at most four cells that are less than twice as wide as
-    /// it is long.
+    /// it is long. Since 1.0.
+    ///
+    /// # Errors
+    ///
+    /// - [`Error::Memory`]: there is no memory
+    /// - [`Error::Argument`]: a face, coordinate or level is out of range, or an end comes before its begin
+    /// - [`Error::Many`]: there would be more than `most` cells, or than [`MOST_COVERING`](crate::MOST_COVERING)
+    ///
+    /// # Examples
     ///
     /// ```
     /// use s2union::{CellUnion, Rect};
@@ -72,7 +103,13 @@ impl CellUnion {
         CellUnion::made(lists::outer_in(self.as_ref(), rect, level, most))
     }
 
-    /// The cells of a level that lie in what the union and a rectangle share, as `outer_in`.
+    /// The cells of a level that lie in what the union and a rectangle share, as `outer_in`. Since 1.0.
+    ///
+    /// # Errors
+    ///
+    /// - [`Error::Memory`]: there is no memory
+    /// - [`Error::Argument`]: a face, coordinate or level is out of range, or an end comes before its begin
+    /// - [`Error::Many`]: there would be more than `most` cells, or than [`MOST_COVERING`](crate::MOST_COVERING)
     pub fn inner_in(&self, rect: &Rect, level: u32, most: usize) -> Result<CellUnion, Error> {
         CellUnion::made(lists::inner_in(self.as_ref(), rect, level, most))
     }

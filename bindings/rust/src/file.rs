@@ -23,8 +23,15 @@ pub struct UnionFile<'a> {
 }
 
 impl<'a> UnionFile<'a> {
-    /// Checks the bytes once: they must be those that [`CellUnion::encode`] makes of some union. [`Error::FileShort`]
-    /// and the others of files; [`Error::NotNormalized`]: [`CellUnion::decode`] takes it.
+    /// Checks the bytes once: they must be those that [`CellUnion::encode`] makes of some union. Since 0.2.
+    ///
+    /// # Errors
+    ///
+    /// - [`Error::FileShort`]: bytes are missing
+    /// - [`Error::FileVersion`]: the first byte is not 1
+    /// - [`Error::FileTrailing`]: bytes follow the last cell
+    /// - [`Error::FileCell`]: a number in the file is not the identifier of a cell
+    /// - [`Error::NotNormalized`]: the cells of the file are not normalized: [`CellUnion::decode`] takes it
     pub fn new(bytes: &'a [u8]) -> Result<UnionFile<'a>, Error> {
         match calls::file_check(bytes) {
             0 => Err(Error::NotNormalized),
@@ -32,58 +39,66 @@ impl<'a> UnionFile<'a> {
         }
     }
 
-    /// How many cells the union has.
+    /// How many cells the union has. Since 0.2.
     pub fn len(&self) -> usize {
         let mut count = 0;
         calls::file_count(self.bytes, &mut count);
         count as usize
     }
 
-    /// Whether the union has no leaf.
+    /// Whether the union has no leaf. Since 0.2.
     pub fn is_empty(&self) -> bool {
         self.len() == 0
     }
 
-    /// The cell at a place, in ascending order, if there is one.
+    /// The cell at a place, in ascending order, if there is one. Since 0.2.
     pub fn cell(&self, place: usize) -> Option<CellId> {
         let mut id = 0;
         calls::file_cell(self.bytes, place as u64, &mut id);
         CellId::made(id)
     }
 
-    /// How many leaves the union has.
+    /// How many leaves the union has. Since 0.2.
     pub fn leaf_count(&self) -> u64 {
         let mut leaves = 0;
         calls::file_leaf_count(self.bytes, &mut leaves);
         leaves
     }
 
-    /// Whether the union has all leaves of a cell. It takes log n steps.
+    /// Whether the union has all leaves of a cell. It takes log n steps. Since 0.2.
     pub fn contains_cell(&self, cell: CellId) -> bool {
         calls::file_contains_cell(self.bytes, cell.id()) == 1
     }
 
-    /// Whether the union has a leaf of a cell. It takes log n steps.
+    /// Whether the union has a leaf of a cell. It takes log n steps. Since 0.2.
     pub fn intersects_cell(&self, cell: CellId) -> bool {
         calls::file_intersects_cell(self.bytes, cell.id()) == 1
     }
 
-    /// Whether the union has all leaves of the union in another file.
+    /// Whether the union has all leaves of the union in another file. Since 0.2.
     pub fn contains(&self, other: &UnionFile<'_>) -> bool {
         calls::file_contains(self.bytes, other.bytes) == 1
     }
 
-    /// Whether the unions of two files share a leaf.
+    /// Whether the unions of two files share a leaf. Since 0.2.
     pub fn intersects(&self, other: &UnionFile<'_>) -> bool {
         calls::file_intersects(self.bytes, other.bytes) == 1
     }
 
-    /// [`CellUnion::ancestors`] of the union. [`Error::Memory`].
+    /// [`CellUnion::ancestors`] of the union. Since 0.2.
+    ///
+    /// # Errors
+    ///
+    /// - [`Error::Memory`]: there is no memory
     pub fn ancestors(&self) -> Result<Vec<CellId>, Error> {
         lists::file_ancestors(self.bytes).map(cells_of)
     }
 
-    /// The union, copied. [`Error::Memory`].
+    /// The union, copied. Since 0.2.
+    ///
+    /// # Errors
+    ///
+    /// - [`Error::Memory`]: there is no memory
     pub fn to_union(&self) -> Result<CellUnion, Error> {
         CellUnion::decode(self.bytes)
     }

@@ -39,7 +39,7 @@ pub use error::Error;
 pub use file::UnionFile;
 pub use union::CellUnion;
 
-/// The version of the library, as "1.0.0".
+/// The version of the library, as "1.0.0". Since 0.2.
 pub fn version() -> String {
     let version = calls::version();
     format!("{}.{}.{}", version / 10_000, version / 100 % 100, version % 100)

@@ -33,18 +33,24 @@ pub struct CellUnion {
 }
 
 impl CellUnion {
-    /// The empty union.
+    /// The empty union. Since 0.2.
     pub fn new() -> CellUnion {
         CellUnion::default()
     }
 
     /// The union of cells in any order, repeated, or inside one another. It takes no memory, and gives back what is
-    /// more than half as much again as the union needs.
+    /// more than half as much again as the union needs. Since 0.2.
     pub fn from_cells(cells: Vec<CellId>) -> CellUnion {
         CellUnion::from_ids(numbers_of(cells)).expect("cells are cells")
     }
 
-    /// The same of numbers, which may be none of cells: [`Error::NoCell`] has the place of the first one.
+    /// The same of numbers, which may be none of cells. Since 0.2.
+    ///
+    /// # Errors
+    ///
+    /// - [`Error::NoCell`]: a number is not the identifier of a cell; `place` is that of the first
+    ///
+    /// # Examples
     ///
     /// ```
     /// use s2union::{CellUnion, Error};
@@ -60,7 +66,11 @@ impl CellUnion {
         Ok(CellUnion { cells: cells_of(ids) })
     }
 
-    /// The union whose cells these are. [`Error::NotNormalized`]. It takes as many steps as there are cells.
+    /// The union whose cells these are. It takes as many steps as there are cells. Since 0.2.
+    ///
+    /// # Errors
+    ///
+    /// - [`Error::NotNormalized`]: the cells are not normalized: [`CellUnion::from_cells`] takes them
     pub fn from_normalized(cells: Vec<CellId>) -> Result<CellUnion, Error> {
         if is_normalized(&cells) {
             Ok(CellUnion { cells })
@@ -69,14 +79,22 @@ impl CellUnion {
         }
     }
 
-    /// All leaves from the first of one cell to the last of another, also across faces. [`Error::Argument`]: the last
-    /// leaf comes before the first. [`Error::Memory`].
+    /// All leaves from the first of one cell to the last of another, also across faces. Since 0.2.
+    ///
+    /// # Errors
+    ///
+    /// - [`Error::Argument`]: the last leaf comes before the first
+    /// - [`Error::Memory`]: there is no memory
     pub fn from_range(first: CellId, last: CellId) -> Result<CellUnion, Error> {
         CellUnion::made(lists::range(first.id(), last.id()))
     }
 
-    /// The leaves from `begin` up to `end`, which is not one of them; all from `begin` if there is no `end`.
-    /// [`Error::Argument`]: one is no leaf, or `end` comes first. [`Error::Memory`].
+    /// The leaves from `begin` up to `end`, which is not one of them; all from `begin` if there is no `end`. Since 0.2.
+    ///
+    /// # Errors
+    ///
+    /// - [`Error::Argument`]: one is no leaf, or `end` comes first
+    /// - [`Error::Memory`]: there is no memory
     pub fn from_begin_end(begin: CellId, end: Option<CellId>) -> Result<CellUnion, Error> {
         let last = match end {
             Some(end) if end == begin && end.is_leaf() => return Ok(CellUnion::new()),
@@ -91,97 +109,107 @@ impl CellUnion {
         }
     }
 
-    /// All leaves.
+    /// All leaves. Since 0.2.
     pub fn whole_sphere() -> CellUnion {
         (0..6).map(|face| CellId::from_face(face).expect("there are six faces")).collect()
     }
 
-    /// How many cells the union has.
+    /// How many cells the union has. Since 0.2.
     pub fn len(&self) -> usize {
         self.cells.len()
     }
 
-    /// Whether the union has no leaf.
+    /// Whether the union has no leaf. Since 0.2.
     pub fn is_empty(&self) -> bool {
         self.cells.is_empty()
     }
 
-    /// The cells, in ascending order.
+    /// The cells, in ascending order. Since 0.2.
     pub fn cells(&self) -> &[CellId] {
         &self.cells
     }
 
-    /// The cells themselves.
+    /// The cells themselves. Since 0.2.
     pub fn into_cells(self) -> Vec<CellId> {
         self.cells
     }
 
-    /// An iterator over the cells, in ascending order.
+    /// An iterator over the cells, in ascending order. Since 0.2.
     pub fn iter(&self) -> std::iter::Copied<std::slice::Iter<'_, CellId>> {
         self.cells.iter().copied()
     }
 
     // ---- as a set of leaves
 
-    /// Whether the union has all leaves of a cell. It takes log n steps.
+    /// Whether the union has all leaves of a cell. It takes log n steps. Since 0.2.
     pub fn contains_cell(&self, cell: CellId) -> bool {
         calls::contains_cell(self.as_ref(), cell.id()) == 1
     }
 
-    /// Whether the union has a leaf of a cell. It takes log n steps.
+    /// Whether the union has a leaf of a cell. It takes log n steps. Since 0.2.
     pub fn intersects_cell(&self, cell: CellId) -> bool {
         calls::intersects_cell(self.as_ref(), cell.id()) == 1
     }
 
-    /// Whether the union has all leaves of each cell in turn. Cells in ascending order are quickest.
+    /// Whether the union has all leaves of each cell in turn. Cells in ascending order are quickest. Since 0.2.
     pub fn contains_cells(&self, cells: &[CellId]) -> Vec<bool> {
         lists::contains_cells(self.as_ref(), numbers(cells))
     }
 
-    /// Whether the union has a leaf of each cell in turn.
+    /// Whether the union has a leaf of each cell in turn. Since 0.2.
     pub fn intersects_cells(&self, cells: &[CellId]) -> Vec<bool> {
         lists::intersects_cells(self.as_ref(), numbers(cells))
     }
 
-    /// The cells of the union that share a leaf with a cell. It takes log n steps.
+    /// The cells of the union that share a leaf with a cell. It takes log n steps. Since 0.2.
     pub fn cells_at(&self, cell: CellId) -> &[CellId] {
         let (mut first, mut count) = (0, 0);
         calls::cells_at(self.as_ref(), cell.id(), &mut first, &mut count);
         &self.cells[first..first + count]
     }
 
-    /// Whether the union has all leaves of another one.
+    /// Whether the union has all leaves of another one. Since 0.2.
     pub fn contains(&self, other: &CellUnion) -> bool {
         calls::contains(self.as_ref(), other.as_ref()) == 1
     }
 
-    /// Whether two unions share a leaf.
+    /// Whether two unions share a leaf. Since 0.2.
     pub fn intersects(&self, other: &CellUnion) -> bool {
         calls::intersects(self.as_ref(), other.as_ref()) == 1
     }
 
-    /// `contains`, by the name that sets have for it.
+    /// `contains`, by the name that sets have for it. Since 0.2.
     pub fn is_superset(&self, other: &CellUnion) -> bool {
         self.contains(other)
     }
 
-    /// Whether another union has all leaves of this one.
+    /// Whether another union has all leaves of this one. Since 0.2.
     pub fn is_subset(&self, other: &CellUnion) -> bool {
         other.contains(self)
     }
 
-    /// Whether two unions share no leaf.
+    /// Whether two unions share no leaf. Since 0.2.
     pub fn is_disjoint(&self, other: &CellUnion) -> bool {
         !self.intersects(other)
     }
 
-    /// The leaves of both. [`Error::Memory`].
+    /// The leaves of both. Since 0.2.
+    ///
+    /// # Errors
+    ///
+    /// - [`Error::Memory`]: there is no memory
     pub fn union(&self, other: &CellUnion) -> Result<CellUnion, Error> {
         CellUnion::made(lists::union(self.as_ref(), other.as_ref()))
     }
 
     /// The leaves of any of many unions, in one call, which merges them in pairs. It takes memory for about four times
-    /// their cells. [`Error::Memory`], where `collect` panics.
+    /// their cells. Since 1.0.
+    ///
+    /// # Errors
+    ///
+    /// - [`Error::Memory`]: there is no memory, where `collect` panics
+    ///
+    /// # Examples
     ///
     /// ```
     /// use s2union::CellUnion;
@@ -204,12 +232,20 @@ impl CellUnion {
         CellUnion::made(lists::union_of_many(&ids, &ends))
     }
 
-    /// The leaves that both have. [`Error::Memory`].
+    /// The leaves that both have. Since 0.2.
+    ///
+    /// # Errors
+    ///
+    /// - [`Error::Memory`]: there is no memory
     pub fn intersection(&self, other: &CellUnion) -> Result<CellUnion, Error> {
         CellUnion::made(lists::intersection(self.as_ref(), other.as_ref()))
     }
 
-    /// The leaves of a cell that the union has. [`Error::Memory`].
+    /// The leaves of a cell that the union has. Since 0.2.
+    ///
+    /// # Errors
+    ///
+    /// - [`Error::Memory`]: there is no memory
     pub fn intersection_with_cell(&self, cell: CellId) -> Result<CellUnion, Error> {
         let found = if self.contains_cell(cell) { std::slice::from_ref(&cell) } else { self.cells_at(cell) };
         let mut cells = lists::roomy(found.len())?;
@@ -217,17 +253,31 @@ impl CellUnion {
         Ok(CellUnion { cells })
     }
 
-    /// The leaves that the other doesn't have. [`Error::Memory`].
+    /// The leaves that the other doesn't have. Since 0.2.
+    ///
+    /// # Errors
+    ///
+    /// - [`Error::Memory`]: there is no memory
     pub fn difference(&self, other: &CellUnion) -> Result<CellUnion, Error> {
         CellUnion::made(lists::difference(self.as_ref(), other.as_ref()))
     }
 
-    /// The leaves that one of them has, and not the other. [`Error::Memory`].
+    /// The leaves that one of them has, and not the other. Since 0.2.
+    ///
+    /// # Errors
+    ///
+    /// - [`Error::Memory`]: there is no memory
     pub fn symmetric_difference(&self, other: &CellUnion) -> Result<CellUnion, Error> {
         CellUnion::made(lists::symmetric_difference(self.as_ref(), other.as_ref()))
     }
 
-    /// The leaves of the sphere that the union doesn't have. [`Error::Memory`].
+    /// The leaves of the sphere that the union doesn't have. Since 1.1.
+    ///
+    /// # Errors
+    ///
+    /// - [`Error::Memory`]: there is no memory
+    ///
+    /// # Examples
     ///
     /// ```
     /// use s2union::CellUnion;
@@ -241,14 +291,21 @@ impl CellUnion {
         CellUnion::made(lists::complement(self.as_ref()))
     }
 
-    /// How many leaves the union has, of 6 * 4^30.
+    /// How many leaves the union has, of 6 * 4^30. Since 0.2.
     pub fn leaf_count(&self) -> u64 {
         calls::leaf_count(self.as_ref())
     }
 
     /// The cells, each cut to the least level that is at least its own and is `min_level` or above it by a multiple of
-    /// `modulus`, which is 1 to 3; to leaves if there is none. [`Error::Argument`], [`Error::Memory`]. [`Error::Many`]:
-    /// there would be more than `most` cells.
+    /// `modulus`, which is 1 to 3; to leaves if there is none. Since 0.2.
+    ///
+    /// # Errors
+    ///
+    /// - [`Error::Argument`]: the level is above 30, or the modulus is not 1 to 3
+    /// - [`Error::Many`]: there would be more than `most` cells
+    /// - [`Error::Memory`]: there is no memory
+    ///
+    /// # Examples
     ///
     /// ```
     /// use s2union::{CellUnion, Error};
@@ -268,7 +325,11 @@ impl CellUnion {
         lists::denormalised(self.as_ref(), min_level, modulus, len as usize).map(cells_of)
     }
 
-    /// How many cells `denormalized` makes. [`Error::Argument`].
+    /// How many cells `denormalized` makes. Since 0.2.
+    ///
+    /// # Errors
+    ///
+    /// - [`Error::Argument`]: the level is above 30, or the modulus is not 1 to 3
     pub fn denormalized_len(&self, min_level: u32, modulus: u32) -> Result<u64, Error> {
         let mut len = 0;
         Error::of(calls::denormalised_len(self.as_ref(), min_level, modulus, &mut len), 0)?;
@@ -276,7 +337,13 @@ impl CellUnion {
     }
 
     /// The cells and all their ancestors, ascending, each once: the keys of an index. Two unions share a leaf exactly
-    /// if a cell of one is among the ancestors of the other. [`Error::Memory`].
+    /// if a cell of one is among the ancestors of the other. Since 0.2.
+    ///
+    /// # Errors
+    ///
+    /// - [`Error::Memory`]: there is no memory
+    ///
+    /// # Examples
     ///
     /// ```
     /// let pond: s2union::CellUnion = "14".parse()?;
@@ -287,13 +354,26 @@ impl CellUnion {
         lists::ancestors(self.as_ref()).map(cells_of)
     }
 
-    /// The union file: the bytes that S2's own `Encode` writes. [`Error::Memory`].
+    /// The union file: the bytes that S2's own `Encode` writes. Since 0.2.
+    ///
+    /// # Errors
+    ///
+    /// - [`Error::Memory`]: there is no memory
     pub fn encode(&self) -> Result<Vec<u8>, Error> {
         lists::encode(self.as_ref())
     }
 
-    /// The union in a union file, whose cells may be in any order. [`Error::FileShort`] and the others of files,
-    /// [`Error::Memory`].
+    /// The union in a union file, whose cells may be in any order. Since 0.2.
+    ///
+    /// # Errors
+    ///
+    /// - [`Error::FileShort`]: bytes are missing
+    /// - [`Error::FileVersion`]: the first byte is not 1
+    /// - [`Error::FileTrailing`]: bytes follow the last cell
+    /// - [`Error::FileCell`]: a number in the file is not the identifier of a cell
+    /// - [`Error::Memory`]: there is no memory
+    ///
+    /// # Examples
     ///
     /// ```
     /// use s2union::{CellUnion, Error};
