@@ -495,7 +495,7 @@ export class CellUnion implements Iterable<Cell> {
   leafCount(): bigint;
 
   /**
-   * Whether all leaves of a cell are in it. Each question copies the union: for many cells take `hasEach`.
+   * Whether all leaves of a cell are in it.
    * S2: `S2CellUnion::Contains`.
    * @param cell - a cell
    * @returns true if they are
@@ -520,24 +520,24 @@ export class CellUnion implements Iterable<Cell> {
    * Whether all leaves of each cell are in it, in one call, which is quickest if they ascend.
    * S2: `S2CellUnion::Contains`.
    * @param cells - cells
-   * @returns as many answers
+   * @returns a byte for each cell, 1 or 0
    * @throws {@link Refusal} `NO_CELL` if a number is no cell; the place is that of the first
    * @since 1.1
    * @example
-   * CellUnion.fromTokens("04").hasEach([fromToken("0401"), fromToken("14")]).join() // true,false
+   * CellUnion.fromTokens("04").hasEach([fromToken("0401"), fromToken("14")]).join() // 1,0
    */
-  hasEach(cells: Cells): boolean[];
+  hasEach(cells: Cells): Uint8Array;
   /**
    * Whether it shares a leaf with each cell, in one call, which is quickest if they ascend.
    * S2: `S2CellUnion::Intersects`.
    * @param cells - cells
-   * @returns as many answers
+   * @returns a byte for each cell, 1 or 0
    * @throws {@link Refusal} `NO_CELL` if a number is no cell; the place is that of the first
    * @since 1.1
    * @example
-   * CellUnion.fromTokens("0401").intersectsEach([fromToken("04")]).join() // true
+   * CellUnion.fromTokens("0401").intersectsEach([fromToken("04")]).join() // 1
    */
-  intersectsEach(cells: Cells): boolean[];
+  intersectsEach(cells: Cells): Uint8Array;
   /**
    * Its cells that share a leaf with a cell.
    * @param cell - a cell
@@ -755,13 +755,12 @@ export class CellUnion implements Iterable<Cell> {
 }
 
 /**
- * The bytes of a union file, which answers questions without a list of its cells. Each question copies the bytes.
+ * The bytes of a union file, which answers questions without a list of its cells.
  * @since 1.1
  */
 export class UnionFile {
   /**
-   * Checks the bytes once: they must be the file that `encode` makes of some union. They are kept, and must not be
-   * changed.
+   * Copies the bytes and checks the copy: they must be the file that `encode` makes of some union.
    * S2: `S2CellUnion::Decode`.
    * @param bytes - the bytes of a file
    * @throws {@link Refusal} `NO_UNION` if the cells of the file are not normalized: `decode` takes it, or

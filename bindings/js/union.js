@@ -24,9 +24,15 @@ function fits(value) {
   return value === unsigned(value) || value === BigInt.asIntN(64, value);
 }
 
+/** A number of 64 bits; any other is refused. */
+function numberOf(value) {
+  if (!fits(value)) throw new Refusal(NO_CELL, 0);
+  return value;
+}
+
 /** The number of a cell; any other is refused. */
 function cellOf(value) {
-  if (!fits(value) || !calls().isCell(value)) throw new Refusal(NO_CELL, 0);
+  if (!calls().isCell(numberOf(value))) throw new Refusal(NO_CELL, 0);
   return unsigned(value);
 }
 
@@ -218,20 +224,20 @@ export class CellUnion {
 
   /** Whether all leaves of the cell are in it. */
   has(cell) {
-    return calls().contains(this.#ids, cellOf(cell));
+    return calls().contains(this.#ids, numberOf(cell));
   }
 
   intersectsCell(cell) {
-    return calls().intersects(this.#ids, cellOf(cell));
+    return calls().intersects(this.#ids, numberOf(cell));
   }
 
-  /** `has` of many cells in one call, which is quickest if they ascend. */
+  /** `has` of many cells in one call, which is quickest if they ascend: 1 or 0 for each. */
   hasEach(cells) {
-    return Array.from(calls().containsCells(this.#ids, numbersOf(cells)), Boolean);
+    return calls().containsCells(this.#ids, numbersOf(cells));
   }
 
   intersectsEach(cells) {
-    return Array.from(calls().intersectsCells(this.#ids, numbersOf(cells)), Boolean);
+    return calls().intersectsCells(this.#ids, numbersOf(cells));
   }
 
   /** Its cells that share a leaf with the cell. */
@@ -346,19 +352,20 @@ function bytesGiven(bytes) {
   throw new TypeError("a file is an ArrayBuffer or a view of one");
 }
 
-/** The bytes of a union file, which answer in place. */
+/** The bytes of a union file, which answer as they are. */
 export class UnionFile {
   #bytes;
 
-  /** Checks the bytes once: they must be the file that `encode` makes of some union. They must not be changed. */
+  /** Copies the bytes and checks the copy: they must be the file that `encode` makes of some union. */
   constructor(bytes) {
-    if (!UnionFile.check(bytes)) throw new Refusal(NO_UNION, 0);
-    this.#bytes = bytesGiven(bytes);
+    const copy = bytesGiven(bytes).slice();
+    if (!calls().fileCheck(copy)) throw new Refusal(NO_UNION, 0);
+    this.#bytes = copy;
   }
 
   /** Whether it is the file that `encode` makes. One that only `decode` takes answers false, and others are refused. */
   static check(bytes) {
-    return calls().askFile("s2u_file_check", [bytesGiven(bytes)]);
+    return calls().fileCheck(bytesGiven(bytes));
   }
 
   get size() {
@@ -374,19 +381,19 @@ export class UnionFile {
   }
 
   has(cell) {
-    return calls().askFile("s2u_file_contains_cell", [this.#bytes], cellOf(cell));
+    return calls().fileContains(this.#bytes, numberOf(cell));
   }
 
   intersectsCell(cell) {
-    return calls().askFile("s2u_file_intersects_cell", [this.#bytes], cellOf(cell));
+    return calls().fileIntersects(this.#bytes, numberOf(cell));
   }
 
   isSupersetOf(other) {
-    return calls().askFile("s2u_file_contains", [this.#bytes, other.#bytes]);
+    return calls().fileContainsFile(this.#bytes, other.#bytes);
   }
 
   intersects(other) {
-    return calls().askFile("s2u_file_intersects", [this.#bytes, other.#bytes]);
+    return calls().fileIntersectsFile(this.#bytes, other.#bytes);
   }
 
   ancestors() {

@@ -29,6 +29,10 @@ const KINDS = {[-1]: "ROOM", [-2]: "MEMORY", [-3]: "NO_CELL", [-4]: "NO_UNION", 
 
 const HEAD_SIZE = 9;
 const PAGE_SIZE = 65536;
+/** How many bytes of lists stay in the memory for the next questions. */
+const MOST_KEPT = 2 ** 29;
+/** A list that stays takes a multiple of this, which keeps their number low. */
+const SPACE = 1024;
 
 /** A refusal of the library: its kind, its status, and the place that it reports. */
 class Refusal extends Error {
@@ -41,6 +45,12 @@ class Refusal extends Error {
     this.status = status;
     this.place = place;
   }
+}
+
+/** What a question answers, yes or no; its refusal is thrown. */
+function isYes(status) {
+  if (status < 0) throw new Refusal(status, 0);
+  return status === 1;
 }
 
 const even = (size) => Math.ceil(size / 16) * 16;
@@ -60,34 +70,113 @@ function encoded(text) {
   return new TextEncoder().encode(text);
 }
 
+/** Where a list lies in the memory: its words, its start, 0 once it is gone, and the turn that last asked it. */
+class Place {
+  constructor(list, start, used) {
+    this.at = BigInt(start);
+    this.length = BigInt(list.length);
+    this.size = Math.ceil(Math.max(list.byteLength, 1) / SPACE) * SPACE;
+    this.start = start;
+    this.used = used;
+  }
+}
+
 class Core {
   constructor(instance) {
     this.calls = instance.exports;
     this.base = even(Number(this.calls.__heap_base.value));
-    this.kept = new Map();
-    this.keep([]);
+    this.front = this.base;
+    this.found = new WeakMap();
+    this.laid = [];
+    this.turn = 0;
   }
 
   static async from(bytes) {
     return new Core((await WebAssembly.instantiate(bytes, {})).instance);
   }
 
+  // ---- lists that lie at the front of the memory, where calls find them without a copy
+
+  /** The place of a list that lies there. */
+  placeOf(list) {
+    const place = this.found.get(list);
+    return place?.start ? place : undefined;
+  }
+
   /**
-   * Lays lists at the front of the memory, where calls find them without a copy. Others are forgotten. One that stays
-   * where it was isn't copied again. If there is no memory for them, those that lay there stay.
+   * Lays lists at the front of the memory, until this is called again. Others are forgotten. One that stays where it
+   * was isn't copied again. If there is no memory for them, those that lay there stay.
    */
   keep(lists) {
-    const kept = new Map();
     let front = this.base;
-    for (const list of lists) {
-      kept.set(list, front);
-      front += even(list.byteLength);
-    }
+    const laid = lists.map((list) => {
+      const place = new Place(list, front, Infinity);
+      front += place.size;
+      return place;
+    });
     this.grow(front);
-    for (const [list, at] of kept) {
-      if (this.kept.get(list) !== at) this.bytes(at, list.byteLength).set(bytesOf(list));
+    lists.forEach((list, k) => {
+      if (this.placeOf(list)?.start !== laid[k].start) this.copy(list, laid[k].start);
+    });
+    this.laid.forEach((place) => (place.start = 0));
+    lists.forEach((list, k) => this.found.set(list, laid[k]));
+    [this.laid, this.front] = [laid, front];
+  }
+
+  /** The place of a list that is asked, which nobody may change. It lies there until other lists need the place. */
+  asked(list) {
+    const place = this.placeOf(list) ?? this.lay(list);
+    if (place.used < this.turn) place.used = this.turn;
+    return place;
+  }
+
+  lay(list) {
+    const {size} = new Place(list, 0, 0);
+    if (this.front - this.base + size > MOST_KEPT) this.letGo(MOST_KEPT / 2);
+    this.reach(size);
+    const place = new Place(list, this.front, this.turn);
+    this.copy(list, place.start);
+    this.found.set(list, place);
+    this.laid.push(place);
+    this.front += size;
+    return place;
+  }
+
+  /**
+   * Lets lists go, those first that were asked least lately, until the others have at most this many bytes, and moves
+   * these together. Those of this turn stay, and those that `keep` was given.
+   */
+  letGo(most) {
+    let size = 0;
+    for (const place of [...this.laid].sort((a, b) => b.used - a.used)) {
+      size += place.size;
+      if (size > most && place.used < this.turn) place.start = 0;
     }
-    [this.kept, this.front] = [kept, front];
+    this.laid = this.laid.filter(({start}) => start);
+    this.front = this.base;
+    for (const place of this.laid) {
+      if (place.start !== this.front) this.move(place, this.front);
+      this.front += place.size;
+    }
+  }
+
+  move(place, start) {
+    new Uint8Array(this.calls.memory.buffer).copyWithin(start, place.start, place.start + place.size);
+    [place.start, place.at] = [start, BigInt(start)];
+  }
+
+  copy(list, at) {
+    this.bytes(at, list.byteLength).set(bytesOf(list));
+  }
+
+  /** Sees to it that this many bytes are free behind the lists. They go, if the memory can't grow. */
+  reach(size) {
+    try {
+      this.grow(this.front + size);
+    } catch {
+      this.letGo(0);
+      this.grow(this.front + size);
+    }
   }
 
   grow(end) {
@@ -108,27 +197,41 @@ class Core {
     return new BigUint64Array(this.calls.memory.buffer, at, 1)[0];
   }
 
-  /** Addresses behind the kept lists for pieces of these sizes. */
+  /** Addresses behind the laid lists for pieces of these sizes. */
   places(sizes) {
+    this.reach(sizes.reduce((sum, size) => sum + even(size), 0));
     let at = this.front;
-    const found = sizes.map((size) => (at += even(size)) - even(size));
-    this.grow(at);
-    return found;
+    return sizes.map((size) => (at += even(size)) - even(size));
   }
 
-  /** The words that pass these lists, which are copied if they are not kept, and places for pieces after them. */
+  /** The words that pass these lists, which are copied if they don't lie there, and places for pieces after them. */
   passed(lists, sizes) {
-    const places = this.places([...lists.map((list) => (this.kept.has(list) ? 0 : list.byteLength)), ...sizes]);
+    this.turn++;
+    const laid = lists.map((list) => this.placeOf(list) && this.asked(list));
+    const places = this.places([...lists.map((list, k) => (laid[k] ? 0 : list.byteLength)), ...sizes]);
     const words = lists.flatMap((list, k) => {
-      if (!this.kept.has(list)) this.bytes(places[k], list.byteLength).set(bytesOf(list));
-      return [BigInt(this.kept.get(list) ?? places[k]), BigInt(list.length)];
+      if (!laid[k]) this.copy(list, places[k]);
+      return [laid[k]?.at ?? BigInt(places[k]), BigInt(list.length)];
     });
     return [words, places.slice(lists.length)];
+  }
+
+  /** Lays lists that are asked, and that nobody may change. */
+  stay(...lists) {
+    this.turn++;
+    return lists.map((list) => this.asked(list));
   }
 
   /** What a call of lists and numbers answers. */
   ask(name, lists, ...more) {
     return this.calls[name](...this.passed(lists, [])[0], ...more);
+  }
+
+  /** The same of a list that stays, and a cell: yes or no. */
+  askOf(call, list, cell) {
+    this.turn++;
+    const {at, length} = this.asked(list);
+    return isYes(call(at, length, cell));
   }
 
   /** The list that a call makes of lists and numbers; it is called once more if the room was too little. */
@@ -252,11 +355,11 @@ class Core {
   }
 
   contains(ids, cell) {
-    return this.ask("s2u_contains_cell", [ids], cell) === 1;
+    return this.askOf(this.calls.s2u_contains_cell, ids, cell);
   }
 
   intersects(ids, cell) {
-    return this.ask("s2u_intersects_cell", [ids], cell) === 1;
+    return this.askOf(this.calls.s2u_intersects_cell, ids, cell);
   }
 
   containsCells(ids, cells) {
@@ -269,6 +372,7 @@ class Core {
 
   /** 1 or 0 for each of the cells. */
   marks(name, ids, cells) {
+    this.stay(ids);
     const [words, [out, bad]] = this.passed([ids, cells], [cells.length, 8]);
     const status = this.calls[name](...words, BigInt(out), BigInt(cells.length), BigInt(bad));
     if (status < 0) throw new Refusal(status, Number(this.number(bad)));
@@ -276,19 +380,23 @@ class Core {
   }
 
   containsUnion(xs, ys) {
+    this.stay(xs, ys);
     return this.ask("s2u_contains", [xs, ys]) === 1;
   }
 
   intersectsUnion(xs, ys) {
+    this.stay(xs, ys);
     return this.ask("s2u_intersects", [xs, ys]) === 1;
   }
 
   compare(xs, ys) {
+    this.stay(xs, ys);
     return this.ask("s2u_compare", [xs, ys]);
   }
 
   /** The cells of the list that share a leaf with the cell. */
   cellsAt(ids, cell) {
+    this.stay(ids);
     const [words, [first, count]] = this.passed([ids], [8, 8]);
     const status = this.calls.s2u_cells_at(...words, cell, BigInt(first), BigInt(count));
     if (status < 0) throw new Refusal(status, 0);
@@ -433,7 +541,7 @@ class Core {
   // Questions of the bytes of a file, whose frame is checked by each.
 
   fileCount(bytes) {
-    return Number(this.answer("s2u_file_count", [bytes]));
+    return Number(this.ofFile("s2u_file_count", bytes));
   }
 
   fileLeafCount(bytes) {
@@ -441,18 +549,40 @@ class Core {
   }
 
   fileCell(bytes, place) {
-    return this.answer("s2u_file_cell", [bytes], BigInt(place));
+    return this.ofFile("s2u_file_cell", bytes, BigInt(place));
+  }
+
+  /** A number of a file that stays. */
+  ofFile(name, bytes, ...more) {
+    this.stay(bytes);
+    return this.answer(name, [bytes], ...more);
+  }
+
+  fileContains(bytes, cell) {
+    return this.askOf(this.calls.s2u_file_contains_cell, bytes, cell);
+  }
+
+  fileIntersects(bytes, cell) {
+    return this.askOf(this.calls.s2u_file_intersects_cell, bytes, cell);
+  }
+
+  fileContainsFile(xs, ys) {
+    this.stay(xs, ys);
+    return isYes(this.ask("s2u_file_contains", [xs, ys]));
+  }
+
+  fileIntersectsFile(xs, ys) {
+    this.stay(xs, ys);
+    return isYes(this.ask("s2u_file_intersects", [xs, ys]));
+  }
+
+  /** Whether the bytes are the file that `encode` makes; those that are no file are refused. */
+  fileCheck(bytes) {
+    return isYes(this.ask("s2u_file_check", [bytes]));
   }
 
   fileAncestors(bytes) {
     return this.make("s2u_file_ancestors", [bytes], Math.floor(bytes.length / 4), BigUint64Array);
-  }
-
-  /** The answer of a question of files, yes or no. */
-  askFile(name, files, ...more) {
-    const status = this.ask(name, files, ...more);
-    if (status < 0) throw new Refusal(status, 0);
-    return status === 1;
   }
 
   tokens(ids) {

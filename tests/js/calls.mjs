@@ -102,7 +102,7 @@ export const CALLS = {
   "CellUnion.leafCount": {asks: (it) => it.union.leafCount(), wanted: (it) => it.count},
   ...ofUnion("cell", {has: () => true, intersectsCell: () => true, cellsAt: (it) => [it.cell],
     intersectionWithCell: (it) => [it.cell]}),
-  ...ofUnion("cells", {hasEach: each(true), intersectsEach: each(true)}),
+  ...ofUnion("cells", {hasEach: each(1), intersectsEach: each(1)}),
   ...named("CellUnion.", (it) => it.union, "other", {
     isSupersetOf: () => false, isSubsetOf: () => false, isDisjointFrom: () => true, intersects: () => false,
     equals: () => false, compare: () => -1, intersection: none, difference: cells,

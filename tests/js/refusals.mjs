@@ -1,6 +1,7 @@
 // What the package for JavaScript refuses, what it answers of long lists, and what stays as it is: refusals.mjs MODULE
 // VERSION COUNT, for lists of this many cells. The last line is 'N passed, M failed'.
 import assert from "node:assert/strict";
+import {readFileSync, rmSync, writeFileSync} from "node:fs";
 import {inspect} from "node:util";
 import {pathToFileURL} from "node:url";
 import {CALLS, FACE, Given, namesOf} from "./calls.mjs";
@@ -21,6 +22,68 @@ async function another() {
   return module;
 }
 
+/** The module once more, in whose memory lists of this many bytes stay. */
+async function keeping(bytes) {
+  const limit = "const MOST_KEPT = 2 ** 29;";
+  const text = readFileSync(path, "utf8");
+  assert.ok(text.includes(limit));
+  const copy = `${path}.${++loaded}.mjs`;
+  writeFileSync(copy, text.replace(limit, `const MOST_KEPT = ${bytes};`));
+  try {
+    const module = await import(pathToFileURL(copy));
+    await module.load();
+    return module;
+  } finally {
+    rmSync(copy);
+  }
+}
+
+/** How many bytes an action copies from one list to another. */
+function copied(action) {
+  const lists = Object.getPrototypeOf(Uint8Array.prototype);
+  const {set} = lists;
+  let bytes = 0;
+  lists.set = function (list, ...place) {
+    bytes += list.byteLength ?? list.length;
+    return set.call(this, list, ...place);
+  };
+  try {
+    action();
+  } finally {
+    lists.set = set;
+  }
+  return bytes;
+}
+
+/** The questions of a union or of a file, of which each is asked of another one or of a leaf. */
+const QUESTIONS = {
+  has: (it, other, leaf) => it.has(leaf),
+  intersectsCell: (it, other, leaf) => it.intersectsCell(leaf),
+  isSupersetOf: (it, other) => it.isSupersetOf(other),
+  intersects: (it, other) => it.intersects(other),
+  leafCount: (it) => it.leafCount(),
+};
+const OF_UNIONS = {
+  ...QUESTIONS,
+  hasEach: (it, other, leaf) => it.hasEach([leaf])[0],
+  intersectsEach: (it, other, leaf) => it.intersectsEach([leaf])[0],
+  cellsAt: (it, other, leaf) => it.cellsAt(leaf).length,
+  isSubsetOf: (it, other) => other.isSupersetOf(it),
+  isDisjointFrom: (it, other) => it.isDisjointFrom(other),
+  equals: (it, other) => it.equals(other),
+  compare: (it, other) => it.compare(other),
+};
+const OF_FILES = {...QUESTIONS, size: (it) => it.size, at: (it) => it.at(0)};
+
+/** What each question has to answer, of sets of leaves. */
+const PLAIN = {
+  has: (xs, ys, leaf) => xs.has(leaf),
+  isSupersetOf: (xs, ys) => [...ys].every((leaf) => xs.has(leaf)),
+  intersects: (xs, ys) => [...ys].some((leaf) => xs.has(leaf)),
+  leafCount: (xs) => BigInt(xs.size),
+  size: (xs) => xs.size,
+};
+
 /** For each call that takes something of a kind: a function of that, and its name. */
 function taking(...kinds) {
   return Object.entries(CALLS).flatMap(([name, call]) => kinds.filter((kind) => call[kind]).map(
@@ -35,12 +98,12 @@ function same(found, wanted, name) {
   assert.ok(answer.length === wanted.length && answer.every((it, k) => it === wanted[k]), name);
 }
 
-/** Does something while the memory doesn't grow for the time that is named; answers how often it was to grow. */
+/** Does something while the memory grows no more, after this many times; answers how often it was to grow. */
 function withoutMemory(place, action) {
   const {grow} = WebAssembly.Memory.prototype;
   let times = 0;
   WebAssembly.Memory.prototype.grow = function (pages) {
-    if (times++ === place) throw new RangeError("it may not grow");
+    if (times++ >= place) throw new RangeError("it may not grow");
     return grow.call(this, pages);
   };
   try {
@@ -188,6 +251,87 @@ const TESTS = {
       }
     }
     assert.ok(refusing.size > 10, `${[...refusing]}`);
+  },
+  "no question copies the union or the file that was asked before": () => {
+    const many = new Given(s2, count);
+    const [union, other, file] = [many.union, many.other, many.file];
+    for (const [on, second, questions] of [[union, other, OF_UNIONS], [file, many.file, OF_FILES]]) {
+      for (const [name, ask] of Object.entries(questions)) {
+        const wanted = ask(on, second, many.cell);
+        const bytes = copied(() => assert.equal(ask(on, second, many.cell), wanted));
+        assert.ok(bytes < 100, `${name}: ${bytes}`);
+      }
+    }
+  },
+  "lists that go when others need their place": async () => {
+    const module = await keeping(2 ** 15);
+    let seed = 1;
+    const below = (most) => (seed = (seed * 48271) % (2 ** 31 - 1)) % most;
+    const sizes = Array.from({length: 40}, (_, k) => (k % 13 ? 1 + below(200) : 5000));
+    const sets = sizes.map((size) => new Set(Array.from({length: size}, () => BigInt(4 * below(2 * size) + 1))));
+    const unions = sets.map((leaves) => module.CellUnion.fromNormalized(BigUint64Array.from(leaves).sort()));
+    const files = unions.map((union) => new module.UnionFile(union.encode()));
+    for (let turn = 0; turn < 2000; turn++) {
+      const [x, y] = [below(sets.length), below(turn % 3 ? 4 : sets.length)];
+      const leaf = BigInt(4 * below(400) + 1);
+      const [name, plain] = Object.entries(PLAIN)[turn % 5];
+      const lists = below(2) ? files : unions;
+      const wanted = plain(sets[x], sets[y], leaf);
+      const both = new Set([...sets[x], ...sets[y]]).size;
+      const asks = () => {
+        assert.equal(OF_FILES[name](lists[x], lists[y], leaf), wanted, name);
+        if (turn % 10 === 0) assert.equal(unions[x].union(unions[y]).leafCount(), BigInt(both));
+      };
+      withoutMemory(below(4), () => {
+        try {
+          asks();
+        } catch (error) {
+          if (error.status !== -2) throw error;
+        }
+      });
+      asks();
+    }
+    withoutMemory(0, () => unions.forEach((it, k) => assert.equal(it.leafCount(), BigInt(sets[k].size))));
+    const short = unions.filter(({size}) => size < 5000);
+    const again = (it) => copied(() => it.has(LEAF));
+    short.forEach((it) => [it, short[0]].forEach(again));
+    assert.deepEqual([again(short[0]), again(short[1])], [0, 8 * short[1].size]);
+  },
+  "what was given changes afterwards": () => {
+    const wanted = (it, name) => {
+      assert.equal(it.has(FACE), true, name);
+      assert.equal(it.intersectsCell(3n * FACE), false, name);
+      assert.equal(it.leafCount(), 4n ** 30n, name);
+    };
+    const good = new CellUnion([FACE]).encode();
+    const room = Uint8Array.of(...Array(7).fill(0), ...good, 0);
+    const shared = new Uint8Array(new SharedArrayBuffer(good.length));
+    shared.set(good);
+    const resizable = new Uint8Array(new ArrayBuffer(good.length, {maxByteLength: 64}));
+    resizable.set(good);
+    const given = {bytes: good.slice(), part: room.subarray(7, 7 + good.length), shared, resizable,
+      buffer: good.slice().buffer, view: new DataView(good.slice().buffer), node: Buffer.from(good)};
+    for (const [name, bytes] of Object.entries(given)) {
+      const [fresh, asked] = [new UnionFile(bytes), new UnionFile(bytes)];
+      wanted(asked, name);
+      (ArrayBuffer.isView(bytes) ? new Uint8Array(bytes.buffer) : new Uint8Array(bytes)).fill(255);
+      for (const it of [fresh, asked, fresh.toUnion()]) wanted(it, name);
+      const {buffer = bytes} = bytes;
+      if (name === "resizable") buffer.resize?.(0);
+      else if (name !== "shared") structuredClone(buffer, {transfer: [buffer]});
+      for (const it of [fresh, asked, asked.toUnion()]) wanted(it, name);
+    }
+    const list = BigUint64Array.of(0n, FACE, 0n).subarray(1, 2);
+    const unions = [new CellUnion(list), CellUnion.fromNormalized(list), CellUnion.unionOf([new CellUnion(list)])];
+    unions.slice(1).forEach((it) => wanted(it));
+    new BigUint64Array(list.buffer).fill(3n * FACE);
+    for (const it of unions) wanted(it);
+    structuredClone(list.buffer, {transfer: [list.buffer]});
+    for (const it of unions) wanted(it);
+    const answers = unions[0].hasEach([FACE]);
+    answers[0] = 0;
+    unions[0].cells().fill(0n);
+    for (const it of unions) wanted(it);
   },
   "a union never changes": () => {
     const given = BigUint64Array.of(FACE);

@@ -40,6 +40,9 @@ function same(...answers) {
   return texts.every((text) => text === texts[0]) ? texts[0] : texts.join(" but ");
 }
 
+/** Yes or no for each byte, of which 1 is yes and 0 no. */
+const marked = (answers) => Array.from(answers, (byte) => [false, true][byte]);
+
 const hex = (text) => Buffer.from(text).toString("hex");
 const both = (method, given, ...more) => same(union(given)[method](...more), file(given)[method](...more));
 
@@ -113,8 +116,8 @@ const QUESTIONS = {
   intersects_cell: (given, c) => both("intersectsCell", given, cell(c)),
   intersection_with_cell: (given, c) => union(given).intersectionWithCell(cell(c)),
   cells_at: (given, c) => union(given).cellsAt(cell(c)),
-  contains_cells: (given, asked) => union(given).hasEach(cells(asked)),
-  intersects_cells: (given, asked) => union(given).intersectsEach(cells(asked)),
+  contains_cells: (given, asked) => marked(union(given).hasEach(cells(asked))),
+  intersects_cells: (given, asked) => marked(union(given).intersectsEach(cells(asked))),
   denormalised: cut,
   outer: (given, level) => union(given).outer(Number(level)),
   inner: (given, level) => union(given).inner(Number(level)),

@@ -458,7 +458,7 @@ class Trial:
         """What the page has, and shows of it."""
         legend = [it.text for it in self.driver.find_elements(By.CSS_SELECTOR, "#legend .name")]
         steps = [self.driver.find_element(By.ID, name).is_enabled() for name in ("undo", "redo")]
-        counts = self.run("return [s2page.past.length, s2page.future.length, s2page.core.kept.size]")
+        counts = self.run("return [s2page.past.length, s2page.future.length, s2page.core.laid.length]")
         return self.names(), legend, self.chosen(), steps, counts
 
     def test_files_that_can_not_be_read(self):
