@@ -1,6 +1,7 @@
 /* The calls of s2union.h for Java: Calls.java has the natives, and the numbers of the calls, which tools/calls makes of
  * the cases here. A list is a long[], whose signs mean nothing. Lists of up to SHORT elements are passed where they
- * lie, which holds the collector up meanwhile; longer ones are copied. There is no arithmetic on cells here. */
+ * lie, which holds the collector up meanwhile. So are lists of any length to questions that end soon. To other calls
+ * longer ones are copied. There is no arithmetic on cells here. */
 #include <jni.h>
 #include <s2union.h>
 
@@ -16,7 +17,7 @@ typedef struct {
   void* at[LISTS];
   jsize length[LISTS];
   int is_bytes[LISTS], is_copy[LISTS], writes[LISTS];
-  int count;
+  int count, ends_soon;
 } passed;
 
 static void add(passed* lists, jarray given, int is_bytes, int writes) {
@@ -26,7 +27,7 @@ static void add(passed* lists, jarray given, int is_bytes, int writes) {
   lists->at[k] = NULL;
   lists->length[k] = given != NULL ? (*env)->GetArrayLength(env, given) : 0;
   lists->is_bytes[k] = is_bytes;
-  lists->is_copy[k] = lists->length[k] > SHORT;
+  lists->is_copy[k] = lists->length[k] > SHORT && !lists->ends_soon;
   lists->writes[k] = writes;
 }
 
@@ -153,9 +154,10 @@ static jlong asked(jint call, const passed* given, uint64_t cell) {
   }
 }
 
+/* All but the first two are questions that end soon: of one cell, or of two lists up to where they decide it. */
 CALL(jlong, ask)(JNIEnv* env, jclass of, jint call, jlongArray xs, jlongArray ys, jlong cell) {
   (void)of;
-  passed lists = {.env = env};
+  passed lists = {.env = env, .ends_soon = call > 1};
   add(&lists, xs, 0, 0), add(&lists, ys, 0, 0);
   jlong answer = begin(&lists) ? asked(call, &lists, (uint64_t)cell) : S2U_MEMORY;
   end(&lists);
@@ -231,7 +233,7 @@ CALL(jint, denormalisedLength)(JNIEnv* env, jclass of, jlongArray xs, jint min, 
 
 CALL(jint, cellsAt)(JNIEnv* env, jclass of, jlongArray xs, jlong cell, jlongArray out) {
   (void)of;
-  passed lists = {.env = env};
+  passed lists = {.env = env, .ends_soon = 1};
   size_t first = 0, count = 0;
   add(&lists, xs, 0, 0);
   int32_t status = begin(&lists) ? s2u_cells_at(LIST(0), (uint64_t)cell, &first, &count) : S2U_MEMORY;
@@ -307,11 +309,14 @@ static int32_t asked_of_file(jint call, const passed* given, uint64_t a, uint64_
   }
 }
 
+/* The check and the count of leaves go through the whole file; the others end soon. `out` may be null. */
 CALL(jint, askFile)(JNIEnv* env, jclass of, jint call, jbyteArray xs, jbyteArray ys, jlong a, jlongArray out) {
   (void)of;
-  passed lists = {.env = env};
+  passed lists = {.env = env, .ends_soon = call != 0 && call != 2};
   uint64_t found = 0;
   add(&lists, xs, 1, 0), add(&lists, ys, 1, 0);
   int32_t status = begin(&lists) ? asked_of_file(call, &lists, (uint64_t)a, &found) : S2U_MEMORY;
-  return ended(&lists, status, out, found);
+  end(&lists);
+  if (out != NULL) put(env, out, found);
+  return status;
 }

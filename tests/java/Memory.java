@@ -1,5 +1,6 @@
 import java.util.Arrays;
 import java.util.List;
+import java.util.Set;
 import java.util.stream.IntStream;
 import s2union.CellId;
 import s2union.CellUnion;
@@ -11,6 +12,10 @@ import s2union.CellUnion;
  */
 final class Memory {
   private static final int SHORT = 3;
+  /** The questions that end soon, to which an array of any length is passed where it lies. */
+  private static final Set<String> END_SOON = Set.of("CellUnion.contains", "CellUnion.intersects",
+      "CellUnion.cellIdsAt", "CellUnion.compareTo", "UnionFile.contains", "UnionFile.intersects", "UnionFile.size",
+      "UnionFile.cellId");
   private static int passed;
   private static int failed;
 
@@ -53,6 +58,7 @@ final class Memory {
     refuse(0);
     call.answer();
     long allocations = refuse(0);
+    check(allocations == 0 || !END_SOON.contains(call.toString()), call + " copies nothing");
     int refusals = 0;
     for (long turn = 1; turn <= allocations; turn++) refusals += isRefused(call, turn, wanted) ? 1 : 0;
     boolean isCopied = isLong && Arrays.stream(call.given()).anyMatch(word -> word.getClass().isArray());

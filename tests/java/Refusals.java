@@ -131,6 +131,11 @@ final class Refusals {
     System.arraycopy(good, 9, twice, 17, 8);
     check(CellUnion.decode(twice).equals(CellUnion.of(FACE)) && !UnionFile.check(twice), "a file of one cell twice");
     refused(-4, 0, "not a normalized list of cells", () -> new UnionFile(twice));
+    byte[] given = good.clone();
+    UnionFile kept = new UnionFile(given);
+    Arrays.fill(given, (byte) 255);
+    check(kept.contains(FACE) && !kept.intersects(3 * FACE) && kept.size() == 1 && kept.cellId(0) == FACE
+        && kept.leafCellsCovered() == 1L << 60 && kept.toUnion().equals(CellUnion.of(FACE)), "a file's own bytes");
     outOfRange(0, () -> new UnionFile(good).cellId(1));
     outOfRange(0, () -> new UnionFile(good).cellId(-1));
     check(new UnionFile(good).toUnion().equals(CellUnion.of(FACE)), "a file's union");
@@ -163,6 +168,11 @@ final class Refusals {
     check(CellUnion.fromTokens(whole.toString()).equals(whole), "a long text");
     boolean[] found = whole.containsEach(cells);
     check(IntStream.range(0, found.length).allMatch(k -> found[k]), "many questions");
+    UnionFile file = new UnionFile(whole.encode());
+    check(IntStream.range(0, 1000).mapToLong(k -> cells[1200 * k]).allMatch(cell -> whole.contains(cell)
+        && file.contains(cell) && !rest.intersects(cell) == half.contains(cell)), "single questions");
+    check(whole.contains(half) && !half.contains(whole) && file.contains(file) && whole.compareTo(whole) == 0
+        && file.size() == whole.size() && file.cellId(1_000_000) == whole.cellId(1_000_000), "questions of two");
     check(whole.leafCellsCovered() == LongStream.of(whole.cellIds()).map(CellId::leafCellsCovered).sum(), "leaves");
     List<Thread> threads = IntStream.range(0, 4)
         .mapToObj(k -> new Thread(() -> check(whole.intersection(half).equals(half), "threads"))).toList();

@@ -71,7 +71,7 @@ public final class CellUnion implements Comparable<CellUnion> {
    * @since 1.1
    */
   public static boolean isNormalized(long... cells) {
-    return Calls.asks(Calls.IS_UNION, cells, Calls.NONE, 0);
+    return Calls.asks(Calls.IS_UNION, cells, null, 0);
   }
 
   /**
@@ -294,7 +294,7 @@ public final class CellUnion implements Comparable<CellUnion> {
    * @since 1.1
    */
   public long leafCellsCovered() {
-    return Calls.numberOf(Calls.LEAF_COUNT, ids, Calls.NONE);
+    return Calls.numberOf(Calls.LEAF_COUNT, ids, null);
   }
 
   /**
@@ -311,7 +311,7 @@ public final class CellUnion implements Comparable<CellUnion> {
    * @since 1.1
    */
   public boolean contains(long cell) {
-    return Calls.asks(Calls.CONTAINS_CELL, ids, Calls.NONE, cell);
+    return Calls.asks(Calls.CONTAINS_CELL, ids, null, cell);
   }
 
   /**
@@ -328,7 +328,7 @@ public final class CellUnion implements Comparable<CellUnion> {
    * @since 1.1
    */
   public boolean intersects(long cell) {
-    return Calls.asks(Calls.INTERSECTS_CELL, ids, Calls.NONE, cell);
+    return Calls.asks(Calls.INTERSECTS_CELL, ids, null, cell);
   }
 
   /**

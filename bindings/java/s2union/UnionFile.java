@@ -1,8 +1,7 @@
 package s2union;
 
 /**
- * The bytes of a union file, which answer as they are. Each question copies a file of more than 1,000,000 bytes. If the
- * bytes are changed after the check, a question throws a {@link Refusal} of a FILE kind, or its answer means nothing.
+ * The bytes of a union file, which answer as they are. It never changes, so threads may share it.
  *
  * @since 1.1
  */
@@ -10,8 +9,7 @@ public final class UnionFile {
   private final byte[] bytes;
 
   /**
-   * Checks the bytes once: they must be the file that {@code encode} makes of some union. They are kept, and must not
-   * be changed.
+   * Copies the bytes and checks the copy, once: they must be the file that {@code encode} makes of some union.
    * S2: {@code S2CellUnion::Decode}.
    *
    * <pre>{@code
@@ -26,8 +24,9 @@ public final class UnionFile {
    * @since 1.1
    */
   public UnionFile(byte[] bytes) {
-    if (!check(bytes)) throw new Refusal(Refusal.NO_UNION, 0);
-    this.bytes = bytes;
+    byte[] copy = bytes.clone();
+    if (!check(copy)) throw new Refusal(Refusal.NO_UNION, 0);
+    this.bytes = copy;
   }
 
   /**
@@ -45,7 +44,7 @@ public final class UnionFile {
    * @since 1.1
    */
   public static boolean check(byte[] bytes) {
-    return Calls.checked(Calls.askFile(Calls.FILE_CHECK, bytes, null, 0, new long[1]), 0) == 1;
+    return Calls.checked(Calls.askFile(Calls.FILE_CHECK, bytes, null, 0, null), 0) == 1;
   }
 
   private long number(int call, long a) {
@@ -55,7 +54,7 @@ public final class UnionFile {
   }
 
   private boolean asks(int call, byte[] others, long cell) {
-    return Calls.checked(Calls.askFile(call, bytes, others, cell, new long[1]), 0) == 1;
+    return Calls.checked(Calls.askFile(call, bytes, others, cell, null), 0) == 1;
   }
 
   /**
