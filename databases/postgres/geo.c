@@ -2,6 +2,8 @@
  * what each does. */
 #include "postgres.h"
 
+#include <math.h>
+
 #include "fmgr.h"
 
 #pragma GCC visibility push(hidden)

@@ -283,6 +283,16 @@ by_pip() { # the module where pip puts it, with the library elsewhere
       /usr/bin/python3 -m doctest "$top/docs/PYTHON.md") && [ -e "$work/site/s2union/py.typed" ]
 }
 step "Python: installed by pip" by_pip
+by_sdist() ( # the archive of its sources builds where nothing else is
+  cp -r "$top/bindings/python" "$work/described" && "$top/tools/packaging/described" "$work/described" docs/PYTHON.md &&
+    cd "$work/described" && /usr/bin/python3 -c 'from setuptools import build_meta
+build_meta.build_sdist("'"$work"'")' >sdist 2>&1 && ! grep -i '^warning' sdist && mkdir "$work/from-sdist" &&
+    tar -C "$work/from-sdist" --strip-components=1 -xf "$work"/s2union-*.tar.gz && cd "$work/from-sdist" &&
+    [ -s README.md ] && grep '^Project-URL: Repository' PKG-INFO &&
+    S2UNION_INCLUDE=$include /usr/bin/python3 -c 'from setuptools import build_meta
+build_meta.build_wheel(".")' && [ -s s2union-*.whl ]
+)
+step "Python: an archive of its sources, and a wheel from that" by_sdist
 # The same module in each other Python that is there.
 for minor in 8 9 10 11 12 13 14; do
   other=$(command -v "python3.$minor") && "$other" -c '' 2>/dev/null || continue
@@ -304,6 +314,10 @@ by_go() ( # the page's program, in a module of its own
 )
 step "Go: against the model, the edges, what is refused, and the examples" for_go
 step "Go: docs/GO.md" by_go
+static_go() (
+  cd "$work/by-go" && CGO_LDFLAGS=-static go build -o alone && ! ldd alone && says GO.md go env -i ./alone
+)
+step "Go: docs/GO.md, without a shared library" static_go
 
 for_rust() ( # in a copy, since cargo writes beside the sources
   cp -r "$top/bindings/rust" "$work/for-rust" && cd "$work/for-rust" &&
@@ -323,4 +337,11 @@ with_serde() ( # by Debian's sources of serde, in place of a registry
 step "Rust: against the model, the edges, what is refused, and the examples" for_rust
 step "Rust: docs/RUST.md" by_rust
 step "Rust: with serde" with_serde
+packed_crate() ( # cargo package finds nothing missing
+  cp -r "$top/bindings/rust" "$work/packed-crate" && rm -r "$work/packed-crate/serde" &&
+    "$top/tools/packaging/described" "$work/packed-crate" docs/RUST.md && cd "$work/packed-crate" &&
+    CARGO_TARGET_DIR=$work/target cargo package --offline --allow-dirty --no-verify >packed 2>&1 &&
+    ! grep -i warning packed
+)
+step "Rust: cargo package" packed_crate
 finish

@@ -16,8 +16,14 @@ step "no arithmetic on cells" no_arithmetic "$top/bindings/java/s2union.c"
 step "tools/java" "$top/tools/java" "$work/java" "${target[@]}"
 [ "$failed" -eq 0 ] || finish
 jar=$work/java/s2union.jar
-again() { "$top/tools/java" "$work/again" "${target[@]}" && cmp "$jar" "$work/again/s2union.jar"; }
+again() { "$top/tools/java" "$work/again" "${target[@]}" && diff -r "$work/java" "$work/again"; }
 step "the same bytes a second time" again
+beside_it() { # what a registry of Java asks for, without a word that is not filled in
+  jar --describe-module --file "$jar" | grep "^s2union.* automatic" && [ -s "$work/java/s2union-javadoc.jar" ] &&
+    jar --list --file "$work/java/s2union-sources.jar" | grep -x s2union/CellUnion.java &&
+    grep "<version>$(cat "$top/VERSION")<" "$work/java/s2union.pom" && ! grep '>[^<]*@' "$work/java/s2union.pom"
+}
+step "its sources, its reference, its pom, its name as a module" beside_it
 unpacked() { # libraries, each for its processor
   local each
   mkdir "$work/classes" && (cd "$work/classes" && jar --extract --file "$jar") && for each in $processors; do
