@@ -401,12 +401,13 @@ class House:
             return found if found in self.items else None
         return None
 
-    def closure(self, roots):
-        """What these keys need, with themselves, in the order in which a reader meets it."""
+    def closure(self, roots, left_out=()):
+        """What these keys need, with themselves, in the order in which a reader meets it, without what is left out and
+        what only that needs."""
         seen = {}
         def visit(key):
             key = self.resolved(key)
-            if key is None or key in seen:
+            if key is None or key in seen or key in left_out:
                 return
             seen[key] = self.items[key]
             for use in self.items[key].uses:
