@@ -13,6 +13,7 @@ pub mod FoundLemmas
 pub mod NoteLemmas
 pub mod OneRun
 pub mod OrderLemmas
+pub mod OrdinaryLemmas
 pub mod OutputLemmas
 pub mod OverlayLemmas
 pub mod FitLemmas
@@ -22,6 +23,7 @@ pub mod ScriptLemmas
 pub mod SessionLemmas
 pub mod SettledLemmas
 pub mod StepLemmas
+pub mod StoredLemmas
 pub mod TakeInLemmas
 pub mod TextLemmas
 pub mod UndoLemmas

@@ -149,7 +149,7 @@ pub record OneLine (a b c d : World) (x y : Reply) : Type 0 where
   pub files : SameUse a.files b.files c.files d.files
 
 -- a refusal that a plain reply gives
-settled : (refusal : Refusal) (x : Reply) → x ≡ Refuses refusal → IsPlain x → IsSettled refusal
+pub settled : (refusal : Refusal) (x : Reply) → x ≡ Refuses refusal → IsPlain x → IsSettled refusal
 settled refusal x told p = (λ e. p.0 (told ∙ ap (λ r. Refuses r) e), λ e. p.1 (told ∙ ap (λ r. Refuses r) e))
 
 one_text : (S : ℕ → Bool) (bytes others : List ℕ) → Bytes S bytes → Bytes S others → bytes ≡ others

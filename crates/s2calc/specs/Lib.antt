@@ -19,6 +19,7 @@ pub mod Order
 pub mod Laws
 pub mod LawsScripts
 pub mod LawsFound
+pub mod LawsStored
 pub mod Program
 pub mod Check
 pub mod Draw

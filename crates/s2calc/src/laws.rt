@@ -2,6 +2,7 @@
 ghost use Rattle.s2calc.specs.Laws.{TellsWhole, NothingHeld, OneRun, CountsFailures, FilesStay};
 ghost use Rattle.s2calc.specs.LawsScripts.{OneEnd, OneEndOfInput, OneEndOfOutput, LawOfUndo, RestoreGivesBack};
 ghost use Rattle.s2calc.specs.LawsScripts.{LoadsWhatWasFound};
+ghost use Rattle.s2calc.specs.LawsStored.{KeepsOrdinary, StoredComesBack};
 
 /// If the reader exposes its bytes, a run that finishes has carried out the lines of exactly these bytes.
 pub fn whole_script()
@@ -60,4 +61,16 @@ pub fn loads_what_was_found()
 /// `restore` gives back what `dump` wrote, in the same editor or another one with its limit and depth.
 pub fn restore_gives_back()
     ensures { RestoreGivesBack }
+{}
+
+/// From a state that is so, each state has normalized lists that keep to the limit, and keeps to the depth.
+pub fn states_stay_ordinary()
+    ensures { KeepsOrdinary }
+{}
+
+/// What was stored comes back where it is found, over any shelf that lists what it stored and found, as the program's
+/// does: a `load` of the bytes that a `save` stored gives the register the list of the saved one, and a `restore` of
+/// those that a `dump` stored gives the dumped state.
+pub fn stored_comes_back()
+    ensures { StoredComesBack }
 {}

@@ -1,18 +1,26 @@
 -- Laws about what the program did.
-use Rattle.std.specs.Prelude.{◌≡◌, ℕ, ◌⊎◌, Bool, true, List, [], ◌++◌, replicate, Option, Some, Ok, Err, count_by}
+use Rattle.std.specs.Prelude.{◌≡◌, ◌≤◌, ℕ, ◌⊎◌, Bool, true, List, [], ◌∷◌, ◌++◌, replicate, Option, Some, Ok, Err}
+use Rattle.std.specs.Prelude.{count_by}
 use Rattle.s2edit.specs.History.{History, untouched}
-use Rattle.s2edit.specs.declared.TheConstants.{REGISTERS}
-use Rattle.s2shelf.specs.Shelf.{Files, Found}
+use Rattle.s2edit.specs.Leads.{list_at}
+use Rattle.s2edit.specs.declared.TheConstants.{MOST_CELLS, REGISTERS}
+use Rattle.s2shelf.specs.Shelf.{Files, Found, Holding, Written}
+use Rattle.s2script.specs.Line.{line_of}
 use Rattle.s2script.specs.Lines.{lines}
+use Rattle.s2script.specs.declared.command.Command.TheVariants.{Load, Save, Dump, Restore}
+use Rattle.s2script.specs.declared.command.Parsed.TheVariants.{Does as Asks}
 use Rattle.s2calc.specs.declared.engine.Tally.{Tally}
 use Rattle.s2calc.specs.declared.fault.RunFault.TheVariants.{Input}
 use Rattle.s2calc.specs.Buffered.{Buffered}
 use Rattle.s2calc.specs.Calls.{Call}
-use Rattle.s2calc.specs.Laws.{AllPlain}
+use Rattle.s2calc.specs.Laws.{IsPlain, AllPlain}
 use Rattle.s2calc.specs.LawsFound.{Held, FoundIn, Course, Begins}
+use Rattle.s2calc.specs.LawsStored.{FoundLast, GetsList}
 use Rattle.s2calc.specs.Moments.{Moment}
-use Rattle.s2calc.specs.Replies.{Reply, texts, is_refusal}
+use Rattle.s2calc.specs.Replies.{Reply, Says, texts, is_refusal}
 use Rattle.s2calc.specs.Run.{Steps}
+use Rattle.s2calc.specs.Step.{Step}
+use Rattle.s2calc.specs.Texts.{done_line}
 use Rattle.s2calc.specs.World.{World, world}
 use Rattle.s2process.specs.declared.ended.Ended.{Ended}
 use Rattle.s2process.specs.declared.folders.Opening.TheVariants.{Opened}
@@ -95,3 +103,36 @@ module _ (R W E F : Type 0) {S : Type 0} (files : S → Files) (opened : S → L
   OneOutput =
       (script : List ℕ) (held : Held) (start : History (List ℕ)) (ended ended' : Ended R W E F S)
       (run : RunOf script held start ended) (other : RunOf script held start ended') → WritesAlike run other
+
+  -- A run of a script, by a new editor with this limit and depth, carried out this line with this reply, and the line
+  -- led from one of these worlds to the other. `before` and `after` are the lines before and after it.
+  pub record CarriesOut (limit depth : ℕ) (old : World) (line : List ℕ) (reply : Reply) (new : World) : Type 0 where
+    pub ended : Ended R W E F S
+    pub moments : List (Moment (Buffered (ListedWriter W)) S)
+    pub path : List ℕ
+    pub explains : Bool
+    pub runs : RunsFrom files opened moments ended (untouched limit depth (replicate REGISTERS [])) path explains
+    pub before : List (List ℕ)
+    pub after : List (List ℕ)
+    pub earlier : List Reply
+    pub later : List Reply
+    pub done_are : runs.runs.did.done ≡ before ++ line ∷ after
+    pub replies_are : runs.runs.did.replies ≡ earlier ++ reply ∷ later
+    pub until : Steps (world (untouched limit depth (replicate REGISTERS [])) (files runs.first)) before earlier old
+    pub step : Step old line reply new
+    pub since : Steps new after later (world runs.now (files runs.last))
+
+  -- One run saves a register as these bytes, and the same run or another finds just these bytes and loads them: the
+  -- loaded register gets the list of the saved one. One dumps a state as these bytes, and an editor of that limit and
+  -- depth finds them and restores them: its state is the dumped one. Both are said of replies other than `error memory`
+  -- and `error file`.
+  abbrev pub GivesBack : Type 0
+  GivesBack =
+      (limit depth limit' depth' : ℕ) (a b c d : World) (line line' name name' bytes : List ℕ) (reply : Reply) →
+      limit ≤ MOST_CELLS
+      → CarriesOut limit depth a line (Says done_line) b → FoundLast name (Written bytes) b
+      → CarriesOut limit' depth' c line' reply d → IsPlain reply → FoundLast name' (Holding bytes) d
+      → ((r s : ℕ) → line_of line ≡ Asks (Save r name) → line_of line' ≡ Asks (Load s name')
+      → GetsList (list_at a.state.now r) s c.state reply d.state)
+      × (line_of line ≡ Asks (Dump name) → line_of line' ≡ Asks (Restore name') → limit' ≡ limit → depth' ≡ depth
+      → (reply ≡ Says done_line) × (d.state ≡ a.state))

@@ -1,5 +1,5 @@
 //! Laws about what the program did.
-ghost use Rattle.s2process.specs.Laws.{AllAnswered, OneOutput};
+ghost use Rattle.s2process.specs.Laws.{AllAnswered, GivesBack, OneOutput};
 
 use crate::folders::Folders;
 
@@ -24,4 +24,14 @@ pub fn all_answered<R, W, E, F: Folders>()
 /// else they hold don't matter.
 pub fn one_output<R, W, E, F: Folders>()
     ensures { OneOutput R W E F F.Folder.files F.opened }
+{}
+
+/// What was stored comes back where it is found. A `load` of the bytes that a `save` stored, in the same run or
+/// another, gives its register the list that the saved one had. A `restore` of those that a `dump` stored, in an editor
+/// of the same limit and depth, gives the dumped state.
+///
+/// Whether a folder that was given bytes has them later isn't known: it is said of a `load` or a `restore` that found
+/// them. The names of the two files may differ, as if a file was moved.
+pub fn files_give_back<R, W, E, F: Folders>()
+    ensures { GivesBack R W E F F.Folder.files F.opened }
 {}
