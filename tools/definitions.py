@@ -359,6 +359,23 @@ class House:
                 self.add(source, piece, (source.crate, "const", piece.name), source.constant_uses(piece))
             elif piece.kind == "fn" and self.is_public(source, piece):
                 self.add(source, piece, (source.crate, "fn", piece.name), self.uses_of_function(source, piece))
+            elif piece.kind == "impl" and " for " in piece.head:
+                self.add_members(source, piece)
+
+    def add_members(self, source, block):
+        """Adds what a type is as one of a trait, where a contract sees that: the ghost members and types of an impl."""
+        named = re.search(r"(\w+)(?:<[^{]*>)? for (\w+)", block.head)
+        if not named:
+            return
+        members = [piece for piece in block.inner if piece.kind == "ghost" and piece.name != "use"]
+        types = [piece for piece in block.inner if piece.kind == "type"]
+        key = (source.crate, "impl", f"{named[1]} for {named[2]}")
+        uses = [use for piece in members for use in source.uses(source.text_of(piece))]
+        uses += [use for piece in types for use in source.type_uses(piece.text)]
+        self.add(source, block, key, uses)
+        listed = [*map(source.text_of, types), *(f"ghost {source.text_of(piece)}" for piece in members)]
+        head = source.text[block.start:block.body].strip()
+        self.items[key].text = "\n    ".join([f"{head} {{", *listed]) + "\n}"
 
     def add(self, source, piece, key, uses):
         line = source.text.count("\n", 0, piece.start) + 1
@@ -431,7 +448,7 @@ class House:
     def is_public(self, source, piece):
         """Whether a crate hands this item out, to Rattle or to C."""
         module = source_module(source.file)
-        exported = module == "lib" or self.is_exported(source.crate, piece.name, module)
+        exported = module in ("lib", "main") or self.is_exported(source.crate, piece.name, module)
         return piece.public and exported or "no_mangle" in piece.attributes
 
     def roots_of(self, source):

@@ -3,23 +3,23 @@ use s2process::{Folders, ListedShelf};
 use s2shelf::DirShelf;
 use std::alloc::AllocError;
 
-/// The folders of the system, whose calls stand in a list.
+/// A folder of the system, whose calls stand in a list.
+pub type SystemFolder<'a> = ListedShelf<DirShelf<&'a HostRuntime>>;
+
+/// The folders of the system.
 #[derive(Drop)]
-pub(crate) struct SystemFolders<'a> {
+pub struct SystemFolders<'a> {
     pub(crate) rt: &'a HostRuntime,
 }
 
 impl<'a> Folders for SystemFolders<'a> {
-    ghost use Rattle.std.specs.Prelude.{◌≡◌, []};
-    ghost use Rattle.s2shelf.specs.DirShelf.{folder_files, folder_path};
-    ghost use Rattle.s2process.specs.Listed.{calls_of_shelf, shelf_below};
+    ghost use Rattle.calculator.specs.System.{IsMadeAt};
 
-    type Folder = ListedShelf<DirShelf<&'a HostRuntime>>;
+    type Folder = SystemFolder<'a>;
 
-    ghost opened = { λ folder path. (folder_path (shelf_below folder) ≡ path)
-        × ((folder_files (shelf_below folder)).failures ≡ 0) × (calls_of_shelf folder ≡ []) };
+    ghost opened = { IsMadeAt };
 
-    fn open(self, path: &str) -> Result<ListedShelf<DirShelf<&'a HostRuntime>>, AllocError> {
+    fn open(self, path: &str) -> Result<SystemFolder<'a>, AllocError> {
         Ok(ListedShelf::new(DirShelf::at(self.rt, path)?))
     }
 }
