@@ -19,9 +19,6 @@ pub fn answer(
         add_kept(alloc, editor, found)?;
     } else if name == "between" {
         add_between(alloc, words, found)?;
-    } else if name == "looks_between" {
-        let (old, new) = cut(words);
-        add_looks(alloc, &union_of(alloc, old)?, &union_of(alloc, new)?, found)?;
     } else {
         return Ok(false);
     }
@@ -102,34 +99,6 @@ fn changed(
         old.apply_into(out, put, &mut into);
     }
     Ok(into)
-}
-
-/// Adds how many cells of a union are looked at to test the change from it to another, and to make that.
-#[tactic(auto, using(crate::proofs::Between::between_length))]
-pub fn add_looks(
-    alloc: Global,
-    old: &CellUnion,
-    new: &CellUnion,
-    found: &mut Vec<u8>,
-) -> Result<(), AllocError> {
-    let Some(register) = register_of("a") else {
-        return add_line(found, "no register");
-    };
-    let _ = old.cells();
-    let _ = new.cells();
-    let change = Change::between(alloc, register, old, new)?;
-    let mut into = CellUnion::with_room(alloc, new.len())?;
-    let (out, put) = (change.out.as_slice(), change.put.as_slice());
-    let tested = old.can_apply_counted(out, put);
-    if !tested.answer {
-        return add_line(found, "doesn't fit");
-    }
-    let made = old.apply_into_counted(out, put, &mut into);
-    let looks = tested.looks;
-    add_line(
-        found,
-        &format!(in alloc; "looks {looks} to test, {made} to make")?,
-    )
 }
 
 /// Adds which of two unions a change fits.

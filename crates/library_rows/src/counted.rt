@@ -1,13 +1,12 @@
-//! Questions of `s2union` about two unions, and how many cells they look at; the same of their lists in place, by
-//! `s2list` and `s2room`.
+//! Questions of `s2union` about two unions; the same of their lists by `s2list`, and how many numbers they look at.
 ghost use Rattle.std.specs.Prelude.{◌<◌};
 
-use crate::changes::add_looks;
 use crate::texts::{add_number, cut, numbers_of, union_of, yes_or_no};
 use row_table::add_line;
 use s2cell::CellId;
-use s2list::{CellList, Counted, contains_counted, intersects_counted};
-use s2room::put_intersection_counted;
+use s2list::{
+    CellList, Looks, contains_cell_counted, holds_all, intersects_cell_counted, meets_any,
+};
 use s2union::{CellUnion, normalise};
 use std::alloc::{AllocError, Global};
 
@@ -26,10 +25,6 @@ pub fn answer(
         add_spaced_cell(alloc, words, found)?;
         return Ok(true);
     }
-    if name == "spaced_change" {
-        add_spaced_change(alloc, words, found)?;
-        return Ok(true);
-    }
     let (one, other) = cut(words);
     let one = union_of(alloc, one)?;
     let other = union_of(alloc, other)?;
@@ -37,24 +32,14 @@ pub fn answer(
         add_line(found, yes_or_no(one.contains(&other)))?;
     } else if name == "intersects" {
         add_line(found, yes_or_no(one.intersects(&other)))?;
-    } else if name == "contains_counted" {
-        add_counted(alloc, found, one.contains_counted(&other))?;
-    } else if name == "contains_cell_counted" {
-        for cell in &other {
-            add_counted(alloc, found, one.contains_cell_counted(*cell))?;
-        }
-    } else if name == "intersects_cell_counted" {
-        for cell in &other {
-            add_counted(alloc, found, one.intersects_cell_counted(*cell))?;
-        }
     } else {
-        return answer_in_place(alloc, name, &one, &other, found);
+        return answer_counted(alloc, name, &one, &other, found);
     }
     Ok(true)
 }
 
-/// Makes a call on the lists of two unions in place, and adds its answer. False for the name of another call.
-fn answer_in_place(
+/// Makes a counted call on the lists of two unions, and adds its answer. False for the name of another call.
+fn answer_counted(
     alloc: Global,
     name: &str,
     one: &CellUnion,
@@ -65,19 +50,50 @@ fn answer_in_place(
     let ys = CellList {
         cells: other.cells(),
     };
-    if name == "list_contains_counted" {
-        add_counted(alloc, found, contains_counted(&xs, &ys))?;
-    } else if name == "list_intersects_counted" {
-        add_counted(alloc, found, intersects_counted(&xs, &ys))?;
-    } else if name == "shared_counted" {
-        let mut room = [0u64; 128];
-        let shared = put_intersection_counted(&xs, &ys, &mut room[..]);
-        let (len, looks) = (shared.len, shared.looks);
-        add_line(found, &format!(in alloc; "{len} cells looks {looks}")?)?;
+    if name == "contains_counted" {
+        let mut count = Looks { looks: 0 };
+        let answer = holds_all(&xs, &ys, &mut count);
+        add_counted(alloc, found, answer, count)?;
+    } else if name == "intersects_counted" {
+        let mut count = Looks { looks: 0 };
+        let answer = meets_any(&xs, &ys, &mut count);
+        add_counted(alloc, found, answer, count)?;
+    } else if name == "contains_cell_counted" {
+        for cell in other {
+            add_contains_cell(alloc, found, &xs, *cell)?;
+        }
+    } else if name == "intersects_cell_counted" {
+        for cell in other {
+            add_intersects_cell(alloc, found, &xs, *cell)?;
+        }
     } else {
         return Ok(false);
     }
     Ok(true)
+}
+
+/// Adds whether a list has all leaves of a cell, and how many of its cells are looked at.
+fn add_contains_cell(
+    alloc: Global,
+    found: &mut Vec<u8>,
+    list: &CellList,
+    cell: CellId,
+) -> Result<(), AllocError> {
+    let mut count = Looks { looks: 0 };
+    let answer = contains_cell_counted(list, cell, &mut count);
+    add_counted(alloc, found, answer, count)
+}
+
+/// Adds whether a list has a leaf of a cell, and how many of its cells are looked at.
+fn add_intersects_cell(
+    alloc: Global,
+    found: &mut Vec<u8>,
+    list: &CellList,
+    cell: CellId,
+) -> Result<(), AllocError> {
+    let mut count = Looks { looks: 0 };
+    let answer = intersects_cell_counted(list, cell, &mut count);
+    add_counted(alloc, found, answer, count)
 }
 
 /// How many leaves each of the spaced cells has.
@@ -105,7 +121,8 @@ fn leaves_of(alloc: Global, n: u64) -> Result<CellUnion, AllocError>
 }
 
 /// Adds what the spaced cells answer of a hundred leaves of the n-th cell, which lie in one gap or in one cell: whether
-/// they contain them and intersect them, whether each took fewer than a hundred looks, and how many cells both share.
+/// they contain them and intersect them, the same with whether each took fewer than a hundred looks, and how many cells
+/// both share.
 fn add_spaced(alloc: Global, words: &str, found: &mut Vec<u8>) -> Result<(), AllocError> {
     let [n, ..] = numbers_of(words);
     if n >= 65536 {
@@ -113,10 +130,31 @@ fn add_spaced(alloc: Global, words: &str, found: &mut Vec<u8>) -> Result<(), All
     }
     let spaced = spaced_cells(alloc)?;
     let leaves = leaves_of(alloc, n)?;
-    add_few(alloc, found, spaced.contains_counted(&leaves))?;
-    add_few(alloc, found, spaced.intersects_counted(&leaves))?;
+    add_line(found, yes_or_no(spaced.contains(&leaves)))?;
+    add_line(found, yes_or_no(spaced.intersects(&leaves)))?;
+    add_few(alloc, found, &spaced, &leaves)?;
     let shared = spaced.intersection(&leaves)?.len();
     add_number(alloc, found, shared as u64)
+}
+
+/// Adds whether the list of one union has all leaves of the other's, and whether they share one, each with whether
+/// fewer than a hundred cells were looked at.
+fn add_few(
+    alloc: Global,
+    found: &mut Vec<u8>,
+    one: &CellUnion,
+    other: &CellUnion,
+) -> Result<(), AllocError> {
+    let xs = CellList { cells: one.cells() };
+    let ys = CellList {
+        cells: other.cells(),
+    };
+    let mut count = Looks { looks: 0 };
+    let holds = holds_all(&xs, &ys, &mut count);
+    add_whether_few(alloc, found, holds, count)?;
+    let mut count = Looks { looks: 0 };
+    let meets = meets_any(&xs, &ys, &mut count);
+    add_whether_few(alloc, found, meets, count)
 }
 
 /// Adds whether the spaced cells contain the n-th cell, and intersect it, and how many of them are looked at.
@@ -127,28 +165,24 @@ fn add_spaced_cell(alloc: Global, words: &str, found: &mut Vec<u8>) -> Result<()
     }
     let spaced = spaced_cells(alloc)?;
     let cell = CellId::tile(n * SIZE, (n + 1) * SIZE);
-    add_counted(alloc, found, spaced.contains_cell_counted(cell))?;
-    add_counted(alloc, found, spaced.intersects_cell_counted(cell))
-}
-
-/// Adds how many of the spaced cells are looked at to test and to make the change that takes a hundred leaves of the
-/// n-th cell from them.
-fn add_spaced_change(alloc: Global, words: &str, found: &mut Vec<u8>) -> Result<(), AllocError> {
-    let [n, ..] = numbers_of(words);
-    if n >= 65536 {
-        return add_line(found, "out of range");
-    }
-    let spaced = spaced_cells(alloc)?;
-    let rest = spaced.difference(&leaves_of(alloc, n)?)?;
-    add_looks(alloc, &spaced, &rest, found)
+    let list = CellList {
+        cells: spaced.cells(),
+    };
+    add_contains_cell(alloc, found, &list, cell)?;
+    add_intersects_cell(alloc, found, &list, cell)
 }
 
 /// Adds an answer, and whether fewer than a hundred cells were looked at, or how many.
-fn add_few(alloc: Global, found: &mut Vec<u8>, counted: Counted) -> Result<(), AllocError> {
-    if counted.looks >= 100 {
-        return add_counted(alloc, found, counted);
+fn add_whether_few(
+    alloc: Global,
+    found: &mut Vec<u8>,
+    answer: bool,
+    count: Looks,
+) -> Result<(), AllocError> {
+    if count.looks >= 100 {
+        return add_counted(alloc, found, answer, count);
     }
-    if counted.answer {
+    if answer {
         add_line(found, "yes few looks")
     } else {
         add_line(found, "no few looks")
@@ -156,7 +190,12 @@ fn add_few(alloc: Global, found: &mut Vec<u8>, counted: Counted) -> Result<(), A
 }
 
 /// Adds an answer, and how many cells were looked at.
-fn add_counted(alloc: Global, found: &mut Vec<u8>, counted: Counted) -> Result<(), AllocError> {
-    let (answer, looks) = (yes_or_no(counted.answer), counted.looks);
+fn add_counted(
+    alloc: Global,
+    found: &mut Vec<u8>,
+    answer: bool,
+    count: Looks,
+) -> Result<(), AllocError> {
+    let (answer, looks) = (yes_or_no(answer), count.looks);
     add_line(found, &format!(in alloc; "{answer} looks {looks}")?)
 }

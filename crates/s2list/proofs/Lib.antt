@@ -25,7 +25,6 @@ pub mod Heaping
 -- Of this crate alone.
 mod Alone
 mod Laying
-mod Leaping
 mod Leaving
 mod Sharing
 mod Uniting

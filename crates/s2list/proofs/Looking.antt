@@ -192,18 +192,6 @@ way_swap m n far i j w = record {
   all = let a = w.all in omega arith;
 }
 
--- steps without a search
-pub way_later : (m n far i j next_i next_j : ℕ) → Way m n far i j → i ≤ next_i → j ≤ next_j → Way m n far next_i next_j
-way_later m n far i j next_i next_j w ii jj = record {
-  by_x = w.by_x;
-  by_y = w.by_y;
-  most_x = w.most_x;
-  most_y = w.most_y;
-  none_x = λ z. w.none_x (omega arith);
-  none_y = λ z. w.none_y (omega arith);
-  all = let a = w.all in omega arith;
-}
-
 -- a search in the first list, from the place `i` or one after it, and then perhaps a step
 pub way_on : (m n far i j start result next x : ℕ) → Way m n far i j → i ≤ start → start ≤ result → result ≤ next
     → (x ≡ result - start) ⊎ ((i ≡ 0) × (start < result) × (x ≡ m)) → Way m n (far + x + (start - i)) next j

@@ -2,7 +2,6 @@
 use Rattle.std.proofs.Common.{◌≡◌, ℕ, ◌+◌, ◌-◌, ◌<◌, ◌≤◌, refl, ap, ◌∙◌, arith, Bool, List, [], ◌++◌}
 use Rattle.std.proofs.Common.{length, ◌⊎◌, get_or, take, drop, inl}
 use Rattle.std.proofs.Math.Logic.{⊎_elim}
-use Rattle.std.proofs.lemmas.List.{length-append, length-drop, length-take-le}
 use Rattle.std.proofs.lemmas.Bool.Decides.{nat_tests}
 use Rattle.s2cell.specs.Cell.{IsCell, IsInside, first_leaf, size_of}
 use Rattle.s2cell.proofs.Leaves.{inside_from_within, within_from_inside}
@@ -13,22 +12,17 @@ use Rattle.s2list.proofs.Finding.{ended_to}
 use Rattle.s2list.proofs.Packing.{is_at}
 use Rattle.s2list.proofs.Picking.{picked_none}
 use Rattle.s2list.proofs.Shared.{Sharing, both, held_else, share_x, sharing_done, sharing_swap, skip_x}
-use Rattle.s2list.specs.Looks.{Alternates, FewForTurnsAndCells}
 use Rattle.s2list.specs.Output.{Writes}
-use Rattle.s2list.proofs.Leaping.{Stepped, stepped_all, stepped_leap, stepped_none, stepped_run, stepped_swap}
-use Rattle.s2list.proofs.Looking.{Sought, SoughtAlong}
-use Rattle.s2list.proofs.Writing.{Counts, written_length, written_normal}
+use Rattle.s2list.proofs.Writing.{Counts, written_normal}
 
--- a list of what is shared so far was written, and `looks` is how often the walk has looked
-pub record SharingIn (S : ℕ → Bool) (xs ys : List ℕ) (Holds : List ℕ → Type 0) (looks i j : ℕ) : Type 0 where
+-- a list of what is shared so far was written
+pub record SharingIn (S : ℕ → Bool) (xs ys : List ℕ) (Holds : List ℕ → Type 0) (i j : ℕ) : Type 0 where
   pub list : List ℕ
   pub held : Holds list
   pub sharing : Sharing S xs ys list i j
-  pub stepped : Stepped xs ys looks (length list) i j
 
-pub shared_none : (xs ys : List ℕ) (Holds : List ℕ → Type 0) (looks : ℕ) → Holds [] → looks ≡ 0 →
-    SharingIn (both xs ys) xs ys Holds looks 0 0
-shared_none xs ys Holds looks held e = record {
+pub shared_none : (xs ys : List ℕ) (Holds : List ℕ → Type 0) → Holds [] → SharingIn (both xs ys) xs ys Holds 0 0
+shared_none xs ys Holds held = record {
   list = [];
   held = held;
   sharing = record {
@@ -42,29 +36,25 @@ shared_none xs ys Holds looks held e = record {
     from = inl (λ h. omega arith);
     picked = picked_none (both xs ys);
   };
-  stepped = stepped_none xs ys looks e;
 }
 
-pub shared_swap : {S : ℕ → Bool} {xs ys : List ℕ} {Holds : List ℕ → Type 0} {looks i j : ℕ} →
-    SharingIn S xs ys Holds looks i j → SharingIn S ys xs Holds looks j i
-shared_swap {S} {xs} {ys} {looks = looks} {i} {j} s = record {
+pub shared_swap : {S : ℕ → Bool} {xs ys : List ℕ} {Holds : List ℕ → Type 0} {i j : ℕ} →
+    SharingIn S xs ys Holds i j → SharingIn S ys xs Holds j i
+shared_swap {S} {xs} {ys} {i = i} {j} s = record {
   list = s.list;
   held = s.held;
   sharing = sharing_swap S xs ys s.list i j s.sharing;
-  stepped = stepped_swap xs ys looks (length s.list) i j s.stepped;
 }
 
 -- the next cell of xs ends before the next of ys, and so do all up to a place
-pub shared_skip : {S : ℕ → Bool} {xs ys : List ℕ} {Holds : List ℕ → Type 0} {looks c i j next x y end first : ℕ} →
-    (a b : ℕ) → IsLocal xs → IsLocal ys → SharingIn S xs ys Holds looks i j → i < length xs → j < length ys →
+pub shared_skip : {S : ℕ → Bool} {xs ys : List ℕ} {Holds : List ℕ → Type 0} {i j next x y end first : ℕ} →
+    IsLocal xs → IsLocal ys → SharingIn S xs ys Holds i j → i < length xs → j < length ys →
     x ≡ get_or xs i 0
     → y ≡ get_or ys j 0 → (IsCell x → end ≡ first_leaf x + size_of x) → (IsCell y → first ≡ first_leaf y) → end ≤ first
     → i + 1 ≤ next → next ≤ length xs → (IsPacked xs → FirstEndBy xs (i + 1) first → FirstEndBy xs next first)
-    → (IsPacked xs → FirstEndBy xs (i + 1) first → EndsAfter xs next first) → a ≤ looks + 1 → b ≤ a + 1
-    → SoughtAlong b c (length xs) i (i + 1) next → SharingIn S xs ys Holds c next j
-shared_skip {S} {xs} {ys} {looks = looks} {c} {i} {j} {next} {x} {y} {end} {first} a b lx ly s h g rx ry ends begins
-    apart le in_x leap past
-    ea eb sought =
+    → (IsPacked xs → FirstEndBy xs (i + 1) first → EndsAfter xs next first) → SharingIn S xs ys Holds next j
+shared_skip {S} {xs} {ys} {i = i} {j} {next} {x} {y} {end} {first} lx ly s h g rx ry ends begins apart le in_x leap
+    past =
     let cx : IsCell x = rw rx (lx.cells i 0 h) in
     let cy : IsCell y = rw ry (ly.cells j 0 g) in
     let ex : end ≡ first_leaf (get_or xs i 0) + size_of (get_or xs i 0) = ends cx
@@ -72,29 +62,25 @@ shared_skip {S} {xs} {ys} {looks = looks} {c} {i} {j} {next} {x} {y} {end} {firs
     let ey : first ≡ first_leaf (get_or ys j 0) = begins cy ∙ ap first_leaf ry in
     let from : FirstEndBy xs (i + 1) first = ended_to xs i first (packed_from_local xs lx) h (omega arith) in
     let ended : FirstEndBy xs next (first_leaf (get_or ys j 0)) = rw ey at (leap (packed_from_local xs lx) from) in
-    let later : EndsAfter xs next (first_leaf (get_or ys j 0)) = rw ey at (past (packed_from_local xs lx) from) in
     record {
       list = s.list;
       held = s.held;
       sharing = skip_x S xs ys s.list i j next (get_or ys j 0) lx ly s.sharing g
           (is_at ys j (get_or ys j 0) g refl) (omega arith) in_x ended;
-      stepped = stepped_leap xs ys looks (length s.list) i j a b c next lx ly s.stepped h g (omega arith) le ended later
-          ea eb sought in_x;
     }
 
 -- the next cell of xs lies in the next of ys, and all up to a place are written
-pub shared_run : {S : ℕ → Bool} {xs ys : List ℕ} {Holds : List ℕ → Type 0} {looks c i j next x y end : ℕ} →
-    (Later : List ℕ → Type 0) (a b : ℕ) → IsLocal xs → IsLocal ys → SharingIn S xs ys Holds looks i j →
+pub shared_run : {S : ℕ → Bool} {xs ys : List ℕ} {Holds : List ℕ → Type 0} {i j next x y end : ℕ} →
+    (Later : List ℕ → Type 0) → IsLocal xs → IsLocal ys → SharingIn S xs ys Holds i j →
     i < length xs → j < length ys → x ≡ get_or xs i 0
     → y ≡ get_or ys j 0 → IsInside x y → (IsCell y → end ≡ first_leaf y + size_of y) → i + 1 ≤ next
     → next ≤ length xs
     → (IsPacked xs → FirstEndBy xs (i + 1) end → FirstEndBy xs next end)
     → (IsPacked xs → FirstEndBy xs (i + 1) end → EndsAfter xs next end)
     → ((list : List ℕ) → Holds list → Later (list ++ take (next - i) (drop i xs)))
-    → a ≤ looks + 1 → b ≤ a + 1 → Sought b c (next - (i + 1)) → SharingIn S xs ys Later c next (j + 1)
-shared_run {S} {xs} {ys} {looks = looks} {c} {i} {j} {next} {x} {y} {end} Later a b lx ly s h g rx ry inside ends le
-    in_x leap past puts
-    ea eb sought =
+    → SharingIn S xs ys Later next (j + 1)
+shared_run {S} {xs} {ys} {i = i} {j} {next} {x} {y} {end} Later lx ly s h g rx ry inside ends le in_x leap past
+    puts =
     let cy : IsCell y = rw ry (ly.cells j 0 g) in
     let p = packed_from_local xs lx in
     let ey : end ≡ first_leaf (get_or ys j 0) + size_of (get_or ys j 0) = ends cy
@@ -105,19 +91,12 @@ shared_run {S} {xs} {ys} {looks = looks} {c} {i} {j} {next} {x} {y} {end} Later 
     let from : FirstEndBy xs (i + 1) end = ended_to xs i end p h (omega arith) in
     let ended : FirstEndBy xs next (first_leaf (get_or ys j 0) + size_of (get_or ys j 0)) = rw ey at (leap p from) in
     let later : EndsAfter xs next (first_leaf (get_or ys j 0) + size_of (get_or ys j 0)) = rw ey at (past p from) in
-    let cells : length (s.list ++ take (next - i) (drop i xs)) ≡ length s.list + (next - i) =
-    length-append s.list (take (next - i) (drop i xs))
-    ∙ ap (λ v. length s.list + v)
-    (length-take-le (next - i) (drop i xs) (let l = length-drop i xs in omega arith)) in
     record {
       list = s.list ++ take (next - i) (drop i xs);
       held = puts s.list s.held;
       sharing = share_x S xs ys s.list (s.list ++ take (next - i) (drop i xs)) i j next (get_or xs i 0) (get_or ys j 0)
           lx ly s.sharing h g (is_at xs i (get_or xs i 0) h refl) (is_at ys j (get_or ys j 0) g refl) lies (omega arith)
           in_x ended (λ l. let o = later l in omega arith) refl;
-      stepped = rw cells
-          (stepped_run xs ys looks (length s.list) i j a b c next lx ly s.stepped h g w.low w.high le ended later
-          ea eb sought);
     }
 
 -- a cell whose leaves are among those of another lies in it
@@ -157,23 +136,15 @@ inside_else {xs} {ys} {i} {j} {x} {y} {x_first} {x_end} {y_first} {y_end} lx ly 
     not_in (omega arith, omega arith))
 
 -- one of the lists is at its end
-shared_all : {S : ℕ → Bool} {xs ys : List ℕ} {Holds : List ℕ → Type 0} {looks i j : ℕ} →
-    (s : SharingIn S xs ys Holds looks i j) → (length xs ≤ i) ⊎ (length ys ≤ j) → (x : ℕ) → has_leaf s.list x ≡ S x
+shared_all : {S : ℕ → Bool} {xs ys : List ℕ} {Holds : List ℕ → Type 0} {i j : ℕ} →
+    (s : SharingIn S xs ys Holds i j) → (length xs ≤ i) ⊎ (length ys ≤ j) → (x : ℕ) → has_leaf s.list x ≡ S x
 shared_all {S} {xs} {ys} {i = i} {j} s ends = ⊎_elim
     (λ (h : length xs ≤ i). sharing_done S xs ys s.list i j s.sharing h)
     (λ (h : length ys ≤ j). sharing_done S ys xs s.list j i (sharing_swap S xs ys s.list i j s.sharing) h)
     ends
 
-pub shared_done : {S : ℕ → Bool} {xs ys : List ℕ} {Holds : List ℕ → Type 0} {n looks i j : ℕ} →
-    Counts Holds n → SharingIn S xs ys Holds looks i j → (length xs ≤ i) ⊎ (length ys ≤ j)
+pub shared_done : {S : ℕ → Bool} {xs ys : List ℕ} {Holds : List ℕ → Type 0} {n i j : ℕ} →
+    Counts Holds n → SharingIn S xs ys Holds i j → (length xs ≤ i) ⊎ (length ys ≤ j)
     → Writes S Holds n
 shared_done {S} {Holds = Holds} {n} counts s ends =
     written_normal S Holds s.list n counts s.sharing.picked (shared_all s ends) s.held
-
--- and the looks are few
-pub shared_few : {S : ℕ → Bool} {xs ys : List ℕ} {Holds : List ℕ → Type 0} {n looks i j d : ℕ} →
-    Counts Holds n → SharingIn S xs ys Holds looks i j → (length xs ≤ i) ⊎ (length ys ≤ j) → i ≤ length xs
-    → j ≤ length ys → Alternates xs ys d (length xs) (length ys) → FewForTurnsAndCells (length xs + length ys) d n looks
-shared_few {S} {xs} {ys} {Holds} {n} {looks} {i} {j} {d} counts s ends hx hy cut =
-    rw (written_length S Holds s.list n counts s.sharing.picked (shared_all s ends) s.held)
-    (stepped_all xs ys looks (length s.list) i j d s.stepped hx hy cut)

@@ -1,4 +1,4 @@
--- How many numbers a question about a list looks at, or about two, or an operation on them.
+-- How many numbers a question about a list looks at, or about two.
 use Rattle.std.specs.Prelude.{◌≡◌, ℕ, ◌+◌, ◌*◌, ◌^◌, ◌<◌, ◌≤◌, ◌⊎◌, min, max, List, length, slice_index}
 use Rattle.s2cell.specs.Cell.{covers, first_leaf}
 use Rattle.s2list.specs.Union.{IsWithin, ShareSome, has_leaf}
@@ -46,9 +46,3 @@ KnownToMeet xs ys i j = (length xs ≤ i) ⊎ ((length ys ≤ j) ⊎ ShareSome (
 -- log2(cells / (d + 1)); so at most `c (d + 1) (1 + log2(cells / (d + 1)))` for `c` = 8 and the logarithm rounded up
 abbrev pub FewForTurns : (cells d looks : ℕ) → Type 0
 FewForTurns cells d looks = (k : ℕ) → cells ≤ (d + 1) * 2 ^ k → looks ≤ 8 * (d + 1) * (1 + k)
-
--- the looks of an operation whose result has `written` cells: as `FewForTurns` says, and at most four more for each of
--- these
-abbrev pub FewForTurnsAndCells : (cells d written looks : ℕ) → Type 0
-FewForTurnsAndCells cells d written looks = (k : ℕ) → cells ≤ (d + 1) * 2 ^ k
-    → looks ≤ 8 * (d + 1) * (1 + k) + 4 * written

@@ -96,18 +96,16 @@ pub fn find_from_counted<C: LookedAt<K>, K: Count>(
 /// where it would stand. Logarithmic in how many there are. A cell that ends by the leaf in the middle of the mark is
 /// below it, and of the others only the first may be.
 #[inline(always)]
-pub fn find_id_counted<C: LookedAt<K>, K: Count>(cells: &C, mark: u64, count: &mut K) -> usize
+pub fn find_id<C: Cells>(cells: &C, mark: u64) -> usize
     ensures within { result ≤ length (C.ids cells.now) }
     ensures place { IsPacked (C.ids cells.now) → Brackets (C.ids cells.now) mark result result }
-    ensures looks { (k : ℕ) → result < 2 ^ k → K.looks count.new ≤ K.looks count.old + 2 * k + 4 }
-    ensures least { min (K.looks count.old) K.most ≤ K.looks count.new }
 {
     // Where many cells are searched for, it is often the first.
-    if !is_below_at(cells, 0, mark, count) {
+    if !is_below_at(cells, 0, mark) {
         return 0;
     }
-    let at = find_from_counted(cells, 0, mark / 2, count);
-    if is_below_at(cells, at, mark, count) {
+    let at = find_from(cells, 0, mark / 2);
+    if is_below_at(cells, at, mark) {
         return at + 1;
     }
     at
@@ -115,16 +113,14 @@ pub fn find_id_counted<C: LookedAt<K>, K: Count>(cells: &C, mark: u64, count: &m
 
 /// Whether there is a number at index `at`, and it is below `mark`.
 #[inline(always)]
-fn is_below_at<C: LookedAt<K>, K: Count>(cells: &C, at: usize, mark: u64, count: &mut K) -> bool
+fn is_below_at<C: Cells>(cells: &C, at: usize, mark: u64) -> bool
     ensures answer { IsTrue result ↔ (at < length (C.ids cells.now) × slice_index (C.ids cells.now) at < mark) }
     ensures fits { IsTrue result → at + 1 < 2 ^ 64 }
-    ensures looks { K.looks count.new ≤ K.looks count.old + 1 }
-    ensures least { min (K.looks count.old) K.most ≤ K.looks count.new }
 {
     if at >= cells.len() {
         return false;
     }
-    cells.look(at, count) < mark
+    cells.id(at) < mark
 }
 
 /// Whether there is a number at index `at`, and its cell ends by the leaf `lo`.

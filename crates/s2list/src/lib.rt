@@ -6,7 +6,7 @@
 //! Anything that gives numbers by their indexes is a list of cells (`Cells`): numbers in a slice, the cells of a union,
 //! the bytes of a file at any address. No call copies anything or takes memory; what a set operation writes to
 //! (`Output`) is its caller's. Only `new_end` has a precondition on the numbers. Some calls have one on an index, and a
-//! set operation begins with nothing written and no look counted. Where that is met, each other call is safe and
+//! set operation begins with nothing written. Where that is met, each other call is safe and
 //! returns, whatever the numbers are, and leaves what its output has after what it writes. The answer is exact if they
 //! are the cells of a normalized union; for other numbers it means nothing; `is_union` and `first_wrong` are exact for
 //! all numbers. What counts the looks of a call is a type parameter (`Count`), so that a call that nobody counts has no
@@ -43,18 +43,15 @@ pub use ask::{
 pub use cells::{CellList, Cells, IdList, Listed};
 pub use differing::write_symmetric_difference;
 pub use find::{
-    NEARBY, end_of, find_counted, find_from, find_from_counted, find_id_counted, first_of,
-    first_place,
+    NEARBY, end_of, find_counted, find_from, find_from_counted, find_id, first_of, first_place,
 };
 pub use four::{Places, places_of_four, places_of_four_counted};
 pub use join::write_union;
-pub use looks::{Count, Counted, LookedAt, Looks, Uncounted};
+pub use looks::{Count, LookedAt, Looks, Uncounted};
 pub use output::{Copies, Output};
 pub use outside::write_complement;
 pub use run::cells_at;
 pub use share::write_shared;
 pub use subtract::write_difference;
-pub use walk::{
-    Question, contains, contains_counted, holds_all, intersects, intersects_counted, meets_any,
-};
+pub use walk::{Question, contains, holds_all, intersects, meets_any};
 pub use whole::{first_wrong, is_union, leaf_count, parent_of_family};

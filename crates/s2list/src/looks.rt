@@ -31,16 +31,6 @@ impl Count for Looks {
     }
 }
 
-/// The answer to a question, and how many cells were looked at for it.
-#[derive(Clone, Copy, PartialEq, Eq, Debug)]
-pub struct Counted {
-    /// The answer.
-    pub answer: bool,
-    /// How many times a cell of a list was looked at; of either list, if there are two. The greatest `u64` if there
-    /// were more.
-    pub looks: u64,
-}
-
 /// No count, so that a call that nobody counts has no code for it.
 #[derive(Clone, Copy)]
 pub struct Uncounted;

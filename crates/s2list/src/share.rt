@@ -1,40 +1,29 @@
 //! The leaves that two lists of cells share, written to a list that grows or to a room.
-ghost use Rattle.std.specs.Prelude.{◌≡◌, ◌+◌, ◌<◌, ◌≤◌, ◌↔◌, [], ℕ, IfErr, IfOk, IsTrue, length, min};
+ghost use Rattle.std.specs.Prelude.{◌≡◌, ◌≤◌, ◌↔◌, [], IfErr, IfOk, IsTrue};
 ghost use Rattle.s2list.specs.Union.{IsLocal, has_leaf};
 ghost use Rattle.s2list.specs.Sets.{shared};
-ghost use Rattle.s2list.specs.Looks.{Alternates, FewForTurnsAndCells};
 ghost use Rattle.s2list.specs.Output.{Writes};
 
 use crate::along::find_along;
-use crate::find::{end_of, find_from_counted, first_of};
-use crate::looks::{Count, LookedAt};
+use crate::cells::Cells;
+use crate::find::{end_of, find_from, first_of};
+use crate::looks::Uncounted;
 use crate::output::Copies;
 use std::alloc::AllocError;
 
 /// Writes the leaves that two unions share, and answers how many cells they are. Whichever list is behind is searched
 /// for the cell of the other, in leaps, and the cells of one that lie in a cell of the other are written as one run.
-///
-/// Let unions have `m` and `n` cells, which in the order of their first leaves are `d` runs of each, and the result `r`
-/// cells. Then it looks at most `8 (d + 1) (1 + log2((m + n) / (d + 1))) + 4 r` times at a number of either list, with
-/// the logarithm rounded up. What reads a cell to write it isn't counted.
-pub fn write_shared<X: LookedAt<K>, Y: LookedAt<K>, W: Copies<X> + Copies<Y>, K: Count>(
+pub fn write_shared<X: Cells, Y: Cells, W: Copies<X> + Copies<Y>>(
     xs: &X,
     ys: &Y,
     out: &mut W,
-    count: &mut K,
 ) -> Result<usize, AllocError>
-    requires empty { W.holds [] out.old out.old 0 }
-    requires count { K.looks count.old ≡ 0 }
+    requires { W.holds [] out.old out.old 0 }
     ensures place { W.place out.new ≡ W.place out.old }
     ensures made { IfOk result (λ n. IsLocal (X.ids xs.now) → IsLocal (Y.ids ys.now)
         → Writes (shared (has_leaf (X.ids xs.now)) (has_leaf (Y.ids ys.now)))
         (λ list. W.holds list out.old out.new n) n) }
     ensures rest { IfOk result (λ n. W.rest out.old out.old 0 → W.rest out.old out.new n) }
-    ensures looks { IfOk result (λ n. IsLocal (X.ids xs.now) → IsLocal (Y.ids ys.now) → (d : ℕ)
-        → Alternates (X.ids xs.now) (Y.ids ys.now) d (length (X.ids xs.now)) (length (Y.ids ys.now))
-        → FewForTurnsAndCells (length (X.ids xs.now) + length (Y.ids ys.now)) d n (K.looks count.new)) }
-    ensures least { IfOk result (λ _. 0 < length (X.ids xs.now) → 0 < length (Y.ids ys.now)
-        → min 2 K.most ≤ K.looks count.new) }
     ensures sure { IfErr result (λ _. W.refuses) }
 {
     let x_len = xs.len();
@@ -43,23 +32,23 @@ pub fn write_shared<X: LookedAt<K>, Y: LookedAt<K>, W: Copies<X> + Copies<Y>, K:
     let mut i = 0;
     let mut j = 0;
     while i < x_len && j < y_len {
-        let x = xs.look(i, count);
-        let y = ys.look(j, count);
+        let x = xs.id(i);
+        let y = ys.id(j);
         let x_first = first_of(x);
         let y_first = first_of(y);
         let x_end = end_of(x);
         let y_end = end_of(y);
         if x_end <= y_first {
-            i = find_along(xs, i, i + 1, y_first, count);
+            i = find_along(xs, i, i + 1, y_first, &mut Uncounted);
         } else if y_end <= x_first {
-            j = find_along(ys, j, j + 1, x_first, count);
+            j = find_along(ys, j, j + 1, x_first, &mut Uncounted);
         } else if is_within(x_first, x_end, y_first, y_end) {
-            let next = find_from_counted(xs, i + 1, y_end, count);
+            let next = find_from(xs, i + 1, y_end);
             n = out.put_run(n, xs, i, next)?;
             i = next;
             j += 1;
         } else {
-            let next = find_from_counted(ys, j + 1, x_end, count);
+            let next = find_from(ys, j + 1, x_end);
             n = out.put_run(n, ys, j, next)?;
             j = next;
             i += 1;

@@ -10,9 +10,9 @@ ghost use Rattle.s2list.specs.Working.Walk.{Decides, LeavesOpen, Lacks, Settles,
 use crate::along::find_along;
 use crate::cells::Cells;
 use crate::find::{end_of, first_of};
-use crate::looks::{Count, Counted, LookedAt, Looks, Uncounted};
+use crate::looks::{Count, LookedAt, Uncounted};
 
-/// Whether a union has all leaves of another. Its work follows how the two interleave, as `contains_counted` says.
+/// Whether a union has all leaves of another. Its work follows how the two interleave, as `holds_all` says.
 pub fn contains<X: Cells, Y: Cells>(whole: &X, part: &Y) -> bool
     ensures { IsLocal (X.ids whole.now) → IsLocal (Y.ids part.now)
         → (IsTrue result ↔ IsWithin (has_leaf (Y.ids part.now)) (has_leaf (X.ids whole.now))) }
@@ -20,54 +20,12 @@ pub fn contains<X: Cells, Y: Cells>(whole: &X, part: &Y) -> bool
     holds_all(whole, part, &mut Uncounted)
 }
 
-/// The same, with how often it looks at a number of either list. Let unions have `m` and `n` cells, which in the order
-/// of their first leaves are in turns `d` runs of each, up to where the answer is known. Then it looks at most `8 (d +
-/// 1) (1 + log2((m + n) / (d + 1)))` times, the logarithm rounded up: neither list is gone through. By the sizes alone
-/// it is at most `42 m (1 + k) + 42` times if the shorter list has `m` cells and the longer one at most `(m + 1) 2^k`,
-/// and at most `8 (m + n) + 8` times.
-pub fn contains_counted<X: LookedAt<Looks>, Y: LookedAt<Looks>>(whole: &X, part: &Y) -> Counted
-    ensures answer { IsLocal (X.ids whole.now) → IsLocal (Y.ids part.now)
-        → (IsTrue result.answer ↔ IsWithin (has_leaf (Y.ids part.now)) (has_leaf (X.ids whole.now))) }
-    ensures looks { IsLocal (X.ids whole.now) → IsLocal (Y.ids part.now) → (d i j : ℕ)
-        → Alternates (X.ids whole.now) (Y.ids part.now) d i j → KnownToHold (X.ids whole.now) (Y.ids part.now) i j
-        → FewForTurns (length (X.ids whole.now) + length (Y.ids part.now)) d result.looks }
-    ensures sizes { IsLocal (X.ids whole.now) → IsLocal (Y.ids part.now)
-        → FewForUnion (length (X.ids whole.now)) (length (Y.ids part.now)) result.looks }
-    ensures least { 0 < length (X.ids whole.now) → 0 < length (Y.ids part.now) → 2 ≤ result.looks }
-{
-    let mut count = Looks { looks: 0 };
-    let answer = holds_all(whole, part, &mut count);
-    Counted {
-        answer,
-        looks: count.looks,
-    }
-}
-
-/// Whether two unions share a leaf. Its work follows how the two interleave, as `intersects_counted` says.
+/// Whether two unions share a leaf. Its work follows how the two interleave, as `meets_any` says.
 pub fn intersects<X: Cells, Y: Cells>(xs: &X, ys: &Y) -> bool
     ensures { IsLocal (X.ids xs.now) → IsLocal (Y.ids ys.now)
         → (IsTrue result ↔ ShareSome (has_leaf (X.ids xs.now)) (has_leaf (Y.ids ys.now))) }
 {
     meets_any(xs, ys, &mut Uncounted)
-}
-
-/// The same, with how often it looks at a number of either list, which is bounded as for `contains_counted`.
-pub fn intersects_counted<X: LookedAt<Looks>, Y: LookedAt<Looks>>(xs: &X, ys: &Y) -> Counted
-    ensures answer { IsLocal (X.ids xs.now) → IsLocal (Y.ids ys.now)
-        → (IsTrue result.answer ↔ ShareSome (has_leaf (X.ids xs.now)) (has_leaf (Y.ids ys.now))) }
-    ensures looks { IsLocal (X.ids xs.now) → IsLocal (Y.ids ys.now) → (d i j : ℕ)
-        → Alternates (X.ids xs.now) (Y.ids ys.now) d i j → KnownToMeet (X.ids xs.now) (Y.ids ys.now) i j
-        → FewForTurns (length (X.ids xs.now) + length (Y.ids ys.now)) d result.looks }
-    ensures sizes { IsLocal (X.ids xs.now) → IsLocal (Y.ids ys.now)
-        → FewForUnion (length (X.ids xs.now)) (length (Y.ids ys.now)) result.looks }
-    ensures least { 0 < length (X.ids xs.now) → 0 < length (Y.ids ys.now) → 2 ≤ result.looks }
-{
-    let mut count = Looks { looks: 0 };
-    let answer = meets_any(xs, ys, &mut count);
-    Counted {
-        answer,
-        looks: count.looks,
-    }
 }
 
 /// A question about a union `xs` and a cell, or the cells of a union `ys`, of which one may decide it.
@@ -79,7 +37,11 @@ pub enum Question {
     Intersects,
 }
 
-/// Whether `xs` has all leaves of `ys`, for any counter, which counts on from where it is.
+/// Whether `xs` has all leaves of `ys`, counted: the counter counts on from where it is. Let unions have `m` and `n`
+/// cells, which in the order of their first leaves are in turns `d` runs of each, up to where the answer is known. Then
+/// it looks at most `8 (d + 1) (1 + log2((m + n) / (d + 1)))` times at a number of either list, the logarithm rounded
+/// up: neither list is gone through. By the sizes alone it is at most `42 m (1 + k) + 42` times if the shorter list has
+/// `m` cells and the longer one at most `(m + 1) 2^k`, and at most `8 (m + n) + 8` times.
 pub fn holds_all<X: LookedAt<K>, Y: LookedAt<K>, K: Count>(xs: &X, ys: &Y, count: &mut K) -> bool
     ensures answer { IsLocal (X.ids xs.now) → IsLocal (Y.ids ys.now)
         → (IsTrue result ↔ IsWithin (has_leaf (Y.ids ys.now)) (has_leaf (X.ids xs.now))) }
@@ -98,7 +60,7 @@ pub fn holds_all<X: LookedAt<K>, Y: LookedAt<K>, K: Count>(xs: &X, ys: &Y, count
     !is_decided(Question::Contains, xs, ys, count)
 }
 
-/// Whether `xs` and `ys` share a leaf, for any counter, which counts on from where it is.
+/// Whether `xs` and `ys` share a leaf, counted, with the bounds of `holds_all`.
 pub fn meets_any<X: LookedAt<K>, Y: LookedAt<K>, K: Count>(xs: &X, ys: &Y, count: &mut K) -> bool
     ensures answer { IsLocal (X.ids xs.now) → IsLocal (Y.ids ys.now)
         → (IsTrue result ↔ ShareSome (has_leaf (X.ids xs.now)) (has_leaf (Y.ids ys.now))) }

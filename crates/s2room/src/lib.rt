@@ -32,5 +32,5 @@ pub use keys::ancestors;
 pub use merge::union_of_many;
 pub use normalising::normalise;
 pub use outside::put_complement;
-pub use share::{CountedLength, put_intersection, put_intersection_counted};
+pub use share::put_intersection;
 pub use subtract::put_difference;

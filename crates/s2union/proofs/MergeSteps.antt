@@ -1,17 +1,15 @@
 -- One step of the walk along a list and the two lists of a change.
 use Rattle.std.proofs.Common.{◌≡◌, ℕ, ◌<◌, ◌≢◌, true, false, ◌||◌, eqb, ltb, List, [], ◌∷◌, ◌++◌, length, refl}
 use Rattle.std.proofs.Common.{sym, ap, ◌∙◌, subst, ⊎_elim, arith, eqb-true, eq-eqb, ne_eqb, lt-ltb, le-ltb, drop, take}
-use Rattle.std.proofs.Common.{get_or, ◌-◌, ◌+◌, ◌^◌, ◌≤◌, min, zero, suc}
+use Rattle.std.proofs.Common.{get_or, ◌-◌, ◌+◌, ◌≤◌, min, zero, suc}
 use Rattle.std.proofs.lemmas.Grind.{common_steps}
-use Rattle.std.proofs.lemmas.List.{append_assoc, take_all, length-drop, length-take-le, get_or-drop}
+use Rattle.std.proofs.lemmas.List.{append_assoc, take_all, length-drop}
 use Rattle.std.proofs.lemmas.Bool.{cond-true, cond-false, false≢true, true≢false, or_cases, or_left, or_right, or_parts}
 use Rattle.std.specs.List.Sorted.{IsStrictlyIncreasing}
 use Rattle.s2union.specs.Apply.{has, cells_without, insert_cell, insert_cells, applied}
 use Rattle.std.specs.declared.cmp.Ordering.TheVariants.{Less, Equal, Greater}
 use Rattle.s2union.specs.Working.Merge.{Left, CanApply, Goes, Keeps, made_list, Ascend}
-use Rattle.s2union.specs.Working.Merge.{IsHead, IsFrontOf, AtChange, Uses}
-use Rattle.s2cell.specs.Cell.{IsCell}
-use Rattle.s2cell.proofs.CellLemmas.{cell_leaves}
+use Rattle.s2union.specs.Working.Merge.{IsHead, IsFrontOf}
 use Rattle.s2list.specs.Search.{Brackets}
 use Rattle.s2list.specs.Packed.{IsPacked}
 use Rattle.s2list.proofs.Finding.{ascends}
@@ -283,53 +281,7 @@ whole_on list {run} {front} {new} w c e k t can =
     ∙ append_assoc list run (front ++ made_list new)
     ∙ ap (λ l. list ++ (run ++ l)) (sym (t.gives (k.same.0 can))) ∙ ap (λ l. list ++ l) (sym (k.gives can)) ∙ w
 
--- the cells of such a run are done
-pub found_uses : (n : ℕ) (out put us : List ℕ) → n ≤ length us → Uses 0 0 (length (take n us))
-    (record { out = out; put = put; cells = us }) (record { out = out; put = put; cells = drop n us })
-found_uses n out put us h =
-    let run : length (take n us) ≡ n = length-take-le n us h in
-    let rest : length (drop n us) ≡ length us - n = length-drop n us in
-    record { out = omega arith; put = omega arith; cells = omega arith }
-
-below_front : (cell n : ℕ) (ys : List ℕ) → cell < 2 ^ 64 - 1 → IsFrontOf n ys → IsHead Greater ys cell → cell < n
-below_front cell n [] l f h = omega arith
-below_front cell n (y ∷ ys) l f h = omega arith
-
--- and the cell after it isn't below the first of both
-pub found_at_change : {len next : ℕ} (a b : ℕ) (out put : List ℕ) {us : List ℕ} → IsPacked us → IsFrontOf a out →
-    IsFrontOf b put → next ≡ min a b → Brackets us next len len →
-    AtChange (record { out = out; put = put; cells = drop len us })
-found_at_change {len} {next} a b out put {us} p fa fb e found cell rest is ho hp =
-    let n : length (drop len us) ≡ length us - len = length-drop len us in
-    let m : length (drop len us) ≡ length rest + 1 = ap (λ (l : List ℕ). length l) is ∙ omega arith in
-    let there : len < length us = omega arith in
-    let zero_on : len + 0 ≡ len = omega arith in
-    let at : get_or us len 0 ≡ cell = ap (λ i. get_or us i 0) (sym zero_on) ∙ sym (get_or-drop len us 0 0)
-    ∙ ap (λ (l : List ℕ). get_or l 0 0) is in
-    let c : IsCell (get_or us len 0) = p.cells len 0 there in
-    let leaves = cell_leaves (get_or us len 0) c in
-    let middle = leaves.middle in
-    let within = leaves.within in
-    let some = leaves.some in
-    let high = found.rest len (omega arith) there in
-    let top : cell < 2 ^ 64 - 1 = omega arith in
-    let la = below_front cell a out top fa ho in
-    let lb = below_front cell b put top fb hp in
-    omega arith
-
 -- the first cell of a list, and the others
-pub first_and_rest : {us : List ℕ} {u : ℕ} → 0 < length us → u ≡ get_or us 0 0 → us ≡ u ∷ drop 1 us
-first_and_rest {us = []} h e = absurd (omega arith)
-first_and_rest {us = x ∷ us} h e = ap (λ y. y ∷ us) (sym e)
-
--- what a turn uses
-pub put_uses : (out put us : List ℕ) (u : ℕ) → IsHead Less put u → Uses 0 1 0
-    (record { out = out; put = put; cells = us }) (record { out = out; put = drop 1 put; cells = us })
-put_uses out [] us u h = absurd (cc)
-put_uses out (p ∷ ps) us u h = record { out = omega arith; put = omega arith; cells = omega arith }
-
-pub take_uses : (out put us : List ℕ) (u : ℕ) → 0 < length us → IsHead Equal out u → Uses 1 0 1
-    (record { out = out; put = put; cells = us }) (record { out = drop 1 out; put = put; cells = drop 1 us })
-take_uses [] put us u l h = absurd (cc)
-take_uses (o ∷ os) put [] u l h = absurd (omega arith)
-take_uses (o ∷ os) put (x ∷ us) u l h = record { out = omega arith; put = omega arith; cells = omega arith }
+pub first_and_rest : (us : List ℕ) (d : ℕ) → 0 < length us → us ≡ get_or us 0 d ∷ drop 1 us
+first_and_rest [] d h = absurd (omega arith)
+first_and_rest (x ∷ us) d h = refl

@@ -1,5 +1,5 @@
 -- Lists of cells as sets of cells, and the list that results from taking some cells out and putting others in.
-use Rattle.std.specs.Prelude.{◌≡◌, ◌≤◌, ◌+◌, ◌*◌, ◌^◌, ℕ, Bool, true, false, ◌||◌, ◌==◌, nat_lt, if◌then◌else◌}
+use Rattle.std.specs.Prelude.{◌≡◌, ℕ, Bool, true, false, ◌||◌, ◌==◌, nat_lt, if◌then◌else◌}
 use Rattle.std.specs.Prelude.{List, [], ◌∷◌}
 use Rattle.std.specs.List.Sorted.{IsStrictlyIncreasing}
 use Rattle.s2list.specs.Union.{IsLocal}
@@ -36,9 +36,3 @@ pub record Fits (out put u : List ℕ) : Type 0 where
   pub out_is_there : (x : ℕ) → has out x ≡ true → has u x ≡ true
   pub put_is_new : (x : ℕ) → has put x ≡ true → has u x ≡ false
   pub local : IsLocal (applied out put u)
-
--- a change of `change` cells in a list of `cells`: at most `4 (change + 1) (k + 6)` looks at the list for each `k` that
--- is at least log2(cells / (change + 1)); so at most `c (change + 1) (1 + log2(cells / (change + 1)))` for `c` = 24 and
--- the logarithm rounded up
-abbrev pub FewForChange : (cells change looks : ℕ) → Type 0
-FewForChange cells change looks = (k : ℕ) → cells ≤ (change + 1) * 2 ^ k → looks ≤ 4 * (change + 1) * (k + 6)

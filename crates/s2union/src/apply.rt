@@ -1,26 +1,22 @@
 //! Changes of a union's list: cells are taken out of it and others put in.
 //!
 //! [`Merge`] walks along the list and the two lists of a change, and gives the changed list by runs and single cells.
-//! [`Tail`] tells from the last three cells that it gave whether the next one may come after them. What counts looks at
-//! the list is a type parameter; looks at the cells of a change aren't counted.
-ghost use Rattle.std.specs.Prelude.{◌≡◌, ◌≤◌, ◌<◌, ◌+◌, ◌-◌, ◌*◌, ◌^◌, ◌++◌, ◌↔◌, ℕ};
-ghost use Rattle.std.specs.Prelude.{[], length, take, drop, min, IfOk, IsTrue, Some, None};
+//! [`Tail`] tells from the last three cells that it gave whether the next one may come after them.
+ghost use Rattle.std.specs.Prelude.{◌≡◌, ◌≤◌, ◌<◌, ◌+◌, ◌-◌, ◌++◌, ◌↔◌};
+ghost use Rattle.std.specs.Prelude.{[], length, take, drop, IfOk, IsTrue, Some, None};
 ghost use Rattle.std.specs.List.Sorted.{IsStrictlyIncreasing};
 ghost use Rattle.std.specs.Vec.{vec_len, vec_capacity};
 ghost use Rattle.s2cell.specs.Cell.{IsCell};
 ghost use Rattle.s2list.specs.Union.{IsLocal};
-ghost use Rattle.s2union.specs.Apply.{applied, Fits, FewForChange};
-ghost use Rattle.s2union.specs.Working.Merge.{IsTurn, IsHead, IsFrontOf, IsRest, Keeps, Uses, AtChange, TakesOne};
+ghost use Rattle.s2union.specs.Apply.{applied, Fits};
+ghost use Rattle.s2union.specs.Working.Merge.{IsTurn, IsHead, IsFrontOf, IsRest, Keeps};
 ghost use Rattle.s2list.specs.Packed.{IsPacked};
 ghost use Rattle.s2union.specs.Working.Tail.{Follows, Passes};
 
-use crate::search::CellsLookedAt;
 use crate::sets::extend_reserved;
 use crate::union::CellUnion;
 use s2cell::CellId;
-use s2list::{
-    CellList, Count, Counted, Listed, Looks, Uncounted, find_id_counted, parent_of_family,
-};
+use s2list::{CellList, find_id, parent_of_family};
 use std::alloc::{AllocError, Global};
 use std::cmp::Ordering;
 use std::marker::Model;
@@ -62,26 +58,7 @@ impl CellUnion {
         requires put_ascends { IsStrictlyIncreasing put.now }
         ensures { IsTrue result ↔ Fits out.now put.now self.now.cells }
     {
-        fits_cells(self.list(), out, put, &mut Uncounted)
-    }
-
-    /// The same, with how often it looks at a cell of the list. If that has `n` cells, and `out` and `put` together
-    /// `m`, it looks at most `4 (m + 1) (k + 6)` times, for each `k` with `n` at most `(m + 1) 2^k`. If the list has a
-    /// cell, it looks at least once, and if the change fits, once for each cell of `out`.
-    pub fn can_apply_counted(&self, out: &[CellId], put: &[CellId]) -> Counted
-        requires out_ascends { IsStrictlyIncreasing out.now }
-        requires put_ascends { IsStrictlyIncreasing put.now }
-        ensures answer { IsTrue result.answer ↔ Fits out.now put.now self.now.cells }
-        ensures looks { FewForChange (length self.now.cells) (length out.now + length put.now) result.looks }
-        ensures least { IsTrue result.answer → length out.now ≤ result.looks }
-        ensures some { 0 < length self.now.cells → 0 < result.looks }
-    {
-        let mut count = Looks { looks: 0 };
-        let answer = fits_cells(self.list(), out, put, &mut count);
-        Counted {
-            answer,
-            looks: count.looks,
-        }
+        fits_cells(self.cells(), out, put)
     }
 
     /// Takes the cells of `out` out of the list and puts those of `put` in, in the list's own room, for which it must
@@ -121,47 +98,9 @@ impl CellUnion {
         ensures cells { into.new.cells ≡ applied out.now put.now self.now.cells }
         ensures room { into.new.room ≡ into.old.room }
     {
-        self.write_applied(out, put, into, &mut Uncounted);
-    }
-
-    /// The same, with how often it looks at a cell of this list: at least once at each, and at most `4 (m + 1) (k + 6)`
-    /// times more, if `out` and `put` together have `m` cells, for each `k` with at most `(m + 1) 2^k` cells in the
-    /// list. A count too large for a `u64` is answered as the greatest `u64`.
-    pub fn apply_into_counted(&self, out: &[CellId], put: &[CellId], into: &mut CellUnion) -> u64
-        requires fits { Fits out.now put.now self.now.cells }
-        requires room { length (applied out.now put.now self.now.cells) ≤ into.old.room }
-        ensures cells { into.new.cells ≡ applied out.now put.now self.now.cells }
-        ensures room { into.new.room ≡ into.old.room }
-        ensures looks { FewForChange (length self.now.cells) (length out.now + length put.now)
-            (result - length self.now.cells) }
-        ensures least { length self.now.cells ≤ result }
-    {
-        let _ = self.len();
-        let mut count = Looks { looks: 0 };
-        self.write_applied(out, put, into, &mut count);
-        count.looks
-    }
-
-    /// As `apply_into_counted`, for any counter.
-    fn write_applied<K: Count>(
-        &self,
-        out: &[CellId],
-        put: &[CellId],
-        into: &mut CellUnion,
-        count: &mut K,
-    )
-        requires fits { Fits out.now put.now self.now.cells }
-        requires room { length (applied out.now put.now self.now.cells) ≤ into.old.room }
-        requires count { K.looks count.old ≡ 0 }
-        ensures cells { into.new.cells ≡ applied out.now put.now self.now.cells }
-        ensures room { into.new.room ≡ into.old.room }
-        ensures looks { FewForChange (length self.now.cells) (length out.now + length put.now)
-            (K.looks count.new - length self.now.cells) }
-        ensures least { min (length self.now.cells) K.most ≤ K.looks count.new }
-    {
         let none = Vec::new(*into.cells.allocator());
         let room = mem::replace(&mut into.cells, none);
-        into.cells = applied_in(room, self.list(), out, put, count);
+        into.cells = applied_in(room, self.cells(), out, put);
     }
 }
 
@@ -189,8 +128,8 @@ fn changed_part(room: Vec<CellId>, cells: &[CellId], out: &[CellId], put: &[Cell
 {
     let mut list = room;
     list.clear();
-    let mut merge = Merge::new(CellList { cells }, out, put);
-    let from = merge.run(&mut Uncounted).len();
+    let mut merge = Merge::new(cells, out, put);
+    let from = merge.run().len();
     loop {
         if merge.is_done() {
             let to = cells.len() - merge.cells.len();
@@ -200,9 +139,9 @@ fn changed_part(room: Vec<CellId>, cells: &[CellId], out: &[CellId], put: &[Cell
                 cells: list,
             };
         }
-        let run = merge.run(&mut Uncounted);
-        list = with_cells(list, run, &mut Uncounted);
-        match merge.turn(&mut Uncounted) {
+        let run = merge.run();
+        list = with_cells(list, run);
+        match merge.turn() {
             Turn::Write(cell) => list.push_reserved(cell),
             Turn::Skip => {}
             Turn::Misfit | Turn::End => {
@@ -282,29 +221,24 @@ fn grow(list: &mut Vec<CellId>, at: usize, more: &[CellId])
 ///
 /// The list is handed over and back: the copy of a run is several times as fast if the length of the list is the
 /// function's own and not behind a reference.
-fn applied_in<C: CellsLookedAt<K>, K: Count>(
+fn applied_in(
     mut list: Vec<CellId>,
-    cells: C,
+    cells: &[CellId],
     out: &[CellId],
     put: &[CellId],
-    count: &mut K,
 ) -> Vec<CellId>
-    requires local { IsLocal (C.ids cells) }
-    requires fits { Fits out.now put.now (C.ids cells) }
-    requires room { length (applied out.now put.now (C.ids cells)) ≤ vec_capacity list }
-    requires count { K.looks count.old ≡ 0 }
-    ensures items { result.items ≡ applied out.now put.now (C.ids cells) }
+    requires local { IsLocal cells.now }
+    requires fits { Fits out.now put.now cells.now }
+    requires room { length (applied out.now put.now cells.now) ≤ vec_capacity list }
+    ensures items { result.items ≡ applied out.now put.now cells.now }
     ensures capacity { vec_capacity result ≡ vec_capacity list }
-    ensures looks { FewForChange (length (C.ids cells)) (length out.now + length put.now)
-        (K.looks count.new - length (C.ids cells)) }
-    ensures least { min (length (C.ids cells)) K.most ≤ K.looks count.new }
 {
     list.clear();
     let mut merge = Merge::new(cells, out, put);
     loop {
-        let run = merge.run(count);
-        list = with_cells(list, run, count);
-        match merge.turn(count) {
+        let run = merge.run();
+        list = with_cells(list, run);
+        match merge.turn() {
             Turn::Write(cell) => list.push_reserved(cell),
             Turn::Skip => {}
             Turn::Misfit | Turn::End => return list,
@@ -312,49 +246,34 @@ fn applied_in<C: CellsLookedAt<K>, K: Count>(
     }
 }
 
-/// A list with cells after it, for which it has room, in the room that it has. Looks at each once.
-fn with_cells<C: CellsLookedAt<K>, K: Count>(
-    mut list: Vec<CellId>,
-    cells: C,
-    count: &mut K,
-) -> Vec<CellId>
-    requires { vec_len list + length (C.ids cells) ≤ vec_capacity list }
-    ensures items { result.items ≡ list.items ++ C.ids cells }
+/// A list with cells after it, for which it has room, in the room that it has.
+fn with_cells(mut list: Vec<CellId>, cells: &[CellId]) -> Vec<CellId>
+    requires { vec_len list + length cells.now ≤ vec_capacity list }
+    ensures items { result.items ≡ list.items ++ cells.now }
     ensures capacity { vec_capacity result ≡ vec_capacity list }
-    ensures looks { K.looks count.new ≤ K.looks count.old + length (C.ids cells) }
-    ensures least { min (K.looks count.old + length (C.ids cells)) K.most ≤ K.looks count.new }
 {
     for k in 0..cells.len() {
-        list.push_reserved(cells.look_at(k, count));
+        list.push_reserved(cells[k]);
     }
     list
 }
 
 /// Whether the change fits the cells: the walk finds no misfit, and the cells that it gives are packed. Skips runs of
 /// cells that stay.
-fn fits_cells<'a, C: CellsLookedAt<K>, K: Count>(
-    cells: C,
-    out: &'a [CellId],
-    put: &'a [CellId],
-    count: &mut K,
-) -> bool
-    requires local { IsLocal (C.ids cells) }
+fn fits_cells(cells: &[CellId], out: &[CellId], put: &[CellId]) -> bool
+    requires local { IsLocal cells.now }
     requires out_ascends { IsStrictlyIncreasing out.now }
     requires put_ascends { IsStrictlyIncreasing put.now }
-    requires count { K.looks count.old ≡ 0 }
-    ensures answer { IsTrue result ↔ Fits out.now put.now (C.ids cells) }
-    ensures looks { FewForChange (length (C.ids cells)) (length out.now + length put.now) (K.looks count.new) }
-    ensures least { IsTrue result → min (length out.now) K.most ≤ K.looks count.new }
-    ensures some { 0 < length (C.ids cells) → min 1 K.most ≤ K.looks count.new }
+    ensures { IsTrue result ↔ Fits out.now put.now cells.now }
 {
     let mut merge = Merge::new(cells, out, put);
     let mut tail = Tail::new();
     loop {
-        let run = merge.run(count);
-        if !tail.pass(run, count) {
+        let run = merge.run();
+        if !tail.pass(run) {
             return false;
         }
-        match merge.turn(count) {
+        match merge.turn() {
             Turn::Write(cell) => {
                 if !tail.takes(cell) {
                     return false;
@@ -370,20 +289,20 @@ fn fits_cells<'a, C: CellsLookedAt<K>, K: Count>(
 
 /// What is left of a list, of the cells to take out of it, and of those to put in.
 #[derive(Drop)]
-pub(crate) struct Merge<'a, C: Listed + Copy> {
-    cells: C,
+pub(crate) struct Merge<'a> {
+    cells: &'a [CellId],
     out: &'a [CellId],
     put: &'a [CellId],
 }
 
-impl<'a, C: Listed + Copy> Model for Merge<'a, C> {
+impl<'a> Model for Merge<'a> {
     ghost use Rattle.s2union.specs.Working.Merge.{Left, Ascend};
 
     ghost Value = { Left };
 
-    ghost view = { λ m. record { out = m.out.now; put = m.put.now; cells = C.ids m.cells } };
+    ghost view = { λ m. record { out = m.out.now; put = m.put.now; cells = m.cells.now } };
 
-    ghost invariant = { λ m. Ascend (record { out = m.out.now; put = m.put.now; cells = C.ids m.cells }) };
+    ghost invariant = { λ m. Ascend (record { out = m.out.now; put = m.put.now; cells = m.cells.now }) };
 }
 
 /// One step of the walk.
@@ -399,13 +318,13 @@ pub(crate) enum Turn {
     End,
 }
 
-impl<'a, C: Listed + Copy> Merge<'a, C> {
+impl<'a> Merge<'a> {
     /// The walk from the beginning.
-    pub(crate) fn new(cells: C, out: &'a [CellId], put: &'a [CellId]) -> Merge<'a, C>
-        requires cells_packed { IsPacked (C.ids cells) }
+    pub(crate) fn new(cells: &'a [CellId], out: &'a [CellId], put: &'a [CellId]) -> Merge<'a>
+        requires cells_packed { IsPacked cells.now }
         requires out_ascends { IsStrictlyIncreasing out.now }
         requires put_ascends { IsStrictlyIncreasing put.now }
-        ensures { result ≡ record { out = out.now; put = put.now; cells = C.ids cells } }
+        ensures { result ≡ record { out = out.now; put = put.now; cells = cells.now } }
     {
         Merge { cells, out, put }
     }
@@ -418,32 +337,25 @@ impl<'a, C: Listed + Copy> Merge<'a, C> {
     }
 
     /// The cells of the list before the next one that is taken out or put in, which stay. The walk goes on after them.
-    /// The number of looks is logarithmic in theirs.
-    pub(crate) fn run<K: Count>(&mut self, count: &mut K) -> C
-    where
-        C: CellsLookedAt<K>,
-        ensures keeps { Keeps (C.ids result) self.old self.new }
-        ensures front { take (length (C.ids result)) self.old.cells ≡ C.ids result }
+    /// Logarithmic in how many they are.
+    pub(crate) fn run(&mut self) -> &'a [CellId]
+        ensures keeps { Keeps result.now self.old self.new }
+        ensures front { take (length result.now) self.old.cells ≡ result.now }
         ensures rest { IsRest self.new.cells self.old.cells }
-        ensures packed { IsPacked (C.ids result) }
-        ensures uses { Uses 0 0 (length (C.ids result)) self.old self.new }
-        ensures at_change { AtChange self.new }
-        ensures looks { (k : ℕ) → length (C.ids result) < 2 ^ k → K.looks count.new ≤ K.looks count.old + 2 * k + 4 }
-        ensures least { min (K.looks count.old) K.most ≤ K.looks count.new }
+        ensures packed { IsPacked result.now }
+        ensures len { length result.now + length self.new.cells ≡ length self.old.cells }
     {
         let next = first_id(self.out).min(first_id(self.put));
         let cells = self.cells;
-        let at = find_id_counted(&cells, next, count);
-        let (front, back) = cells.split_at(at);
-        self.cells = back;
-        front
+        let at = find_id(&CellList { cells }, next);
+        self.cells = &cells[at..];
+        &cells[..at]
     }
 
     /// The step if no cell of the list is left.
     fn turn_after_cells(&mut self) -> Turn
         requires { self.old.cells ≡ [] }
         ensures turn { IsTurn result self.old self.new }
-        ensures takes { TakesOne result self.old self.new }
         ensures rest { IsRest self.new.cells self.old.cells }
     {
         if let Some((&put, rest)) = self.put.split_first() {
@@ -457,20 +369,14 @@ impl<'a, C: Listed + Copy> Merge<'a, C> {
     }
 
     /// Takes one step. After a run it's one by a cell of the change.
-    pub(crate) fn turn<K: Count>(&mut self, count: &mut K) -> Turn
-    where
-        C: CellsLookedAt<K>,
+    pub(crate) fn turn(&mut self) -> Turn
         ensures turn { IsTurn result self.old self.new }
-        ensures takes { AtChange self.old → TakesOne result self.old self.new }
         ensures rest { IsRest self.new.cells self.old.cells }
-        ensures looks { K.looks count.new ≤ K.looks count.old + 1 }
-        ensures least { min (K.looks count.old) K.most ≤ K.looks count.new }
-        ensures some { 0 < length self.old.cells → min (K.looks count.old + 1) K.most ≤ K.looks count.new }
     {
-        if self.cells.len() == 0 {
+        if self.cells.is_empty() {
             return self.turn_after_cells();
         }
-        let cell = self.cells.look_at(0, count);
+        let cell = self.cells[0];
         match head_order(self.put, cell) {
             Ordering::Less => {
                 let put = self.put[0];
@@ -482,11 +388,11 @@ impl<'a, C: Listed + Copy> Merge<'a, C> {
                 Ordering::Less => Turn::Misfit,
                 Ordering::Equal => {
                     self.out = &self.out[1..];
-                    self.cells = self.cells.split_at(1).1;
+                    self.cells = &self.cells[1..];
                     Turn::Skip
                 }
                 Ordering::Greater => {
-                    self.cells = self.cells.split_at(1).1;
+                    self.cells = &self.cells[1..];
                     Turn::Write(cell)
                 }
             },
@@ -561,26 +467,22 @@ impl Tail {
 
     /// Whether the cells of a run of a list may come next, one after another; if so, they are passed. Only the first
     /// three of them can share leaves or make a family with those before; the others follow each other as in the list.
-    pub(crate) fn pass<C: CellsLookedAt<K>, K: Count>(&mut self, run: C, count: &mut K) -> bool
-        requires packed { IsPacked (C.ids run) }
-        ensures passes { Passes (IsTrue result) self.old self.new (C.ids run) }
-        ensures looks { K.looks count.new ≤ K.looks count.old + 6 }
-        ensures least { min (K.looks count.old) K.most ≤ K.looks count.new }
-        ensures some { (IsTrue result → 0 < length (C.ids run))
-            → min (K.looks count.old + 1) K.most ≤ K.looks count.new }
+    pub(crate) fn pass(&mut self, run: &[CellId]) -> bool
+        requires { IsPacked run.now }
+        ensures { Passes (IsTrue result) self.old self.new run.now }
     {
         let len = run.len();
         for k in 0..len.min(3) {
-            let cell = run.look_at(k, count);
+            let cell = run[k];
             if !self.takes(cell) {
                 return false;
             }
             self.push(cell);
         }
         if len > 3 {
-            self.push(run.look_at(len - 3, count));
-            self.push(run.look_at(len - 2, count));
-            self.push(run.look_at(len - 1, count));
+            self.push(run[len - 3]);
+            self.push(run[len - 2]);
+            self.push(run[len - 1]);
         }
         true
     }

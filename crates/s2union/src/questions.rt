@@ -2,14 +2,14 @@
 ghost use Rattle.std.specs.Prelude.{◌≡◌, ◌≤◌, ◌<◌, ◌↔◌, ℕ, IsTrue, min, length, take, drop, All, true};
 ghost use Rattle.s2cell.specs.Cell.{IsCell, covers};
 ghost use Rattle.s2list.specs.Union.{IsLocal, has_leaf, IsWithin, ShareSome};
-ghost use Rattle.s2list.specs.Looks.{FewForCell, FewForUnion};
+ghost use Rattle.s2list.specs.Looks.{FewForUnion};
 ghost use Rattle.s2list.specs.Search.{IsRunAt};
 
 use crate::few::{MUCH_LONGER, holds_few, meets_few};
 use crate::search::CellsLookedAt;
 use crate::union::CellUnion;
 use s2cell::CellId;
-use s2list::{Count, Counted, Looks, Uncounted};
+use s2list::{Count, Uncounted};
 
 impl CellUnion {
     /// Whether it has all leaves of the cell. Logarithmic in the number of its cells. S2 calls it `Contains`.
@@ -19,31 +19,11 @@ impl CellUnion {
         s2list::contains_cell(&self.list(), cell)
     }
 
-    /// The same, with the number of cells that it looks at: at least 1 if it has a cell, and at most `k + 3` if it has
-    /// at most `2^k` cells.
-    pub fn contains_cell_counted(&self, cell: CellId) -> Counted
-        ensures answer { IsTrue result.answer ↔ IsWithin (covers cell) (has_leaf self.now.cells) }
-        ensures looks { FewForCell (length self.now.cells) result.looks }
-        ensures least { 0 < length self.now.cells → 0 < result.looks }
-    {
-        s2list::contains_cell_counted(&self.list(), cell)
-    }
-
     /// Whether it has a leaf of the cell. Logarithmic in the number of its cells. S2 calls it `Intersects`.
     pub fn intersects_cell(&self, cell: CellId) -> bool
         ensures { IsTrue result ↔ ShareSome (covers cell) (has_leaf self.now.cells) }
     {
         s2list::intersects_cell(&self.list(), cell)
-    }
-
-    /// The same, with the number of cells that it looks at: at least 1 if it has a cell, and at most `k + 3` if it has
-    /// at most `2^k` cells.
-    pub fn intersects_cell_counted(&self, cell: CellId) -> Counted
-        ensures answer { IsTrue result.answer ↔ ShareSome (covers cell) (has_leaf self.now.cells) }
-        ensures looks { FewForCell (length self.now.cells) result.looks }
-        ensures least { 0 < length self.now.cells → 0 < result.looks }
-    {
-        s2list::intersects_cell_counted(&self.list(), cell)
     }
 
     /// Whether it has all leaves of the other union; stops by the third cell after the first that it lacks. At most
@@ -55,42 +35,12 @@ impl CellUnion {
         holds_all(&self.list(), &other.list(), &mut Uncounted)
     }
 
-    /// The same, with the number of cells of both lists that it looks at: at least 2 if neither list is empty, and at
-    /// most `42 m (1 + k) + 42` if the shorter list has `m` cells and the longer one `n`, at most `(m + 1) 2^k`; and at
-    /// most `8 (m + n) + 8`.
-    pub fn contains_counted(&self, other: &CellUnion) -> Counted
-        ensures answer { IsTrue result.answer ↔ IsWithin (has_leaf other.now.cells) (has_leaf self.now.cells) }
-        ensures looks { FewForUnion (length self.now.cells) (length other.now.cells) result.looks }
-        ensures least { 0 < length self.now.cells → 0 < length other.now.cells → 2 ≤ result.looks }
-    {
-        let mut count = Looks { looks: 0 };
-        let answer = holds_all(&self.list(), &other.list(), &mut count);
-        Counted {
-            answer,
-            looks: count.looks,
-        }
-    }
-
     /// Whether the two share a leaf; stops by the third cell after the first with a shared leaf. As many steps as
     /// `contains`. S2 calls it `Intersects`.
     pub fn intersects(&self, other: &CellUnion) -> bool
         ensures { IsTrue result ↔ ShareSome (has_leaf self.now.cells) (has_leaf other.now.cells) }
     {
         meets_any(&self.list(), &other.list(), &mut Uncounted)
-    }
-
-    /// The same, with the number of cells of both lists that it looks at, bounded as for `contains_counted`.
-    pub fn intersects_counted(&self, other: &CellUnion) -> Counted
-        ensures answer { IsTrue result.answer ↔ ShareSome (has_leaf self.now.cells) (has_leaf other.now.cells) }
-        ensures looks { FewForUnion (length self.now.cells) (length other.now.cells) result.looks }
-        ensures least { 0 < length self.now.cells → 0 < length other.now.cells → 2 ≤ result.looks }
-    {
-        let mut count = Looks { looks: 0 };
-        let answer = meets_any(&self.list(), &other.list(), &mut count);
-        Counted {
-            answer,
-            looks: count.looks,
-        }
     }
 
     /// The cells of the union that share a leaf with the cell. They are one run of its list. Logarithmic in the size of

@@ -1,24 +1,18 @@
 //! The searches in the cells of a union, which are those of `s2list`, and how a call that is counted looks at a cell
 //! itself.
-ghost use Rattle.std.specs.Prelude.{◌≡◌, ◌≤◌, ◌<◌, ◌+◌, min, length, slice_index, take, drop};
+ghost use Rattle.std.specs.Prelude.{◌≡◌, ◌≤◌, ◌<◌, ◌+◌, min, length, slice_index};
 ghost use Rattle.s2list.specs.Packed.{IsPacked, FirstEndBy, EndsAfter};
 
 use s2cell::CellId;
 use s2list::{CellList, Count, LookedAt, Uncounted};
 
 /// Cells of a list that are seen only by looks that `K` counts: as numbers (`LookedAt`), or as cells.
-pub(crate) trait CellsLookedAt<K: Count>: LookedAt<K> + Copy {
+pub(crate) trait CellsLookedAt<K: Count>: LookedAt<K> {
     /// The cell at an index, counted.
     fn look_at(&self, at: usize, count: &mut K) -> CellId
         requires { at < length (Self.ids self.now) }
         ensures cell { result ≡ slice_index (Self.ids self.now) at }
         ensures count { K.looks count.new ≡ min (K.looks count.old + 1) K.most };
-
-    /// The cells before an index, and those from there on.
-    fn split_at(self, at: usize) -> (Self, Self)
-        requires { at ≤ length (Self.ids self) }
-        ensures front { Self.ids result.0 ≡ take at (Self.ids self) }
-        ensures back { Self.ids result.1 ≡ drop at (Self.ids self) };
 }
 
 impl<'a, K: Count> CellsLookedAt<K> for CellList<'a> {
@@ -26,17 +20,6 @@ impl<'a, K: Count> CellsLookedAt<K> for CellList<'a> {
     fn look_at(&self, at: usize, count: &mut K) -> CellId {
         count.look();
         self.cells[at]
-    }
-
-    #[inline(always)]
-    fn split_at(self, at: usize) -> (Self, Self) {
-        let front = CellList {
-            cells: &self.cells[..at],
-        };
-        let back = CellList {
-            cells: &self.cells[at..],
-        };
-        (front, back)
     }
 }
 

@@ -18,7 +18,7 @@ use crate::share::share;
 use crate::subtract::subtract;
 use crate::union::CellUnion;
 use s2cell::CellId;
-use s2list::{CellList, Uncounted, find_id_counted, write_symmetric_difference};
+use s2list::{CellList, find_id, write_symmetric_difference};
 use std::alloc::AllocError;
 
 impl CellUnion {
@@ -184,7 +184,7 @@ fn join_few(list: &mut Vec<CellId>, xs: &[CellId], ys: &[CellId])
     for j in 0..ys.len() {
         let y = ys[j];
         let rest = CellList { cells: &xs[done..] };
-        let more = find_id_counted(&rest, y.id(), &mut Uncounted);
+        let more = find_id(&rest, y.id());
         let next = done + more;
         add_run(list, &xs[done..next]);
         add_reserved(list, y);

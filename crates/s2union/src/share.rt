@@ -46,7 +46,7 @@ fn share_evenly(list: &mut Vec<CellId>, xs: &[CellId], ys: &[CellId]) -> Result<
         list,
         most: usize::MAX,
     };
-    s2list::write_shared(&xs, &ys, &mut grown, &mut Uncounted)?;
+    s2list::write_shared(&xs, &ys, &mut grown)?;
     Ok(())
 }
 

@@ -38,10 +38,10 @@ use std::{fmt, slice, vec};
 ///   `try_clone`; elsewhere: `with_room` (apply.rt)
 /// - its list, here: `cells`, `iter`, `len`, `room`, `is_empty`, `leaf_count`, `into_cells`, `==`, `Hash`, `Debug`,
 ///   `for cell in`
-/// - questions: `contains_cell`, `intersects_cell`, `contains`, `intersects`, each with a `_counted` form, and
-///   `cells_at` (questions.rt), `cursor` (cursor.rt)
+/// - questions: `contains_cell`, `intersects_cell`, `contains`, `intersects`, `cells_at` (questions.rt), `cursor`
+///   (cursor.rt)
 /// - set operations: `union`, `intersection`, `difference`, `difference_up_to`, `symmetric_difference` (sets.rt)
-/// - changes: `can_apply` and `apply_into`, each with a `_counted` form, `apply` and `copy_from` (apply.rt)
+/// - changes: `can_apply`, `apply_into`, `apply` and `copy_from` (apply.rt)
 /// - cut to levels: `denormalized`, `denormalized_list`, `denormalized_len` (denorm.rt)
 #[derive(Drop)]
 pub struct CellUnion {

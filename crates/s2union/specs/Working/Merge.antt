@@ -53,25 +53,6 @@ IsHead Less (x ∷ xs) cell = x < cell
 IsHead Equal (x ∷ xs) cell = x ≡ cell
 IsHead Greater (x ∷ xs) cell = cell < x
 
--- the next cell of the list isn't below all cells that are to be taken out or put in
-abbrev pub AtChange : Left → Type 0
-AtChange l = (cell : ℕ) (rest : List ℕ) → l.cells ≡ cell ∷ rest → IsHead Greater l.out cell
-    → IsHead Greater l.put cell → ⊥
-
--- what is left has `outs` fewer cells to take out, `puts` fewer to put in, and `passed` fewer of the list
-pub record Uses (outs puts passed : ℕ) (old new : Left) : Type 0 where
-  pub out : length new.out + outs ≡ length old.out
-  pub put : length new.put + puts ≡ length old.put
-  pub cells : length new.cells + passed ≡ length old.cells
-
--- a turn that isn't the last takes one cell of the change: it writes one that is put in, or passes one of the list that
--- is taken out; at the end none is left to take out, and none of the list
-abbrev pub TakesOne : Turn → Left → Left → Type 0
-TakesOne (Write c) old new = Uses 0 1 0 old new
-TakesOne Skip old new = Uses 1 0 1 old new
-TakesOne Misfit old new = Unit {0}
-TakesOne End old new = (length old.out ≡ 0) × (length old.cells ≡ 0)
-
 -- the first cell of the list, or a number above every cell if the list is empty
 abbrev pub IsFrontOf : ℕ → List ℕ → Type 0
 IsFrontOf n [] = n ≡ 2 ^ 64 - 1

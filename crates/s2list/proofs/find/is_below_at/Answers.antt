@@ -12,14 +12,14 @@ returns-then-at-len-clause-answer g c = (
 pub returns-clause-answer : goal.returns-clause-answer
 returns-clause-answer g c =
     let u = g.C.Listed.ids c.args.cells.now in
-    let e = c.look.ensures.id in
+    let e = c.id.ensures in
     let h : c.args.at < length u = omega arith in (
       λ t.
-          let l : c.look.result < c.args.mark = grind (arith, nat_tests) in
+          let l : c.id.result < c.args.mark = grind (arith, nat_tests) in
           (h, rw e at l),
       λ p.
           let l = p.1 in
-          let m : c.look.result < c.args.mark = omega arith in
-          let b : nat_lt c.look.result c.args.mark ≡ true = grind (arith, nat_tests) in
+          let m : c.id.result < c.args.mark = omega arith in
+          let b : nat_lt c.id.result c.args.mark ≡ true = grind (arith, nat_tests) in
           b,
     )

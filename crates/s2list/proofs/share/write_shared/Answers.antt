@@ -1,6 +1,6 @@
 use Rattle.std.proofs.Common.{◌<◌, ◌∙◌, length, refl, sym, arith, inl, inr}
 use Rattle.std.proofs.lemmas.Bool.{false≢true}
-use Rattle.s2list.proofs.Sharing.{shared_none, shared_swap, shared_skip, shared_run, shared_done, shared_few}
+use Rattle.s2list.proofs.Sharing.{shared_none, shared_swap, shared_skip, shared_run, shared_done}
 use Rattle.s2list.proofs.Sharing.{inside_by, inside_else}
 use Rattle.s2list.proofs.share.write_shared.Goals as goal
 
@@ -11,8 +11,7 @@ loop-i-init g c = record {
   place = refl;
   rest = λ h. h;
   so_far = λ lx ly. shared_none (g.X.Listed.ids c.args.xs.now) (g.Y.Listed.ids c.args.ys.now)
-      (λ list. g.W.Output.holds list c.args.out.now c.args.out.now 0) _ c.requires.empty c.requires.count;
-  some = λ h. absurd (omega arith);
+      (λ list. g.W.Output.holds list c.args.out.now c.args.out.now 0) c.requires;
 }
 
 pub loop-i-preserved-then-x_end-y_first : goal.loop-i-preserved-then-x_end-y_first
@@ -21,20 +20,15 @@ loop-i-preserved-then-x_end-y_first g c =
     let ny = c.len-y_len.ensures in
     let h : c.loop-i.i < length (g.X.Listed.ids c.args.xs.now) = omega (arith, c.loop-i-test.true) in
     let t : c.loop-i.j < length (g.Y.Listed.ids c.args.ys.now) = omega (arith, c.if-j-y_len.true) in
-    let more_x = c.look-x.ensures.count in
-    let more_y = c.look-y.ensures.count in
-    let a = g.K.Count.looks c.look-x.new.count in
-    let b = g.K.Count.looks c.look-y.new.count in
     let f = c.find_along-i.ensures in
     record {
       in_x = f.within;
       in_y = c.loop-i.invariant.in_y;
       place = c.loop-i.invariant.place;
       rest = c.loop-i.invariant.rest;
-      so_far = λ lx ly. shared_skip a b lx ly (c.loop-i.invariant.so_far lx ly) h t c.look-x.ensures.id
-          c.look-y.ensures.id c.end_of-x_end.ensures c.first_of-y_first.ensures c.if-x_end-y_first.true f.from f.within
-          f.ended f.next (omega arith) (omega arith) f.looks;
-      some = λ _. let least = f.least in omega arith;
+      so_far = λ lx ly. shared_skip lx ly (c.loop-i.invariant.so_far lx ly) h t c.id-x.ensures
+          c.id-y.ensures c.end_of-x_end.ensures c.first_of-y_first.ensures c.if-x_end-y_first.true f.from f.within
+          f.ended f.next;
     }
 
 pub loop-i-preserved-then-y_end-x_first : goal.loop-i-preserved-then-y_end-x_first
@@ -43,20 +37,15 @@ loop-i-preserved-then-y_end-x_first g c =
     let ny = c.len-y_len.ensures in
     let h : c.loop-i.i < length (g.X.Listed.ids c.args.xs.now) = omega (arith, c.loop-i-test.true) in
     let t : c.loop-i.j < length (g.Y.Listed.ids c.args.ys.now) = omega (arith, c.if-j-y_len.true) in
-    let more_x = c.look-x.ensures.count in
-    let more_y = c.look-y.ensures.count in
-    let a = g.K.Count.looks c.look-x.new.count in
-    let b = g.K.Count.looks c.look-y.new.count in
     let f = c.find_along-j.ensures in
     record {
       in_x = c.loop-i.invariant.in_x;
       in_y = f.within;
       place = c.loop-i.invariant.place;
       rest = c.loop-i.invariant.rest;
-      so_far = λ lx ly. shared_swap (shared_skip a b ly lx (shared_swap (c.loop-i.invariant.so_far lx ly)) t h
-          c.look-y.ensures.id c.look-x.ensures.id c.end_of-y_end.ensures c.first_of-x_first.ensures
-          c.if-y_end-x_first.true f.from f.within f.ended f.next (omega arith) (omega arith) f.looks);
-      some = λ _. let least = f.least in omega arith;
+      so_far = λ lx ly. shared_swap (shared_skip ly lx (shared_swap (c.loop-i.invariant.so_far lx ly)) t h
+          c.id-y.ensures c.id-x.ensures c.end_of-y_end.ensures c.first_of-x_first.ensures
+          c.if-y_end-x_first.true f.from f.within f.ended f.next);
     }
 
 pub loop-i-preserved-then-is_within : goal.loop-i-preserved-then-is_within
@@ -65,24 +54,19 @@ loop-i-preserved-then-is_within g c =
     let ny = c.len-y_len.ensures in
     let h : c.loop-i.i < length (g.X.Listed.ids c.args.xs.now) = omega (arith, c.loop-i-test.true) in
     let t : c.loop-i.j < length (g.Y.Listed.ids c.args.ys.now) = omega (arith, c.if-j-y_len.true) in
-    let more_x = c.look-x.ensures.count in
-    let more_y = c.look-y.ensures.count in
-    let a = g.K.Count.looks c.look-x.new.count in
-    let b = g.K.Count.looks c.look-y.new.count in
-    let f = c.find_from_counted-next.ensures in
+    let f = c.find_from-next.ensures in
     let among = c.is_within.ensures.0 c.if-is_within.true in
     record {
       in_x = f.within;
       in_y = omega arith;
       place = c.put_run.ensures.place ∙ c.loop-i.invariant.place;
       rest = λ h. c.in_ok-n.ensures.rest c.args.out.now (c.loop-i.invariant.rest h);
-      so_far = λ lx ly. shared_run (λ list. g.W.Output.holds list c.args.out.now c.put_run.new.self c.in_ok-n.n) a b lx
-          ly (c.loop-i.invariant.so_far lx ly) h t c.look-x.ensures.id c.look-y.ensures.id
-          (inside_by lx ly h t c.look-x.ensures.id c.look-y.ensures.id c.first_of-x_first.ensures c.end_of-x_end.ensures
+      so_far = λ lx ly. shared_run (λ list. g.W.Output.holds list c.args.out.now c.put_run.new.self c.in_ok-n.n) lx
+          ly (c.loop-i.invariant.so_far lx ly) h t c.id-x.ensures c.id-y.ensures
+          (inside_by lx ly h t c.id-x.ensures c.id-y.ensures c.first_of-x_first.ensures c.end_of-x_end.ensures
           c.first_of-y_first.ensures c.end_of-y_end.ensures among.0 among.1)
           c.end_of-y_end.ensures f.from f.within f.ended f.next
-          (λ list. c.in_ok-n.ensures.put list c.args.out.now) (omega arith) (omega arith) f.looks;
-      some = λ _. let least = f.least in omega arith;
+          (λ list. c.in_ok-n.ensures.put list c.args.out.now);
     }
 
 pub loop-i-preserved : goal.loop-i-preserved
@@ -91,26 +75,21 @@ loop-i-preserved g c =
     let ny = c.len-y_len.ensures in
     let h : c.loop-i.i < length (g.X.Listed.ids c.args.xs.now) = omega (arith, c.loop-i-test.true) in
     let t : c.loop-i.j < length (g.Y.Listed.ids c.args.ys.now) = omega (arith, c.if-j-y_len.true) in
-    let more_x = c.look-x.ensures.count in
-    let more_y = c.look-y.ensures.count in
-    let a = g.K.Count.looks c.look-x.new.count in
-    let b = g.K.Count.looks c.look-y.new.count in
-    let f = c.find_from_counted-next-else-is_within.ensures in
+    let f = c.find_from-next-else-is_within.ensures in
     record {
       in_x = omega arith;
       in_y = f.within;
       place = c.put_run-else-is_within.ensures.place ∙ c.loop-i.invariant.place;
       rest = λ h. c.in_ok-n-2.ensures.rest c.args.out.now (c.loop-i.invariant.rest h);
       so_far = λ lx ly. shared_swap (shared_run
-          (λ list. g.W.Output.holds list c.args.out.now c.put_run-else-is_within.new.self c.in_ok-n-2.n) a b ly lx
-          (shared_swap (c.loop-i.invariant.so_far lx ly)) t h c.look-y.ensures.id c.look-x.ensures.id
-          (inside_else lx ly h t c.look-x.ensures.id c.look-y.ensures.id c.first_of-x_first.ensures
+          (λ list. g.W.Output.holds list c.args.out.now c.put_run-else-is_within.new.self c.in_ok-n-2.n) ly lx
+          (shared_swap (c.loop-i.invariant.so_far lx ly)) t h c.id-y.ensures c.id-x.ensures
+          (inside_else lx ly h t c.id-x.ensures c.id-y.ensures c.first_of-x_first.ensures
           c.end_of-x_end.ensures c.first_of-y_first.ensures c.end_of-y_end.ensures c.if-x_end-y_first.false
           c.if-y_end-x_first.false
           (λ among. false≢true (sym c.if-is_within.false ∙ c.is_within.ensures.1 among)))
           c.end_of-x_end.ensures f.from f.within f.ended f.next
-          (λ list. c.in_ok-n-2.ensures.put list c.args.out.now) (omega arith) (omega arith) f.looks);
-      some = λ _. let least = f.least in omega arith;
+          (λ list. c.in_ok-n-2.ensures.put list c.args.out.now));
     }
 
 pub returns-else-j-y_len-clause-made : goal.returns-else-j-y_len-clause-made
@@ -119,22 +98,8 @@ returns-else-j-y_len-clause-made g c lx ly =
     shared_done (λ list. g.met.W.Output.counts list c.args.out.now c.loop-i.out c.loop-i.n)
     (c.loop-i.invariant.so_far lx ly) (inr (omega (arith, c.if-j-y_len.false)))
 
-pub returns-else-j-y_len-clause-looks : goal.returns-else-j-y_len-clause-looks
-returns-else-j-y_len-clause-looks g c lx ly d cut =
-    let ny = c.len-y_len.ensures in
-    shared_few (λ list. g.met.W.Output.counts list c.args.out.now c.loop-i.out c.loop-i.n)
-    (c.loop-i.invariant.so_far lx ly) (inr (omega (arith, c.if-j-y_len.false))) c.loop-i.invariant.in_x
-    c.loop-i.invariant.in_y cut
-
 pub returns-after-loop-i-clause-made : goal.returns-after-loop-i-clause-made
 returns-after-loop-i-clause-made g c lx ly =
     let nx = c.len-x_len.ensures in
     shared_done (λ list. g.met.W.Output.counts list c.args.out.now c.loop-i.out c.loop-i.n)
     (c.loop-i.invariant.so_far lx ly) (inl (omega (arith, c.loop-i-test.false)))
-
-pub returns-after-loop-i-clause-looks : goal.returns-after-loop-i-clause-looks
-returns-after-loop-i-clause-looks g c lx ly d cut =
-    let nx = c.len-x_len.ensures in
-    shared_few (λ list. g.met.W.Output.counts list c.args.out.now c.loop-i.out c.loop-i.n)
-    (c.loop-i.invariant.so_far lx ly) (inl (omega (arith, c.loop-i-test.false))) c.loop-i.invariant.in_x
-    c.loop-i.invariant.in_y cut

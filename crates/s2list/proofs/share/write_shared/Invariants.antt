@@ -1,4 +1,4 @@
-use Rattle.std.proofs.Common.{◌≡◌, ◌≤◌, ◌<◌, ◌+◌, ◌-◌, length, min}
+use Rattle.std.proofs.Common.{◌≡◌, ◌≤◌, ◌+◌, ◌-◌, length}
 use Rattle.s2list.specs.Union.{IsLocal}
 use Rattle.s2list.proofs.Shared.{both}
 use Rattle.s2list.proofs.Sharing.{SharingIn}
@@ -12,8 +12,7 @@ invariant-loop-i g l = record {
   rest : g.W.Output.rest l.fn.out l.fn.out 0 → g.W.Output.rest l.fn.out l.out l.n;
   so_far : IsLocal (g.X.Listed.ids l.xs) → IsLocal (g.Y.Listed.ids l.ys)
       → SharingIn (both (g.X.Listed.ids l.xs) (g.Y.Listed.ids l.ys)) (g.X.Listed.ids l.xs) (g.Y.Listed.ids l.ys)
-      (λ list. g.W.Output.holds list l.fn.out l.out l.n) (g.K.Count.looks l.count) l.i l.j;
-  some : 0 < l.i + l.j → min 2 g.K.Count.most ≤ g.K.Count.looks l.count;
+      (λ list. g.W.Output.holds list l.fn.out l.out l.n) l.i l.j;
 }
 
 abbrev pub decreases-loop-i : goal.decreases-loop-i

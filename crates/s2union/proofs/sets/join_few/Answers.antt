@@ -6,28 +6,28 @@ use Rattle.s2list.proofs.Checking.{packed_from_local}
 use Rattle.s2union.proofs.Joining.{Joining, join_y, joining_rest}
 use Rattle.s2union.proofs.Following.{part_packed, rest_found, rest_packed, run_joins, run_starts}
 use Rattle.s2union.proofs.sets.join_few.Goals as goal
-use Rattle.s2union.proofs.sets.join_few.Goals.{After-find_id_counted-more}
+use Rattle.s2union.proofs.sets.join_few.Goals.{After-find_id-more}
 
 -- the cells of `xs` below the next of `ys`
-below : (c : After-find_id_counted-more) →
-    Brackets c.args.xs.now c.index-ys-j.result (c.loop-j.done + c.find_id_counted-more.result)
-    (c.loop-j.done + c.find_id_counted-more.result)
+below : (c : After-find_id-more) →
+    Brackets c.args.xs.now c.index-ys-j.result (c.loop-j.done + c.find_id-more.result)
+    (c.loop-j.done + c.find_id-more.result)
 below c =
     let y : get_or c.args.ys.now c.loop-j.j 0 ≡ c.index-ys-j.result =
     read_at c.args.ys.now c.loop-j.j c.loop-j.j c.index-ys-j.result (omega arith) refl c.index-ys-j.is in
     rest_found c.loop-j.done (omega arith) (λ k h. let b = c.loop-j.invariant.below (omega arith) k h in omega arith)
     (rw (← c.id.ensures.value)
-    (c.find_id_counted-more.ensures.place (rest_packed c.loop-j.done c.requires.x_local (omega arith))))
+    (c.find_id-more.ensures.place (rest_packed c.loop-j.done c.requires.x_local (omega arith))))
 
 pub add_run-requires-clause-run : goal.add_run-requires-clause-run
 add_run-requires-clause-run c =
-    let w = (below (goal.at.add_run-requires-clause-run c).After-find_id_counted-more).within in
+    let w = (below (goal.at.add_run-requires-clause-run c).After-find_id-more).within in
     part_packed c.loop-j.done _ (packed_from_local c.args.xs.now c.requires.x_local) (omega arith)
 
 pub add_reserved-requires-clause-starts : goal.add_reserved-requires-clause-starts
 add_reserved-requires-clause-starts c =
     let a = c.add_run.ensures in
-    let r = below (goal.at.add_reserved-requires-clause-starts c).After-find_id_counted-more in
+    let r = below (goal.at.add_reserved-requires-clause-starts c).After-find_id-more in
     run_starts c.loop-j.list.items c.index-ys-j.result (run_joins c.requires.x_local c.loop-j.invariant.joining
     (omega arith) r
     (λ _. c.index-ys-j.is) (record { packed = a.packed; leaves = a.leaves; later = a.starts })) (omega arith)
@@ -36,10 +36,10 @@ add_reserved-requires-clause-starts c =
 pub loop-j-preserved : goal.loop-j-preserved
 loop-j-preserved c =
     let a = c.add_run.ensures in
-    let r = below (goal.at.loop-j-preserved c).After-find_id_counted-more in
+    let r = below (goal.at.loop-j-preserved c).After-find_id-more in
     let w = r.within in
     let joined : Joining c.args.xs.now c.args.ys.now c.add_run.new.list.items
-    (c.loop-j.done + c.find_id_counted-more.result) c.loop-j.j =
+    (c.loop-j.done + c.find_id-more.result) c.loop-j.j =
     run_joins c.requires.x_local c.loop-j.invariant.joining (omega arith) r
     (λ _. c.index-ys-j.is) (record { packed = a.packed; leaves = a.leaves; later = a.starts }) in
     record {

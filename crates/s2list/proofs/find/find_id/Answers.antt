@@ -2,7 +2,7 @@ use Rattle.std.proofs.Common.{ℕ, List, arith, sym, ◌∙◌}
 use Rattle.std.proofs.lemmas.Bool.{false≢true}
 use Rattle.s2list.specs.Packed.{FirstEndBy}
 use Rattle.s2list.proofs.Finding.{ascends, bracketed, none_below}
-use Rattle.s2list.proofs.find.find_id_counted.Goals as goal
+use Rattle.s2list.proofs.find.find_id.Goals as goal
 
 none : (u : List ℕ) (lo : ℕ) → FirstEndBy u 0 lo
 none u lo k h = absurd (omega arith)
@@ -13,16 +13,16 @@ returns-then-not-is_below_at-clause-place g c packed = none_below c.args.mark (a
 
 pub returns-then-is_below_at-clause-place : goal.returns-then-is_below_at-clause-place
 returns-then-is_below_at-clause-place g c packed =
-    let f = c.find_from_counted-at.ensures in
+    let f = c.find_from-at.ensures in
     let below = c.is_below_at-2.ensures.answer.0 c.if-is_below_at.true in
-    bracketed c.args.mark c.find_from_counted-at.result packed f.within
+    bracketed c.args.mark c.find_from-at.result packed f.within
     (f.ended packed (none _ _)) (f.next packed (none _ _))
     (omega arith) (omega arith) (omega (arith, below.0)) (λ _. below.1) (λ h _ _. absurd (omega arith))
 
 pub returns-clause-place : goal.returns-clause-place
 returns-clause-place g c packed =
-    let f = c.find_from_counted-at.ensures in
-    bracketed c.args.mark c.find_from_counted-at.result packed f.within
+    let f = c.find_from-at.ensures in
+    bracketed c.args.mark c.find_from-at.result packed f.within
     (f.ended packed (none _ _)) (f.next packed (none _ _))
     (omega arith) (omega arith) f.within (λ h. absurd (omega arith))
     (λ _ h l. false≢true (sym c.if-is_below_at.false ∙ c.is_below_at-2.ensures.answer.1 (h, l)))
