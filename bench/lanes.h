@@ -1,6 +1,6 @@
-// Times four ways to do the same work in turn: S2, an operation of `CellUnion` alone, the whole call for C, and
-// hand-written C++ (limit.h). Each repeats its work until that takes 20 ms. A row counts only if all checksums agree,
-// and are the known one of real.sums. Its noise is how far the middle round of the least quiet way is above the least.
+// Times three ways to do the same work in turn: S2, the call for C, and hand-written C++ (limit.h). A row counts only
+// if all checksums agree, and are the known one of real.sums. Its noise is how far the middle round of the least quiet
+// way is above the least.
 #pragma once
 #include <array>
 #include <fstream>
@@ -8,30 +8,20 @@
 
 #include "table.h"
 
-enum Way { PEER, ALONE, CALL, LIMIT, WAYS };
-
-// Stands for `more` of a side: its work is repeated until that takes several times as long as what is done once.
-const uint32_t REPEATED = UINT32_MAX;
+enum Way { PEER, CALL, LIMIT, WAYS };
 
 class Lanes : public Rows {
  public:
   Lanes(const char* only, int rounds) : Rows(only), rounds_(rounds) {
     std::ifstream sums("real.sums");
     for (std::string name; sums >> name;) sums >> std::hex >> known_[name];
-    printf("%-34s %10s %10s %10s %10s %9s %9s %9s %6s  %s\n", "", "S2", "CellUnion", "C call", "limit", "S2/union",
-           "S2/call", "call/lim", "noise", "checksum");
+    printf("%-34s %10s %10s %10s %9s %9s %6s  %s\n", "", "S2", "C call", "limit", "S2/call", "call/lim", "noise",
+           "checksum");
   }
 
   // A way that has no such call has no work. `row.units` may be 0; then it is what `units` says after the work.
   void row(Row row, std::array<Side, WAYS> sides, const std::function<size_t()>& units = nullptr) {
     if (!wants(row.name)) return;
-    for (Side& side : sides) {
-      if (side.more == REPEATED) {
-        side.more = repeats(side.work);
-      } else if (side.work) {
-        side.turns = turns_of(side.work);
-      }
-    }
     std::array<Best, WAYS> best;
     for (int round = 0; round < rounds_; round++)
       for (int way = 0; way < WAYS; way++)
@@ -40,10 +30,9 @@ class Lanes : public Rows {
     std::array<double, WAYS> ns{};
     printf("%-34s", row.name);
     for (int way = 0; way < WAYS; way++) {
-      if (sides[way].work) ns[way] = best[way].of(sides[way]) / row.units;
+      if (sides[way].work) ns[way] = best[way].least() / row.units;
       number(10, ns[way]);
     }
-    number(9, ratio(ns[PEER], ns[ALONE]));
     number(9, ratio(ns[PEER], ns[CALL]));
     number(9, ratio(ns[CALL], ns[LIMIT]));
     double noise = 0;

@@ -1,5 +1,5 @@
-// Coverings of real coastlines: S2, `CellUnion`, the calls for C and hand-written C++ on the same lists, in one
-// process. bench/README.md has the rows.
+// Coverings of real coastlines: S2, the calls for C and hand-written C++ on the same lists, in one process.
+// bench/README.md has the rows.
 #include <absl/flags/flag.h>
 #include <s2union.h>
 
@@ -57,9 +57,6 @@ struct Pairs {
   std::vector<std::pair<S2CellUnion, S2CellUnion>> peers;
   size_t cells = 0, most = 0;
 
-  // A pair that is alone stays in the cache, so each way does its work on it many times.
-  uint32_t more(Way way) const { return way == ALONE || lists.size() == 1 ? REPEATED : 0; }
-
   void add(const List& x, const List& y) {
     lists.push_back({x, y});
     peers.push_back({peer_union(x), peer_union(y)});
@@ -83,7 +80,6 @@ struct Pairs {
   static Pairs one(const List& x, const List& y) { return of({x}, {y}); }
 };
 
-using SetCall = int32_t (*)(const u64*, size_t, const u64*, size_t, u64*, size_t, size_t*);
 using SetLimit = size_t (*)(const u64*, size_t, const u64*, size_t, u64*);
 
 using PeerCells = std::vector<S2CellId>;
@@ -106,100 +102,86 @@ static void peer_subtract(const S2CellUnion& x, const S2CellUnion& y, PeerCells*
 struct SetOperation {
   const char* name;
   void (*peer)(const S2CellUnion&, const S2CellUnion&, PeerCells*);
-  Operation alone;
   SetCall call;
   SetLimit limit;
 };
 
-// A side whose work goes through all pairs: `work` does that of one pair that often, and `made` sums what it made.
+// A side whose work goes through all pairs: `work` does that of one pair, and `made` sums what it made.
 template <typename Work, typename Made>
-static Side pair_side(Way way, const Pairs& pairs, Work work, Made made) {
-  return {[&pairs, work](uint32_t times) {
-            for (size_t k = 0; k < pairs.lists.size(); k++) work(times, k);
+static Side pair_side(const Pairs& pairs, Work work, Made made) {
+  return {[&pairs, work] {
+            for (size_t k = 0; k < pairs.lists.size(); k++) work(k);
           },
           [&pairs, work, made] {
             Sum sum;
             for (size_t k = 0; k < pairs.lists.size(); k++) {
-              work(1, k);
+              work(k);
               sum.add(made());
             }
             return sum.value();
-          },
-          pairs.more(way)};
+          }};
 }
 
 static void sets(Lanes& lanes, const std::string& of, const Pairs& pairs, size_t units) {
   const SetOperation operations[] = {
-      {"union", peer_unite, s2c_union, s2u_union, limit::unite},
-      {"intersection", peer_intersect, s2c_intersection, s2u_intersection, limit::intersect},
-      {"difference", peer_subtract, s2c_difference, s2u_difference, limit::subtract}};
+      {"union", peer_unite, s2u_union, limit::unite},
+      {"intersection", peer_intersect, s2u_intersection, limit::intersect},
+      {"difference", peer_subtract, s2u_difference, limit::subtract}};
   Room room(2 * pairs.most + 200);
   PeerCells peer;
   auto sum_of_peer = [&] { return sum_of(ids_of(peer)); };
   auto sum_of_room = [&] { return sum_of(room.made()); };
   for (const SetOperation& it : operations) {
-    auto theirs = [&](uint32_t times, size_t k) {
+    auto theirs = [&](size_t k) {
       auto& [x, y] = pairs.peers[k];
-      while (times-- > 0) it.peer(x, y, &peer);
+      it.peer(x, y, &peer);
     };
-    auto alone = [&](uint32_t times, size_t k) {
+    auto call = [&](size_t k) {
       auto& [x, y] = pairs.lists[k];
-      must(it.alone(x.data(), x.size(), y.data(), y.size(), times, room.at(), room.size(), room.len()), it.name);
+      put(it.call, x, y, room, it.name);
     };
-    auto call = [&](uint32_t times, size_t k) {
+    auto limit = [&](size_t k) {
       auto& [x, y] = pairs.lists[k];
-      while (times-- > 0)
-        made(it.call(x.data(), x.size(), y.data(), y.size(), room.at(), room.size(), room.len()), it.name);
-    };
-    auto limit = [&](uint32_t times, size_t k) {
-      auto& [x, y] = pairs.lists[k];
-      while (times-- > 0) *room.len() = it.limit(x.data(), x.size(), y.data(), y.size(), room.at());
+      *room.len() = it.limit(x.data(), x.size(), y.data(), y.size(), room.at());
     };
     std::string name = std::string(it.name) + "_" + of;
     lanes.row({name.c_str(), units > 0 ? units : pairs.cells, 0},
-              {pair_side(PEER, pairs, theirs, sum_of_peer), pair_side(ALONE, pairs, alone, sum_of_room),
-               pair_side(CALL, pairs, call, sum_of_room), pair_side(LIMIT, pairs, limit, sum_of_room)});
+              {pair_side(pairs, theirs, sum_of_peer), pair_side(pairs, call, sum_of_room),
+               pair_side(pairs, limit, sum_of_room)});
   }
 }
 
-using PairCall = int32_t (*)(const u64*, size_t, const u64*, size_t);
 using PairLimit = bool (*)(const u64*, size_t, const u64*, size_t);
 
 struct PairQuestion {
   const char* name;
   bool (S2CellUnion::*peer)(const S2CellUnion&) const;
-  UnionQuestion alone;
   PairCall call;
   PairLimit limit;
 };
 
 static void pair_questions(Lanes& lanes, const std::string& of, const Pairs& pairs) {
   const PairQuestion questions[] = {
-      {"contains", &S2CellUnion::Contains, s2c_contains, s2u_contains, limit::has_all},
-      {"intersects", &S2CellUnion::Intersects, s2c_intersects, s2u_intersects, limit::meets}};
+      {"contains", &S2CellUnion::Contains, s2u_contains, limit::has_all},
+      {"intersects", &S2CellUnion::Intersects, s2u_intersects, limit::meets}};
   bool answer = false;
   auto sum = [&] { return u64{answer}; };
   for (const PairQuestion& it : questions) {
-    auto theirs = [&](uint32_t times, size_t k) {
+    auto theirs = [&](size_t k) {
       auto& [x, y] = pairs.peers[k];
-      while (times-- > 0) answer = (x.*it.peer)(y);
+      answer = (x.*it.peer)(y);
     };
-    auto alone = [&](uint32_t times, size_t k) {
+    auto call = [&](size_t k) {
       auto& [x, y] = pairs.lists[k];
-      must(it.alone(x.data(), x.size(), y.data(), y.size(), times, &answer), it.name);
+      answer = is_so(it.call, x, y);
     };
-    auto call = [&](uint32_t times, size_t k) {
+    auto limit = [&](size_t k) {
       auto& [x, y] = pairs.lists[k];
-      while (times-- > 0) answer = it.call(x.data(), x.size(), y.data(), y.size()) == 1;
-    };
-    auto limit = [&](uint32_t times, size_t k) {
-      auto& [x, y] = pairs.lists[k];
-      while (times-- > 0) answer = it.limit(x.data(), x.size(), y.data(), y.size());
+      answer = it.limit(x.data(), x.size(), y.data(), y.size());
     };
     std::string name = std::string(it.name) + "_" + of;
     lanes.row({name.c_str(), pairs.lists.size(), 0},
-              {pair_side(PEER, pairs, theirs, sum), pair_side(ALONE, pairs, alone, sum),
-               pair_side(CALL, pairs, call, sum), pair_side(LIMIT, pairs, limit, sum)});
+              {pair_side(pairs, theirs, sum), pair_side(pairs, call, sum), pair_side(pairs, limit, sum)});
   }
 }
 
@@ -219,9 +201,9 @@ static void list_row(Lanes& lanes, const std::string& name, size_t units, size_t
   PeerCells peer;
   Room room(most), best(most);
   lanes.row({name.c_str(), units, 0},
-            {Side{[&](uint32_t) { ways.peer(peer); }, [&] { return sum_of(ids_of(peer)); }}, Side{},
-             Side{[&](uint32_t) { ways.call(room); }, [&] { return sum_of(room.made()); }},
-             Side{[&](uint32_t) { ways.limit(best); }, [&] { return sum_of(best.made()); }}},
+            {Side{[&] { ways.peer(peer); }, [&] { return sum_of(ids_of(peer)); }},
+             Side{[&] { ways.call(room); }, [&] { return sum_of(room.made()); }},
+             Side{[&] { ways.limit(best); }, [&] { return sum_of(best.made()); }}},
             [&] { return units > 0 ? units : *room.len(); });
 }
 
@@ -305,15 +287,14 @@ static void files(Lanes& lanes, const std::string& of, const List& list) {
   auto sum = [&](const std::vector<uint8_t>& file) { return Sum().add_all(file).value(); };
   std::string name = "encode_" + of;
   lanes.row({name.c_str(), n, 0},
-            {Side{[&](uint32_t) {
+            {Side{[&] {
                     encoder.clear();
                     peer.Encode(&encoder);
                   },
                   [&] { return sum({encoder.base(), encoder.base() + encoder.length()}); }},
-             Side{},
-             Side{[&](uint32_t) { made(s2u_encode(list.data(), n, bytes.data(), bytes.size(), &size), "encode"); },
+             Side{[&] { made(s2u_encode(list.data(), n, bytes.data(), bytes.size(), &size), "encode"); },
                   [&] { return sum(bytes); }},
-             Side{[&](uint32_t) { limit::encode(list.data(), n, best.data()); }, [&] { return sum(best); }}});
+             Side{[&] { limit::encode(list.data(), n, best.data()); }, [&] { return sum(best); }}});
   limit::encode(list.data(), n, bytes.data());
   list_row(lanes, "decode_" + of, n, n,
            {[&](PeerCells& out) {
@@ -331,10 +312,10 @@ static void is_union(Lanes& lanes, const std::string& of, const List& list) {
   u64 answers[WAYS];
   std::string name = "is_union_" + of;
   auto side = [&](Way way, auto ask) {
-    return Side{[&, way, ask](uint32_t) { answers[way] = ask(); }, [&, way] { return answers[way]; }};
+    return Side{[&, way, ask] { answers[way] = ask(); }, [&, way] { return answers[way]; }};
   };
   lanes.row({name.c_str(), list.size(), 0},
-            {side(PEER, [&] { return u64{peer.IsNormalized()}; }), Side{},
+            {side(PEER, [&] { return u64{peer.IsNormalized()}; }),
              side(CALL, [&] { return u64{s2u_is_union(list.data(), list.size()) == 1}; }),
              side(LIMIT, [&] { return u64{limit::is_union(list.data(), list.size())}; })});
 }
@@ -362,10 +343,10 @@ static void cell_questions(Lanes& lanes, const std::string& of, const List& list
   std::vector<uint8_t> answers(N);
   u64 held[WAYS];
   auto side = [&](Way way, auto ask) {
-    return Side{[&, way, ask](uint32_t) { held[way] = ask(); }, [&, way] { return held[way]; }};
+    return Side{[&, way, ask] { held[way] = ask(); }, [&, way] { return held[way]; }};
   };
   auto row = [&](const std::string& name, auto theirs, auto call, auto limit) {
-    lanes.row({name.c_str(), N, 0}, {side(PEER, theirs), Side{}, side(CALL, call), side(LIMIT, limit)});
+    lanes.row({name.c_str(), N, 0}, {side(PEER, theirs), side(CALL, call), side(LIMIT, limit)});
   };
   auto each = [&] {
     u64 count = 0;
@@ -423,7 +404,7 @@ static void questions_to_many(Lanes& lanes, const std::string& of, const Lists& 
     std::vector<Asked> asked = questions_to(lists, where);
     u64 held[WAYS];
     auto side = [&](Way way, auto ask) {
-      auto all = [&, way, ask](uint32_t) {
+      auto all = [&, way, ask] {
         held[way] = 0;
         for (const Asked& it : asked) held[way] += ask(it);
       };
@@ -435,7 +416,7 @@ static void questions_to_many(Lanes& lanes, const std::string& of, const Lists& 
       const List& list = lists[it.list];
       return s2u_contains_cell(list.data(), list.size(), it.cell) == 1;
     };
-    lanes.row({name.c_str(), asked.size(), 0}, {side(PEER, theirs), Side{}, side(CALL, call), Side{}});
+    lanes.row({name.c_str(), asked.size(), 0}, {side(PEER, theirs), side(CALL, call), Side{}});
   }
 }
 

@@ -9,8 +9,12 @@
 #include <cstdio>
 #include <cstdlib>
 
-#include "s2c.h"
 #include "workload.h"
+
+struct Bounds {
+  uint8_t face;
+  uint32_t i0, i1, j0, j1;
+};
 
 inline void must(bool made, const char* call) {
   if (made) return;
@@ -41,14 +45,14 @@ inline List ids_of(const std::vector<S2CellId>& cells) {
 
 inline List ids_of(const S2CellUnion& cells) { return ids_of(cells.cell_ids()); }
 
-using Operation = bool (*)(const u64*, size_t, const u64*, size_t, uint32_t, u64*, size_t, size_t*);
 using PeerOperation = S2CellUnion (S2CellUnion::*)(const S2CellUnion&) const;
-using CellQuestions = bool (*)(const u64*, size_t, const u64*, size_t, bool*, size_t);
-using Covering = bool (*)(const Bounds*, uint8_t, u64*, size_t, size_t*);
+using SetCall = int32_t (*)(const u64*, size_t, const u64*, size_t, u64*, size_t, size_t*);
+using PairCall = int32_t (*)(const u64*, size_t, const u64*, size_t);
+using CellCall = int32_t (*)(const u64*, size_t, u64);
+using CellsCall = int32_t (*)(const u64*, size_t, const u64*, size_t, uint8_t*, size_t, size_t*);
 using RectangleCall = int32_t (*)(const s2u_rect*, uint32_t, size_t, u64*, size_t, size_t*);
 using ClippedCall = int32_t (*)(const u64*, size_t, const s2u_rect*, uint32_t, size_t, u64*, size_t, size_t*);
 using FromText = int32_t (*)(const char*, size_t, u64*);
-using UnionQuestion = bool (*)(const u64*, size_t, const u64*, size_t, uint32_t, bool*);
 
 // A list that the proved library fills.
 class Room {
@@ -71,11 +75,19 @@ inline s2u_rect rect_of(const Bounds& bounds) {
   return {bounds.face, bounds.i0, bounds.i1, bounds.j0, bounds.j1};
 }
 
-// A covering by libs2union, of at most as many cells as the room has.
-template <RectangleCall call>
-bool covered(const Bounds* bounds, uint8_t level, u64* out, size_t room, size_t* len) {
-  const s2u_rect rect = rect_of(*bounds);
-  return call(&rect, level, S2U_MOST_COVERING, out, room, len) == S2U_OK;
+// Puts what a call makes of two unions into the room.
+inline void put(SetCall call, const List& xs, const List& ys, Room& room, const char* name) {
+  made(call(xs.data(), xs.size(), ys.data(), ys.size(), room.at(), room.size(), room.len()), name);
+}
+
+inline bool is_so(PairCall call, const List& xs, const List& ys) {
+  return call(xs.data(), xs.size(), ys.data(), ys.size()) == 1;
+}
+
+// The covering of a rectangle.
+inline void cover(RectangleCall call, const Bounds& bounds, int level, Room& room) {
+  const s2u_rect rect = rect_of(bounds);
+  made(call(&rect, level, S2U_MOST_COVERING, room.at(), room.size(), room.len()), "covering");
 }
 
 // The covering of what a union and a rectangle share.

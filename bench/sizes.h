@@ -41,38 +41,30 @@ class Sizes {
   }
 
   void one_way(const std::string& place, const List& xs, const List& ys) {
-    question("contains_" + place, xs, ys, &S2CellUnion::Contains, s2c_contains);
-    question("intersects_" + place, xs, ys, &S2CellUnion::Intersects, s2c_intersects);
+    question("contains_" + place, xs, ys, &S2CellUnion::Contains, s2u_contains);
+    question("intersects_" + place, xs, ys, &S2CellUnion::Intersects, s2u_intersects);
     PeerOperation intersection = &S2CellUnion::Intersection;
-    operation("intersection_" + place, xs, ys, intersection, s2c_intersection);
-    operation("difference_" + place, xs, ys, &S2CellUnion::Difference, s2c_difference);
-    operation("union_" + place, xs, ys, &S2CellUnion::Union, s2c_union);
+    operation("intersection_" + place, xs, ys, intersection, s2u_intersection);
+    operation("difference_" + place, xs, ys, &S2CellUnion::Difference, s2u_difference);
+    operation("union_" + place, xs, ys, &S2CellUnion::Union, s2u_union);
   }
 
   const char* kept(const std::string& name) { return names_.emplace_back(name).c_str(); }
 
-  void question(const std::string& name, const List& xs, const List& ys, PeerQuestion peer, UnionQuestion proved) {
+  void question(const std::string& name, const List& xs, const List& ys, PeerQuestion peer, PairCall proved) {
     if (!table_.wants(name.c_str())) return;
     S2CellUnion x = peer_union(xs), y = peer_union(ys);
     bool a = false, b = false;
-    auto theirs = [&](uint32_t times) { while (times-- > 0) a = (x.*peer)(y); };
-    auto ours = [&](uint32_t times) {
-      must(proved(xs.data(), xs.size(), ys.data(), ys.size(), times, &b), name.c_str());
-    };
-    table_.row({kept(name), 1, 0}, {theirs, [&] { return Sum().add(a).value(); }, repeats(theirs)},
-               {ours, [&] { return Sum().add(b).value(); }, repeats(ours)});
+    table_.row({kept(name), 1, 0}, {[&] { a = (x.*peer)(y); }, [&] { return Sum().add(a).value(); }},
+               {[&] { b = is_so(proved, xs, ys); }, [&] { return Sum().add(b).value(); }});
   }
 
-  void operation(const std::string& name, const List& xs, const List& ys, PeerOperation peer, Operation proved) {
+  void operation(const std::string& name, const List& xs, const List& ys, PeerOperation peer, SetCall proved) {
     if (!table_.wants(name.c_str())) return;
     S2CellUnion x = peer_union(xs), y = peer_union(ys), made;
     Room room(4000000);
-    auto theirs = [&](uint32_t times) { while (times-- > 0) made = (x.*peer)(y); };
-    auto ours = [&](uint32_t times) {
-      must(proved(xs.data(), xs.size(), ys.data(), ys.size(), times, room.at(), room.size(), room.len()), name.c_str());
-    };
-    table_.row({kept(name), 1, 0}, {theirs, [&] { return Sum().add_all(ids_of(made)).value(); }, repeats(theirs)},
-               {ours, [&] { return Sum().add_all(room.made()).value(); }, repeats(ours)});
+    table_.row({kept(name), 1, 0}, {[&] { made = (x.*peer)(y); }, [&] { return Sum().add_all(ids_of(made)).value(); }},
+               {[&] { put(proved, xs, ys, room, name.c_str()); }, [&] { return Sum().add_all(room.made()).value(); }});
   }
 
   Table& table_;

@@ -8,14 +8,10 @@
 
 #include "workload.h"
 
-// One side of a row. `work` does its work a given number of times; `sum` is the checksum of what the last time made.
+// One side of a row. `work` does its work once; `sum` is the checksum of what the last time made.
 struct Side {
-  std::function<void(uint32_t)> work;
+  std::function<void()> work;
   std::function<u64()> sum;
-  // How many times beyond one are timed. 0: one time, with what it costs to copy the inputs.
-  uint32_t more = 0;
-  // How many times in turn a measurement has `work` called.
-  uint32_t turns = 1;
 };
 
 // The milliseconds that it takes to do some work.
@@ -26,63 +22,41 @@ double milliseconds_of(Work work) {
   return std::chrono::duration<double, std::milli>(std::chrono::steady_clock::now() - start).count();
 }
 
-// How many more times a side must work so that these times far exceed what it does only once.
-inline uint32_t repeats(const std::function<void(uint32_t)>& work) {
-  auto time_of = [&](uint32_t times) { return milliseconds_of([&] { work(times); }); };
-  double once = std::min(time_of(1), time_of(1));
-  uint32_t more = 2;
-  while (more < 1000000 && time_of(1 + more) < 4 * once + 20) more *= 4;
-  return more;
-}
-
-// How many times in turn a side must work so that this takes 20 ms.
-inline uint32_t turns_of(const std::function<void(uint32_t)>& work) {
-  work(1);
-  uint32_t turns = 1;
-  auto all = [&] {
-    for (uint32_t k = 0; k < turns; k++) work(1);
-  };
-  while (turns < 1000000 && milliseconds_of(all) < 20) turns *= 2;
-  return turns;
-}
-
 struct Row {
   const char* name;
   size_t units;
   u64 sum;
 };
 
-// The least time of the rounds, in nanoseconds.
+// The least time of the rounds, in nanoseconds. A round repeats the work so often that it takes 20 ms.
 class Best {
  public:
   void measure(const Side& side) {
-    once_.push_back(time_of(side, 1));
-    if (side.more > 0) all_.push_back(time_of(side, side.more + 1));
+    if (times_.empty()) {
+      side.work();
+      while (turns_ < 1000000 && time_of(side) < 20) turns_ *= 2;
+    }
+    times_.push_back(1e6 * time_of(side) / turns_);
   }
 
-  // The time of one more repetition: what is done only once cancels out in the difference.
-  double of(const Side& side) const {
-    return side.more == 0 ? least(once_) : (least(all_) - least(once_)) / side.more;
-  }
+  double least() const { return *std::min_element(times_.begin(), times_.end()); }
 
   // How much more than the least time the middle one is, as a part of it.
   double noise() const {
-    std::vector<double> times = all_.empty() ? once_ : all_;
+    std::vector<double> times = times_;
     std::nth_element(times.begin(), times.begin() + times.size() / 2, times.end());
-    return times[times.size() / 2] / least(times) - 1;
+    return times[times.size() / 2] / least() - 1;
   }
 
  private:
-  static double least(const std::vector<double>& times) { return *std::min_element(times.begin(), times.end()); }
-
-  static double time_of(const Side& side, uint32_t times) {
-    double all = milliseconds_of([&] {
-      for (uint32_t k = 0; k < side.turns; k++) side.work(times);
+  double time_of(const Side& side) const {
+    return milliseconds_of([&] {
+      for (uint32_t k = 0; k < turns_; k++) side.work();
     });
-    return 1e6 * all / side.turns;
   }
 
-  std::vector<double> once_, all_;
+  std::vector<double> times_;
+  uint32_t turns_ = 1;
 };
 
 // Which rows a word asks for, and whether the sides of each agreed.
@@ -127,7 +101,7 @@ class Table : public Rows {
       proved_best.measure(proved);
     }
     if (units) row.units = units();
-    double peer_ns = peer_best.of(peer) / row.units, proved_ns = proved_best.of(proved) / row.units;
+    double peer_ns = peer_best.least() / row.units, proved_ns = proved_best.least() / row.units;
     u64 peer_sum = peer.sum(), proved_sum = proved.sum();
     bool is_equal = peer_sum == proved_sum && (row.sum == 0 || row.sum == proved_sum);
     judge(is_equal);

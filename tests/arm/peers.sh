@@ -13,12 +13,10 @@ need_arm libs2-dev libgtest-dev libclang-rt-dev
 libraries=$system/usr/lib/aarch64-linux-gnu
 
 peer() {
-  local made=$top/crates/s2c/out/aarch64
-  "$top/tools/archive" --peer --target aarch64 &&
-    aarch64-linux-gnu-g++ -std=c++17 -O2 -DNDEBUG -Wall -Wno-psabi -I"$top/bench" -I"$arm/include" \
-      -isystem "$system/usr/include" "$top/tests/peer/peer.cc" "$arm/lib/libs2union.a" "$made/libs2c.a" \
-      "$made/heap.o" "$libraries/libs2.so" -Wl,--as-needed,-rpath-link,"$libraries" "$libraries"/libabsl_*.so \
-      -o "$work/peer" && qemu-aarch64-static -L "$system" "$work/peer" "$cases"
+  aarch64-linux-gnu-g++ -std=c++17 -O2 -DNDEBUG -Wall -Wno-psabi -I"$top/bench" -I"$arm/include" \
+    -isystem "$system/usr/include" "$top/tests/peer/peer.cc" "$arm/lib/libs2union.a" "$libraries/libs2.so" \
+    -Wl,--as-needed,-rpath-link,"$libraries" "$libraries"/libabsl_*.so -o "$work/peer" &&
+    qemu-aarch64-static -L "$system" "$work/peer" "$cases"
 }
 step "S2 is asked the same: $cases cases" peer
 step "S2's own tests over the unions for C++" bash "$top/tests/c/s2_own_tests.sh" --arm "$system"

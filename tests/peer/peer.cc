@@ -1,5 +1,5 @@
-// The proved libraries and S2 asked the same random questions: peer [CASES [SEED]]. Unions are asked of both, of
-// `CellUnion` and of libs2union, which have code of their own. It stops at the first answer that differs.
+// The proved library and S2 asked the same random questions: peer [CASES [SEED]]. It stops at the first answer that
+// differs.
 #include "rectangle.h"
 #include "sides.h"
 
@@ -97,43 +97,23 @@ static List near_cells(Random& random, u64 around) {
 
 static List normal(const List& ids) { return ids_of(S2CellUnion(peer_cells(ids))); }
 
-using LibraryOperation = int32_t (*)(const u64*, size_t, const u64*, size_t, u64*, size_t, size_t*);
-using LibraryQuestion = int32_t (*)(const u64*, size_t, const u64*, size_t);
-using LibraryAnswers = int32_t (*)(const u64*, size_t, const u64*, size_t, uint8_t*, size_t, size_t*);
-
 static void operations(const List& xs, const List& ys) {
   S2CellUnion x = peer_union(xs), y = peer_union(ys);
   std::string about = text_of(xs) + "and " + text_of(ys);
-  auto ask = [&](const char* name, Operation proved, const S2CellUnion& peer) {
+  auto ask = [&](const char* name, SetCall proved, const S2CellUnion& peer) {
     question = name;
-    must(proved(xs.data(), xs.size(), ys.data(), ys.size(), 1, room.at(), room.size(), room.len()), name);
+    put(proved, xs, ys, room, name);
     same_cells(room, ids_of(peer), about);
   };
-  ask("union", s2c_union, x.Union(y));
-  ask("intersection", s2c_intersection, x.Intersection(y));
-  ask("difference", s2c_difference, x.Difference(y));
-  auto ask_library = [&](const char* name, LibraryOperation proved, const S2CellUnion& peer) {
-    question = name;
-    made(proved(xs.data(), xs.size(), ys.data(), ys.size(), room.at(), room.size(), room.len()), name);
-    same_cells(room, ids_of(peer), about);
-  };
-  ask_library("s2u_union", s2u_union, x.Union(y));
-  ask_library("s2u_intersection", s2u_intersection, x.Intersection(y));
-  ask_library("s2u_difference", s2u_difference, x.Difference(y));
-  auto ask_whether = [&](const char* name, UnionQuestion proved, bool peer) {
-    bool answer = false;
-    question = name;
-    must(proved(xs.data(), xs.size(), ys.data(), ys.size(), 1, &answer), name);
-    same(answer, peer, about);
-  };
-  ask_whether("contains", s2c_contains, x.Contains(y));
-  ask_whether("intersects", s2c_intersects, x.Intersects(y));
-  auto ask_library_whether = [&](const char* name, LibraryQuestion proved, bool peer) {
+  ask("union", s2u_union, x.Union(y));
+  ask("intersection", s2u_intersection, x.Intersection(y));
+  ask("difference", s2u_difference, x.Difference(y));
+  auto ask_whether = [&](const char* name, PairCall proved, bool peer) {
     question = name;
     same<int32_t>(proved(xs.data(), xs.size(), ys.data(), ys.size()), peer, about);
   };
-  ask_library_whether("s2u_contains", s2u_contains, x.Contains(y));
-  ask_library_whether("s2u_intersects", s2u_intersects, x.Intersects(y));
+  ask_whether("contains", s2u_contains, x.Contains(y));
+  ask_whether("intersects", s2u_intersects, x.Intersects(y));
 }
 
 // Which of the cells a union contains, and which it shares a leaf with.
@@ -141,27 +121,16 @@ static void questions_of_cells(const List& xs, const List& cells) {
   S2CellUnion x = peer_union(xs);
   auto contains = [&](u64 cell) { return x.Contains(S2CellId(cell)); };
   auto intersects = [&](u64 cell) { return x.Intersects(S2CellId(cell)); };
-  auto same_answers = [&](const auto& answers, auto peer) {
-    for (size_t k = 0; k < cells.size(); k++)
-      same<int>(answers[k], peer(cells[k]), text_of(xs) + "and " + text_of({cells[k]}));
-  };
-  auto ask = [&](const char* name, CellQuestions proved, auto peer) {
-    auto answers = std::make_unique<bool[]>(cells.size());
-    question = name;
-    must(proved(xs.data(), xs.size(), cells.data(), cells.size(), answers.get(), cells.size()), name);
-    same_answers(answers, peer);
-  };
-  ask("contains_cells", s2c_contains_cells, contains);
-  ask("intersects_cells", s2c_intersects_cells, intersects);
-  auto ask_library = [&](const char* name, LibraryAnswers proved, auto peer) {
+  auto ask = [&](const char* name, CellsCall proved, auto peer) {
     std::vector<uint8_t> answers(cells.size(), 7);
     size_t bad = 0;
     question = name;
     made(proved(xs.data(), xs.size(), cells.data(), cells.size(), answers.data(), cells.size(), &bad), name);
-    same_answers(answers, peer);
+    for (size_t k = 0; k < cells.size(); k++)
+      same<int>(answers[k], peer(cells[k]), text_of(xs) + "and " + text_of({cells[k]}));
   };
-  ask_library("s2u_contains_cells", s2u_contains_cells, contains);
-  ask_library("s2u_intersects_cells", s2u_intersects_cells, intersects);
+  ask("contains_cells", s2u_contains_cells, contains);
+  ask("intersects_cells", s2u_intersects_cells, intersects);
 }
 
 static void unions(Random& random) {
@@ -169,9 +138,6 @@ static void unions(Random& random) {
   List given = near_cells(random, around), others = near_cells(random, around);
   List xs = normal(given), ys = normal(others);
   question = "normalise";
-  must(s2c_normalise(given.data(), given.size(), 1, room.at(), room.size(), room.len()), question);
-  same_cells(room, xs, text_of(given));
-  question = "s2u_normalise";
   std::copy(given.begin(), given.end(), room.at());
   made(s2u_normalise(room.at(), given.size(), room.len()), question);
   same_cells(room, xs, text_of(given));
@@ -184,9 +150,6 @@ static void unions(Random& random) {
   x.Denormalize(min, modulus, &cut);
   std::string about = text_of(xs) + "at " + std::to_string(min) + " by " + std::to_string(modulus);
   question = "denormalised";
-  must(s2c_denormalised(xs.data(), xs.size(), min, modulus, 1, room.at(), room.size(), room.len()), question);
-  same_cells(room, ids_of(cut), about);
-  question = "s2u_denormalised";
   made(s2u_denormalised(xs.data(), xs.size(), min, modulus, room.at(), room.size(), room.len()), question);
   same_cells(room, ids_of(cut), about);
 }
@@ -202,10 +165,6 @@ static void files(Random& random) {
   peer_union(xs).Encode(&encoder);
   std::string file(encoder.base(), encoder.length());
   question = "encode";
-  must(s2c_encode(xs.data(), xs.size(), 1, bytes.data(), bytes.size(), &len), question);
-  same(std::string(bytes.begin(), bytes.begin() + len), file, text_of(xs));
-  question = "s2u_encode";
-  std::fill(bytes.begin(), bytes.end(), 0);
   made(s2u_encode(xs.data(), xs.size(), bytes.data(), bytes.size(), &len), question);
   same(std::string(bytes.begin(), bytes.begin() + len), file, text_of(xs));
   files_same++;
@@ -218,9 +177,6 @@ static void files(Random& random) {
   Encoder unsorted;
   peer_union(given).Encode(&unsorted);
   const uint8_t* start = reinterpret_cast<const uint8_t*>(unsorted.base());
-  must(s2c_decode(start, unsorted.length(), 1, room.at(), room.size(), room.len()), question);
-  same_cells(room, xs, text_of(given));
-  question = "s2u_decode";
   made(s2u_decode(start, unsorted.length(), room.at(), room.size(), room.len()), question);
   same_cells(room, xs, text_of(given));
   files_of_s2_read++;
@@ -276,16 +232,14 @@ static void coverings(Random& random) {
   int level = random.below(std::min(30, 30 - bits + 6) + 1);
   std::string about = std::to_string(r.face) + " " + std::to_string(r.i0) + " " + std::to_string(r.i1) + " " +
                       std::to_string(r.j0) + " " + std::to_string(r.j1) + " at " + std::to_string(level);
-  auto ask = [&](const char* name, Covering proved, const S2CellUnion& peer) {
+  auto ask = [&](const char* name, RectangleCall proved, const S2CellUnion& peer) {
     question = name;
-    must(proved(&r, level, room.at(), room.size(), room.len()), name);
+    cover(proved, r, level, room);
     same_cells(room, ids_of(peer), about);
   };
   S2CellUnion outer = rectangle_by_coverer(r, level, true), inner = covering_by_descent(r, level, false);
-  ask("outer", covered<s2u_outer>, outer);
-  ask("inner", covered<s2u_inner>, inner);
-  ask("region_outer", s2c_region_outer, outer);
-  ask("region_inner", s2c_region_inner, inner);
+  ask("outer", s2u_outer, outer);
+  ask("inner", s2u_inner, inner);
   clipped_coverings(random, r, level, outer, inner, about);
 }
 
