@@ -1,15 +1,12 @@
 //! Unions cut to the levels that a caller wants.
 
-ghost use Rattle.std.specs.Prelude.{◌*◌, ◌+◌, ◌++◌, ◌-◌, ◌^◌, ◌≡◌, ◌≤◌, ◌<◌, IfOk, length};
-ghost use Rattle.std.specs.Vec.{vec_len, vec_capacity};
-ghost use Rattle.s2cell.specs.Cell.{level_of};
+ghost use Rattle.std.specs.Prelude.{◌*◌, ◌-◌, ◌^◌, ◌≡◌, ◌≤◌, ◌<◌, length};
 ghost use Rattle.s2list.specs.Union.{IsLocal};
 ghost use Rattle.s2union.specs.Working.Denorm.{IsUnderway};
-ghost use Rattle.s2union.specs.Denorm.{denormalised, IsDenormalised, IsCutLevel, cells_in, cut_level};
+ghost use Rattle.s2union.specs.Denorm.{denormalised, IsDenormalised, IsCutLevel, cut_level};
 
 use crate::union::CellUnion;
 use s2cell::{CellId, GREATEST_LEVEL, LEAVES};
-use std::alloc::{AllocError, Global};
 use std::marker::Model;
 
 /// The levels that cells are cut to, of a least level and a modulus, which is all that a contract sees. A table has the
@@ -171,23 +168,6 @@ impl CellUnion {
         Denorm::over(self.cells(), CutLevels::new(min, modulus))
     }
 
-    /// The cells that `denormalized` gives, as a list: quicker than the iterator if most cells are cut. Takes memory
-    /// for just as many cells, and fails only if it is out of memory.
-    pub fn denormalized_list(
-        &self,
-        alloc: Global,
-        min: u8,
-        modulus: u8,
-    ) -> Result<Vec<CellId>, AllocError>
-        requires min { min ≤ GREATEST_LEVEL }
-        requires some { 0 < modulus }
-        requires modulus { modulus ≤ 3 }
-        ensures items { IfOk result (λ list. list.items ≡ denormalised min modulus self.now.cells) }
-        ensures meaning { IfOk result (λ list. IsDenormalised min modulus self.now.cells list.items) }
-    {
-        list_items(alloc, self.cells(), &CutLevels::new(min, modulus))
-    }
-
     /// How many cells `denormalized` gives, computed without going through them, under the same conditions.
     pub fn denormalized_len(&self, min: u8, modulus: u8) -> u64
         requires min { min ≤ GREATEST_LEVEL }
@@ -211,30 +191,4 @@ fn count_items(cells: &[CellId], cuts: &CutLevels) -> u64
         total += count_descendants(own, level);
     }
     total
-}
-
-/// The cells that the cells of a local list are cut into.
-fn list_items(alloc: Global, cells: &[CellId], cuts: &CutLevels) -> Result<Vec<CellId>, AllocError>
-    requires { IsLocal cells.now }
-    ensures { IfOk result (λ list. list.items ≡ denormalised cuts.now.least cuts.now.modulus cells.now) }
-{
-    let mut list = Vec::with_capacity(alloc, count_items(cells, cuts) as usize)?;
-    for cell in cells {
-        push_descendants(&mut list, *cell, cuts.of(cell.level()));
-    }
-    Ok(list)
-}
-
-/// Appends the cells of a level inside a cell to a list that has room for them.
-fn push_descendants(list: &mut Vec<CellId>, cell: CellId, level: u8)
-    requires own { level_of cell ≤ level }
-    requires deepest { level ≤ GREATEST_LEVEL }
-    requires room { vec_len list.old + 4 ^ (level - level_of cell) ≤ vec_capacity list.old }
-    ensures items { list.new.items ≡ list.old.items ++ cells_in level cell }
-    ensures room { vec_capacity list.new ≡ vec_capacity list.old }
-{
-    let count = count_descendants(cell.level(), level);
-    for number in 0..count {
-        list.push_reserved(cell.descendant(level, number));
-    }
 }

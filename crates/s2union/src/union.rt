@@ -42,7 +42,7 @@ use std::{fmt, slice, vec};
 ///   (cursor.rt)
 /// - set operations: `union`, `intersection`, `difference`, `difference_up_to`, `symmetric_difference` (sets.rt)
 /// - changes: `can_apply`, `apply_into`, `apply` and `copy_from` (apply.rt)
-/// - cut to levels: `denormalized`, `denormalized_list`, `denormalized_len` (denorm.rt)
+/// - cut to levels: `denormalized`, `denormalized_len` (denorm.rt)
 #[derive(Drop)]
 pub struct CellUnion {
     pub(crate) cells: Vec<CellId>,
