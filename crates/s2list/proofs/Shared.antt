@@ -230,15 +230,6 @@ share_x S xs ys list new i j next x y lx ly s h g rx ry inside le in_x ended lat
     sharing_swap S ys xs new (j + 1) next (sharing_skip S ys xs new j next ly lx
     (sharing_swap S xs ys new next j run) g (rw ey over))
 
-pub share_y : (S : ℕ → Bool) (xs ys list new : List ℕ) (i j next x y : ℕ) →
-    IsLocal xs → IsLocal ys → Sharing S xs ys list i j → i < length xs → j < length ys → x ≡ get_or xs i x →
-    y ≡ get_or ys j y → IsInside y x → j < next → next ≤ length ys → FirstEndBy ys next (first_leaf x + size_of x) →
-    (next < length ys → first_leaf x + size_of x < first_leaf (get_or ys next 0) + size_of (get_or ys next 0)) →
-    new ≡ list ++ take (next - j) (drop j ys) → Sharing S xs ys new (i + 1) next
-share_y S xs ys list new i j next x y lx ly s h g rx ry inside le in_y ended later e =
-    sharing_swap S ys xs new next (i + 1) (share_x
-    S ys xs list new j i next y x ly lx (sharing_swap S xs ys list i j s) g h ry rx inside le in_y ended later e)
-
 -- of two cells that share a leaf one holds the other
 pub held_else : (xs ys : List ℕ) (i j x y : ℕ) → IsLocal xs → IsLocal ys →
     i < length xs → j < length ys → x ≡ get_or xs i x → y ≡ get_or ys j y → first_leaf y < first_leaf x + size_of x →

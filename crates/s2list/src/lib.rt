@@ -13,6 +13,7 @@
 //! code for it.
 #![tactic(auto)]
 
+mod ahead;
 mod along;
 mod appending;
 mod ask;
@@ -33,6 +34,7 @@ mod subtract;
 mod walk;
 mod whole;
 
+pub use ahead::is_short;
 pub use along::find_along;
 pub use appending::new_end;
 pub use ask::{

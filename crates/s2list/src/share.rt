@@ -4,19 +4,44 @@ ghost use Rattle.s2list.specs.Union.{IsLocal, has_leaf};
 ghost use Rattle.s2list.specs.Sets.{shared};
 ghost use Rattle.s2list.specs.Output.{Writes};
 
-use crate::along::find_along;
+use crate::ahead::{Fours, Leaps, Seek, is_short};
 use crate::cells::Cells;
 use crate::find::{end_of, find_from, first_of};
-use crate::looks::Uncounted;
 use crate::output::Copies;
 use std::alloc::AllocError;
 
 /// Writes the leaves that two unions share, and answers how many cells they are. Whichever list is behind is searched
-/// for the cell of the other, in leaps, and the cells of one that lie in a cell of the other are written as one run.
+/// for the cell of the other, in leaps, and the cells of one that lie in a cell of the other are written as one run. If
+/// one is much shorter, the whole of the other is searched, for four of its cells at once.
 pub fn write_shared<X: Cells, Y: Cells, W: Copies<X> + Copies<Y>>(
     xs: &X,
     ys: &Y,
     out: &mut W,
+) -> Result<usize, AllocError>
+    requires { W.holds [] out.old out.old 0 }
+    ensures place { W.place out.new ≡ W.place out.old }
+    ensures made { IfOk result (λ n. IsLocal (X.ids xs.now) → IsLocal (Y.ids ys.now)
+        → Writes (shared (has_leaf (X.ids xs.now)) (has_leaf (Y.ids ys.now)))
+        (λ list. W.holds list out.old out.new n) n) }
+    ensures rest { IfOk result (λ n. W.rest out.old out.old 0 → W.rest out.old out.new n) }
+    ensures sure { IfErr result (λ _. W.refuses) }
+{
+    if is_short(xs.len(), ys.len()) {
+        return share(xs, ys, out, &mut Fours::new(), &mut Leaps);
+    }
+    if is_short(ys.len(), xs.len()) {
+        return share(xs, ys, out, &mut Leaps, &mut Fours::new());
+    }
+    share(xs, ys, out, &mut Leaps, &mut Leaps)
+}
+
+/// As `write_shared`, by these searches in `ys` and in `xs`.
+fn share<X: Cells, Y: Cells, W: Copies<X> + Copies<Y>, S: Seek<X, Y>, T: Seek<Y, X>>(
+    xs: &X,
+    ys: &Y,
+    out: &mut W,
+    in_ys: &mut S,
+    in_xs: &mut T,
 ) -> Result<usize, AllocError>
     requires { W.holds [] out.old out.old 0 }
     ensures place { W.place out.new ≡ W.place out.old }
@@ -39,9 +64,9 @@ pub fn write_shared<X: Cells, Y: Cells, W: Copies<X> + Copies<Y>>(
         let x_end = end_of(x);
         let y_end = end_of(y);
         if x_end <= y_first {
-            i = find_along(xs, i, i + 1, y_first, &mut Uncounted);
+            i = in_xs.seek(ys, j, xs, i, i + 1, y_first);
         } else if y_end <= x_first {
-            j = find_along(ys, j, j + 1, x_first, &mut Uncounted);
+            j = in_ys.seek(xs, i, ys, j, j + 1, x_first);
         } else if is_within(x_first, x_end, y_first, y_end) {
             let next = find_from(xs, i + 1, y_end);
             n = out.put_run(n, xs, i, next)?;

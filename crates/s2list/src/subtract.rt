@@ -6,6 +6,7 @@ ghost use Rattle.s2list.specs.Packed.{FirstEndBy};
 ghost use Rattle.s2list.specs.Sets.{without};
 ghost use Rattle.s2list.specs.Output.{WritesUpTo};
 
+use crate::ahead::{Fours, Leaps, Seek, is_short};
 use crate::ask::begins_at;
 use crate::cells::Cells;
 use crate::find::{end_of, find_from, first_of};
@@ -16,12 +17,34 @@ use std::alloc::AllocError;
 /// Writes the leaves of the first union that the second doesn't have, and answers how many cells they are. Stops once
 /// they are more than `most`, and answers some number above it. Searches, in steps that leap, for the next cell of `ys`
 /// that ends after the leaves done, and for the next of `xs` that goes beyond it. The cells of `xs` before the next of
-/// `ys` are written as one run.
+/// `ys` are written as one run. If `xs` is much shorter, the whole of `ys` is searched, for four of its cells at once.
 pub fn write_difference<X: Cells, Y: Cells, W: Copies<X> + Copies<Y>>(
     xs: &X,
     ys: &Y,
     most: usize,
     out: &mut W,
+) -> Result<usize, AllocError>
+    requires empty { W.holds [] out.old out.old 0 }
+    ensures place { W.place out.new ≡ W.place out.old }
+    ensures made { IfOk result (λ n. IsLocal (X.ids xs.now) → IsLocal (Y.ids ys.now)
+        → WritesUpTo most (without (has_leaf (X.ids xs.now)) (has_leaf (Y.ids ys.now)))
+        (λ list. W.holds list out.old out.new n) n) }
+    ensures rest { IfOk result (λ n. W.rest out.old out.old 0 → W.rest out.old out.new n) }
+    ensures sure { IfErr result (λ _. W.refuses) }
+{
+    if is_short(xs.len(), ys.len()) {
+        return subtract(xs, ys, most, out, &mut Fours::new());
+    }
+    subtract(xs, ys, most, out, &mut Leaps)
+}
+
+/// As `write_difference`, by these searches in `ys`.
+fn subtract<X: Cells, Y: Cells, W: Copies<X> + Copies<Y>, S: Seek<X, Y>>(
+    xs: &X,
+    ys: &Y,
+    most: usize,
+    out: &mut W,
+    in_ys: &mut S,
 ) -> Result<usize, AllocError>
     requires empty { W.holds [] out.old out.old 0 }
     ensures place { W.place out.new ≡ W.place out.old }
@@ -40,7 +63,7 @@ pub fn write_difference<X: Cells, Y: Cells, W: Copies<X> + Copies<Y>>(
         let first = first_of(x);
         let end = end_of(x);
         let start = first.max(lo);
-        j = find_from(ys, j, start);
+        j = in_ys.seek(xs, i, ys, j, j, start);
         if begins_at(ys, j, end, &mut Uncounted) {
             let y = ys.id(j);
             n = out.put_gap(n, start, first_of(y))?;

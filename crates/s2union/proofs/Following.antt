@@ -8,12 +8,9 @@ use Rattle.std.proofs.lemmas.Grind.{same_number_lists}
 use Rattle.std.proofs.lemmas.List.Elements.{All-weaker, All-append, All-drop, All-take}
 use Rattle.std.proofs.lemmas.List.{take_all, take-append-drop, length-drop, get_or-drop, get_or-take}
 use Rattle.std.proofs.lemmas.List.{get_or_append_left, get_or-append_right, get_or_default, length-take-le, drop_all}
-use Rattle.std.proofs.lemmas.List.{append-nil, take-take, drop-take}
+use Rattle.std.proofs.lemmas.List.{append-nil}
 use Rattle.std.proofs.lemmas.List.Folds.{list_any_more, list_any-append}
 use Rattle.std.specs.List.{list_any}
-use Rattle.std.proofs.lemmas.List.Kept.{AllPairs-from_increasing}
-use Rattle.s2list.specs.Search.{Brackets}
-use Rattle.s2list.proofs.Galloping.{rises}
 use Rattle.s2cell.specs.Cell.{IsCell, first_leaf, covers}
 use Rattle.s2cell.proofs.CellLemmas.{cell_leaves}
 use Rattle.s2list.specs.Union.{has_leaf, IsLocal}
@@ -22,7 +19,7 @@ use Rattle.s2union.specs.Working.Tail.{Continues}
 use Rattle.s2list.proofs.Packing.{read_at}
 use Rattle.s2list.proofs.PackedLocal.{local_from_packed}
 use Rattle.s2list.proofs.Checking.{packed_from_local}
-use Rattle.s2union.proofs.Joining.{Start, Adding, Joining, or_last}
+use Rattle.s2union.proofs.Joining.{Start, Adding}
 
 -- the next cell is added
 pub adding_step : {old cells list new : List ℕ} {i : ℕ} (x : ℕ) →
@@ -107,33 +104,6 @@ part_packed {u} i n packed h =
 
 pub rest_packed : {u : List ℕ} (i : ℕ) → IsLocal u → i ≤ length u → IsPacked (take (length u - i) (drop i u))
 rest_packed {u} i l h = part_packed i (length u - i) (packed_from_local u l) (omega arith)
-
--- what is found in the rest of a list is found in the list
-pub rest_found : {u : List ℕ} {mark at : ℕ} (from : ℕ) → from ≤ length u → ((k : ℕ) → k < from → get_or u k 0 < mark) →
-    Brackets (take (length u - from) (drop from u)) mark at at → Brackets u mark (from + at) (from + at)
-rest_found {u} {mark} {at} from h below b =
-    let left = length-drop from u in
-    let len : length (take (length u - from) (drop from u)) ≡ length u - from =
-    length-take-le (length u - from) (drop from u) (omega arith) in
-    let there : (k : ℕ) → from ≤ k → k < length u →
-    get_or (take (length u - from) (drop from u)) (k - from) 0 ≡ get_or u k 0 = λ k a l.
-    let e : from + (k - from) ≡ k = omega arith in
-    get_or-take (length u - from) (drop from u) (k - from) 0 (omega arith) ∙ get_or-drop from u (k - from) 0
-    ∙ ap (λ i. get_or u i 0) e in
-    let w = b.within in
-    record {
-      order = omega arith;
-      within = omega arith;
-      below = λ k l. ⊎_elim
-          (λ (a : k < from). below k a)
-          (λ (a : from ≤ k). let t = there k a (omega arith) in
-          let s = b.below (k - from) (omega arith) in omega arith)
-          (cases_lt k from);
-      rest = λ k l m.
-          let t = there k (omega arith) m in
-          let r = b.rest (k - from) (omega arith) (omega arith) in
-          omega arith;
-    }
 
 -- so cells that follow this list overlap none of it, and make no family with its last ones
 pub follow_packed : {list cells : List ℕ} {i : ℕ} →
@@ -252,51 +222,3 @@ adding_done {old} {cells} {list} new {i} run a within e is =
           let some = m.some in
           rw same (omega arith)));
     }
-
-take_parts : (u : List ℕ) (i n : ℕ) → i ≤ n → take n u ≡ take i u ++ take (n - i) (drop i u)
-take_parts u i n h =
-    let e : i + (n - i) ≡ n = omega arith in
-    let front : take i (take n u) ≡ take i u = take-take i n u h in
-    let back : drop i (take n u) ≡ take (n - i) (drop i u) = ap (λ k. drop i (take k u)) (sym e)
-    ∙ drop-take i (n - i) u in
-    sym (take-append-drop i (take n u)) ∙ ap (λ l. l ++ drop i (take n u)) front ∙ ap (λ l. take i u ++ l) back
-
--- a run of xs before the next cell of ys is added
-join_run : {xs ys list new : List ℕ} {i j : ℕ} (next : ℕ) → IsLocal xs → Joining xs ys list i j →
-    i ≤ next → next ≤ length xs → (j < length ys → (k : ℕ) → i ≤ k → k < next → get_or xs k 0 < get_or ys j 0) →
-    Added list (take (next - i) (drop i xs)) new → Joining xs ys new next j
-join_run {xs} {ys} {list} {i} {j} next lx s h within below added =
-    let len : length (take (next - i) (drop i xs)) ≡ next - i =
-    length-take-le (next - i) (drop i xs) (omega (arith, length-drop i xs)) in
-    let at : (k d : ℕ) → k < next - i → get_or (take (next - i) (drop i xs)) k d ≡ get_or xs (i + k) 0 =
-    λ k d l. get_or-take (next - i) (drop i xs) k d l ∙ get_or-drop i xs k d
-    ∙ get_or_default xs (i + k) d 0 (omega arith) in
-    let parts : (x : ℕ) → has_leaf (take next xs) x
-    ≡ (has_leaf (take i xs) x || has_leaf (take (next - i) (drop i xs)) x) =
-    λ x. ap (λ l. has_leaf l x) (take_parts xs i next h)
-    ∙ list_any-append (λ (c : ℕ). covers c x) (take i xs) (take (next - i) (drop i xs)) in
-    record {
-      packed = added.packed;
-      leaves = λ x. added.leaves x ∙ ap (λ v. v || has_leaf (take (next - i) (drop i xs)) x) (s.leaves x)
-          ∙ or_last (has_leaf (take i xs) x) (has_leaf (take j ys) x) (has_leaf (take (next - i) (drop i xs)) x)
-          ∙ ap (λ v. v || has_leaf (take j ys) x) (sym (parts x));
-      start_x = λ g. added.later (get_or xs next 0)
-          (All-weaker (λ c. 2 * first_leaf c < get_or xs i 0) (λ c. 2 * first_leaf c < get_or xs next 0)
-          (λ c b. let e = rises xs i next lx.ascending h g in omega arith) list (s.start_x (omega arith)))
-          (λ k d l. let e = AllPairs-from_increasing xs lx.ascending (i + k) next 0 (omega arith) g in
-          omega (arith, at k d (omega arith)));
-      start_y = λ g. added.later (get_or ys j 0) (s.start_y g)
-          (λ k d l. let e = below g (i + k) (omega arith) (omega arith) in omega (arith, at k d (omega arith)));
-    }
-
--- the same of the run that a search in xs finds: the cells before `next` are below y, and the others are not
-pub run_joins : {xs ys list new : List ℕ} {i j next y : ℕ} →
-    IsLocal xs → Joining xs ys list i j → i ≤ next → Brackets xs y next next →
-    (j < length ys → y ≡ get_or ys j y) → Added list (take (next - i) (drop i xs)) new → Joining xs ys new next j
-run_joins {xs} {ys} {list} {new} {i} {j} {next} {y} lx s h run is added =
-    join_run next lx s h run.within
-    (λ g k a b. let e = run.below k b in omega (arith, read_at ys j j y g refl (is g))) added
-
-pub run_starts : {xs ys : List ℕ} (list : List ℕ) {new : List ℕ} {next j : ℕ} (y : ℕ) →
-    Joining xs ys new next j → j < length ys → y ≡ get_or ys j y → Start new y
-run_starts {ys} list {j} y s h is = rw (← read_at ys j j y h refl is) (s.start_y h)

@@ -1,5 +1,5 @@
-//! Where the cells of a short list lie in a much longer one, and questions about them: a search in the whole longer
-//! list for each cell of the shorter one, for four cells at once.
+//! Questions about a short list and a much longer one: a search in the whole longer list for each cell of the shorter
+//! one, for four cells at once.
 //!
 //! The searches for four cells don't wait for each other, so while one waits for memory, the others go on. A walk that
 //! starts each search where the one before ended makes fewer looks, but each has to wait for the one before.
@@ -18,10 +18,6 @@ use s2list::{
     Count, LookedAt, Question, contains_cell_at_counted, find_counted, find_from_counted,
     intersects_cell_at_counted, places_of_four_counted,
 };
-
-/// A list counts as short if the other is at least this many times as long. A search in the other takes no more steps
-/// than that, so the searches for all cells of the short one take no more than a pass.
-pub(crate) const MUCH_LONGER: usize = 64;
 
 /// Whether `xs` has all leaves of `ys`, which is much shorter.
 #[inline(never)]
@@ -82,7 +78,7 @@ fn is_decided<C: CellsLookedAt<K>, K: Count>(
 
 /// Whether to search the next four cells together, from index `at` of `n` on. The first is searched alone, since it may
 /// decide.
-pub(crate) fn by_four(at: usize, n: usize) -> bool
+fn by_four(at: usize, n: usize) -> bool
     requires { at < n }
     ensures rest { IsTrue result → at + 4 ≤ n }
     ensures first { IsTrue result → 0 < at }
@@ -215,7 +211,7 @@ fn pass_open<C: CellsLookedAt<K>, K: Count>(
 
 /// Passes over the cells of `few`, from index `from` on, that end before the cell at index `at` of the list begins;
 /// over all of them if there is no such cell. So cells of `few` in a gap of the list cost one search.
-pub(crate) fn pass_free<C: CellsLookedAt<K>, K: Count>(
+fn pass_free<C: CellsLookedAt<K>, K: Count>(
     few: &C,
     from: usize,
     cells: &C,
@@ -251,7 +247,7 @@ pub(crate) fn pass_free<C: CellsLookedAt<K>, K: Count>(
 
 /// Passes over the cells of `few`, from index `from` on, that lie in the cell at index `at` of the list, if the first
 /// of them does. So cells of `few` in a large cell of the list cost one search.
-pub(crate) fn pass_held<C: CellsLookedAt<K>, K: Count>(
+fn pass_held<C: CellsLookedAt<K>, K: Count>(
     few: &C,
     from: usize,
     cells: &C,

@@ -5,11 +5,11 @@ ghost use Rattle.s2list.specs.Union.{IsLocal, has_leaf, IsWithin, ShareSome};
 ghost use Rattle.s2list.specs.Looks.{FewForUnion};
 ghost use Rattle.s2list.specs.Search.{IsRunAt};
 
-use crate::few::{MUCH_LONGER, holds_few, meets_few};
+use crate::few::{holds_few, meets_few};
 use crate::search::CellsLookedAt;
 use crate::union::CellUnion;
 use s2cell::CellId;
-use s2list::{Count, Uncounted};
+use s2list::{Count, Uncounted, is_short};
 
 impl CellUnion {
     /// Whether it has all leaves of the cell. Logarithmic in the number of its cells. S2 calls it `Contains`.
@@ -66,7 +66,7 @@ fn holds_all<C: CellsLookedAt<K>, K: Count>(xs: &C, ys: &C, count: &mut K) -> bo
     ensures looks { FewForUnion (length (C.ids xs.now)) (length (C.ids ys.now)) (K.looks count.new) }
     ensures least { 0 < length (C.ids xs.now) → 0 < length (C.ids ys.now) → min 2 K.most ≤ K.looks count.new }
 {
-    if ys.len() <= xs.len() / MUCH_LONGER {
+    if is_short(ys.len(), xs.len()) {
         return holds_few(xs, ys, count);
     }
     s2list::holds_all(xs, ys, count)
@@ -81,10 +81,10 @@ fn meets_any<C: CellsLookedAt<K>, K: Count>(xs: &C, ys: &C, count: &mut K) -> bo
     ensures looks { FewForUnion (length (C.ids xs.now)) (length (C.ids ys.now)) (K.looks count.new) }
     ensures least { 0 < length (C.ids xs.now) → 0 < length (C.ids ys.now) → min 2 K.most ≤ K.looks count.new }
 {
-    if ys.len() <= xs.len() / MUCH_LONGER {
+    if is_short(ys.len(), xs.len()) {
         return meets_few(xs, ys, count);
     }
-    if xs.len() <= ys.len() / MUCH_LONGER {
+    if is_short(xs.len(), ys.len()) {
         return meets_few(ys, xs, count);
     }
     s2list::meets_any(xs, ys, count)

@@ -1,5 +1,5 @@
-//! The set operations, and how a union is made: by a walk along both lists, or by a search for each cell of the shorter
-//! one. Runs of cells are copied whole. How an intersection is made is in share.rt, and a difference in subtract.rt.
+//! The set operations, by the walks of `s2list`; the union of lists of similar length has one of its own. How a
+//! difference is made is in subtract.rt.
 ghost use Rattle.std.specs.Prelude.{◌≡◌, ◌≤◌, ◌<◌, ◌+◌, ◌||◌, ◌&&◌, ◌*◌, ◌++◌};
 ghost use Rattle.std.specs.Prelude.{◌↔◌, All, slice_index, ℕ, length, []};
 ghost use Rattle.std.specs.Prelude.{IfErr, IfOk, List, OnOk, not, IsTrue};
@@ -11,19 +11,17 @@ ghost use Rattle.s2list.specs.Packed.{IsPacked};
 ghost use Rattle.s2union.specs.Working.Tail.{Continues};
 
 use crate::fault::UnionFault;
-use crate::few::MUCH_LONGER;
 use crate::grown::Grown;
 use crate::normalising::add_reserved;
-use crate::share::share;
 use crate::subtract::subtract;
 use crate::union::CellUnion;
 use s2cell::CellId;
-use s2list::{CellList, find_id, write_symmetric_difference};
+use s2list::{CellList, is_short, write_shared, write_symmetric_difference, write_union};
 use std::alloc::AllocError;
 
 impl CellUnion {
-    /// The leaves of either. One pass over both lists; if one is much shorter, a search for each of its cells, and
-    /// whole copies of what lies between them. Takes room for the cells of both at the start. Refuses only if it is
+    /// The leaves of either. One pass over both lists; if one is much shorter, leaps from one of its cells to the next,
+    /// and whole copies of what lies between them. Takes room for the cells of both at the start. Refuses only if it is
     /// out of memory. S2 calls it `Union`.
     pub fn union(&self, other: &CellUnion) -> Result<CellUnion, AllocError>
         ensures local { IfOk result (λ u. IsLocal u.cells) }
@@ -34,7 +32,7 @@ impl CellUnion {
     {
         let room = self.cells.len() + other.cells.len();
         let mut cells = Vec::with_capacity(*self.cells.allocator(), room)?;
-        join(&mut cells, self.cells(), other.cells());
+        join(&mut cells, self.cells(), other.cells())?;
         Ok(CellUnion { cells })
     }
 
@@ -125,22 +123,56 @@ fn differ(list: &mut Vec<CellId>, xs: &[CellId], ys: &[CellId]) -> Result<(), Al
     Ok(())
 }
 
-/// Puts the leaves of `xs` and of `ys` into an empty list.
-fn join(list: &mut Vec<CellId>, xs: &[CellId], ys: &[CellId])
+/// Puts the leaves that `xs` and `ys` share into an empty list.
+fn share(list: &mut Vec<CellId>, xs: &[CellId], ys: &[CellId]) -> Result<(), AllocError>
+    requires empty { list.old.items ≡ [] }
+    requires x_local { IsLocal xs.now }
+    requires y_local { IsLocal ys.now }
+    ensures local { OnOk result (IsLocal list.new.items) }
+    ensures leaves { OnOk result ((x : ℕ) → has_leaf list.new.items x ≡ (has_leaf xs.now x && has_leaf ys.now x)) }
+{
+    let xs = CellList { cells: xs };
+    let ys = CellList { cells: ys };
+    let mut grown = Grown {
+        list,
+        most: usize::MAX,
+    };
+    write_shared(&xs, &ys, &mut grown)?;
+    Ok(())
+}
+
+/// Puts the leaves of `xs` and of `ys` into an empty list that has room for the cells of both.
+fn join(list: &mut Vec<CellId>, xs: &[CellId], ys: &[CellId]) -> Result<(), AllocError>
     requires empty { list.old.items ≡ [] }
     requires room { length xs.now + length ys.now ≤ vec_capacity list.old }
     requires x_local { IsLocal xs.now }
     requires y_local { IsLocal ys.now }
-    ensures local { IsLocal list.new.items }
-    ensures leaves { (x : ℕ) → has_leaf list.new.items x ≡ (has_leaf xs.now x || has_leaf ys.now x) }
+    ensures local { OnOk result (IsLocal list.new.items) }
+    ensures leaves { OnOk result ((x : ℕ) → has_leaf list.new.items x ≡ (has_leaf xs.now x || has_leaf ys.now x)) }
 {
-    if ys.len() <= xs.len() / MUCH_LONGER {
-        join_few(list, xs, ys);
-    } else if xs.len() <= ys.len() / MUCH_LONGER {
-        join_few(list, ys, xs);
-    } else {
-        join_evenly(list, xs, ys);
+    if is_short(xs.len(), ys.len()) || is_short(ys.len(), xs.len()) {
+        return join_apart(list, xs, ys);
     }
+    join_evenly(list, xs, ys);
+    Ok(())
+}
+
+/// As `join`, by leaps from one interval of leaves to the next.
+fn join_apart(list: &mut Vec<CellId>, xs: &[CellId], ys: &[CellId]) -> Result<(), AllocError>
+    requires empty { list.old.items ≡ [] }
+    requires x_local { IsLocal xs.now }
+    requires y_local { IsLocal ys.now }
+    ensures local { OnOk result (IsLocal list.new.items) }
+    ensures leaves { OnOk result ((x : ℕ) → has_leaf list.new.items x ≡ (has_leaf xs.now x || has_leaf ys.now x)) }
+{
+    let xs = CellList { cells: xs };
+    let ys = CellList { cells: ys };
+    let mut grown = Grown {
+        list,
+        most: usize::MAX,
+    };
+    write_union(&xs, &ys, &mut grown)?;
+    Ok(())
 }
 
 /// Puts the leaves of `xs` and of `ys` into an empty list, cell by cell of both.
@@ -168,29 +200,6 @@ fn join_evenly(list: &mut Vec<CellId>, xs: &[CellId], ys: &[CellId])
     } else {
         add_run(list, &ys[j..]);
     }
-}
-
-/// Puts the leaves of `xs` and of `ys` into an empty list, with one search in `xs` for each cell of `ys`. The run of
-/// `xs` before it is added as a whole.
-fn join_few(list: &mut Vec<CellId>, xs: &[CellId], ys: &[CellId])
-    requires empty { list.old.items ≡ [] }
-    requires room { length xs.now + length ys.now ≤ vec_capacity list.old }
-    requires x_local { IsLocal xs.now }
-    requires y_local { IsLocal ys.now }
-    ensures local { IsLocal list.new.items }
-    ensures leaves { (x : ℕ) → has_leaf list.new.items x ≡ (has_leaf xs.now x || has_leaf ys.now x) }
-{
-    let mut done = 0;
-    for j in 0..ys.len() {
-        let y = ys[j];
-        let rest = CellList { cells: &xs[done..] };
-        let more = find_id(&rest, y.id());
-        let next = done + more;
-        add_run(list, &xs[done..next]);
-        add_reserved(list, y);
-        done = next;
-    }
-    add_run(list, &xs[done..]);
 }
 
 /// Adds the leaves of packed cells to a list of packed cells that begin before them. The list has room for all.

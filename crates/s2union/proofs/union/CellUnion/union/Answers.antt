@@ -7,4 +7,4 @@ use Rattle.s2union.proofs.union.CellUnion.union.Goals as goal
 pub returns-clause-normal : goal.returns-clause-normal
 returns-clause-normal c =
     normal_from_leaves (either (has_leaf c.args.self.now.cells) (has_leaf c.args.other.now.cells)) _
-    c.join.ensures.local (search rules)
+    c.in_ok-join.ensures.local (search rules)

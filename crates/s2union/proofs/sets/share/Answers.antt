@@ -1,6 +1,6 @@
 use Rattle.std.proofs.Common.{arith, rules}
 use Rattle.s2union.proofs.Growing.{grown_all}
-use Rattle.s2union.proofs.share.share_evenly.Goals as goal
+use Rattle.s2union.proofs.sets.share.Goals as goal
 
 pub returns-clause-leaves : goal.returns-clause-leaves
 returns-clause-leaves c =

@@ -1,7 +1,7 @@
 use Rattle.std.proofs.Common.{◌≡◌, ◌≤◌, ◌+◌, ◌-◌, length}
 use Rattle.s2list.specs.Union.{IsLocal}
 use Rattle.s2list.proofs.Leaving.{LeavingIn}
-use Rattle.s2list.proofs.subtract.write_difference.Given as goal
+use Rattle.s2list.proofs.subtract.subtract.Given as goal
 
 abbrev pub invariant-loop-i : goal.invariant-loop-i
 invariant-loop-i g l = record {

@@ -2,7 +2,7 @@ use Rattle.std.proofs.Common.{◌<◌, ◌∙◌, length, refl, sym, arith, inl,
 use Rattle.std.proofs.lemmas.Bool.{false≢true}
 use Rattle.s2list.proofs.Sharing.{shared_none, shared_swap, shared_skip, shared_run, shared_done}
 use Rattle.s2list.proofs.Sharing.{inside_by, inside_else}
-use Rattle.s2list.proofs.share.write_shared.Goals as goal
+use Rattle.s2list.proofs.share.share.Goals as goal
 
 pub loop-i-init : goal.loop-i-init
 loop-i-init g c = record {
@@ -20,7 +20,7 @@ loop-i-preserved-then-x_end-y_first g c =
     let ny = c.len-y_len.ensures in
     let h : c.loop-i.i < length (g.X.Listed.ids c.args.xs.now) = omega (arith, c.loop-i-test.true) in
     let t : c.loop-i.j < length (g.Y.Listed.ids c.args.ys.now) = omega (arith, c.if-j-y_len.true) in
-    let f = c.find_along-i.ensures in
+    let f = c.seek-i.ensures in
     record {
       in_x = f.within;
       in_y = c.loop-i.invariant.in_y;
@@ -37,7 +37,7 @@ loop-i-preserved-then-y_end-x_first g c =
     let ny = c.len-y_len.ensures in
     let h : c.loop-i.i < length (g.X.Listed.ids c.args.xs.now) = omega (arith, c.loop-i-test.true) in
     let t : c.loop-i.j < length (g.Y.Listed.ids c.args.ys.now) = omega (arith, c.if-j-y_len.true) in
-    let f = c.find_along-j.ensures in
+    let f = c.seek-j.ensures in
     record {
       in_x = c.loop-i.invariant.in_x;
       in_y = f.within;

@@ -2,7 +2,7 @@ use Rattle.std.proofs.Common.{◌≡◌, ◌+◌, ◌<◌, ◌∙◌, length, ge
 use Rattle.s2cell.specs.Cell.{first_leaf, size_of}
 use Rattle.s2list.proofs.Leaving.{left_none, left_on, left_taken, left_jump, left_free}
 use Rattle.s2list.proofs.Leaving.{left_run, left_done, not_before}
-use Rattle.s2list.proofs.subtract.write_difference.Goals as goal
+use Rattle.s2list.proofs.subtract.subtract.Goals as goal
 
 pub loop-i-init : goal.loop-i-init
 loop-i-init g c = record {
@@ -22,7 +22,7 @@ loop-i-preserved-then-begins_at g c =
     let es : c.max-start.result ≡ max c.first_of-first.result c.loop-i.lo = omega arith in
     let there = c.begins_at.ensures.within c.if-begins_at.true in
     let ry = c.id-y.ensures in
-    let to = c.find_from-j.ensures in
+    let to = c.seek-j.ensures in
     let f = c.leap_if-i.ensures in
     record {
       in_x = f.within;
@@ -32,9 +32,9 @@ loop-i-preserved-then-begins_at g c =
       so_far = λ lx ly.
           let here = left_on lx ly (c.loop-i.invariant.so_far lx ly) h c.id-x.ensures c.first_of-first.ensures es
           to.within to.ended in
-          let own = ly.cells c.find_from-j.result 0 there in
+          let own = ly.cells c.seek-j.result 0 there in
           let begins = ((c.begins_at.ensures.answer ly.cells).0 c.if-begins_at.true).1 in
-          let fy : c.first_of.result ≡ first_leaf (get_or ys c.find_from-j.result 0) = c.first_of.ensures (rw ry own)
+          let fy : c.first_of.result ≡ first_leaf (get_or ys c.seek-j.result 0) = c.first_of.ensures (rw ry own)
           ∙ ap first_leaf ry in
           left_jump lx
           (left_taken {next = c.max-lo.result} c.loop-i.lo
@@ -51,7 +51,7 @@ loop-i-preserved-then-start-first g c =
     let nx = c.len.ensures in
     let h : c.loop-i.i < length xs = omega (arith, c.loop-i-test.true) in
     let es : c.max-start.result ≡ max c.first_of-first.result c.loop-i.lo = omega arith in
-    let to = c.find_from-j.ensures in
+    let to = c.seek-j.ensures in
     let f = c.free_until-next.ensures in
     record {
       in_x = f.within;
@@ -67,7 +67,7 @@ loop-i-preserved-then-start-first g c =
           left_run (λ list. g.W.Output.holds list c.args.out.now c.put_run.new.self c.in_ok-n-2.n) lx ly here h rx
           c.first_of-first.ensures (let t = c.if-start-first.true in omega arith) f.more f.within
           (λ there.
-          let own = ly.cells c.find_from-j.result 0 there in
+          let own = ly.cells c.seek-j.result 0 there in
           let free = not_before _ _ _ (λ h. (c.begins_at.ensures.answer ly.cells).1 (there, h)) c.if-begins_at.false in
           f.free lx there own (omega arith))
           c.id.ensures c.end_of-lo.ensures (λ list. c.in_ok-n-2.ensures.put list c.args.out.now);
@@ -78,7 +78,7 @@ loop-i-preserved g c =
     let nx = c.len.ensures in
     let h : c.loop-i.i < length (g.X.Listed.ids c.args.xs.now) = omega (arith, c.loop-i-test.true) in
     let es : c.max-start.result ≡ max c.first_of-first.result c.loop-i.lo = omega arith in
-    let to = c.find_from-j.ensures in
+    let to = c.seek-j.ensures in
     record {
       in_x = omega arith;
       in_y = to.within;

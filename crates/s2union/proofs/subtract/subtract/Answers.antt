@@ -1,6 +1,6 @@
 use Rattle.std.proofs.Common.{arith, rules}
 use Rattle.s2union.proofs.Growing.{grown_past, grown_up_to}
-use Rattle.s2union.proofs.subtract.subtract_evenly.Goals as goal
+use Rattle.s2union.proofs.subtract.subtract.Goals as goal
 
 pub returns-then-branch-limit-clause-local : goal.returns-then-branch-limit-clause-local
 returns-then-branch-limit-clause-local c =

@@ -2,7 +2,7 @@ use Rattle.std.proofs.Common.{◌≡◌, ◌≤◌, ◌+◌, ◌-◌, length}
 use Rattle.s2list.specs.Union.{IsLocal}
 use Rattle.s2list.proofs.Shared.{both}
 use Rattle.s2list.proofs.Sharing.{SharingIn}
-use Rattle.s2list.proofs.share.write_shared.Given as goal
+use Rattle.s2list.proofs.share.share.Given as goal
 
 abbrev pub invariant-loop-i : goal.invariant-loop-i
 invariant-loop-i g l = record {
