@@ -12,11 +12,12 @@ class Sizes {
   }
 
   void rows() {
+    Random random(13);
     for (size_t size : {1, 10, 100, 1000, 10000, 100000}) {
       for (bool inside : {true, false}) {
         List shorter;
         for (size_t k = 0; k < size; k++) {
-          u64 n = (2 * k + 1) * kMost / (2 * size);
+          u64 n = k * (kMost / size) + random.below(kMost / size);
           shorter.push_back(inside ? child_of(child_of(longer_[n], 1), 2) : cell_at(14, 4 * n + 2));
         }
         std::string place = std::to_string(size) + (inside ? "_inside" : "_apart");
