@@ -90,6 +90,10 @@ impl Fours {
 impl<X: Cells, Y: Cells> Seek<X, Y> for Fours {
     #[inline(always)]
     fn seek(&mut self, xs: &X, i: usize, ys: &Y, at: usize, start: usize, lo: u64) -> usize {
+        // The first alone: it may pass all cells of the short list.
+        if at == 0 {
+            return find_along(ys, 0, start, lo, &mut Uncounted);
+        }
         match self.guess(xs, i, ys) {
             Some(guess) => {
                 let from = first_place(ys, guess, lo).max(start);
