@@ -7,7 +7,7 @@ use s2cell::CellId;
 use std::alloc::{AllocError, Global};
 
 /// Beside a list of this many times its cells, a list is walked along by leaps in the longer one.
-const MUCH_LONGER: usize = 16;
+const LEAP_RATIO: usize = 16;
 
 /// The cells of `old` that `new` lacks, and those of `new` that `old` lacks. The two lists have exactly the room that
 /// they need.
@@ -66,7 +66,7 @@ fn same_back(us: &[CellId], vs: &[CellId]) -> usize
 
 /// Whether one of the lists is much longer than the other.
 fn differ_much(us: &[CellId], vs: &[CellId]) -> bool {
-    us.len() / MUCH_LONGER > vs.len() || vs.len() / MUCH_LONGER > us.len()
+    us.len() / LEAP_RATIO > vs.len() || vs.len() / LEAP_RATIO > us.len()
 }
 
 /// How many cells of a list another one lacks, by leaps or by steps.
