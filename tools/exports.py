@@ -55,11 +55,11 @@ def facts(header):
 
 def of_header(found, statuses):
     for name, (comment, names, refused) in found.items():
-        told = {word for words in re.findall(r"@param (\S+) \S", comment) for word in words.split(",")}
+        said = {word for words in re.findall(r"@param (\S+) \S", comment) for word in words.split(",")}
         yield f"s2union.h: s2u_{name}", [
             *([] if re.match(r"\s*(?:\[pure\] )?[A-Zs]", comment) else ["a sentence"]),
-            *(f"the argument {word}" for word in names if word not in told),
-            *(f"the argument {word}, which it has not" for word in told if word not in names),
+            *(f"the argument {word}" for word in names if word not in said),
+            *(f"the argument {word}, which it has not" for word in said if word not in names),
             *(f"the status {word}, which isn't one" for word in refused if word not in statuses),
             *(tag for tag in ("@return", "@since", f"@snippet examples.c s2u_{name}\n") if tag not in comment)]
 
