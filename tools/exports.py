@@ -143,9 +143,11 @@ def of_rust(found, name, text):
               else [])]
 
 
-def of_go(name, text):
+def of_go(name, text, examples):
     for comment, _, kind, member in GOES.findall(text):
+        is_shown = re.search(rf"^func Example{kind}{'_' * bool(kind)}{member}\(\)", examples, re.M)
         yield f"Go: {name}: {kind}{'.' * bool(kind)}{member}", [
+            *([] if is_shown or "Error" in kind else ["an Example function"]),
             *([] if re.match(rf"// {member} \S", comment) else ["a sentence that begins with its name"]),
             *([] if re.search(SINCE, comment) else ["Since"])]
 
@@ -162,5 +164,6 @@ def lacking(header, statuses, sources):
         yield from of_types(found, text)
     for name, text in sources("rust"):
         yield from of_rust(found, name, text)
+    examples = "\n".join(text for _, text in sources("go examples"))
     for name, text in sources("go"):
-        yield from of_go(name, text)
+        yield from of_go(name, text, examples)

@@ -97,6 +97,8 @@ MISTAKES = [
     Mistake("an error of Rust left out", "bindings/rust/src/cell.rs",
             "    /// - [`Error::NoCell`]: the text is the token", "    /// - the text is the token",
             "from_token: its comment lacks the error NoCell"),
+    Mistake("an example of Go left out", "bindings/go/example_each_test.go", "func ExampleCellID_Face() {",
+            "func ExampleCellID_Faces() {", "Go: cell: CellID.Face: its comment lacks an Example function"),
     Mistake("a version of Go left out", "bindings/go/cell.go", "Face is 0 to 5. Since 0.2.", "Face is 0 to 5.",
             "Go: cell: CellID.Face: its comment lacks Since"),
     Mistake("a list that JavaScript leaves out", "bindings/page/core.js", '"s2u_union", [xs, ys]', '"s2u_union", [xs]'),

@@ -1,0 +1,584 @@
+package s2union_test
+
+import (
+	"bytes"
+	"encoding/json"
+	"fmt"
+	"s2union"
+)
+
+func ExampleCellIDFromToken() {
+	cell, err := s2union.CellIDFromToken("0C")
+	fmt.Println(cell, err)
+	_, err = s2union.CellIDFromToken("xyz")
+	fmt.Println(err)
+	// Output:
+	// 0/1 <nil>
+	// s2union: not a cell
+}
+
+func ExampleCellIDFromString() {
+	cell, err := s2union.CellIDFromString("0/1")
+	fmt.Println(cell.ToToken(), err)
+	// Output: 0c <nil>
+}
+
+func ExampleCellIDFromFace() {
+	cell, err := s2union.CellIDFromFace(4)
+	fmt.Println(cell, err)
+	_, err = s2union.CellIDFromFace(6)
+	fmt.Println(err)
+	// Output:
+	// 4/ <nil>
+	// s2union: argument out of range
+}
+
+func ExampleCellIDFromFaceIJ() {
+	cell, err := s2union.CellIDFromFaceIJ(0, 0, 0)
+	fmt.Println(cell.ToToken(), err)
+	// Output: 0000000000000001 <nil>
+}
+
+func ExampleCellID_IsValid() {
+	fmt.Println(s2union.CellID(1).IsValid(), s2union.CellID(2).IsValid())
+	// Output: true false
+}
+
+func ExampleCellID_Level() {
+	cell, _ := s2union.CellIDFromToken("89c25")
+	fmt.Println(cell.Level())
+	// Output: 8
+}
+
+func ExampleCellID_Face() {
+	cell, _ := s2union.CellIDFromToken("89c25")
+	fmt.Println(cell.Face())
+	// Output: 4
+}
+
+func ExampleCellID_IsLeaf() {
+	cell, _ := s2union.CellIDFromToken("89c25")
+	fmt.Println(cell.IsLeaf())
+	// Output: false
+}
+
+func ExampleCellID_IsFace() {
+	cell, _ := s2union.CellIDFromToken("1")
+	fmt.Println(cell.IsFace())
+	// Output: true
+}
+
+func ExampleCellID_Parent() {
+	cell, _ := s2union.CellIDFromToken("89c25")
+	fmt.Println(cell.Parent(5).ToToken())
+	// Output: 89c4
+}
+
+func ExampleCellID_Children() {
+	cell, _ := s2union.CellIDFromToken("1")
+	fmt.Println(cell.Children())
+	// Output: [0/0 0/1 0/2 0/3]
+}
+
+func ExampleCellID_RangeMin() {
+	cell, _ := s2union.CellIDFromToken("04")
+	fmt.Println(cell.RangeMin().ToToken())
+	// Output: 0000000000000001
+}
+
+func ExampleCellID_RangeMax() {
+	cell, _ := s2union.CellIDFromToken("04")
+	fmt.Println(cell.RangeMax().ToToken())
+	// Output: 07ffffffffffffff
+}
+
+func ExampleCellID_LeafCellsCovered() {
+	cell, _ := s2union.CellIDFromToken("04")
+	fmt.Println(cell.LeafCellsCovered() == 1<<58)
+	// Output: true
+}
+
+func ExampleCellID_Next() {
+	cell, _ := s2union.CellIDFromToken("1c")
+	fmt.Println(cell.Next().ToToken())
+	// Output: 24
+}
+
+func ExampleCellID_Prev() {
+	cell, _ := s2union.CellIDFromToken("24")
+	fmt.Println(cell.Prev().ToToken())
+	// Output: 1c
+}
+
+func ExampleCellID_Contains() {
+	cell, _ := s2union.CellIDFromToken("1")
+	other, _ := s2union.CellIDFromToken("04")
+	fmt.Println(cell.Contains(other))
+	// Output: true
+}
+
+func ExampleCellID_Intersects() {
+	cell, _ := s2union.CellIDFromToken("04")
+	other, _ := s2union.CellIDFromToken("14")
+	fmt.Println(cell.Intersects(other))
+	// Output: false
+}
+
+func ExampleCellID_CommonAncestor() {
+	cell, _ := s2union.CellIDFromToken("04")
+	other, _ := s2union.CellIDFromToken("14")
+	fmt.Println(cell.CommonAncestor(other))
+	// Output: 0/ true
+}
+
+func ExampleCellID_CommonAncestorLevel() {
+	cell, _ := s2union.CellIDFromToken("04")
+	other, _ := s2union.CellIDFromToken("14")
+	fmt.Println(cell.CommonAncestorLevel(other))
+	// Output: 0 true
+}
+
+func ExampleCellID_Square() {
+	cell, _ := s2union.CellIDFromToken("14")
+	fmt.Println(cell.Square())
+	// Output: 0 536870912 536870912 536870912
+}
+
+func ExampleCellID_ToToken() {
+	cell, _ := s2union.CellIDFromToken("0c")
+	fmt.Println(cell.ToToken())
+	// Output: 0c
+}
+
+func ExampleCellID_String() {
+	cell, _ := s2union.CellIDFromToken("0c")
+	fmt.Println(cell.String())
+	// Output: 0/1
+}
+
+func ExampleCellID_MarshalText() {
+	cell, _ := s2union.CellIDFromToken("0c")
+	text, err := json.Marshal(cell)
+	fmt.Println(string(text), err)
+	// Output: "0c" <nil>
+}
+
+func ExampleCellID_UnmarshalText() {
+	var cell s2union.CellID
+	fmt.Println(cell.UnmarshalText([]byte("0/1")), cell)
+	// Output: <nil> 0/1
+}
+
+func ExampleCellID_UnmarshalJSON() {
+	var cell s2union.CellID
+	fmt.Println(json.Unmarshal([]byte("864691128455135232"), &cell), cell)
+	// Output: <nil> 0/1
+}
+
+func ExampleCellID_Value() {
+	cell, _ := s2union.CellIDFromToken("89c25")
+	fmt.Println(cell.Value())
+	// Output: -8520159584101335040 <nil>
+}
+
+func ExampleCellID_Scan() {
+	var cell s2union.CellID
+	fmt.Println(cell.Scan(int64(-8520159584101335040)), cell.ToToken())
+	// Output: <nil> 89c25
+}
+
+func ExampleLevels() {
+	cells, _ := s2union.CellIDsFromTokens("1 04")
+	fmt.Println(s2union.Levels(cells))
+	_, err := s2union.Levels([]s2union.CellID{1, 2})
+	fmt.Println(err)
+	// Output:
+	// [0 1] <nil>
+	// s2union: not a cell at place 1
+}
+
+func ExampleParents() {
+	cells, _ := s2union.CellIDsFromTokens("1 04")
+	fmt.Println(s2union.Parents(cells, 0))
+	_, err := s2union.Parents(cells, 1)
+	fmt.Println(err)
+	// Output:
+	// [0/ 0/] <nil>
+	// s2union: argument out of range at place 0
+}
+
+func ExampleRangeMins() {
+	cells, _ := s2union.CellIDsFromTokens("1 04")
+	leaves, err := s2union.RangeMins(cells)
+	fmt.Println(leaves[1].ToToken(), err)
+	// Output: 0000000000000001 <nil>
+}
+
+func ExampleRangeMaxes() {
+	cells, _ := s2union.CellIDsFromTokens("1 04")
+	leaves, err := s2union.RangeMaxes(cells)
+	fmt.Println(leaves[1].ToToken(), err)
+	// Output: 07ffffffffffffff <nil>
+}
+
+func ExampleTokens() {
+	cells, _ := s2union.CellIDsFromTokens("1 04")
+	fmt.Println(s2union.Tokens(cells))
+	// Output: [1 04] <nil>
+}
+
+func ExampleCellIDsFromTokens() {
+	fmt.Println(s2union.CellIDsFromTokens("1c, 0/0"))
+	_, err := s2union.CellIDsFromTokens("1c, x")
+	fmt.Println(err)
+	// Output:
+	// [0/3 0/0] <nil>
+	// s2union: not a cell at place 4
+}
+
+func ExampleCellIDsFromPoints() {
+	leaves, err := s2union.CellIDsFromPoints([]s2union.Point{{Face: 0, I: 0, J: 0}})
+	fmt.Println(leaves[0].ToToken(), err)
+	// Output: 0000000000000001 <nil>
+}
+
+func ExampleCellUnionFromNormalized() {
+	union, err := s2union.CellUnionFromNormalized[uint64](0x0400000000000000)
+	fmt.Println(union, err)
+	_, err = s2union.CellUnionFromNormalized[uint64](5, 1)
+	fmt.Println(err)
+	// Output:
+	// 04 <nil>
+	// s2union: not a normalized list of cells
+}
+
+func ExampleCellUnionFromRange() {
+	face, _ := s2union.CellIDFromFace(0)
+	fmt.Println(s2union.CellUnionFromRange(face.RangeMin(), face.RangeMin()+4))
+	// Output: 0000000000000001 0000000000000003 <nil>
+}
+
+func ExampleRangeUnion() {
+	first, _ := s2union.CellIDFromToken("0c")
+	last, _ := s2union.CellIDFromToken("3")
+	fmt.Println(s2union.RangeUnion(first, last))
+	// Output: 0c 14 1c 3 <nil>
+}
+
+func ExampleWholeSphere() {
+	fmt.Println(s2union.WholeSphere())
+	// Output: 1 3 5 7 9 b
+}
+
+func ExampleCellUnionFromIntersection() {
+	x, _ := s2union.CellUnionFromTokens("1")
+	y, _ := s2union.CellUnionFromTokens("04 3")
+	fmt.Println(s2union.CellUnionFromIntersection(x, y))
+	// Output: 04
+}
+
+func ExampleCellUnionFromSymmetricDifference() {
+	x, _ := s2union.CellUnionFromTokens("04 0c")
+	y, _ := s2union.CellUnionFromTokens("0c 14")
+	fmt.Println(s2union.CellUnionFromSymmetricDifference(x, y))
+	// Output: 04 14
+}
+
+func ExampleCellUnionFromIntersectionWithCellID() {
+	union, _ := s2union.CellUnionFromTokens("04 3")
+	face, _ := s2union.CellIDFromFace(0)
+	fmt.Println(s2union.CellUnionFromIntersectionWithCellID(union, face))
+	// Output: 04
+}
+
+func ExampleCellUnionFromComplement() {
+	union, _ := s2union.CellUnionFromTokens("04 0c 1c")
+	fmt.Println(s2union.CellUnionFromComplement(union))
+	// Output: 14 3 5 7 9 b
+}
+
+func ExampleCellUnion_Len() {
+	union, _ := s2union.CellUnionFromTokens("04 0c")
+	fmt.Println(union.Len())
+	// Output: 2
+}
+
+func ExampleCellUnion_CellID() {
+	union, _ := s2union.CellUnionFromTokens("04 0c")
+	fmt.Println(union.CellID(1))
+	// Output: 0/1
+}
+
+func ExampleCellUnion_CellIDs() {
+	union, _ := s2union.CellUnionFromTokens("04 0c")
+	fmt.Println(union.CellIDs())
+	// Output: [0/0 0/1]
+}
+
+func ExampleCellIDsAs() {
+	union, _ := s2union.CellUnionFromTokens("04")
+	fmt.Println(s2union.CellIDsAs[int64](union))
+	// Output: [288230376151711744]
+}
+
+func ExampleCellUnion_IsValid() {
+	union, _ := s2union.CellUnionFromTokens("04")
+	fmt.Println(union.IsValid())
+	// Output: true
+}
+
+func ExampleCellUnion_IsNormalized() {
+	union, _ := s2union.CellUnionFromTokens("04")
+	fmt.Println(union.IsNormalized())
+	// Output: true
+}
+
+func ExampleCellUnion_Equal() {
+	x, _ := s2union.CellUnionFromTokens("1")
+	y, _ := s2union.CellUnionFromTokens("04 0c 14 1c")
+	fmt.Println(x.Equal(y))
+	// Output: true
+}
+
+func ExampleCellUnion_Compare() {
+	x, _ := s2union.CellUnionFromTokens("04")
+	y, _ := s2union.CellUnionFromTokens("0c")
+	fmt.Println(x.Compare(y))
+	// Output: -1
+}
+
+func ExampleCellUnion_Contains() {
+	x, _ := s2union.CellUnionFromTokens("1")
+	y, _ := s2union.CellUnionFromTokens("04")
+	fmt.Println(x.Contains(y))
+	// Output: true
+}
+
+func ExampleCellUnion_Intersects() {
+	x, _ := s2union.CellUnionFromTokens("04")
+	y, _ := s2union.CellUnionFromTokens("1")
+	fmt.Println(x.Intersects(y))
+	// Output: true
+}
+
+func ExampleCellUnion_IntersectsCellID() {
+	union, _ := s2union.CellUnionFromTokens("0401")
+	cell, _ := s2union.CellIDFromToken("04")
+	fmt.Println(union.IntersectsCellID(cell))
+	// Output: true
+}
+
+func ExampleCellUnion_CellIDsAt() {
+	union, _ := s2union.CellUnionFromTokens("04 0c 3")
+	cell, _ := s2union.CellIDFromToken("1")
+	fmt.Println(union.CellIDsAt(cell))
+	// Output: [0/0 0/1]
+}
+
+func ExampleCellUnion_ContainsCellIDs() {
+	union, _ := s2union.CellUnionFromTokens("04")
+	fmt.Println(union.ContainsCellIDs(1, 2))
+	// Output: [] s2union: not a cell at place 1
+}
+
+func ExampleCellUnion_IntersectsCellIDs() {
+	union, _ := s2union.CellUnionFromTokens("04")
+	cell, _ := s2union.CellIDFromToken("1")
+	fmt.Println(union.IntersectsCellIDs(1, cell))
+	// Output: [true true] <nil>
+}
+
+func ExampleCellUnion_LeafCellsCovered() {
+	union, _ := s2union.CellUnionFromTokens("1")
+	fmt.Println(union.LeafCellsCovered() == 1<<60)
+	// Output: true
+}
+
+func ExampleCellUnion_String() {
+	union, _ := s2union.CellUnionFromTokens("0c 04")
+	fmt.Println(union.String())
+	// Output: 04 0c
+}
+
+func ExampleCellUnion_MarshalText() {
+	union, _ := s2union.CellUnionFromTokens("04 0c")
+	text, err := union.MarshalText()
+	fmt.Println(string(text), err)
+	// Output: 04 0c <nil>
+}
+
+func ExampleCellUnion_UnmarshalText() {
+	var union s2union.CellUnion
+	fmt.Println(union.UnmarshalText([]byte("0c 04")), union)
+	// Output: <nil> 04 0c
+}
+
+func ExampleCellUnion_UnmarshalBinary() {
+	union, _ := s2union.CellUnionFromTokens("04")
+	file, _ := union.MarshalBinary()
+	var again s2union.CellUnion
+	fmt.Println(again.UnmarshalBinary(file), again)
+	// Output: <nil> 04
+}
+
+func ExampleCellUnion_Encode() {
+	union, _ := s2union.CellUnionFromTokens("04")
+	var file bytes.Buffer
+	fmt.Println(union.Encode(&file), file.Len())
+	// Output: <nil> 17
+}
+
+func ExampleCellUnion_Decode() {
+	union, _ := s2union.CellUnionFromTokens("04")
+	var file bytes.Buffer
+	_ = union.Encode(&file)
+	var again s2union.CellUnion
+	fmt.Println(again.Decode(&file), again)
+	// Output: <nil> 04
+}
+
+func ExampleCellUnion_Value() {
+	union, _ := s2union.CellUnionFromTokens("04")
+	file, err := union.Value()
+	fmt.Printf("%x %v\n", file, err)
+	// Output: 0101000000000000000000000000000004 <nil>
+}
+
+func ExampleCellUnion_Scan() {
+	var union s2union.CellUnion
+	fmt.Println(union.Scan("0c 04"), union)
+	// Output: <nil> 04 0c
+}
+
+func ExampleCellUnion_Covering() {
+	union, _ := s2union.CellUnionFromTokens("0401")
+	fmt.Println(union.Covering(1, 10))
+	// Output: 04 <nil>
+}
+
+func ExampleCellUnion_InteriorCovering() {
+	union, _ := s2union.CellUnionFromTokens("04 1401")
+	fmt.Println(union.InteriorCovering(1, 10))
+	// Output: 04 <nil>
+}
+
+func ExampleRect_InteriorCovering() {
+	edge := s2union.Rect{Face: 0, I0: 0, I1: 1<<30 - 1, J0: 0, J1: 0}
+	covering, err := edge.InteriorCovering(1, 10)
+	fmt.Println(covering.Len(), err)
+	// Output: 0 <nil>
+}
+
+func ExampleCellUnion_CoveringIn() {
+	union, _ := s2union.CellUnionFromTokens("1")
+	edge := s2union.Rect{Face: 0, I0: 0, I1: 1<<30 - 1, J0: 0, J1: 0}
+	fmt.Println(union.CoveringIn(edge, 1, 10))
+	_, err := union.CoveringIn(edge, 30, 10)
+	fmt.Println(err)
+	// Output:
+	// 04 1c <nil>
+	// s2union: too many cells
+}
+
+func ExampleCellUnion_InteriorCoveringIn() {
+	union, _ := s2union.CellUnionFromTokens("1")
+	edge := s2union.Rect{Face: 0, I0: 0, I1: 1<<30 - 1, J0: 0, J1: 0}
+	covering, err := union.InteriorCoveringIn(edge, 1, 10)
+	fmt.Println(covering.Len(), err)
+	// Output: 0 <nil>
+}
+
+func ExampleIsNormalized() {
+	fmt.Println(s2union.IsNormalized([]s2union.CellID{1, 5}), s2union.IsNormalized([]s2union.CellID{5, 1}))
+	// Output: true false
+}
+
+func ExampleNormalize() {
+	fmt.Println(s2union.Normalize([]uint64{5, 1, 5}))
+	// Output: [1 5] <nil>
+}
+
+func ExampleVersion() {
+	fmt.Println(len(s2union.Version()) > 4)
+	// Output: true
+}
+
+func ExampleNewUnionFile() {
+	union, _ := s2union.CellUnionFromTokens("04")
+	bytes, _ := union.MarshalBinary()
+	_, err := s2union.NewUnionFile(bytes[:16])
+	fmt.Println(err)
+	// Output: s2union: union file: bytes are missing
+}
+
+func ExampleUnionFile_Len() {
+	union, _ := s2union.CellUnionFromTokens("04 0c")
+	bytes, _ := union.MarshalBinary()
+	file, _ := s2union.NewUnionFile(bytes)
+	fmt.Println(file.Len())
+	// Output: 2
+}
+
+func ExampleUnionFile_CellID() {
+	union, _ := s2union.CellUnionFromTokens("04 0c")
+	bytes, _ := union.MarshalBinary()
+	file, _ := s2union.NewUnionFile(bytes)
+	fmt.Println(file.CellID(1))
+	// Output: 0/1
+}
+
+func ExampleUnionFile_LeafCellsCovered() {
+	union, _ := s2union.CellUnionFromTokens("04 0c")
+	bytes, _ := union.MarshalBinary()
+	file, _ := s2union.NewUnionFile(bytes)
+	fmt.Println(file.LeafCellsCovered() == 1<<59)
+	// Output: true
+}
+
+func ExampleUnionFile_ContainsCellID() {
+	union, _ := s2union.CellUnionFromTokens("04 0c")
+	bytes, _ := union.MarshalBinary()
+	file, _ := s2union.NewUnionFile(bytes)
+	fmt.Println(file.ContainsCellID(1))
+	// Output: true
+}
+
+func ExampleUnionFile_IntersectsCellID() {
+	union, _ := s2union.CellUnionFromTokens("04 0c")
+	bytes, _ := union.MarshalBinary()
+	file, _ := s2union.NewUnionFile(bytes)
+	fmt.Println(file.IntersectsCellID(1))
+	// Output: true
+}
+
+func ExampleUnionFile_Contains() {
+	union, _ := s2union.CellUnionFromTokens("04 0c")
+	bytes, _ := union.MarshalBinary()
+	file, _ := s2union.NewUnionFile(bytes)
+	fmt.Println(file.Contains(file))
+	// Output: true
+}
+
+func ExampleUnionFile_Intersects() {
+	union, _ := s2union.CellUnionFromTokens("04 0c")
+	bytes, _ := union.MarshalBinary()
+	file, _ := s2union.NewUnionFile(bytes)
+	fmt.Println(file.Intersects(file))
+	// Output: true
+}
+
+func ExampleUnionFile_Ancestors() {
+	union, _ := s2union.CellUnionFromTokens("04 0c")
+	bytes, _ := union.MarshalBinary()
+	file, _ := s2union.NewUnionFile(bytes)
+	fmt.Println(file.Ancestors())
+	// Output: [0/0 0/1 0/]
+}
+
+func ExampleUnionFile_CellUnion() {
+	union, _ := s2union.CellUnionFromTokens("04 0c")
+	bytes, _ := union.MarshalBinary()
+	file, _ := s2union.NewUnionFile(bytes)
+	fmt.Println(file.CellUnion())
+	// Output: 04 0c
+}
