@@ -88,6 +88,7 @@ VERSIONS = [
     ("bindings/js/package.json", r'\n  "version": "', '"', "{0}.{1}.{2}"),
     ("databases/postgres/s2union.control", "default_version = '", "'", "{0}.{1}"),
     ("databases/postgres/s2union_geo.control", "default_version = '", "'", "{0}.{1}"),
+    ("databases/postgres/s2union_postgis.control", "default_version = '", "'", "{0}.{1}"),
 ]
 
 

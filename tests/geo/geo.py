@@ -14,7 +14,7 @@ import numpy
 import page
 import pywraps2 as s2
 import s2union_geo.frames
-from earth import points_of_the_sphere
+from earth import all_pairs, points_of_the_sphere
 from s2union import Union, from_tokens, to_signed, tokens
 from s2union_geo import area, boundary, coverings, leaves, points, to_geojson
 from s2union_geo.geojson import rings
@@ -233,6 +233,42 @@ SQL
         drawn = [sys.executable, os.path.join(page.TOP, "tests", "geo", "qgis_map.py"),
                  self.file("countries/France.outer")]
         self.assertEqual(gdal(*drawn).stdout.splitlines()[-1], "155 EPSG:4326 token cell level, drawn")
+
+    def test_postgis_both_ways(self):
+        """All countries become the regions that s2union_geo makes of them, whose cells join with 100,000 points as
+        their numbers do; and regions become polygons, those of to_geojson."""
+        features = features_of(self.file("countries.geojson"))
+        rows = "".join(f"{it['properties']['file']}\t{json.dumps(it['geometry'])}\n" for it in features)
+        Path(self.file("shapes.tsv")).write_text(rows)
+        cells = leaves(*points_of_the_sphere(100000))
+        Path(self.file("leaves.tsv")).write_text("".join(f"{k}\t{leaf}\n" for k, leaf in
+                                                         enumerate(cells.view("int64").tolist())))
+        said = self.output("""psql -XAqt regions 2>&1 <<'SQL'
+CREATE TABLE places (place int, leaf bigint);
+CREATE TABLE given (name text, shape text);
+\\copy places FROM 'world/leaves.tsv'
+\\copy given FROM 'world/shapes.tsv'
+CREATE TABLE made AS SELECT name, s2_covering(ST_GeomFromGeoJSON(shape), 20, 12) AS region FROM given;
+CREATE INDEX ON made USING gin (region);
+\\copy (SELECT name, encode(region::bytea, 'hex'), s2_geojson(region) FROM made) TO 'world/made.tsv'
+\\copy (SELECT place, name FROM places, made WHERE region @> leaf) TO 'world/pairs.tsv'
+SELECT count(*), sum(ST_NumGeometries(s2_geometry(region))), bool_and(ST_IsValid(ST_UnaryUnion(s2_geometry(region))))
+FROM made;
+SQL
+""")
+        regions = {}
+        for line in Path(self.file("made.tsv")).read_text().splitlines():
+            name, region, drawn = line.split("\t")
+            regions[name] = union = Union.from_bytes(bytes.fromhex(region))
+            with self.subTest(name=name):
+                self.assertEqual(union, self.union(f"python/{name}.outer"))
+                self.assertEqual(json.loads(drawn)["coordinates"],
+                                 [it["geometry"]["coordinates"] for it in to_geojson(union)["features"]])
+        self.assertEqual(said, f"177|{sum(len(it.denormalised(1)) for it in regions.values())}|t\n")
+        found = {(int(place), name) for place, name in
+                 (line.split("\t") for line in Path(self.file("pairs.tsv")).read_text().splitlines())}
+        self.assertEqual(found, all_pairs(cells, {name: list(union) for name, union in regions.items()}))
+        print(f"{len(found)} pairs of a region and a point", file=sys.stderr)
 
     def test_frames_join_as_polygons_do(self):
         """100,000 points and the countries, in degrees and in meters: the pairs that shapely finds, all of them."""
