@@ -1,13 +1,18 @@
 #!/usr/bin/env bash
-# The tests of unions on a cluster of worker processes, and of docs/ENGINES.md over MariaDB, ClickHouse and pandas:
-# tests/run dask -- [CELLS]. It installs the Debian packages that it needs, and prints the figures of docs/DASK.md. Its
-# last line is 'N passed, M failed'; the status is 1 if any failed.
+# The tests of unions on a cluster of worker processes, of docs/ENGINES.md over MariaDB, ClickHouse and pandas, and of
+# docs/FFI.md in five languages: tests/run dask -- [CELLS]. It installs the Debian packages that it needs, and prints
+# the figures of docs/DASK.md. Its last line is 'N passed, M failed'; the status is 1 if any failed.
 . "$(dirname "$0")/../steps.sh"
 [ -z "${1:-}" ] || export S2UNION_CELLS=$1
 
 need_modules dask.dataframe,distributed python3-{dask,distributed,pandas}
 need /usr/sbin/mariadbd mariadb-server
 need /usr/sbin/clickhouse-server clickhouse-server clickhouse-client
+need mcs mono-mcs
+need mono mono-runtime
+need php php-cli
+need luajit luajit
+need_installed ruby ruby-ffi libffi-platypus-perl
 need_packages
 . "$top/tests/geo/countries.sh"
 need_countries
@@ -32,6 +37,28 @@ step "its join, beside a loop over all pairs: points in any order, parts without
 step "the countries of the earth, covered" countries 200
 step "100,000 points joined with the countries, beside a loop over all pairs" tests test_dask.OverTheCountries
 for engine in Sqlite Mariadb Clickhouse; do step "the same by plain SQL in $engine" tests "test_engines.$engine"; done
+
+# ---- other languages: each prints how many pairs there are
+
+plainly() { # the tokens of the points, and how many pairs a loop finds
+  (cd "$work" && /usr/bin/python3 -c 'import os, earth
+from s2union import tokens
+points = earth.points()
+open("tokens", "w").write("".join(f"{token}\n" for token in tokens(points)))
+print(len(earth.all_pairs(points, earth.coverings(os.environ["WORLD"]))))' >pairs && [ "$(cat pairs)" -gt 10000 ])
+}
+step "all pairs of the points and the countries, by a loop" plainly
+by_ffi() ( # FENCE ENDING COMMAND..: a program of docs/FFI.md
+  cd "$work" && export LD_LIBRARY_PATH=$work/usr/lib S2UNION_FFI=$work/usr/include/s2union.ffi.h &&
+    block FFI.md "$1" >"pairs.$2" && { [ "$2" != cs ] || mcs pairs.cs; } && "${@:3}" tokens "$WORLD"/*.outer >said &&
+    diff pairs said
+)
+step "docs/FFI.md: C#" by_ffi csharp cs mono pairs.exe
+step "docs/FFI.md: PHP" by_ffi php php php -d ffi.enable=1 pairs.php
+step "docs/FFI.md: Ruby" by_ffi ruby rb ruby pairs.rb
+step "docs/FFI.md: Perl" by_ffi perl pl perl pairs.pl
+step "docs/FFI.md: Lua" by_ffi lua lua luajit pairs.lua
+
 step "ten million cells on 1, 2 and 4 workers, and with one that is killed" tests test_dask.OnACluster
 grep -E '^one process|^[0-9] worker|^a worker' "$work/log" | sed 's/^/       /'
 finish

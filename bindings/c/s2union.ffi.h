@@ -1,0 +1,84 @@
+/* made by tools/calls */
+enum { S2U_OK = 0, S2U_ROOM = -1, S2U_MEMORY = -2, S2U_NO_CELL = -3, S2U_NO_UNION = -4, S2U_ARGUMENT = -5, S2U_MANY =
+-6, S2U_FILE_SHORT = -10, S2U_FILE_VERSION = -11, S2U_FILE_TRAILING = -12, S2U_FILE_CELL = -13 };
+typedef struct { uint32_t face; uint32_t i; uint32_t j; uint32_t size; } s2u_square;
+typedef struct { uint32_t face; uint32_t i0; uint32_t i1; uint32_t j0; uint32_t j1; } s2u_rect;
+typedef struct { uint32_t face; uint32_t i; uint32_t j; } s2u_point;
+int32_t s2u_ancestors(const uint64_t* ids, size_t n, uint64_t* out, size_t room, size_t* len);
+int32_t s2u_cell_contains(uint64_t whole, uint64_t part);
+int32_t s2u_cell_intersects(uint64_t a, uint64_t b);
+int32_t s2u_cells_at(const uint64_t* ids, size_t n, uint64_t cell, size_t* first, size_t* count);
+uint64_t s2u_child(uint64_t id, uint32_t child);
+uint64_t s2u_common_ancestor(uint64_t a, uint64_t b);
+int32_t s2u_compare(const uint64_t* xs, size_t nx, const uint64_t* ys, size_t ny);
+int32_t s2u_complement(const uint64_t* ids, size_t n, uint64_t* out, size_t room, size_t* len);
+int32_t s2u_contains(const uint64_t* xs, size_t nx, const uint64_t* ys, size_t ny);
+int32_t s2u_contains_cell(const uint64_t* ids, size_t n, uint64_t cell);
+int32_t s2u_contains_cells(const uint64_t* ids, size_t n, const uint64_t* cells, size_t m, uint8_t* answers, size_t
+  room, size_t* bad);
+int32_t s2u_debug(uint64_t id, char* text, size_t room, size_t* len);
+int32_t s2u_decode(const uint8_t* bytes, size_t n, uint64_t* out, size_t room, size_t* len);
+int32_t s2u_denormalised(const uint64_t* ids, size_t n, uint32_t min, uint32_t modulus, uint64_t* out, size_t room,
+  size_t* len);
+int32_t s2u_denormalised_len(const uint64_t* ids, size_t n, uint32_t min, uint32_t modulus, uint64_t* len);
+int32_t s2u_difference(const uint64_t* xs, size_t nx, const uint64_t* ys, size_t ny, uint64_t* out, size_t room, size_t*
+  len);
+int32_t s2u_encode(const uint64_t* ids, size_t n, uint8_t* out, size_t room, size_t* len);
+int32_t s2u_face(uint64_t id);
+int32_t s2u_file_ancestors(const uint8_t* bytes, size_t n, uint64_t* out, size_t room, size_t* len);
+int32_t s2u_file_cell(const uint8_t* bytes, size_t n, uint64_t k, uint64_t* id);
+int32_t s2u_file_check(const uint8_t* bytes, size_t n);
+int32_t s2u_file_contains(const uint8_t* xs, size_t nx, const uint8_t* ys, size_t ny);
+int32_t s2u_file_contains_cell(const uint8_t* bytes, size_t n, uint64_t cell);
+int32_t s2u_file_count(const uint8_t* bytes, size_t n, uint64_t* count);
+int32_t s2u_file_intersects(const uint8_t* xs, size_t nx, const uint8_t* ys, size_t ny);
+int32_t s2u_file_intersects_cell(const uint8_t* bytes, size_t n, uint64_t cell);
+int32_t s2u_file_leaf_count(const uint8_t* bytes, size_t n, uint64_t* leaves);
+int32_t s2u_from_debug(const char* text, size_t n, uint64_t* id);
+uint64_t s2u_from_face_ij(uint32_t face, uint32_t i, uint32_t j);
+int32_t s2u_from_points(const s2u_point* points, size_t n, uint64_t* out, size_t room, size_t* bad);
+int32_t s2u_from_token(const char* text, size_t n, uint64_t* id);
+int32_t s2u_from_tokens(const char* text, size_t n, uint64_t* out, size_t room, size_t* len);
+int32_t s2u_inner(const s2u_rect* bounds, uint32_t level, size_t most, uint64_t* out, size_t room, size_t* len);
+int32_t s2u_inner_in(const uint64_t* ids, size_t n, const s2u_rect* bounds, uint32_t level, size_t most, uint64_t* out,
+  size_t room, size_t* len);
+int32_t s2u_inner_of(const uint64_t* ids, size_t n, uint32_t level, size_t most, uint64_t* out, size_t room, size_t*
+  len);
+int32_t s2u_intersection(const uint64_t* xs, size_t nx, const uint64_t* ys, size_t ny, uint64_t* out, size_t room,
+  size_t* len);
+int32_t s2u_intersects(const uint64_t* xs, size_t nx, const uint64_t* ys, size_t ny);
+int32_t s2u_intersects_cell(const uint64_t* ids, size_t n, uint64_t cell);
+int32_t s2u_intersects_cells(const uint64_t* ids, size_t n, const uint64_t* cells, size_t m, uint8_t* answers, size_t
+  room, size_t* bad);
+int32_t s2u_is_cell(uint64_t id);
+int32_t s2u_is_union(const uint64_t* ids, size_t n);
+uint64_t s2u_leaf_count(const uint64_t* ids, size_t n);
+int32_t s2u_level(uint64_t id);
+int32_t s2u_levels(const uint64_t* ids, size_t n, uint8_t* out, size_t room, size_t* bad);
+uint64_t s2u_next(uint64_t id);
+int32_t s2u_normalise(uint64_t* ids, size_t n, size_t* len);
+int32_t s2u_outer(const s2u_rect* bounds, uint32_t level, size_t most, uint64_t* out, size_t room, size_t* len);
+int32_t s2u_outer_in(const uint64_t* ids, size_t n, const s2u_rect* bounds, uint32_t level, size_t most, uint64_t* out,
+  size_t room, size_t* len);
+int32_t s2u_outer_of(const uint64_t* ids, size_t n, uint32_t level, size_t most, uint64_t* out, size_t room, size_t*
+  len);
+uint64_t s2u_parent(uint64_t id, uint32_t level);
+int32_t s2u_parents(const uint64_t* ids, size_t n, uint32_t level, uint64_t* out, size_t room, size_t* bad);
+uint64_t s2u_prev(uint64_t id);
+int32_t s2u_range(uint64_t first, uint64_t last, uint64_t* out, size_t room, size_t* len);
+uint64_t s2u_range_max(uint64_t id);
+int32_t s2u_range_maxes(const uint64_t* ids, size_t n, uint64_t* out, size_t room, size_t* bad);
+uint64_t s2u_range_min(uint64_t id);
+int32_t s2u_range_mins(const uint64_t* ids, size_t n, uint64_t* out, size_t room, size_t* bad);
+uint64_t s2u_size(uint64_t id);
+int32_t s2u_square_of(uint64_t id, s2u_square* square);
+int32_t s2u_symmetric_difference(const uint64_t* xs, size_t nx, const uint64_t* ys, size_t ny, uint64_t* out, size_t
+  room, size_t* len);
+int32_t s2u_token(uint64_t id, char* text, size_t room, size_t* len);
+int32_t s2u_token_fields(const uint64_t* ids, size_t n, char* text, size_t room, size_t* bad);
+int32_t s2u_tokens(const uint64_t* ids, size_t n, char* text, size_t room, size_t* len);
+int32_t s2u_union(const uint64_t* xs, size_t nx, const uint64_t* ys, size_t ny, uint64_t* out, size_t room, size_t*
+  len);
+int32_t s2u_union_of_many(const uint64_t* ids, size_t n, const size_t* ends, size_t lists, uint64_t* work, size_t
+  work_room, uint64_t* out, size_t room, size_t* len);
+uint32_t s2u_version(void);
