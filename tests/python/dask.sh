@@ -12,6 +12,7 @@ need mcs mono-mcs
 need mono mono-runtime
 need php php-cli
 need luajit luajit
+need_file /usr/include/mariadb/mysql.h libmariadb-dev
 need_installed ruby ruby-ffi libffi-platypus-perl
 need_packages
 . "$top/tests/geo/countries.sh"
@@ -36,6 +37,10 @@ step "docs/DASK.md" page
 step "its join, beside a loop over all pairs: points in any order, parts without any" tests test_dask.TheJoinOfThePage
 step "the countries of the earth, covered" countries 200
 step "100,000 points joined with the countries, beside a loop over all pairs" tests test_dask.OverTheCountries
+for_mariadb() {
+  cp -r "$top/databases/mariadb" "$work/mariadb_functions" && make -C "$work/mariadb_functions" PREFIX="$work/usr"
+}
+step "the user functions of MariaDB" for_mariadb
 for engine in Sqlite Mariadb Clickhouse; do step "the same by plain SQL in $engine" tests "test_engines.$engine"; done
 
 # ---- other languages: each prints how many pairs there are

@@ -14,11 +14,13 @@ from pathlib import Path
 import earth
 import plain_sql
 from random_cells import signed
+from s2union import Union, child, common_ancestor, from_token, level, parent, range_max, range_min
 
 WORK = Path(os.environ["WORK"])
 MARIADB = f"""[server]
 datadir={WORK}/mariadb
 socket={WORK}/mariadb.socket
+plugin-dir={WORK}/mariadb_functions
 pid-file={WORK}/mariadb.pid
 skip-networking
 [client]
@@ -110,6 +112,51 @@ class Mariadb(Engine):
         recipe = ";".join(plain_sql.statements("sql mariadb"))
         self.assertEqual(pairs(self.ask(self.given("") + recipe)), PAIRS)
         self.assertEqual(pairs(self.ask(self.given("unsigned", "unsigned") + recipe)), PAIRS)
+
+    def test_functions(self):
+        """docs/MARIADB.md: all pairs of a leaf and a covering and of two coverings, set operations beside the module
+        for Python, and what is wrong, which is NULL."""
+        install = (Path(__file__).resolve().parents[2] / "databases" / "mariadb" / "install.sql").read_text()
+        values = ",".join(f"('{name}', x'{Union(cells).to_bytes().hex()}')" for name, cells in REGIONS.items())
+        pairs_of_unions = "SELECT count(*) FROM regions a JOIN regions b ON a.name < b.name AND s2_intersects(a.u, b.u)"
+        self.ask(f"""{self.given('')} {install}
+            CREATE TABLE regions (name varchar(200) PRIMARY KEY, u longblob NOT NULL);
+            INSERT INTO regions VALUES {values};""")
+        found = self.ask("USE world; SELECT place, name FROM places JOIN regions ON s2_contains_cell(u, leaf)")
+        self.assertEqual(pairs(found), PAIRS)
+        unions = {name: Union(cells) for name, cells in REGIONS.items()}
+        wanted = sum(a < b and unions[a].intersects(unions[b]) for a in unions for b in unions)
+        self.assertEqual(self.ask(f"USE world; {pairs_of_unions}"), f"{wanted}\n")
+        a, b = unions["France"], unions["Germany"]
+        for name, union in (("union", a | b), ("intersection", a & b), ("difference", a - b),
+                            ("symmetric_difference", a ^ b)):
+            said = self.ask(f"USE world; SELECT hex(s2_{name}(a.u, b.u)) FROM regions a, regions b "
+                            "WHERE a.name = 'France' AND b.name = 'Germany'")
+            self.assertEqual(bytes.fromhex(said), union.to_bytes())
+        said = self.ask("USE world; SELECT hex(s2_complement(u)), s2_count(u), s2_leaves(u), s2_tokens(u), "
+                        "hex(s2_normalise(s2_tokens(u))), s2_contains(u, u) FROM regions WHERE name = 'France'")
+        said = said.rstrip("\n").split("\t")
+        self.assertEqual([bytes.fromhex(said[k]) for k in (0, 4)], [(~a).to_bytes(), a.to_bytes()])
+        self.assertEqual(said[1:4] + said[5:], [str(len(a)), str(a.leaf_count()), " ".join(a.tokens()), "1"])
+        cell = "s2_cell('9b')"
+        said = self.ask(f"SELECT {cell}, s2_token({cell}), s2_level({cell}), s2_face({cell}), s2_parent({cell}, 1), "
+                        f"s2_child({cell}, 0), s2_range_min({cell}), s2_range_max({cell}), s2_is_cell({cell}), "
+                        f"s2_common_ancestor({cell}, s2_cell('9f')), s2_token(s2_leaf_at(2.3522, 48.8566)), "
+                        "s2_intersects_cell(s2_normalise('9b'), s2_cell('9b1'))")
+        cell = from_token("9b")
+        self.assertEqual(said.split(), [*map(str, (
+            signed(cell), "9b", level(cell), 4, signed(parent(cell, 1)), signed(child(cell, 0)),
+            signed(range_min(cell)), signed(range_max(cell)), 1, signed(common_ancestor(cell, from_token("9f"))),
+            "47e66e1d8f8be23b", 1))])
+        wrong = ("s2_level(2), s2_token(2), s2_parent(s2_cell('9b'), 31), s2_child(1, 0), s2_cell('x'), s2_count('x'), "
+                 "s2_contains_cell('x', 1), s2_leaf_at(541, 0), s2_union('x', 'y'), s2_tokens('x'), "
+                 "s2_normalise('zz'), s2_contains(NULL, 'x'), s2_complement(NULL)")
+        self.assertEqual(self.ask(f"SELECT {wrong}").split(), ["NULL"] * 13)
+        empty = Union().to_bytes().hex()
+        self.assertEqual(self.ask("SELECT s2_is_union('x'), s2_is_cell(2), lower(hex(s2_normalise('')))").split(),
+                         ["0", "0", empty])
+        with self.assertRaises(subprocess.CalledProcessError):
+            self.ask("SELECT s2_level(1, 2)")
 
     def test_what_is_not_cut(self):
         """The CHECK refuses it."""

@@ -1,0 +1,26 @@
+-- Makes the functions known to a server of MariaDB or MySQL: mariadb < install.sql.
+CREATE FUNCTION s2_is_union RETURNS INTEGER SONAME 's2union_mariadb.so';
+CREATE FUNCTION s2_is_cell RETURNS INTEGER SONAME 's2union_mariadb.so';
+CREATE FUNCTION s2_contains RETURNS INTEGER SONAME 's2union_mariadb.so';
+CREATE FUNCTION s2_contains_cell RETURNS INTEGER SONAME 's2union_mariadb.so';
+CREATE FUNCTION s2_intersects RETURNS INTEGER SONAME 's2union_mariadb.so';
+CREATE FUNCTION s2_intersects_cell RETURNS INTEGER SONAME 's2union_mariadb.so';
+CREATE FUNCTION s2_count RETURNS INTEGER SONAME 's2union_mariadb.so';
+CREATE FUNCTION s2_leaves RETURNS INTEGER SONAME 's2union_mariadb.so';
+CREATE FUNCTION s2_level RETURNS INTEGER SONAME 's2union_mariadb.so';
+CREATE FUNCTION s2_face RETURNS INTEGER SONAME 's2union_mariadb.so';
+CREATE FUNCTION s2_parent RETURNS INTEGER SONAME 's2union_mariadb.so';
+CREATE FUNCTION s2_child RETURNS INTEGER SONAME 's2union_mariadb.so';
+CREATE FUNCTION s2_range_min RETURNS INTEGER SONAME 's2union_mariadb.so';
+CREATE FUNCTION s2_range_max RETURNS INTEGER SONAME 's2union_mariadb.so';
+CREATE FUNCTION s2_common_ancestor RETURNS INTEGER SONAME 's2union_mariadb.so';
+CREATE FUNCTION s2_cell RETURNS INTEGER SONAME 's2union_mariadb.so';
+CREATE FUNCTION s2_leaf_at RETURNS INTEGER SONAME 's2union_mariadb.so';
+CREATE FUNCTION s2_token RETURNS STRING SONAME 's2union_mariadb.so';
+CREATE FUNCTION s2_tokens RETURNS STRING SONAME 's2union_mariadb.so';
+CREATE FUNCTION s2_normalise RETURNS STRING SONAME 's2union_mariadb.so';
+CREATE FUNCTION s2_union RETURNS STRING SONAME 's2union_mariadb.so';
+CREATE FUNCTION s2_intersection RETURNS STRING SONAME 's2union_mariadb.so';
+CREATE FUNCTION s2_difference RETURNS STRING SONAME 's2union_mariadb.so';
+CREATE FUNCTION s2_symmetric_difference RETURNS STRING SONAME 's2union_mariadb.so';
+CREATE FUNCTION s2_complement RETURNS STRING SONAME 's2union_mariadb.so';
