@@ -58,6 +58,12 @@ class Streams(unittest.TestCase):
         self.addCleanup(os.close, folder)
         self.failed_input(ran("run", input=None, stdin=folder))
 
+    def test_a_read_that_fails_at_the_prompt_is_told_on_a_line_of_its_own(self):
+        folder = os.open("/", os.O_RDONLY)
+        self.addCleanup(os.close, folder)
+        done = ran("run", "--prompt", input=None, stdin=folder)
+        self.assertEqual(done, (2, b"", b"s2calc> \ns2calc: input\n"))
+
     def test_a_stream_that_would_have_to_wait_has_failed(self):
         reader, writer = os.pipe()
         os.set_blocking(reader, False)

@@ -8,8 +8,8 @@ use std::io::Write;
 /// What is shown before each read.
 const PROMPT: &[u8] = b"s2calc> ";
 
-/// A reader that shows a prompt before each read, and ends the line at the end, if that is wanted. A prompt that can't
-/// be written is left out. What the reads give is what the reader below gives.
+/// A reader that shows a prompt before each read, and ends the prompt's line at the end and if a read fails, if that is
+/// wanted. A prompt that can't be written is left out. What the reads give is what the reader below gives.
 #[derive(Drop)]
 pub(crate) struct PromptingReader<R, W> {
     reader: R,
@@ -40,7 +40,7 @@ impl<R: Source, W: Write> Source for PromptingReader<R, W> {
             let _ = self.terminal.write_all(PROMPT);
         }
         let result = self.reader.read(buf);
-        if self.prompts && matches!(result, Ok(0)) {
+        if self.prompts && matches!(result, Ok(0) | Err(_)) {
             let _ = self.terminal.write_all(b"\n");
         }
         result
