@@ -3,6 +3,7 @@ tests/geo asks S2 about more."""
 
 import contextlib
 import io
+import itertools
 import json
 import math
 import os
@@ -11,6 +12,7 @@ import subprocess
 import sys
 import tempfile
 import unittest
+from fractions import Fraction
 from random import Random
 
 import numpy
@@ -18,6 +20,7 @@ import s2union_geo
 from s2union import Union, from_face_ij, from_token, level, parent, square, tokens
 from s2union_geo import (area, boundary, covering, coverings, interior, leaf, leaves, points, read_geojson,
                          to_geojson)
+from s2union_geo import crossings
 from s2union_geo.__main__ import main
 from s2union_geo import outlines
 from s2union_geo.geojson import rings
@@ -156,13 +159,52 @@ class Polygons(unittest.TestCase):
         wide = polygon([[-60, -60], [0, -70], [60, -60], [60, 60], [0, 70], [-60, 60], [-60, -60]])
         self.assertIn(from_token("1"), interior(wide, 100, 3))
 
+    def test_rings_that_touch_themselves(self):
+        """At a corner, and at a place of an edge: what lies within is what a way to the north says."""
+        for ring, within, without in (
+                ([[0, 0], [5, 5], [0, 10], [10, 10], [5, 5], [10, 0], [0, 0]], [(5, 2), (5, 8)], [(2, 5), (8, 5)]),
+                ([[0, 0], [10, 0], [10, 10], [5, 0], [0, 10], [0, 0]], [(1, 5), (9, 5)], [(5, 5), (5, -1)])):
+            outer, inner = coverings(polygon(ring), 200)
+            self.assertEqual([[leaf(*place) in it for place in (*within, *without)] for it in (outer, inner)],
+                             [[True, True, False, False]] * 2)
+
+    def test_rings_by_a_plain_walk(self):
+        """Of rings over few places, those are refused that cross or run along themselves by a plain test."""
+        random = Random(5)
+        counts = [0, 0]
+        for _ in range(3000):
+            side = random.randrange(2, 6)
+            ring = [(random.randrange(side), random.randrange(side)) for _ in range(random.randrange(3, 9))]
+            ring = [place for k, place in enumerate(ring) if place != ring[k - 1]]
+            if len(ring) < 3:
+                continue
+            try:
+                crossings.look_for_crossings([numpy.array([*ring, ring[0]], float)], "it")
+                is_refused = False
+            except ValueError:
+                is_refused = True
+            self.assertEqual(is_refused, crosses_itself(ring), ring)
+            counts[is_refused] += 1
+        self.assertGreater(min(counts), 300)
+
+    def test_turns_are_exact(self):
+        """Of places with few numbers, some of which are tiny, and of places within a rounding of a line."""
+        random = Random(6)
+        pools = ([0.0, -0.0, 1.0, 2.0, 0.1, 0.2, 0.3, 1 / 3, 5e-324, 1e-200, -1e-200, 540.0],
+                 [k / 7 for k in range(-9, 9)], [10 + k * 2**-50 for k in range(9)])
+        places = [[(random.choice(pool), random.choice(pool)) for _ in range(3)] for pool in pools for _ in range(3000)]
+        wanted = [turn(*(tuple(map(Fraction, place)) for place in three)) for three in places]
+        a, b, c = numpy.array(places).transpose(1, 0, 2)
+        self.assertEqual(crossings._turns(a, b, c).tolist(), wanted)
+
     def test_what_is_refused(self):
         for shape, said in ((polygon(SQUARE[:-1]), "polygon 0, ring 0 is open: its last position is not its first"),
                             (polygon(SQUARE[:2] + SQUARE[:1]), "polygon 0, ring 0 has fewer than four positions"),
-                            (polygon([[0, 0], [10, 10], [10, 0], [0, 10], [0, 0]]), "ring 0 crosses or touches itself"),
-                            (polygon([[0, 0], [5, 5], [0, 10], [10, 10], [5, 5], [10, 0], [0, 0]]), "touches itself"),
-                            (polygon([[0, 0], [5, 0], [9, 0], [5, 0], [5, 5], [0, 0]]), "crosses or touches itself"),
-                            (polygon([[0, 0], [5, 0], [2, 0], [0, 0]]), "ring 0 crosses or touches itself"),
+                            (polygon([[0, 0], [10, 10], [10, 0], [0, 10], [0, 0]]), "ring 0 crosses or runs along"),
+                            (polygon([[0, 0], [5, 5], [9, 9], [9, 0], [5, 5], [0, 9], [0, 0]]), "ring 0 crosses or"),
+                            (polygon([[0, 0], [9, 0], [9, 5], [5, 0], [5, -5], [0, 0]]), "ring 0 crosses or runs"),
+                            (polygon([[0, 0], [5, 0], [9, 0], [5, 0], [5, 5], [0, 0]]), "crosses or runs along"),
+                            (polygon([[0, 0], [5, 0], [2, 0], [0, 0]]), "ring 0 crosses or runs along itself"),
                             (polygon(SQUARE, [[5, 5], [15, 5], [15, 6], [5, 6], [5, 5]]), "rings 0 and 1 cross near"),
                             (polygon([[0, 0], [1, 91], [1, 0], [0, 0]]), r"ring 0: position 1 is out of range: a "
                              r"latitude is from -90 to 90 \(the longitude comes first\): \[1.0, 91.0\]"),
@@ -191,6 +233,34 @@ class Polygons(unittest.TestCase):
             file.truncate(s2union_geo.MOST_BYTES + 1)
             with self.assertRaisesRegex(ValueError, "has more than 268435456 bytes"):
                 read_geojson(file.name)
+
+
+def turn(a, b, c):
+    product = (b[0] - a[0]) * (c[1] - a[1]) - (b[1] - a[1]) * (c[0] - a[0])
+    return (product > 0) - (product < 0)
+
+
+def lies_on(place, a, b):
+    return turn(a, b, place) == 0 and all(min(x, y) <= it <= max(x, y) for it, x, y in zip(place, a, b))
+
+
+def crosses_itself(ring):
+    """Whether a ring of whole numbers crosses itself or runs along itself: edges in pairs, and the ways through each
+    corner by the order of their ends around it."""
+    edges = list(zip(ring, ring[1:] + ring[:1]))
+    for (a, b), (c, d) in itertools.combinations(edges, 2):
+        if turn(a, b, c) * turn(a, b, d) < 0 and turn(c, d, a) * turn(c, d, b) < 0:
+            return True
+        if len({it for it in (a, b) if lies_on(it, c, d)} | {it for it in (c, d) if lies_on(it, a, b)}) > 1:
+            return True
+    for place in ring:
+        ways = [(ring[k - 1], ring[(k + 1) % len(ring)]) for k, it in enumerate(ring) if it == place]
+        ways += [edge for edge in edges if place not in edge and lies_on(place, *edge)]
+        around = [sorted((math.atan2(end[1] - place[1], end[0] - place[0]), number) for number, way in enumerate(two)
+                         for end in way) for two in itertools.combinations(ways, 2)]
+        if any(order[0][1] == order[2][1] for order in around):
+            return True
+    return False
 
 
 class Maps(unittest.TestCase):

@@ -1,8 +1,8 @@
 """Coverings of polygons whose edges are straight on the map of longitudes and latitudes.
 
 A cell is at the border if the distance of its middle from an edge on the sphere is no more than that of its farthest
-corner; a cell that is not lies wholly inside or outside, as its middle does. Cells at the border are divided, level by
-level, as far as the number of cells allows.
+corner, and the edge doesn't lie wholly beyond one of its sides. A cell that is not lies wholly inside or outside, as
+its middle does. Cells at the border are divided, level by level, as far as the number of cells allows.
 """
 
 from __future__ import annotations
@@ -14,7 +14,7 @@ from s2union import Union, from_points, parents
 
 from .crossings import look_for_crossings
 from .geojson import polygons_of
-from .sphere import geographic, on_cube, sphere
+from .sphere import geographic, on_cube, on_cube_line, sphere
 
 MOST_CELLS = 1_000_000
 STEP = 0.25  # degrees between two points of an edge. What is straight on the map bends less than 10 m between them
@@ -22,6 +22,10 @@ NOISE = 4e-15  # of distances, in radii of the earth
 AT_ONCE = 2_000_000  # pairs that are looked at together
 CHILDREN = numpy.array([(0, 0), (0, 1), (1, 0), (1, 1)])
 CORNERS = ((0, 0), (0, 1), (1, 0), (1, 1))
+# Of each face the directions of u and v, and that of its middle, as S2 has them.
+AXES = numpy.array([[(0, 1, 0), (0, 0, 1), (1, 0, 0)], [(-1, 0, 0), (0, 0, 1), (0, 1, 0)],
+                    [(-1, 0, 0), (0, -1, 0), (0, 0, 1)], [(0, 0, -1), (0, -1, 0), (-1, 0, 0)],
+                    [(0, 0, -1), (1, 0, 0), (0, -1, 0)], [(0, 1, 0), (1, 0, 0), (0, 0, -1)]], "float64")
 
 
 class Edges(NamedTuple):
@@ -51,7 +55,8 @@ def covering(shape: Any, max_cells: int = 200, max_level: int = 30) -> Union:
 
     Polygons are GeoJSON, as objects of Python or as a text, or what has a `__geo_interface__`, as shapely's objects
     have. The longitude of a position comes first, then the latitude, in degrees: from -540 to 540 and from -90 to 90.
-    ValueError names what is no polygon, what is out of range, and a ring that is open, or crosses or touches itself."""
+    ValueError names what is no polygon, what is out of range, and a ring that is open, or crosses or runs along itself;
+    a ring may touch itself."""
     return _Walk(shape, max_cells, max_level).outer()
 
 
@@ -107,6 +112,18 @@ def _middles(squares: Squares, level: int) -> Any:
     return middle, numpy.sqrt(farthest)
 
 
+def _sides(squares: Squares, level: int) -> Any:
+    """The planes of the four sides of squares, by their directions outward: four for each, of length 1."""
+    side = 2.0**(30 - level)
+    planes = []
+    for axis, place in ((0, squares.i), (1, squares.j)):
+        across, middle = AXES[squares.face, axis], AXES[squares.face, 2]
+        for far, outward in ((0, -1), (1, 1)):
+            at = on_cube_line((place + far) * side)[:, None]
+            planes.append(outward * (across - at * middle) / numpy.sqrt(1 + at * at))
+    return numpy.array(planes)
+
+
 def _is_inside(rings: list[Any], x: Any, y: Any) -> Any:
     """Whether a way to the north from each place crosses the rings an odd number of times."""
     edges = numpy.vstack([numpy.hstack([ring[:-1], ring[1:]]) for ring in rings])
@@ -147,10 +164,13 @@ class _Walk:
     def divided(self, squares: Squares, level: int, of: Any, edge: Any) -> Any:
         """Which of the squares lie in a polygon, which are at a border, and with which edges, by pairs."""
         middle, radius = _middles(squares, level)
+        sides = _sides(squares, level)
         near = numpy.zeros(len(of), bool)
         for at in range(0, len(of), AT_ONCE):
             part = slice(at, at + AT_ONCE)
             near[part] = self.is_near(middle[:, of[part]], radius[of[part]], edge[part])
+            close = at + numpy.flatnonzero(near[part])
+            near[close] = ~self.is_beyond(sides[:, of[close]], edge[close])
         known = len(self.polygons)
         lost = numpy.setdiff1d(of * known + self.edges.polygon[edge], of[near] * known + self.edges.polygon[edge[near]])
         inside = numpy.zeros(len(radius), bool)
@@ -166,6 +186,15 @@ class _Walk:
         length, along = (way**2).sum(axis=0), ((middle - start) * way).sum(axis=0)
         part = numpy.clip(numpy.divide(along, length, out=numpy.zeros_like(length), where=length > 0), 0, 1)
         return numpy.sqrt(((middle - start - part * way)**2).sum(axis=0)) <= radius + self.edges.slack[edge]
+
+    def is_beyond(self, sides: Any, edge: Any) -> Any:
+        """Whether an edge lies beyond one of the four sides of a square: both of its ends do, by more than the border
+        may be away from it."""
+        start = self.edges.start[:, edge].T
+        end = start + self.edges.way[:, edge].T
+        slack = self.edges.slack[edge]
+        return numpy.any([((side * start).sum(axis=1) > slack) & ((side * end).sum(axis=1) > slack) for side in sides],
+                         axis=0)
 
     def children(self, squares: Squares, border: Any, of: Any, edge: Any) -> Any:
         """The four children of the squares at the border, and the pairs of these with edges."""
@@ -191,16 +220,16 @@ class _Walk:
             kept[of] = True
             counts = kept.reshape(-1, 4).sum(axis=1)
             room = self.most - sum(map(len, found)) - len(border)
-            if counts.sum() - len(border) > room:  # those that need the fewest cells are divided
-                first = numpy.argsort(counts, kind="stable")
-                first = first[numpy.cumsum(counts[first] - 1) <= room]
-                is_divided = numpy.zeros(len(border), bool)
-                is_divided[first] = True
-                found += [self.ids(squares.at(border[~is_divided]), level - 1),
-                          self.ids(below.at(kept & numpy.repeat(is_divided, 4)), level)]
-                return Union(numpy.concatenate(found))
-            found.append(self.ids(below.at(inside), level))
+            first = numpy.argsort(counts, kind="stable")  # those that need the fewest cells are divided
+            is_divided = numpy.zeros(len(border), bool)
+            is_divided[first[numpy.cumsum(counts[first] - 1) <= room]] = True
+            found += [self.ids(squares.at(border[~is_divided]), level - 1),
+                      self.ids(below.at(inside & numpy.repeat(is_divided, 4)), level)]
+            goes_on = is_divided[of // 4]
+            of, edge = of[goes_on], edge[goes_on]
             squares, border = below, numpy.unique(of)
+            if not len(border):
+                break
         return Union(numpy.concatenate([*found, self.ids(squares.at(border), self.deepest)]))
 
     def inner(self) -> Union:

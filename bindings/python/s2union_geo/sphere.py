@@ -74,6 +74,12 @@ def face_ij(longitude: Any, latitude: Any) -> Any:
     return face, _place_on_face(u), _place_on_face(v)
 
 
+def on_cube_line(i: Any) -> Any:
+    """The places u, from -1 to 1, of a face at coordinates in leaves."""
+    s = i / SIDE
+    return numpy.where(s >= 0.5, 4 * s * s - 1, 1 - 4 * (1 - s) * (1 - s)) / 3
+
+
 def on_axes(face: Any, u: Any, v: Any, one: Any) -> tuple[Any, Any, Any]:
     """The points of a cube of which each face is as far as `one` from the middle, at u and v from the middles of its
     faces."""
@@ -85,7 +91,7 @@ def on_axes(face: Any, u: Any, v: Any, one: Any) -> tuple[Any, Any, Any]:
 
 def on_cube(face: Any, i: Any, j: Any) -> Any:
     """The points of the cube at the coordinates i and j of faces, in leaves: S2's projection, without its length."""
-    u, v = (numpy.where(s >= 0.5, 4 * s * s - 1, 1 - 4 * (1 - s) * (1 - s)) / 3 for s in (i / SIDE, j / SIDE))
+    u, v = on_cube_line(i), on_cube_line(j)
     return on_axes(face, u, v, numpy.ones_like(u))
 
 
