@@ -267,7 +267,7 @@ class WithoutMemory(unittest.TestCase):
             allocations = answer(call, words, 0, wanted)
             asked += allocations
             for turn in range(1, allocations + 1):
-                for _ in range(200):  # these may fill what Python keeps
+                for _ in range(3):  # these may fill what Python keeps
                     answer(call, words, turn, wanted)
                 before = library.blocks_taken()
                 for _ in range(10):

@@ -717,6 +717,25 @@ class TheModule(unittest.TestCase):
             self.assertEqual("".join(frame[a.intersects_cells(column)].name), "acde")
         self.assertEqual((Union(frame.leaf), Union(pandas.Series(cells, dtype="uint64"))), (Union(cells), Union(cells)))
 
+    @unittest.skipUnless(numpy, "numpy is not installed")
+    def test_columns_without_a_copy(self):
+        """A stand-in for a Series of polars and an Array of pyarrow, which Debian lacks: both hand out their memory by
+        `__array__`, if they have no missing values, and floats if they have."""
+        class Series:
+            def __init__(self, values):
+                self.values = values
+
+            def __array__(self, *_):
+                return self.values
+
+        cells = numpy.array([0x0400000000000000, 0x0c00000000000000], numpy.uint64)
+        for values in (cells, cells.view(numpy.int64)):
+            self.assertTrue(numpy.shares_memory(numpy.asarray(s2union._ids_of(Series(values))), values))
+            self.assertEqual(Union(Series(values)).tokens(), ["04", "0c"])
+            self.assertEqual(s2union.parents(Series(values), 0).dtype, values.dtype)
+        with self.assertRaisesRegex(TypeError, "drop or fill missing values"):
+            s2union.levels(Series(cells.astype(float)))
+
     def test_errors_by_their_kinds(self):
         file = Union.from_tokens("04").to_bytes()
         for kind, base, call in (

@@ -1077,8 +1077,14 @@ def _entries(given: Any, found: bytearray, kind: str = "Q") -> Any:
 
 def _relatives(cells: Any, found: bytearray) -> Any:
     """Cells that were found for cells, which are signed in an array if the caller's are."""
-    is_signed = getattr(getattr(cells, "dtype", None), "kind", "") == "i" and _is_array(cells)
-    return _entries(cells, found, "q" if is_signed else "Q")
+    return _entries(cells, found, "q" if _is_array(cells) and _is_signed(cells) else "Q")
+
+
+def _is_signed(cells: Any) -> bool:
+    """Whether an array has signed numbers: by the type that numpy and pandas say, or by the memory that it has."""
+    kind = getattr(getattr(cells, "dtype", None), "kind", "")
+    view = None if kind else _view_of(cells)
+    return kind == "i" or (view is not None and view.format.lstrip("@=<") in ("q", "l", "n"))
 
 
 def tokens(cells: Iterable[SupportsIndex] | Array) -> list[str]:

@@ -54,19 +54,6 @@ typedef struct Room {
   size_t n, unit;
 } Room;
 
-/* Raises the exception of a status, which _errors.py has, with a text. */
-static PyObject* raise_refusal(int32_t status, const char* format, ...) {
-  PyObject *errors = PyImport_ImportModule("s2union._errors"), *kind = NULL;
-  va_list words;
-  if (errors) kind = PyObject_CallMethod(errors, "of_status", "i", (int)status);
-  va_start(words, format);
-  if (kind) PyErr_FormatV(kind, format, words);
-  va_end(words);
-  Py_XDECREF(kind);
-  Py_XDECREF(errors);
-  return NULL;
-}
-
 /* ---- what is given */
 
 #define WORD(k) PyTuple_GetItem(words, k)
@@ -83,6 +70,21 @@ static PyObject* attribute(PyObject* object, const char* name) {
   PyObject* found = interned ? PyObject_GetAttr(object, interned) : NULL;
   Py_XDECREF(interned);
   return found;
+}
+
+/* Raises the exception of a status, which _errors.py has, with a text. */
+static PyObject* raise_refusal(int32_t status, const char* format, ...) {
+  PyObject* errors = PyImport_ImportModule("s2union._errors");
+  PyObject* of_status = errors ? attribute(errors, "of_status") : NULL;
+  PyObject* kind = of_status ? PyObject_CallFunction(of_status, "i", (int)status) : NULL;
+  va_list words;
+  va_start(words, format);
+  if (kind) PyErr_FormatV(kind, format, words);
+  va_end(words);
+  Py_XDECREF(kind);
+  Py_XDECREF(of_status);
+  Py_XDECREF(errors);
+  return NULL;
 }
 
 static bool refuse_type(const char* what, const char* wanted, PyObject* given) {
