@@ -1,6 +1,6 @@
 //! The session file: registers and both sides of their history as bytes.
 ghost use Rattle.std.specs.Prelude.{◌≡◌, ◌≢◌, ℕ, List, [], ◌∷◌, ◌++◌, map, replicate};
-ghost use Rattle.std.specs.Prelude.{true, MatchResult, IfOk, OnOk};
+ghost use Rattle.std.specs.Prelude.{true, MatchResult, IfOk, IsErrOf, OnOk};
 ghost use Rattle.s2list.specs.Union.{Union};
 ghost use Rattle.s2file.specs.Session.{Content, content_of, content_of_parts, content_of_list, list_text, move_text};
 ghost use Rattle.s2file.specs.Session.{moves_text, session_text, IsContent, IsSessionFile, IsUnionFile};
@@ -9,7 +9,7 @@ ghost use Rattle.s2file.specs.Working.SessionParts.{Refuses, registers_text};
 ghost use Rattle.s2file.specs.Working.Source.{Ahead, Passes};
 ghost use Rattle.s2file.specs.Working.Reading.{Judges};
 ghost use Rattle.s2file.specs.Reading.{RefusesToRead, WasLeft};
-ghost use Rattle.s2shelf.specs.OpenedFile.{Left, has_ended};
+ghost use Rattle.s2shelf.specs.OpenedFile.{Left, has_ended, has_failed};
 
 use crate::changes::{BorrowedMove, Changes};
 use crate::fault::FileFault;
@@ -58,11 +58,28 @@ pub fn decode_session(alloc: Global, bytes: &[u8]) -> Result<Session, SessionFau
 /// Reads a session: a session file or a union file, as `decode_session` describes them.
 ///
 /// Answers `Form` if what was read is neither, `Memory` if an allocation failed or a read found no memory, and `Device`
-/// if a read failed otherwise. After a fault some bytes may have been read. A read that was interrupted is tried again.
-/// Reads pieces of 64 KiB: a session file to its end and one piece more at most, and of a union file at most one piece
-/// more than the longest has (`MOST_SIZE`). Never asks for more memory than a piece and about twice what the bytes that
-/// were read can fill.
+/// if a read failed otherwise, and only then. If 2^64 - 1 reads have given too little and none failed, that is `Memory`
+/// too. After a fault some bytes may have been read. A read that was interrupted is tried again; after one that failed
+/// otherwise nothing more is read. Reads pieces of 64 KiB: a session file to its end and one piece more at most, and of
+/// a union file at most one piece more than the longest has (`MOST_SIZE`). Never asks for more memory than a piece and
+/// about twice what the bytes that were read can fill.
 pub fn read_session<F: Read>(alloc: Global, file: &mut OpenedFile<F>) -> Result<Session, ReadFault>
+    ensures content { IfOk result (λ session. IsContent (content_of session)) }
+    ensures ended { OnOk result (has_ended file.new ≡ true) }
+    ensures answer { WasLeft (Left F.remaining file.old) (Left F.remaining file.new) (λ bytes. MatchResult result
+        (λ session. Spells bytes (content_of session)) (λ fault. RefusesToRead fault bytes)) }
+    ensures device { IsErrOf result ReadFault.Device → has_failed file.new ≡ true }
+{
+    let read = read_form(alloc, file);
+    match read {
+        Err(ReadFault::Device) if !file.has_failed() => Err(ReadFault::Memory),
+        _ => read,
+    }
+}
+
+/// Reads a session, by what its first byte says of its form. Answers `Device` also if 2^64 - 1 reads have given too
+/// little.
+fn read_form<F: Read>(alloc: Global, file: &mut OpenedFile<F>) -> Result<Session, ReadFault>
     ensures content { IfOk result (λ session. IsContent (content_of session)) }
     ensures ended { OnOk result (has_ended file.new ≡ true) }
     ensures answer { WasLeft (Left F.remaining file.old) (Left F.remaining file.new) (λ bytes. MatchResult result

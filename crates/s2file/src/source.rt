@@ -1,8 +1,8 @@
 //! The bytes of a file, a piece at a time.
 ghost use Rattle.std.specs.Prelude.{◌≡◌, ◌≢◌, ℕ, ◌+◌, ◌<◌, ◌≤◌, List, [], ◌++◌, length, drop, vec_len};
-ghost use Rattle.std.specs.Prelude.{◌↔◌, true, MatchBool, MatchResult, IfOk, OnErr};
+ghost use Rattle.std.specs.Prelude.{◌↔◌, true, false, MatchBool, MatchResult, IfErr, IfOk, OnErr, OnOk};
 ghost use Rattle.std.specs.IoError.{error_kind};
-ghost use Rattle.s2shelf.specs.OpenedFile.{Left, has_ended};
+ghost use Rattle.s2shelf.specs.OpenedFile.{Left, has_ended, has_failed};
 ghost use Rattle.s2file.specs.declared.session.ReadFault.{ReadFault};
 
 use crate::session::ReadFault;
@@ -74,14 +74,19 @@ impl Buffer {
         self.end = end - start;
     }
 
-    /// One read, into the room after the bytes that are held.
+    /// One read, into the room after the bytes that are held. No read of the file has failed before, but by running out
+    /// of memory or by an interruption.
     fn read_from<F: Read>(&mut self, file: &mut OpenedFile<F>) -> io::Result<usize>
+        requires { has_failed file.old ≡ false }
         ensures ok { IfOk result (λ n. (more : List ℕ) × (length more ≡ n) × (held self.new ≡ held self.old ++ more)
             × Passes (Left F.remaining file.old) (Left F.remaining file.new) more) }
         ensures room { IfOk result (λ n. room self.new + n ≡ room self.old) }
         ensures end { IfOk result (λ n. n ≡ 0 → 0 < room self.old → has_ended file.new ≡ true) }
         ensures err { OnErr result ((held self.new ≡ held self.old) × (room self.new ≡ room self.old)
             × Passes (Left F.remaining file.old) (Left F.remaining file.new) []) }
+        ensures well { OnOk result (has_failed file.new ≡ false) }
+        ensures passed_over { IfErr result (λ error. error_kind error ≡ ErrorKind.Interrupted
+            → has_failed file.new ≡ false) }
     {
         let end = self.end;
         let count = file.read(&mut self.bytes.as_mut_slice()[end..])?;
@@ -108,7 +113,8 @@ impl Buffer {
         self.fill(file, count)
     }
 
-    /// Reads until `count` bytes are held, or to the end.
+    /// Reads until `count` bytes are held, or to the end. After a read that failed nothing more is read, unless it was
+    /// interrupted.
     fn fill<F: Read>(&mut self, file: &mut OpenedFile<F>, count: usize) -> Result<bool, ReadFault>
         requires most { count ≤ 8 }
         requires few { length (held self.old) < count }
@@ -118,6 +124,9 @@ impl Buffer {
             ((length (held self.new) < count) × (has_ended file.new ≡ true)))
             (λ fault. fault ≢ ReadFault.Form) }
     {
+        if file.has_failed() {
+            return Err(ReadFault::Device);
+        }
         self.move_to_front();
         'reads: for _ in 0..u64::MAX {
             match self.read_from(file) {

@@ -1,5 +1,5 @@
-use Rattle.std.proofs.Common.{◌≡◌, ◌+◌, ◌<◌, [], length}
-use Rattle.s2shelf.specs.OpenedFile.{Left}
+use Rattle.std.proofs.Common.{◌≡◌, ◌+◌, ◌<◌, [], false, length}
+use Rattle.s2shelf.specs.OpenedFile.{Left, has_failed}
 use Rattle.s2file.specs.Working.Source.{Ahead, Passes, held, room}
 use Rattle.s2file.proofs.source.Buffer.fill.Given as goal
 
@@ -9,4 +9,5 @@ invariant-reads g l = record {
       l.file)) [];
   few : length (held l.self) < l.count;
   whole : room l.self + length (held l.self) ≡ 65536;
+  well : has_failed l.file ≡ false;
 }

@@ -5,7 +5,7 @@ use Rattle.s2shelf.proofs.Given.{none_left}
 use Rattle.s2file.specs.declared.session.ReadFault.TheVariants.{Form}
 use Rattle.s2file.proofs.Taking.{failed, joined, fresh}
 use Rattle.s2file.proofs.TakingSession.{nothing_found, spells_union, spells_file, answers, behind}
-use Rattle.s2file.proofs.session_file.read_session.Goals as goal
+use Rattle.s2file.proofs.session_file.read_form.Goals as goal
 
 pub returns-in_err-has-clause-answer : goal.returns-in_err-has-clause-answer
 returns-in_err-has-clause-answer g c =
