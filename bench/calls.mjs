@@ -1,0 +1,170 @@
+// The time of calls of the package for JavaScript, beside what a user would write: calls.mjs MODULE [WORD [ROUNDS]].
+// The plain sides share nothing with the package: a binary search over the ends of the cells' ranges in Uint32Arrays,
+// with no BigInt in its loop, and a merge of two lists. A row has the nanoseconds of a question, the least of the
+// rounds, the sides in turn; each round repeats until it takes 20 ms. A row counts only if all answers are the same.
+import {resolve} from "node:path";
+import {pathToFileURL} from "node:url";
+
+const [path, word = "", rounds = "5"] = process.argv.slice(2);
+const s2 = await import(pathToFileURL(resolve(path)));
+await s2.load();
+
+const LEAST = 20e6;
+const QUESTIONS = 1 << 14;
+
+// ---- what is asked
+
+/** Numbers below 2^32, of a seed. */
+function* numbers(seed) {
+  for (let x = seed; ;) {
+    x = (x + 0x9e3779b9) | 0;
+    let z = Math.imul(x ^ (x >>> 16), 0x85ebca6b);
+    z = Math.imul(z ^ (z >>> 13), 0xc2b2ae35);
+    yield (z ^ (z >>> 16)) >>> 0;
+  }
+}
+
+/** This many cells of levels from one to another, anywhere. */
+function cellsOf(count, seed, least, most) {
+  const from = numbers(seed);
+  const next = () => from.next().value;
+  return BigUint64Array.from({length: count}, () => {
+    const size = 1n << BigInt(2 * (30 - least - next() % (most - least + 1)));
+    const leaf = (BigInt(next() % 6) << 60n) | (BigInt(next() >>> 2) << 30n) | BigInt(next() >>> 2);
+    return leaf / size * size * 2n + size;
+  });
+}
+
+// ---- the plain sides
+
+const whole = new BigUint64Array(1);
+const parts = new Uint32Array(whole.buffer);
+const low = (id) => id & -id;
+const halves = (ids) => {
+  const words = new Uint32Array(ids.buffer);
+  return [words.filter((_, k) => k % 2), words.filter((_, k) => k % 2 === 0)];
+};
+
+/** A union's cells as the ends of their ranges, two words each. */
+class Plain {
+  constructor(ids) {
+    [this.firstHigh, this.firstLow] = halves(ids.map((id) => id - low(id) + 1n));
+    [this.lastHigh, this.lastLow] = halves(ids.map((id) => id + low(id) - 1n));
+  }
+
+  /** The place after the last cell that begins at these words or before. */
+  after(high, word) {
+    let [from, to] = [0, this.firstHigh.length];
+    while (from < to) {
+      const middle = (from + to) >>> 1;
+      const it = this.firstHigh[middle];
+      if (it < high || (it === high && this.firstLow[middle] <= word)) from = middle + 1;
+      else to = middle;
+    }
+    return from;
+  }
+
+  has(id) {
+    whole[0] = id;
+    const [word, high] = parts;
+    const [size, above] = word ? [word & -word, 0] : [0, high & -high];
+    const place = this.after(high - above, word - size + 1) - 1;
+    if (place < 0) return false;
+    const [lastHigh, last] = word ? [high, word + (size >>> 0) - 1] : [high + (above >>> 0) - 1, 0xffffffff];
+    const end = this.lastHigh[place];
+    return lastHigh < end || (lastHigh === end && last <= this.lastLow[place]);
+  }
+
+  /** Whether all cells of another are in it: each is looked for. */
+  hasAll(other) {
+    for (let k = 0; k < other.firstHigh.length; k++) {
+      const place = this.after(other.firstHigh[k], other.firstLow[k]) - 1;
+      if (place < 0 || this.lastHigh[place] < other.lastHigh[k]
+        || (this.lastHigh[place] === other.lastHigh[k] && this.lastLow[place] < other.lastLow[k])) return false;
+    }
+    return true;
+  }
+}
+
+/** What two lists share, by a walk over both. */
+function plainIntersection(xs, ys) {
+  const out = [];
+  for (let i = 0, j = 0; i < xs.length && j < ys.length;) {
+    const [x, y] = [xs[i], ys[j]];
+    const [sizeX, sizeY] = [low(x), low(y)];
+    if (x + sizeX <= y - sizeY) i++;
+    else if (y + sizeY <= x - sizeX) j++;
+    else if (sizeX <= sizeY) out.push(xs[i++]);
+    else out.push(ys[j++]);
+  }
+  return BigUint64Array.from(out);
+}
+
+// ---- the rows
+
+/** The nanoseconds of one call of each side, in turn, the least of the rounds. */
+function times(sides) {
+  const least = sides.map(() => Infinity);
+  const repeats = sides.map(() => 1);
+  for (let round = 0; round < Number(rounds); round++) {
+    sides.forEach((side, k) => {
+      for (;;) {
+        const begun = process.hrtime.bigint();
+        for (let turn = 0; turn < repeats[k]; turn++) side();
+        least[k] = Math.min(least[k], Number(process.hrtime.bigint() - begun) / repeats[k]);
+        if (least[k] * repeats[k] >= LEAST) break;
+        repeats[k] *= 2;
+      }
+    });
+  }
+  return least;
+}
+
+const sum = (answers) => answers.reduce((total, answer, k) => (Math.imul(total, 31) + Number(answer) * (k + 1)) | 0, 7);
+const each = (cells, ask) => {
+  const answers = new Uint8Array(cells.length);
+  for (let k = 0; k < cells.length; k++) answers[k] = ask(cells[k]) ? 1 : 0;
+  return answers;
+};
+const listed = (list) => list.map((id) => (id ^ (id >> 32n)) & 0xffffffn);
+let wrong = 0;
+
+/** A line: its name, how many units a call has, and the sides, of which the first is the package's. */
+function row(name, units, sides) {
+  if (!name.includes(word)) return;
+  const [own, ...others] = Object.entries(sides);
+  const found = own[1]();
+  const isSame = others.every(([, side]) => sum(side()) === sum(found));
+  wrong += isSame ? 0 : 1;
+  const taken = times(Object.values(sides)).map((time) => time / units);
+  const said = Object.keys(sides).map((side, k) => `${side} ${taken[k].toPrecision(3).padStart(9)}`);
+  const ratio = taken.length > 1 ? `  ours/plain ${(taken[0] / taken[1]).toPrecision(3)}` : "";
+  console.log(`${name.padEnd(34)} ${said.join("  ")} ns${ratio}${isSame ? "" : "  THE ANSWERS DIFFER"}`);
+}
+
+for (const count of [100, 10_000, 100_000, 1_000_000]) {
+  const union = new s2.CellUnion(cellsOf(count, 4, 14, 20));
+  const cells = union.cells();
+  const file = new s2.UnionFile(union.encode());
+  const plain = new Plain(cells);
+  const inside = cellsOf(QUESTIONS, 9, 20, 30);
+  // every second question is about a cell inside
+  const asked = inside.map((id, k) => (k % 2 ? id : s2.rangeMin(cells[Number(id % BigInt(cells.length))])));
+  const ascending = asked.slice().sort();
+  const larger = new s2.CellUnion(cellsOf(count, 5, 14, 20)).union(union);
+  const plainLarger = new Plain(larger.cells());
+  const of = `${count}`;
+  row(`has_${of}`, QUESTIONS, {ours: () => each(asked, (id) => union.has(id)),
+    plain: () => each(asked, (id) => plain.has(id))});
+  row(`file_has_${of}`, QUESTIONS, {ours: () => each(asked, (id) => file.has(id)),
+    plain: () => each(asked, (id) => plain.has(id))});
+  row(`hasEach_${of}`, QUESTIONS, {ours: () => union.hasEach(asked), plain: () => each(asked, (id) => plain.has(id))});
+  row(`hasEach_ascending_${of}`, QUESTIONS, {ours: () => union.hasEach(ascending),
+    plain: () => each(ascending, (id) => plain.has(id))});
+  row(`isSupersetOf_${of}`, 1, {ours: () => [larger.isSupersetOf(union)],
+    plain: () => [plainLarger.hasAll(plain)]});
+  row(`intersection_${of}`, 1, {ours: () => listed(union.intersection(larger).cells()),
+    plain: () => listed(plainIntersection(cells, larger.cells()))});
+}
+console.log(wrong ? `${wrong} rows differ` : "all answers are the same");
+process.exitCode = wrong ? 1 : 0;
