@@ -1,6 +1,8 @@
 // Prints a script for the calculator: script KIND LINES [CELLS]. bench/README.md has the kinds. With a number of cells
-// it begins by loading union files of that size, which `script cells CELLS SEED` and `script large CELLS` print: random
-// cells of levels 14 to 20, and leaves far from each other. With 0 lines a script is this beginning.
+// it begins by loading union files of that size, which `script cells CELLS SEED`, `script half CELLS` and `script large
+// CELLS` print: random cells of levels 14 to 20, half of these and half of others, and leaves far from each other. With
+// 0 lines a script is this beginning.
+#include <algorithm>
 #include <cstdio>
 #include <cstdlib>
 #include <memory>
@@ -75,12 +77,25 @@ static bool cell_line(const std::string& kind, Random& random) {
   return true;
 }
 
-// Lines about registers a and c, each of that number of random cells; b is written.
+// Of the random cells of the seeds 4 and 5, one or the other at each place, as a coin of seed 6 falls.
+static List half_shared(size_t count) {
+  List xs = Random(4).cells(count, 14, 20), ys = Random(5).cells(count, 14, 20);
+  Random coin(6);
+  for (size_t k = 0; k < std::min(xs.size(), ys.size()); k++)
+    if (coin.below(2) == 1) xs[k] = ys[k];
+  std::sort(xs.begin(), xs.end());
+  return xs;
+}
+
+// Lines about registers a and c, each of that number of random cells; b is written. In lines whose kind begins with
+// half_ about half of the cells of c are those of a.
 class Loaded {
  public:
   Loaded(const std::string& kind, size_t cells) : kind_(kind), cells_(Random(4).cells(cells, 14, 20)), random_(9) {
+    bool is_half = kind.rfind("half_", 0) == 0;
+    if (is_half) kind_ = kind.substr(5);
     std::string size = std::to_string(cells);
-    printf("load a first_%s\nload c second_%s\n", size.c_str(), size.c_str());
+    printf("load a first_%s\nload c %s_%s\n", size.c_str(), is_half ? "half" : "second", size.c_str());
   }
 
   bool line_of(long k) {
@@ -141,6 +156,8 @@ int main(int argc, char** argv) {
     write_file(spread_leaves(count));
   } else if (kind == "cells") {
     write_file(Random(more).cells(count, 14, 20));
+  } else if (kind == "half") {
+    write_file(half_shared(count));
   } else if (!print(kind, count, more)) {
     return 2;
   }
