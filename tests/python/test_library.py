@@ -452,6 +452,27 @@ class Park(Union):
 
 
 class TheModule(unittest.TestCase):
+    def test_a_file_that_is_opened(self):
+        """It answers until it is closed, also by another name of its path, and what can't be opened is an error."""
+        union = Union.from_tokens("04 1c")
+        with tempfile.TemporaryDirectory() as folder:
+            path = Path(folder, "it")
+            path.write_bytes(union.to_bytes())
+            for name in (path, str(path)):
+                with UnionFile.open(name) as file:
+                    self.assertEqual((len(file), file.union(), type(file)), (2, union, UnionFile))
+                self.assertRaises(ValueError, file.union)
+                self.assertRaises(ValueError, lambda: union[0] in file)
+                file.close()
+            for wrong in (b"", b"\1", union.to_bytes()[:-1]):
+                path.write_bytes(wrong)
+                self.assertRaisesRegex(ValueError, "union file: bytes are missing", UnionFile.open, path)
+            path.write_bytes(model.file([FACE + 2 * FACE, FACE]))
+            self.assertRaises(ValueError, UnionFile.open, path)
+            self.assertEqual(len(UnionFile.open(path, checked=True)), 2)
+            self.assertRaises(FileNotFoundError, UnionFile.open, Path(folder, "none"))
+            self.assertRaises(OSError, UnionFile.open, folder)
+
     def test_as_a_collection(self):
         a = Union.from_tokens("04 0c 14")
         self.assertEqual((len(a), bool(a), bool(Union())), (3, True, False))

@@ -24,7 +24,9 @@ places. What a call takes is looked at in `_library`, which is written in C.
 from __future__ import annotations
 
 import copy as _copy
+import mmap as _mmap
 import operator as _operator
+import os as _os
 from array import array as _array
 from collections.abc import Set as _Set
 from itertools import accumulate as _accumulate
@@ -1300,6 +1302,24 @@ class UnionFile:
             raise NotNormalizedError("the cells of the file are not normalized: CellUnion.from_bytes takes it")
         self._size = _library.file_count(view)
         self._bytes = view
+
+    @classmethod
+    def open(cls, path: str | _os.PathLike[str], checked: bool = False) -> UnionFile:
+        """The union file at a path, mapped into memory. `with` closes it, and so does `close`: questions raise
+        ValueError from then on. OSError if it can't be read."""
+        with open(path, "rb") as file:
+            has_bytes = _os.fstat(file.fileno()).st_size > 0  # without any it can't be mapped
+            return cls(_mmap.mmap(file.fileno(), 0, access=_mmap.ACCESS_READ) if has_bytes else b"", checked)
+
+    def close(self) -> None:
+        """Lets go of the bytes; BufferError while a call of another thread reads them."""
+        self._bytes.release()
+
+    def __enter__(self) -> UnionFile:
+        return self
+
+    def __exit__(self, *reason: object) -> None:
+        self.close()
 
     def __reduce__(self) -> tuple[Any, ...]:
         return type(self), (self._bytes.tobytes(),)
