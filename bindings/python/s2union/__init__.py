@@ -1305,14 +1305,69 @@ class UnionFile:
 
     @classmethod
     def open(cls, path: str | _os.PathLike[str], checked: bool = False) -> UnionFile:
-        """The union file at a path, mapped into memory. `with` closes it, and so does `close`: questions raise
-        ValueError from then on. OSError if it can't be read."""
+        """The union file at a path, mapped into memory. `with` closes it, and so does `close`.
+
+        .. versionadded:: 1.2
+
+        Parameters
+        ----------
+        path : str or path-like
+            The path of the file.
+        checked : bool, optional
+            Whether its bytes were checked before, as for `UnionFile`.
+
+        Returns
+        -------
+        UnionFile
+            The file. Once it is closed, questions raise ValueError.
+
+        Raises
+        ------
+        NotNormalizedError
+            The cells of the file are not normalized: `CellUnion.from_bytes` takes it.
+        UnionFileError
+            The bytes are no union file.
+        OSError
+            The file can't be read.
+
+        Examples
+        --------
+        >>> import tempfile
+        >>> with tempfile.NamedTemporaryFile() as it:
+        ...     _ = it.write(CellUnion.from_tokens(["04"]).to_bytes())
+        ...     it.flush()
+        ...     with UnionFile.open(it.name) as file:
+        ...         len(file)
+        1
+        """
         with open(path, "rb") as file:
             has_bytes = _os.fstat(file.fileno()).st_size > 0  # without any it can't be mapped
             return cls(_mmap.mmap(file.fileno(), 0, access=_mmap.ACCESS_READ) if has_bytes else b"", checked)
 
     def close(self) -> None:
-        """Lets go of the bytes; BufferError while a call of another thread reads them."""
+        """Lets go of the bytes. Questions raise ValueError from then on.
+
+        .. versionadded:: 1.2
+
+        Returns
+        -------
+        None
+            Nothing.
+
+        Raises
+        ------
+        BufferError
+            A call of another thread reads them.
+
+        Examples
+        --------
+        >>> file = UnionFile(CellUnion.from_tokens(["04"]).to_bytes())
+        >>> file.close()
+        >>> from_token("04") in file
+        Traceback (most recent call last):
+            ...
+        ValueError: operation forbidden on released memoryview object
+        """
         self._bytes.release()
 
     def __enter__(self) -> UnionFile:
