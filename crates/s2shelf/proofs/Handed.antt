@@ -1,10 +1,13 @@
 -- What a folder hands over of a file that was read.
-use Rattle.std.proofs.Common.{◌≡◌, ℕ, List, take, Option, None, Some, Result, Ok, sym, ap, ◌∙◌, subst, arith}
+use Rattle.std.proofs.Common.{◌≡◌, ℕ, List, take, Option, None, Some, Result, Ok, Err, sym, ap, ◌∙◌, subst, arith}
 use Rattle.std.proofs.Common.{length-take}
 use Rattle.std.specs.Prelude.{IfOk, IfSome, option_map}
 use Rattle.std.proofs.lemmas.List.{take_all}
 use Rattle.std.proofs.lemmas.Option.{same_Some, none-some}
 use Rattle.s2shelf.specs.DirShelf.{IsRead}
+use Rattle.s2shelf.specs.FileCalls.{FileCall, Makes, Reads, NotRead}
+use Rattle.s2shelf.specs.Working.Files.{ReadsFile}
+use Rattle.s2shelf.specs.declared.shelf.ShelfFault.{ShelfFault}
 
 module _ (most : ℕ) where
   -- what was cut to its first bytes is cut no more
@@ -27,3 +30,38 @@ module _ (most : ℕ) where
             (sym (same_Some (items made) (take most (items found)) is))
             (cut (remaining file.0) (items found) file.1),
       )
+
+-- what a folder answers is known by what the system answered
+abbrev Known : {V : Type 0} → Result (Option V) ShelfFault → Result (Option V) ShelfFault → Type 0
+Known a b = a ≡ b
+
+module _ {V E : Type 0} (items : V → List ℕ) (path : List ℕ) (most : ℕ) where
+  none_read : (calls : List FileCall) (answer : Result V E) → IfOk answer (λ v. Known (Ok None) (Ok (Some v))) →
+      ReadsFile items path answer calls → NotRead path calls
+  none_read calls (Ok v) known read = absurd (no v known)
+    where
+      no : (v : V) → Known (Ok None) (Ok (Some v)) → ⊥
+      no v h = absurd cc
+  none_read calls (Err e) known read = read
+
+  calls_by_answer : (calls : List FileCall) (answer : Result V E) (found made : Option V) →
+      IfOk answer (λ v. Known (Ok found) (Ok (Some v))) → IfSome found (λ v. answer ≡ Ok v) →
+      option_map items made ≡ option_map (take most) (option_map items found) → ReadsFile items path answer calls →
+      Reads items path most (Ok made) calls
+  calls_by_answer calls answer None None known same is read = none_read calls answer known read
+  calls_by_answer calls answer None (Some made) known same is read = absurd (none-some (items made) (sym is))
+  calls_by_answer calls answer (Some found) None known same is read = absurd (none-some (take most (items found)) is)
+  calls_by_answer calls answer (Some found) (Some made) known same is read = (
+    items found,
+    subst (λ a. ReadsFile items path a calls) same read,
+    same_Some (items made) (take most (items found)) is,
+  )
+
+  -- the calls of a reading of which the beginning was handed over
+  pub calls_of_reading : (old new : List FileCall) (answer : Result V E) (found made : Option V) →
+      Makes old new (ReadsFile items path answer) → IfOk answer (λ v. Known (Ok found) (Ok (Some v))) →
+      IfSome found (λ v. answer ≡ Ok v) →
+      option_map items made ≡ option_map (take most) (option_map items found) →
+      Makes old new (Reads items path most (Ok made))
+  calls_of_reading old new answer found made (calls, more, read) known same is =
+      (calls, more, calls_by_answer calls answer found made known same is read)

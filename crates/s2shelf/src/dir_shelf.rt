@@ -1,26 +1,30 @@
 //! A folder as a shelf.
-ghost use Rattle.std.specs.Prelude.{◌≡◌, ◌≢◌, ◌⊎◌, ◌↔◌, IfErr, IfOk, IfSome, IsOk, IsErrOf, MatchResult, OnOk};
-ghost use Rattle.std.specs.Prelude.{Some, None, Ok, Err, true, option_map, take};
+ghost use Rattle.std.specs.Prelude.{◌≡◌, ◌≢◌, ◌⊎◌, ◌↔◌, [], ◌++◌, IfErr, IfOk, IfSome, IsOk, MatchResult, OnOk};
+ghost use Rattle.std.specs.Prelude.{Some, None, Ok, Err, IsErrOf, true, option_map};
 ghost use Rattle.std.specs.Fs.{IsFile, file_type};
-ghost use Rattle.std.specs.Io.KnownBytes.{Appends};
 ghost use Rattle.std.specs.IoError.{error_kind};
-ghost use Rattle.s2shelf.specs.OpenedFile.{has_failed};
-ghost use Rattle.s2shelf.specs.Shelf.{Closes, Fails, FailsToGet, FailsToPut, FindsBeginning, PutsFile, one_more};
 ghost use Rattle.std.specs.String.{string_bytes};
-ghost use Rattle.s2shelf.specs.DirShelf.{folder_files, folder_path, IsRead, IsWritten};
-ghost use Rattle.s2shelf.specs.Working.DirShelf.{path_to};
+ghost use Rattle.s2shelf.specs.OpenedFile.{name_of, given, has_failed};
+ghost use Rattle.s2shelf.specs.Shelf.{Opens, Closes, Fails, FailsToGet, FailsToPut, FindsBeginning, PutsFile};
+ghost use Rattle.s2shelf.specs.Shelf.{one_more};
+ghost use Rattle.s2shelf.specs.FileCalls as file;
+ghost use Rattle.s2shelf.specs.FileCalls.{Makes, path_to, reading};
+ghost use Rattle.s2shelf.specs.DirShelf.{calls_of_folder, folder_files, folder_path, IsRead, IsWritten};
+ghost use Rattle.s2shelf.specs.Working.Files.{calls_so_far, OpensFile, ReadsFile, StoresFile};
 
+use crate::files::ListedFiles;
 use crate::opened_file::OpenedFile;
 use crate::shelf::{Shelf, ShelfFault, beginning_of};
-use std::alloc::{AllocError, Global};
-use std::fs::{File, OpenFile};
-use std::io::{ErrorKind, Read, Write};
+use std::alloc::AllocError;
+use std::fs::Metadata;
+use std::io;
+use std::io::ErrorKind;
 use std::rt::Files;
-use std::{fs, io};
 
 /// A folder of files. It doesn't expose its contents, which are what the system gives.
 ///
-/// The file NAME is at `PATH/NAME`, literally, and nothing else is touched. A file that the system doesn't find is
+/// The file NAME is at `PATH/NAME`, literally, and nothing else is touched: each call of the system's files stands in a
+/// list that only clauses read. A file that the system doesn't find is
 /// absent, also if the folder is. A call that reads answers `Memory` if the system is out of memory. Every other fault
 /// of the system, and each in a `put`, is `Device`: a file that may not be read, a full disk, or a `put` into an absent
 /// folder. A name of anything but a regular file, such as a folder, a FIFO or a device, is `Device` too, and is not
@@ -28,7 +32,7 @@ use std::{fs, io};
 /// opening a FIFO waits for its other end. A symbolic link stands for what it leads to, also outside the folder.
 #[derive(Drop)]
 pub struct DirShelf<R: Files + AllocGlobal> {
-    rt: R,
+    files: ListedFiles<R>,
     path: String,
     failures: u64,
 }
@@ -41,10 +45,11 @@ impl<R: Files + AllocGlobal> DirShelf<R> {
         R: Drop,
         ensures path { IfOk result (λ shelf. folder_path shelf ≡ path.now) }
         ensures failures { IfOk result (λ shelf. (folder_files shelf).failures ≡ 0) }
+        ensures calls { IfOk result (λ shelf. calls_of_folder shelf ≡ []) }
     {
         let path = String::from_str(rt.alloc(), path)?;
         Ok(DirShelf {
-            rt,
+            files: ListedFiles::new(rt),
             path,
             failures: 0,
         })
@@ -55,7 +60,7 @@ impl<R: Files + AllocGlobal> DirShelf<R> {
         ensures { IfOk result (λ path. string_bytes path ≡ path_to (folder_path self.now) name.now) }
     {
         let path = self.path.as_str();
-        format!(in self.rt.alloc(); "{path}/{name}")
+        format!(in self.files.alloc(); "{path}/{name}")
     }
 }
 
@@ -104,7 +109,7 @@ fn write_answer(answer: io::Result<()>, failures: &mut u64) -> Result<(), ShelfF
 }
 
 /// Refuses anything but a regular file.
-fn check_regular(found: &fs::Metadata) -> io::Result<()>
+fn check_regular(found: &Metadata) -> io::Result<()>
     ensures { IsOk result ↔ IsFile (file_type found.now) }
 {
     if found.is_file() {
@@ -116,47 +121,68 @@ fn check_regular(found: &fs::Metadata) -> io::Result<()>
 
 /// A regular file, opened for reading. It is looked at before it is opened, since opening a FIFO waits, and again
 /// afterwards, since something else may have taken its place.
-fn open_regular<R: Files>(rt: &R, path: &str) -> io::Result<R::File> {
-    check_regular(&fs::metadata(rt, path)?)?;
-    let file = File::open(rt, path)?;
-    check_regular(&file.metadata()?)?;
-    Ok(file)
+fn open_regular<R: Files + AllocGlobal>(
+    files: &mut ListedFiles<R>,
+    path: &str,
+) -> io::Result<R::File>
+    ensures { Makes (calls_so_far files.old) (calls_so_far files.new) (OpensFile path.now result) }
+{
+    check_regular(&files.look(path)?)?;
+    let file = files.open(path)?;
+    match is_regular(files.look_again(path, &file)) {
+        Ok(()) => Ok(file),
+        Err(error) => {
+            files.close(path, file);
+            Err(error)
+        }
+    }
 }
 
-/// The first `most` bytes that reads of an opened file give. Nothing is read after them. Closes it.
-fn read_beginning<F: Read + Drop>(alloc: Global, file: F, most: usize) -> io::Result<Vec<u8>>
-    ensures { IfOk result (λ bytes. IfSome (option_map (take most) (F.remaining file))
-        (λ known. bytes.items ≡ known)) }
-{
-    let mut bytes = Vec::new(alloc);
-    file.take(most as u64).read_to_end(&mut bytes)?;
-    Ok(bytes)
+/// Refuses anything but a regular file, or what couldn't be looked at.
+fn is_regular(found: io::Result<Metadata>) -> io::Result<()> {
+    check_regular(&found?)
 }
 
 /// The first `most` bytes of a regular file.
-fn read_regular<R: Files + AllocGlobal>(rt: &R, path: &str, most: usize) -> io::Result<Vec<u8>>
-    ensures { IfOk result (λ bytes. IsRead R.File.remaining most bytes.items) }
+fn read_regular<R: Files + AllocGlobal>(
+    files: &mut ListedFiles<R>,
+    path: &str,
+    most: usize,
+) -> io::Result<Vec<u8>>
+    ensures calls { Makes (calls_so_far files.old) (calls_so_far files.new) (ReadsFile (λ v. v.items) path.now result) }
+    ensures read { IfOk result (λ bytes. IsRead R.File.remaining most bytes.items) }
 {
-    read_beginning(rt.alloc(), open_regular(rt, path)?, most)
+    let mut file = open_regular(files, path)?;
+    let mut bytes = Vec::new(files.alloc());
+    let result = files.read(path, &mut file, most, &mut bytes);
+    files.close(path, file);
+    result?;
+    Ok(bytes)
 }
 
-/// Writes all bytes to an opened file. Closes it.
-fn write_all<F: Write + Drop>(mut file: F, bytes: &[u8]) -> io::Result<()>
-    ensures { OnOk result ((after : F) × Appends (F.contents file) (F.contents after) bytes.now) }
-{
-    file.write_all(bytes)
+/// Refuses to overwrite anything but a regular file.
+fn check_place(found: io::Result<Metadata>) -> io::Result<()> {
+    match found {
+        Ok(found) => check_regular(&found),
+        Err(error) if error.kind() == ErrorKind::NotFound => Ok(()),
+        Err(error) => Err(error),
+    }
 }
 
 /// Overwrites a regular file, or creates one.
-fn write_whole<R: Files>(rt: &R, path: &str, bytes: &[u8]) -> io::Result<()>
-    ensures { OnOk result (IsWritten R.File.contents bytes.now) }
+fn write_whole<R: Files + AllocGlobal>(
+    files: &mut ListedFiles<R>,
+    path: &str,
+    bytes: &[u8],
+) -> io::Result<()>
+    ensures calls { Makes (calls_so_far files.old) (calls_so_far files.new) (StoresFile path.now bytes.now result) }
+    ensures written { OnOk result (IsWritten R.File.contents bytes.now) }
 {
-    match fs::metadata(rt, path) {
-        Ok(found) => check_regular(&found)?,
-        Err(error) if error.kind() == ErrorKind::NotFound => {}
-        Err(error) => return Err(error),
-    }
-    write_all(File::create(rt, path)?, bytes)
+    check_place(files.look(path))?;
+    let mut file = files.make(path)?;
+    let result = files.write_all(path, &mut file, bytes);
+    files.close(path, file);
+    result
 }
 
 impl<R: Files + AllocGlobal> Shelf for DirShelf<R> {
@@ -164,50 +190,69 @@ impl<R: Files + AllocGlobal> Shelf for DirShelf<R> {
 
     type File = R::File;
 
-    fn open(&mut self, name: &str) -> Result<Option<OpenedFile<R::File>>, ShelfFault> {
+    /// Opens the file at `PATH/NAME`, and no other.
+    fn open(&mut self, name: &str) -> Result<Option<OpenedFile<R::File>>, ShelfFault>
+        ensures answer { MatchResult result
+            (λ opened. Opens R.File.remaining (folder_files self.old) name.now opened (folder_files self.new))
+            (λ fault. Fails (folder_files self.old) (folder_files self.new) fault) }
+        ensures path { folder_path self.new ≡ folder_path self.old }
+        ensures calls { Makes (calls_of_folder self.old) (calls_of_folder self.new)
+            (file.Opens (path_to (folder_path self.old) name.now) result) }
+    {
         let path = self.path_of(name)?;
-        let answer = open_regular(&self.rt, path.as_str());
+        let answer = open_regular(&mut self.files, path.as_str());
         let Some(file) = read_answer(answer, &mut self.failures)? else {
             return Ok(None);
         };
         Ok(Some(OpenedFile::of(name, file)))
     }
 
-    /// Answers `Device` if, and only if, a read of the file failed, neither out of memory nor interrupted.
+    /// Closes the file, whatever it answers.
     fn close(&mut self, file: OpenedFile<R::File>) -> Result<(), ShelfFault>
         ensures answer { MatchResult result (λ _. Closes (folder_files self.old) file (folder_files self.new))
             (λ fault. Fails (folder_files self.old) (folder_files self.new) fault) }
         ensures device { IsErrOf result ShelfFault.Device ↔ (has_failed file ≡ true) }
+        ensures path { folder_path self.new ≡ folder_path self.old }
+        ensures calls { calls_of_folder self.new ≡ calls_of_folder self.old
+            ++ reading (path_to (folder_path self.old) (name_of file)) (given file) }
     {
-        if file.has_failed() {
+        let failed = file.has_failed();
+        self.files.close_read(self.path.as_str(), file);
+        if failed {
             return Err(count_failure(&mut self.failures));
         }
         Ok(())
     }
 
-    /// What is handed over was read from a file of the system; which one isn't known.
+    /// What is handed over was read from the file at `PATH/NAME`, and nothing of another one.
     fn get_beginning(&mut self, name: &str, most: usize) -> Result<Option<Vec<u8>>, ShelfFault>
         ensures answer { MatchResult result
             (λ beginning. FindsBeginning (folder_files self.old) name.now most (option_map (λ v. v.items) beginning)
             (folder_files self.new))
             (λ fault. FailsToGet (folder_files self.old) name.now (folder_files self.new) fault) }
         ensures read { IfOk result (λ beginning. IfSome beginning (λ v. IsRead R.File.remaining most v.items)) }
+        ensures path { folder_path self.new ≡ folder_path self.old }
+        ensures calls { Makes (calls_of_folder self.old) (calls_of_folder self.new)
+            (file.Reads (λ v. v.items) (path_to (folder_path self.old) name.now) most result) }
     {
         let path = self.path_of(name)?;
-        let answer = read_regular(&self.rt, path.as_str(), most);
+        let answer = read_regular(&mut self.files, path.as_str(), most);
         let found = read_answer(answer, &mut self.failures)?;
         Ok(beginning_of(found, most))
     }
 
-    /// After Ok all bytes were written to a file of the system; which one isn't known.
+    /// After Ok all bytes were written to the file at `PATH/NAME`. No other one was touched, whatever it answers.
     fn put(&mut self, name: &str, bytes: &[u8]) -> Result<(), ShelfFault>
         ensures answer { MatchResult result
             (λ _. PutsFile (folder_files self.old) (folder_files self.new) name.now bytes.now)
             (λ fault. FailsToPut (folder_files self.old) name.now (folder_files self.new) fault) }
         ensures written { OnOk result (IsWritten R.File.contents bytes.now) }
+        ensures path { folder_path self.new ≡ folder_path self.old }
+        ensures calls { Makes (calls_of_folder self.old) (calls_of_folder self.new)
+            (file.Stores (path_to (folder_path self.old) name.now) bytes.now result) }
     {
         let path = self.path_of(name)?;
-        let answer = write_whole(&self.rt, path.as_str(), bytes);
+        let answer = write_whole(&mut self.files, path.as_str(), bytes);
         write_answer(answer, &mut self.failures)
     }
 }

@@ -6,6 +6,8 @@
 #![tactic(auto)]
 
 pub mod dir_shelf;
+mod file_calls;
+mod files;
 pub mod ghost_list;
 pub mod memory_shelf;
 pub mod opened_file;
