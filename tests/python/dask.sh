@@ -41,6 +41,7 @@ for_mariadb() {
   cp -r "$top/databases/mariadb" "$work/mariadb_functions" && make -C "$work/mariadb_functions" PREFIX="$work/usr"
 }
 step "the user functions of MariaDB" for_mariadb
+step "the same by terms, as search engines have them" tests test_engines.Terms
 for engine in Sqlite Mariadb Clickhouse; do step "the same by plain SQL in $engine" tests "test_engines.$engine"; done
 
 # ---- other languages: each prints how many pairs there are

@@ -12,9 +12,10 @@ import unittest
 from pathlib import Path
 
 import earth
+import numpy
 import plain_sql
 from random_cells import signed
-from s2union import Union, child, common_ancestor, from_token, level, parent, range_max, range_min
+from s2union import Union, child, common_ancestor, from_token, level, parent, range_max, range_min, tokens
 
 WORK = Path(os.environ["WORK"])
 MARIADB = f"""[server]
@@ -88,6 +89,35 @@ class Engine(unittest.TestCase):
 class Sqlite(unittest.TestCase):
     def test_all_pairs(self):
         self.assertEqual(sorted(plain_sql.in_sqlite(POINTS, REGIONS)[0]), PAIRS)
+
+
+class Terms(unittest.TestCase):
+    """Tokens and ancestors as terms, in an index of plain sets: what docs/ENGINES.md says of search engines."""
+
+    def test_all_pairs(self):
+        index = {"cells": {}, "keys": {}}
+        terms = {name: {"cells": union.tokens(), "keys": tokens(union.ancestors())}
+                 for name, union in ((name, Union(cells)) for name, cells in REGIONS.items())}
+        for name, lists in terms.items():
+            for kind, words in lists.items():
+                for word in words:
+                    index[kind].setdefault(word, set()).add(name)
+        nothing = set()
+        found = [(place, name) for place, leaf in enumerate(POINTS)
+                 for name in set().union(*(index["cells"].get(key, nothing)
+                                           for key in tokens(Union([leaf]).ancestors())))]
+        self.assertEqual(sorted(found), PAIRS)
+        ranges = {name: numpy.array(sorted((cell - (cell & -cell) + 1, cell + (cell & -cell) - 1) for cell in cells)).T
+                  for name, cells in REGIONS.items()}
+
+        def meet(a, b):  # the first range of b that ends no earlier than each of a begins
+            at = b[1].searchsorted(a[0])
+            return bool((b[0][at[at < b.shape[1]]] <= a[1][at < b.shape[1]]).any())
+
+        for name, lists in terms.items():
+            met = set().union(*(index["keys"].get(word, nothing) for word in lists["cells"]),
+                              *(index["cells"].get(word, nothing) for word in lists["keys"]))
+            self.assertEqual(met, {other for other in ranges if meet(ranges[name], ranges[other])})
 
 
 class Mariadb(Engine):
