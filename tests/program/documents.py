@@ -43,7 +43,8 @@ class Launcher(unittest.TestCase):
 
     def test_through_a_symbolic_link_and_from_another_folder(self):
         how = {"cwd": self.room, "env": {**os.environ, "S2CALC_QUIET": "1"}}
-        done = subprocess.run([self.link, "cell", "1"], capture_output=True, timeout=60, **how)
+        # where nothing is proved, as in the quick tier, it builds the program first
+        done = subprocess.run([self.link, "cell", "1"], capture_output=True, timeout=600, **how)
         self.assertEqual((done.returncode, done.stderr), (0, b""))
         self.assertEqual(done.stdout, b"cell 1 0/ level 0 face 0 leaves 0 1152921504606846975\n")
 
