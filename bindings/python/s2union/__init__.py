@@ -1345,7 +1345,7 @@ class UnionFile:
             return cls(_mmap.mmap(file.fileno(), 0, access=_mmap.ACCESS_READ) if has_bytes else b"", checked)
 
     def close(self) -> None:
-        """Lets go of the bytes. Questions raise ValueError from then on.
+        """Let go of the bytes. Questions raise ValueError from then on.
 
         .. versionadded:: 1.2
 

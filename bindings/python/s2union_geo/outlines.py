@@ -7,11 +7,11 @@ from typing import Any, Iterator
 import numpy
 from s2union import Union
 
-from .sphere import SIDE, geographic, on_axes, squares_of
+from .sphere import SIDE, geographic, on_axes, on_cube_line, squares_of
 
 EARTH = 6371.01  # its mean radius in km, as S2Earth has it
-NODES, WEIGHTS = numpy.polynomial.legendre.leggauss(6)
-SMALL = 3  # the level from which on these nodes give the area of a cell to its last digits
+NODES = 6  # of Gauss and Legendre's rule, along a side
+SMALL = 3  # the level from which on so few nodes give the area of a cell to its last digits
 
 
 def area(union: Union) -> float:
@@ -22,17 +22,17 @@ def area(union: Union) -> float:
     (85011012, 0.0)
     """
     _, i, j, side = squares_of(union.denormalised(SMALL))
-    length = side / SIDE
-    (u, width), (v, height) = (_on_face(s, length) for s in (i / SIDE, j / SIDE))
+    (u, width), (v, height) = (_on_face(begin, side / SIDE) for begin in (i, j))
+    nodes = [*zip(*numpy.polynomial.legendre.leggauss(NODES))]
     parts = sum(a * b * (1 + (u + width * (1 + x) / 2)**2 + (v + height * (1 + y) / 2)**2)**-1.5
-                for x, a in zip(NODES, WEIGHTS) for y, b in zip(NODES, WEIGHTS))
+                for x, a in nodes for y, b in nodes)
     return float((parts * width * height).sum() / 4 * EARTH**2)
 
 
-def _on_face(s: Any, length: Any) -> tuple[Any, Any]:
+def _on_face(begin: Any, length: Any) -> tuple[Any, Any]:
     """Where squares begin on a face, from -1 to 1, and their sides there; no small difference of two large numbers."""
-    begin = numpy.where(s >= 0.5, 4 * s * s - 1, 1 - 4 * (1 - s) * (1 - s)) / 3
-    return begin, 4 * length * numpy.where(s >= 0.5, 2 * s + length, 2 - 2 * s - length) / 3
+    s = begin / SIDE
+    return on_cube_line(begin), 4 * length * numpy.where(s >= 0.5, 2 * s + length, 2 - 2 * s - length) / 3
 
 
 def boundary(union: Union) -> dict[str, Any]:
