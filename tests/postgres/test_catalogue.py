@@ -10,7 +10,7 @@ import model
 from test_postgres import PAGES, TRY, Tests, ask, psql
 
 VERSION = model.VERSION.rpartition(".")[0]
-EARLIER = ("0.1", "0.2", "1.0")
+EARLIER = ("0.1", "0.2", "1.0", "1.1")
 MEMBERS = """
     SELECT d.classid, d.objid, pg_describe_object(d.classid, d.objid, 0) AS object FROM pg_depend d
     JOIN pg_extension e ON e.oid = d.refobjid AND e.extname IN ('s2union', 's2union_geo') WHERE d.deptype = 'e'
