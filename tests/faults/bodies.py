@@ -70,7 +70,8 @@ class Mutant:
         """The name of the verdict that it is refused: by the program and its tests, or the crate and its rows."""
         of_program = ["tests/*.py", "tests/program", "tests/peer", "tests/python"]
         of = [f"crates/{self.crate}/stdin"] if self.crate else of_program
-        files = [self.file, __file__, *(os.path.join(TOP, name) for name in tracked(TOP, *of))]
+        made_by = ["tests/mutants/mutant_texts.py", "tools/over_gate.py"]
+        files = [self.file, __file__, *(os.path.join(TOP, name) for name in tracked(TOP, *made_by, *of))]
         return verdicts.name_of(files, sum_of_sources(self.crate or "calculator"))
 
     def is_refused(self, said):
