@@ -38,6 +38,10 @@ compiled() { # with the class of the page
 step "compile the tests" compiled
 commented() { javadoc -quiet -Xdoclint:all -Werror -d "$work/reference" "$top"/bindings/java/s2union/*.java; }
 step "javadoc, each warning an error" commented
+by_java() { # WORD..: nothing may stay in the folder for temporary files
+  mkdir -p "$work/temporary" && java -Djava.io.tmpdir="$work/temporary" "$@" &&
+    { [ -z "$(ls "$work/temporary")" ] || { ls "$work/temporary" && return 1; }; }
+}
 by_comments() {
   mkdir "$work/examples" && /usr/bin/python3 "$top/tests/docs/examples.py" java "$top"/bindings/java/s2union/*.java \
     >"$work/examples/Examples.java" && javac -cp "$jar" -d "$work/tests" "$work/examples/Examples.java" &&
@@ -46,10 +50,6 @@ by_comments() {
 step "the examples of its comments" by_comments
 questions() { PYTHONDONTWRITEBYTECODE=1 /usr/bin/python3 "$top/tests/python/vectors.py" >"$work/vectors"; }
 step "questions" questions
-by_java() { # WORD..: nothing may stay in the folder for temporary files
-  mkdir -p "$work/temporary" && java -Djava.io.tmpdir="$work/temporary" "$@" &&
-    { [ -z "$(ls "$work/temporary")" ] || { ls "$work/temporary" && return 1; }; }
-}
 asked() { # [OPTION] CLASS WORD..: with Java's own checks of native code, which say what they find
   by_java -Xcheck:jni -cp "$jar:$work/tests" "$@" >"$work/said" 2>&1 || { tail -20 "$work/said" && return 1; }
   ! grep -Ei 'warning|fatal' "$work/said" && tail -1 "$work/said"
