@@ -72,6 +72,8 @@ MISTAKES = [
             swapped(WHOLE, WHOLE.replace("is_cell", "is_a_cell"))),
     Mistake("an error that no page explains", pages.unexplained, "crates/s2union_c/include/s2union.h",
             swapped("  S2U_MANY = -6, ", "  S2U_MUCH = -6, ")),
+    Mistake("a function that MARIADB.md lacks", pages.functions_of_mariadb, "docs/MARIADB.md",
+            swapped("`s2_count`, `s2_leaves`", "`s2_count`")),
     Mistake("a page that the index lacks", pages.unlisted, "docs/README.md",
             swapped("| [SERVERS](SERVERS.md) |", "| servers |")),
     Mistake("a first page that is too long", pages.too_long, "README.md", ended_by("more\n" * 2000)),

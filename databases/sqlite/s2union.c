@@ -5,6 +5,7 @@
 #include <s2union.h>
 #include <sqlite3ext.h>
 #include <string.h>
+#include "functions.h"
 SQLITE_EXTENSION_INIT1
 
 /* ---- memory: the library takes it from SQLite's heap, so SQLite's limits hold for both ---- */
@@ -439,12 +440,14 @@ static void final(sqlite3_context* c) {
 
 static void inverse(sqlite3_context* c, int arguments, sqlite3_value** v) { refuse(c, NO_FRAME, NULL, 0); }
 
-/* ---- tables: s2_cells(x, level, modulus), s2_tiles(x, level), s2_ancestors(x), s2_prepared(x) ---- */
+/* ---- tables: s2_cells(x, level, modulus), s2_tiles(x, level), s2_ancestors(x), s2_prepared(x), s2_functions ---- */
+
+#define COUNT(list) (sizeof(list) / sizeof *(list))
 
 typedef struct kind {
   const char *name, *schema;
   int hidden, least, most; /* the first hidden column, which is the first argument, and how many arguments there are */
-  enum { PREPARED_VALUE, ANCESTORS, CELLS, TILES } rows; /* cells and tiles are cut as they are asked for */
+  enum { PREPARED_VALUE, FUNCTIONS, ANCESTORS, CELLS, TILES } rows; /* cells and tiles are cut as they are asked for */
 } kind;
 
 /* The arguments of a call are kept as they were given: SQLite may ask for the hidden columns, and compares them with
@@ -471,6 +474,7 @@ static const kind kinds[] = {
   {"s2_tiles", "CREATE TABLE x(tile, part, x BLOB HIDDEN, level HIDDEN, " KEY("tile, level, x"), 2, 2, 2, TILES},
   {"s2_ancestors", "CREATE TABLE x(cell, range_min, range_max, x BLOB HIDDEN, " KEY("cell, x"), 3, 1, 1, ANCESTORS},
   {"s2_prepared", "CREATE TABLE x(value, x BLOB HIDDEN, " KEY("x"), 1, 1, 1, PREPARED_VALUE},
+  {"s2_functions", "CREATE TABLE x(name, arguments, result, extension, " KEY("name, arguments"), 4, 0, 0, FUNCTIONS},
 };
 
 static int connect(sqlite3* db, void* aux, int argc, const char* const* argv, sqlite3_vtab** made, char** error) {
@@ -553,7 +557,8 @@ static int32_t cut(cursor* u) {
 static int32_t fill(cursor* u, const kind* kind, int arguments, sqlite3_value** v) {
   argument a[MOST_ARGUMENTS] = {[2].number = 1};
   size_t none = 0;
-  u->n = 1;
+  u->n = kind->rows == FUNCTIONS ? COUNT(listed) : 1;
+  if (kind->rows == FUNCTIONS) return S2U_OK;
   if (kind->rows == PREPARED_VALUE) return file_of(v[0], &u->block);
   int32_t status = list_of(v[0], &a[0].held);
   for (int k = 1; k < arguments && status == S2U_OK; k++) status = number_of(v[k], &a[k].number);
@@ -596,7 +601,7 @@ static int column(sqlite3_vtab_cursor* base, sqlite3_context* c, int k) {
   static const function parts = {.make = make_part};
   cursor* u = (cursor*)base;
   const kind* kind = kind_of(u);
-  uint64_t cell = kind->rows == PREPARED_VALUE ? 0 : (kind->rows < CELLS ? u->block->cells : u->ready)[u->at];
+  uint64_t cell = kind->rows < ANCESTORS ? 0 : (kind->rows < CELLS ? u->block->cells : u->ready)[u->at];
   int32_t status = S2U_OK;
   if (k >= kind->hidden) {
     if (u->given[k - kind->hidden]) sqlite3_result_value(c, u->given[k - kind->hidden]);
@@ -604,6 +609,8 @@ static int column(sqlite3_vtab_cursor* base, sqlite3_context* c, int k) {
     u->block->users++;
     sqlite3_result_blob64(c, u->block->cells, u->block->n, drop_cells);
     sqlite3_result_subtype(c, PREPARED);
+  } else if (kind->rows == FUNCTIONS) {
+    sqlite3_result_text(c, listed[u->at][k], -1, SQLITE_STATIC);
   } else if (kind->rows == TILES && k == 1) {
     status = makes(c, &parts, (argument[]){{.held = u->whole}, {.cell = cell}});
   } else {
@@ -632,8 +639,6 @@ static int create(sqlite3* db, const function* f) {
   int flags = f->call == version ? FLAGS : PURE; /* an update changes the version, so no index may have it */
   return sqlite3_create_function_v2(db, f->name, (int)strlen(f->letters), flags, own, dispatch, NULL, NULL, forget);
 }
-
-#define COUNT(list) (sizeof(list) / sizeof *(list))
 
 #define EXPORTED __attribute__((visibility("default")))
 

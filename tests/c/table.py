@@ -13,7 +13,8 @@ from typing import NamedTuple
 TOP = Path(__file__).resolve().parents[2]
 READ = ["tools/calls", "crates/s2union_c/src", "crates/s2union_c/include", "crates/s2cover/src/lib.rt",
         "bindings/rust/src", "bindings/python/s2union", "bindings/java/s2union", "bindings/java/s2union.c",
-        "bindings/page/core.js", "bindings/js/s2union.d.ts", "bindings/go", "tests/c/calls.h"]
+        "bindings/page/core.js", "bindings/js/s2union.d.ts", "bindings/go", "tests/c/calls.h", "docs/SQLITE.md",
+        "databases/sqlite/functions.h", "databases/sqlite/s2union_geo.c"]
 HEADER = "crates/s2union_c/include/s2union.h"
 
 
@@ -102,6 +103,8 @@ MISTAKES = [
     Mistake("a version of Go left out", "bindings/go/cell.go", "Face is 0 to 5. Since 0.2.", "Face is 0 to 5.",
             "Go: cell: CellID.Face: its comment lacks Since"),
     Mistake("a list that JavaScript leaves out", "bindings/page/core.js", '"s2u_union", [xs, ys]', '"s2u_union", [xs]'),
+    Mistake("a function that SQLite doesn't list", "docs/SQLITE.md", "\n| `s2_count(region)` |",
+            "\n| `s2_size(region)` | how many |\n| `s2_count(region)` |"),
 ]
 
 

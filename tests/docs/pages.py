@@ -5,12 +5,12 @@ if the link's text is names of the sources, the file has them, as it has those t
 in backticks is there; the files that docs/ARCHITECTURE.md walks through have the functions that it names, and one
 calls another where it says so; each language has what docs/FROM_S2.md says it has; docs/TROUBLESHOOTING.md has each
 error that the sources make, and no others; docs/CONCEPTS.md has the edges and numbers of cells of all levels;
-docs/README.md leads to each page; README.md has fewer than 10,000 bytes; what can't read the file VERSION has the
-version that it gives, and a page that names the kit names the one of the file KIT; CHANGELOG.md says nothing twice;
-a contract has a limit as a number only where docs/EXTENDING.md says so; each part that a text names after `tests/run`
-is one; each command of tools/ and bench/
-prints its usage with --help, and does nothing else; and what is a command, a file whose name has no ending and which
-names its interpreter, is executable, and no other file is. The last line is 'N passed, M failed', where N counts the
+docs/MARIADB.md lists the functions of install.sql; docs/README.md leads to each page; README.md has fewer than
+10,000 bytes; what can't read the file VERSION has the version that it gives, and a page that names the kit names the
+one of the file KIT; CHANGELOG.md says nothing twice; a contract has a limit as a number only where docs/EXTENDING.md
+says so; each part that a text names after `tests/run` is one; each command of tools/ and bench/ prints its usage
+with --help, and does nothing else; and what is a command, a file whose name has no ending and which names its
+interpreter, is executable, and no other file is. The last line is 'N passed, M failed', where N counts the
 definitions, the links, the paths, the names, the calls, the errors, the levels, the places of the version, the
 changes, the limits, the parts, the commands and the files. A check that has nothing to look at fails.
 """
@@ -262,6 +262,17 @@ def unexplained():
     return count, wrong
 
 
+def functions_of_mariadb():
+    """The functions of install.sql, and what docs/MARIADB.md has more or less, or docs/SQLITE.md under no such name,
+    where a question about a cell is one about a union."""
+    installed = set(re.findall(r"FUNCTION (\w+)", (ROOT / "databases" / "mariadb" / "install.sql").read_text()))
+    table = "".join(re.findall(r"^\|.*", (ROOT / "docs" / "MARIADB.md").read_text(), re.M))
+    others = installed ^ set(re.findall(r"\bs2_\w+", table))
+    known = set(re.findall(r"`(s2_\w+)\(", (ROOT / "docs" / "SQLITE.md").read_text()))
+    return len(installed), sorted(others | {name for name in installed if name not in known
+                                            and name.removesuffix("_cell") not in known})
+
+
 def unlisted():
     """The number of pages in docs/, and those to which their index doesn't lead."""
     names = [page.name for page in pages() if page.parent == ROOT / "docs"]
@@ -351,6 +362,7 @@ CHECKS = {
     "leads nowhere": broken_links,
     "not defined in the file that is linked or named": lost_names,
     "docs/TROUBLESHOOTING.md and the sources differ": unexplained,
+    "docs/MARIADB.md": functions_of_mariadb,
     "not in the index docs/README.md": unlisted,
     "README.md is too long": too_long,
     "the table of levels": wrong_levels,

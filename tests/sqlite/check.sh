@@ -18,19 +18,20 @@ for file in s2union.c planner.c value.h; do
   step "none in the extension for PostgreSQL: $file" no_arithmetic "$top/databases/postgres/$file"
 done
 # What is not proved stays short. Of these lines 110 are for listings that make a cell or a tile when it is asked for,
-# texts that are read in pieces, and windows, which the library, whose calls answer all at once, can't have.
+# texts that are read in pieces, and windows, which the library, whose calls answer all at once, can't have. 5 are for
+# the list of the functions, whose texts tools/calls makes of the page.
 short() { # lines of code
   local lines
   lines=$(grep -cvE '^[[:space:]]*(/?\*.*)?$' "$source/s2union.c")
   echo "$lines lines of code"
-  [ "$lines" -le 510 ]
+  [ "$lines" -le 515 ]
 }
-step "at most 510 lines of C" short
+step "at most 515 lines of C" short
 
 build() { # FOLDER FLAGS..
   local folder=$work/$1
   shift
-  mkdir -p "$folder" && cp "$source"/{s2union.c,s2union_geo.c,Makefile} "$folder" &&
+  mkdir -p "$folder" && cp "$source"/{Makefile,*.[ch]} "$folder" &&
     make -C "$folder" PREFIX="$work/usr" "$@"
 }
 step "build" build plain

@@ -30,6 +30,7 @@ static const char* const queries[] = {
   "SELECT tile, hex(part) FROM s2_tiles('04 0001 1d', 2)",
   "SELECT tile, hex(t.part), x FROM parts, s2_tiles(parts.part, 1) AS t WHERE id < 3",
   "SELECT hex(value), count(*) FROM s2_prepared('04 14'), parts WHERE s2_intersects(value, part)",
+  "SELECT name, arguments, result FROM s2_functions WHERE extension = 's2union_geo'",
   "SELECT s2_longitude(s2_leaf_at(2.3522, 48.8566)), s2_latitude('1/0')",
   "SELECT s2_leaf_at('north', 0)",
   "SELECT s2_latitude(x'04')",

@@ -25,7 +25,7 @@ tests() { # FOLDER PRELOAD
 }
 
 survives() { # EDIT
-  mutant "$1" "$top"/databases/sqlite/{Makefile,*.c} && build "$work/plain" CFLAGS="-O1 -Wno-error" || return 2
+  mutant "$1" "$top"/databases/sqlite/{Makefile,*.[ch]} && build "$work/plain" CFLAGS="-O1 -Wno-error" || return 2
   refuse "$work/plain" "" || return
   build "$work/sanitized" CFLAGS="-O1 -g -Wno-error -fsanitize=address,undefined -fno-sanitize-recover" || return 2
   refuse "$work/sanitized" "$(gcc -print-file-name=libasan.so) $(gcc -print-file-name=libubsan.so)"

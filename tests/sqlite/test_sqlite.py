@@ -597,6 +597,32 @@ class WhatIsRefused(Tests):
             self.assertEqual(said[-1], self.hidden(name))
         self.assertEqual({name for name, _ in calls_in(tables)}, self.tables())
 
+    def test_each_is_listed(self):
+        """s2_functions has what SQLite has of each extension, with the last column of its row of the page."""
+        asked = "SELECT name, arguments, result, extension FROM s2_functions"
+        had = set()
+        for extension in ("s2union", "s2union_geo"):
+            self.db.load_extension(os.path.join(os.path.dirname(EXTENSION), f"mod_{extension}.so"))
+            has = {*self.db.execute("SELECT name, narg FROM pragma_function_list WHERE name LIKE 's2%'")}
+            rows = self.db.execute(f"{asked} WHERE extension = ?", (extension,)).fetchall()
+            listed = {(name, len(names.split(", ")) if names else 0) for name, names, _, _ in rows}
+            self.assertEqual({row for row in listed if row[0] not in self.tables()}, has - had)
+            had = has
+        said = {}
+        for line in re.sub(r"\[(.*?)\]\(.*?\)", r"\1", PAGE).splitlines():
+            first, *columns, last = line.strip("| ").split(" | ") if " | " in line else [line, line]
+            if re.fullmatch(r"`s2_\w+\(.*\)`", first):
+                said.update((call, (columns != [], last)) for call in first.split("`")[1::2])
+        rows = self.db.execute(asked).fetchall()
+        self.assertEqual(len(rows), len(said))
+        for name, names, result, _ in rows:
+            is_table, last = said[f"{name}({names})"]
+            self.assertEqual(name in self.tables(), is_table)
+            self.assertEqual(re.sub(r"^rows of \w+(, \w+)*: ", "", result) if is_table else result, last)
+        columns = [name for name, in self.db.execute("SELECT name FROM pragma_table_info('s2_cells')")]
+        for row in self.db.execute("SELECT result FROM s2_functions WHERE name IN ('s2_cells', 's2_ancestors')"):
+            self.assertTrue(row[0].startswith(f"rows of {', '.join(columns)}: "), row)
+
     def tables(self):
         return {name for name, in self.db.execute("SELECT name FROM pragma_module_list WHERE name LIKE 's2%'")}
 
@@ -683,14 +709,14 @@ class WhatIsRefused(Tests):
         level that is deeper than all cells of an empty union."""
         for name, letters, values in calls():
             self.wrong_in_turn(f"{name}({', '.join('?' * len(values))})", letters, values)
-        for name in self.tables():
+        for name in self.tables() - {"s2_functions"}:  # it takes nothing
             letters = "".join({"x": "l", "level": "v", "modulus": "m"}[column] for column in self.hidden(name))
             for cells in ("0c 14", ""):
                 values = [cells, 2, 1][: len(letters)]
                 call = f"count(*) FROM {name}({', '.join('?' * len(values))})"
                 self.assertIsNotNone(self.ask(call, *values))
                 self.wrong_in_turn(call, letters, values)
-        self.assertEqual(len(self.tables()), 4)
+        self.assertEqual(len(self.tables()), 5)
 
     def test_a_level_deeper_than_the_cell(self):
         """No cell of it contains the cell, which has no child if it is a leaf: NULL."""
