@@ -1,4 +1,5 @@
 """What docs/GEO.md shows, and that it is S2's: leaves, coverings and corners beside S2's own and plain polygons."""
+import doctest
 import json
 import os
 import runpy
@@ -310,6 +311,12 @@ SQL
 def corners_of(positions):
     """The corners of a line, as points of the sphere, in no order."""
     return frozenset(map(tuple, (numpy.round(sphere(*positions.T), 9) + 0.0).T.tolist()))
+
+
+def load_tests(loader, tests, pattern):
+    """With the examples of the accessor, which needs geopandas."""
+    tests.addTests(doctest.DocTestSuite(s2union_geo.frames))
+    return tests
 
 
 if __name__ == "__main__":

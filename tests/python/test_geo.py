@@ -2,6 +2,7 @@
 tests/geo asks S2 about more."""
 
 import contextlib
+import doctest
 import io
 import itertools
 import json
@@ -20,7 +21,7 @@ import s2union_geo
 from s2union import Union, from_face_ij, from_token, level, parent, square, tokens
 from s2union_geo import (area, boundary, covering, coverings, interior, leaf, leaves, points, read_geojson,
                          to_geojson)
-from s2union_geo import crossings
+from s2union_geo import crossings, geojson, polygons, sphere
 from s2union_geo.__main__ import main
 from s2union_geo import outlines
 from s2union_geo.geojson import rings
@@ -439,6 +440,13 @@ class Cover(unittest.TestCase):
             shown = b"".join(iter(lambda: terminal.read(1), b"."))
         self.assertEqual((done.returncode, shown), (0, b"\r0 of 2 features\r1 of 2 features\r\x1b[K"))
         self.assertRegex(done.stdout, "^2 features, .*; left: none\n$")
+
+
+def load_tests(loader, tests, pattern):
+    """With the examples of each docstring, of which each public function has one."""
+    for module in (s2union_geo, geojson, outlines, polygons, sphere):
+        tests.addTests(doctest.DocTestSuite(module))
+    return tests
 
 
 if __name__ == "__main__":

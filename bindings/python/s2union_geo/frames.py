@@ -18,18 +18,56 @@ from s2union import range_maxes, range_mins
 from .polygons import coverings
 from .sphere import leaves
 
+__all__ = ["Frame"]
+
 
 @pandas.api.extensions.register_dataframe_accessor("s2")
 class Frame:
-    """What a frame has in cells. A frame with a coordinate system is taken to longitudes and latitudes first; one
-    without has degrees."""
+    """What a frame has in cells: its attribute ``s2``.
+
+    .. versionadded:: 1.2
+
+    Parameters
+    ----------
+    frame : DataFrame or GeoDataFrame
+        One with a coordinate system is taken to longitudes and latitudes first; one without has degrees.
+    """
 
     def __init__(self, frame: Any) -> None:
         self.frame = frame if getattr(frame, "crs", None) is None else frame.to_crs(4326)
 
     def leaves(self, longitude: str = "longitude", latitude: str = "latitude") -> pandas.Series:
-        """The leaf of each row, with a sign, as databases have it: of its point, or in a frame without geometry, of
-        the columns of these names. Errors are those of `s2union_geo.leaves`; a missing or an empty point is one."""
+        """The leaf of each row: of its point, or in a frame without geometry, of two columns.
+
+        .. versionadded:: 1.2
+
+        Parameters
+        ----------
+        longitude : str
+            The column of longitudes, from -540 to 540 degrees.
+        latitude : str
+            The column of latitudes, from -90 to 90 degrees.
+
+        Returns
+        -------
+        Series of int64
+            The leaves, with a sign, as databases have them, by the index of the frame.
+
+        Raises
+        ------
+        ValueError
+            A number is out of range, or a point is missing or empty: the message has its place.
+        TypeError
+            A column has no numbers.
+        KeyError
+            There is no such column.
+
+        Examples
+        --------
+        >>> places = pandas.DataFrame({"longitude": [2.3522], "latitude": [48.8566]}, index=["Paris"])
+        >>> places.s2.leaves()["Paris"] == 5180949494577750587
+        True
+        """
         if hasattr(self.frame, "geometry"):
             x, y = self.frame.geometry.x, self.frame.geometry.y
         else:
@@ -38,8 +76,38 @@ class Frame:
         return pandas.Series(found, self.frame.index, name="leaf")
 
     def coverings(self, max_cells: int = 200, max_level: int = 30) -> pandas.DataFrame:
-        """The unions `outer` and `inner` of each row's polygons, which it lies in and which lie in it. Errors are those
-        of `s2union_geo.coverings`, with the row."""
+        """Two unions for each row's polygons: one which contains them, and one that they contain.
+
+        .. versionadded:: 1.2
+
+        Parameters
+        ----------
+        max_cells : int
+            The most cells of each, 0 to 1,000,000.
+        max_level : int
+            0 to 30: no cell is deeper.
+
+        Returns
+        -------
+        DataFrame
+            The columns ``outer`` and ``inner``, by the index of the frame.
+
+        Raises
+        ------
+        ValueError
+            What `s2union_geo.coverings` refuses, with the row.
+        TypeError
+            A number of cells or a level is no int.
+
+        Examples
+        --------
+        >>> from geopandas import GeoDataFrame
+        >>> from shapely.geometry import box
+        >>> seas = GeoDataFrame(geometry=[box(0, 0, 10, 10)], index=["sea"])
+        >>> found = seas.s2.coverings(max_cells=50)
+        >>> found.inner["sea"] < found.outer["sea"]
+        True
+        """
         made = [self._covered(row, shape, max_cells, max_level) for row, shape in self.frame.geometry.items()]
         return pandas.DataFrame(made, self.frame.index, ["outer", "inner"])
 
@@ -51,10 +119,39 @@ class Frame:
             raise ValueError(f"row {row!r}: {error}") from None
 
     def sjoin(self, points: Any, max_cells: int = 200) -> pandas.DataFrame:
-        """Each pair of a row `region` of this frame and a row `point` of another whose point lies inside of the region,
-        by their index: the pairs of geopandas' `points.sjoin(regions, predicate="within")`, and those across the date
-        line. Coverings of up to `max_cells` cells decide for most points, and shapely for the rest. A row without a
-        point or a polygon is in no pair."""
+        """Each pair of a row of this frame and a row of another whose point lies inside of its polygons.
+
+        .. versionadded:: 1.2
+
+        Parameters
+        ----------
+        points : GeoDataFrame
+            The other frame. A row without a point or a polygon is in no pair.
+        max_cells : int
+            The most cells of a covering, 0 to 1,000,000. Coverings decide for most points, and shapely for the rest.
+
+        Returns
+        -------
+        DataFrame
+            The columns ``region`` and ``point``, which are of the index of each frame: the pairs of geopandas'
+            ``points.sjoin(regions, predicate="within")``, and those across the date line.
+
+        Raises
+        ------
+        ValueError
+            What `coverings` and `leaves` refuse.
+        TypeError
+            A number of cells is no int.
+
+        Examples
+        --------
+        >>> from geopandas import GeoDataFrame
+        >>> from shapely.geometry import Point, box
+        >>> seas = GeoDataFrame(geometry=[box(0, 0, 10, 10)], index=["sea"])
+        >>> ships = GeoDataFrame(geometry=[Point(5, 5), Point(50, 5)], index=["one", "other"])
+        >>> seas.s2.sjoin(ships).values.tolist()
+        [['sea', 'one']]
+        """
         regions, others = self._whole(), points.s2._whole()
         leaf = others.s2.leaves().to_numpy().view("uint64")
         order = leaf.argsort(kind="stable")

@@ -20,8 +20,37 @@ PARTS = {"FeatureCollection": "features", "GeometryCollection": "geometries"}
 
 
 def read_geojson(path: str | os.PathLike[str]) -> Any:
-    """The GeoJSON of a file, of at most MOST_BYTES bytes, as objects of Python; ValueError if it is none. In a position
-    the longitude comes first, then the latitude."""
+    """The GeoJSON of a file, for `covering` and what else takes polygons.
+
+    .. versionadded:: 1.1
+
+    Parameters
+    ----------
+    path : str or path
+        A file of at most ``MOST_BYTES`` bytes. In a position the longitude comes first, then the latitude.
+
+    Returns
+    -------
+    object
+        What the file has, as objects of Python.
+
+    Raises
+    ------
+    ValueError
+        The file is no JSON, or has more bytes.
+    OSError
+        The file can't be read.
+
+    Examples
+    --------
+    >>> from pathlib import Path
+    >>> from tempfile import TemporaryDirectory
+    >>> with TemporaryDirectory() as folder:
+    ...     path = Path(folder, "pond.geojson")
+    ...     _ = path.write_text('{"type": "Polygon", "coordinates": []}')
+    ...     read_geojson(path)
+    {'type': 'Polygon', 'coordinates': []}
+    """
     with open(path, "rb") as file:
         return parsed(file.read(MOST_BYTES + 1), os.fspath(path))
 
@@ -107,11 +136,31 @@ def rings(cells: Any) -> Iterator[list[list[float]]]:
 
 
 def to_geojson(union: Union, **properties: Any) -> dict[str, Any]:
-    """The cells of a union as polygons of GeoJSON, a feature for each, with these properties and its token, `cell`. In
-    a position the longitude comes first, then the latitude, in degrees.
+    """The cells of a union as polygons of GeoJSON.
 
-    Faces are cut, since two of them have a pole inside. A cell across the date line goes on beyond 180 or -180 degrees.
+    .. versionadded:: 1.1
 
+    Parameters
+    ----------
+    union : CellUnion
+        Any union. Faces are cut, since two of them have a pole inside.
+    **properties : object
+        Properties of each feature, as JSON has them.
+
+    Returns
+    -------
+    dict
+        A FeatureCollection with a feature for each cell, which has these properties and its token, ``cell``. In a
+        position the longitude comes first, then the latitude, in degrees. A cell across the date line goes on beyond
+        180 or -180 degrees.
+
+    Raises
+    ------
+    OutOfMemoryError
+        There is no memory for the cells.
+
+    Examples
+    --------
     >>> from s2union import Union
     >>> found = to_geojson(Union.from_tokens("14"), name="pond")["features"]
     >>> [(feature["properties"], feature["geometry"]["type"]) for feature in found]

@@ -15,9 +15,32 @@ SMALL = 3  # the level from which on so few nodes give the area of a cell to its
 
 
 def area(union: Union) -> float:
-    """The area of a union in square kilometers, on a sphere with the earth's mean radius: S2CellUnion::ExactArea. The
-    earth is flattened, so an area there differs by up to 0.6 percent.
+    """The area of a union, on a sphere with the earth's mean radius.
 
+    .. versionadded:: 1.2
+
+    Parameters
+    ----------
+    union : CellUnion
+        Any union.
+
+    Returns
+    -------
+    float
+        Square kilometers. The earth is flattened, so an area there differs by up to 0.6 percent.
+
+    Raises
+    ------
+    OutOfMemoryError
+        There is no memory for the cells.
+
+    Notes
+    -----
+    S2: ``S2CellUnion::ExactArea``.
+
+    Examples
+    --------
+    >>> from s2union import CellUnion as Union
     >>> round(area(Union.from_tokens("1"))), area(Union())
     (85011012, 0.0)
     """
@@ -36,11 +59,34 @@ def _on_face(begin: Any, length: Any) -> tuple[Any, Any]:
 
 
 def boundary(union: Union) -> dict[str, Any]:
-    """The boundary of a union as a MultiLineString of GeoJSON: closed lines through corners of cells, with the union on
-    their left, as S2Polygon::InitToCellUnionBorder has them. In a position the longitude comes first, then the
-    latitude, in degrees. Two lines may touch in a corner, and a line goes on beyond 180 or -180 degrees; one around a
-    pole ends 360 degrees from where it begins.
+    """The boundary of a union, as lines on a map.
 
+    .. versionadded:: 1.2
+
+    Parameters
+    ----------
+    union : CellUnion
+        Any union.
+
+    Returns
+    -------
+    dict
+        A MultiLineString of GeoJSON: closed lines through corners of cells, with the union on their left. In a position
+        the longitude comes first, then the latitude, in degrees. Two lines may touch in a corner, and a line goes on
+        beyond 180 or -180 degrees; one around a pole ends 360 degrees from where it begins.
+
+    Raises
+    ------
+    OutOfMemoryError
+        There is no memory for the cells.
+
+    Notes
+    -----
+    S2: ``S2Polygon::InitToCellUnionBorder``.
+
+    Examples
+    --------
+    >>> from s2union import CellUnion as Union
     >>> boundary(Union.from_tokens("14 1c"))["coordinates"] == boundary(Union.from_tokens("14 1c 14"))["coordinates"]
     True
     >>> [len(line) for line in boundary(Union.from_tokens("04 0c 1c"))["coordinates"]]

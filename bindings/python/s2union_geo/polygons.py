@@ -50,24 +50,135 @@ class Squares(NamedTuple):
 
 
 def covering(shape: Any, max_cells: int = 200, max_level: int = 30) -> Union:
-    """The cells, at most `max_cells` and none deeper than `max_level`, that contain all of the polygons. Where the
-    polygons meet more faces than `max_cells`, these are the cells.
+    """A covering: a union that contains all of the polygons.
 
-    Polygons are GeoJSON, as objects of Python or as a text, or what has a `__geo_interface__`, as shapely's objects
-    have. The longitude of a position comes first, then the latitude, in degrees: from -540 to 540 and from -90 to 90.
-    ValueError names what is no polygon, what is out of range, and a ring that is open, or crosses or runs along itself;
-    a ring may touch itself."""
+    .. versionadded:: 1.1
+
+    Parameters
+    ----------
+    shape : dict, str, bytes or object
+        Polygons: GeoJSON, as objects of Python or as a text, or what has a ``__geo_interface__``, as shapely's objects
+        have.
+        In a position the longitude comes first, from -540 to 540 degrees, then the latitude, from -90 to 90. A ring
+        may touch itself.
+    max_cells : int
+        The most cells, 0 to 1,000,000. Where the polygons meet more faces, these are the cells.
+    max_level : int
+        0 to 30: no cell is deeper.
+
+    Returns
+    -------
+    CellUnion
+        The cells: each place of the polygons lies in one.
+
+    Raises
+    ------
+    ValueError
+        What is no polygon, a position out of range, a ring that is open, or crosses or runs along itself, by its
+        polygon and ring; more than ``MOST_POSITIONS`` positions, or ``MOST_BYTES`` bytes of a text; a number of cells
+        or a level out of range.
+    TypeError
+        A number of cells or a level is no int.
+
+    Notes
+    -----
+    The edges are straight on the map of longitudes and latitudes, where those of S2 are straight on the sphere. S2:
+    ``S2RegionCoverer::GetCovering``.
+
+    Examples
+    --------
+    >>> square = {"type": "Polygon", "coordinates": [[[0, 0], [10, 0], [10, 10], [0, 10], [0, 0]]]}
+    >>> from s2union_geo import leaf
+    >>> outer = covering(square, 20)
+    >>> len(outer) <= 20, leaf(0, 0) in outer, leaf(10, 5) in outer, leaf(20, 20) in outer
+    (True, True, True, False)
+    """
     return _Walk(shape, max_cells, max_level).outer()
 
 
 def interior(shape: Any, max_cells: int = 200, max_level: int = 30) -> Union:
-    """Cells that lie in a polygon, at most `max_cells` and none deeper than `max_level`, the largest first. Polygons,
-    whose longitudes come before their latitudes, and errors are those of `covering`."""
+    """An inner covering: a union of cells that lie in a polygon, the largest first.
+
+    .. versionadded:: 1.1
+
+    Parameters
+    ----------
+    shape : dict, str, bytes or object
+        Polygons: GeoJSON, as objects of Python or as a text, or what has a ``__geo_interface__``, as shapely's objects
+        have.
+        In a position the longitude comes first, from -540 to 540 degrees, then the latitude, from -90 to 90. A ring
+        may touch itself.
+    max_cells : int
+        The most cells, 0 to 1,000,000.
+    max_level : int
+        0 to 30: no cell is deeper.
+
+    Returns
+    -------
+    CellUnion
+        The cells: each place of one lies in the polygons.
+
+    Raises
+    ------
+    ValueError
+        What is no polygon, a position out of range, a ring that is open, or crosses or runs along itself, by its
+        polygon and ring; more than ``MOST_POSITIONS`` positions, or ``MOST_BYTES`` bytes of a text; a number of cells
+        or a level out of range.
+    TypeError
+        A number of cells or a level is no int.
+
+    Notes
+    -----
+    S2: ``S2RegionCoverer::GetInteriorCovering``.
+
+    Examples
+    --------
+    >>> square = {"type": "Polygon", "coordinates": [[[0, 0], [10, 0], [10, 10], [0, 10], [0, 0]]]}
+    >>> interior(square, 4) < covering(square, 4)
+    True
+    """
     return _Walk(shape, max_cells, max_level).inner()
 
 
 def coverings(shape: Any, max_cells: int = 200, max_level: int = 30) -> tuple[Union, Union]:
-    """Both: `covering` and `interior`. The polygons, longitudes before latitudes, are looked at once."""
+    """Both: `covering` and `interior`. The polygons are looked at once.
+
+    .. versionadded:: 1.1
+
+    Parameters
+    ----------
+    shape : dict, str, bytes or object
+        Polygons: GeoJSON, as objects of Python or as a text, or what has a ``__geo_interface__``, as shapely's objects
+        have.
+        In a position the longitude comes first, from -540 to 540 degrees, then the latitude, from -90 to 90. A ring
+        may touch itself.
+    max_cells : int
+        The most cells of each, 0 to 1,000,000.
+    max_level : int
+        0 to 30: no cell is deeper.
+
+    Returns
+    -------
+    outer : CellUnion
+        What `covering` returns.
+    inner : CellUnion
+        What `interior` returns.
+
+    Raises
+    ------
+    ValueError
+        What is no polygon, a position out of range, a ring that is open, or crosses or runs along itself, by its
+        polygon and ring; more than ``MOST_POSITIONS`` positions, or ``MOST_BYTES`` bytes of a text; a number of cells
+        or a level out of range.
+    TypeError
+        A number of cells or a level is no int.
+
+    Examples
+    --------
+    >>> square = {"type": "Polygon", "coordinates": [[[0, 0], [10, 0], [10, 10], [0, 10], [0, 0]]]}
+    >>> coverings(square) == (covering(square), interior(square))
+    True
+    """
     walk = _Walk(shape, max_cells, max_level)
     return walk.outer(), walk.inner()
 

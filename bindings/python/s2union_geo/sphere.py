@@ -101,10 +101,35 @@ def squares_of(cells: Any) -> Any:
 
 
 def leaves(longitude: Any, latitude: Any) -> Any:
-    """The leaf of each place, as an array of S2's identifiers: those of S2 itself. Longitudes come first, then
-    latitudes, as arrays of one shape or single numbers, in degrees: from -540 to 540 and from -90 to 90. ValueError
-    names the place of a number out of range, and TypeError what is no number.
+    """The leaf of each place: that of S2 itself.
 
+    .. versionadded:: 1.1
+
+    Parameters
+    ----------
+    longitude : array of float
+        From -540 to 540 degrees; it comes first.
+    latitude : array of float
+        From -90 to 90 degrees, of the same shape. Either may be a single number.
+
+    Returns
+    -------
+    array of uint64
+        The cells, in the shape of the arguments.
+
+    Raises
+    ------
+    ValueError
+        A number is out of range, or missing: the message has its place. Or the shapes differ.
+    TypeError
+        What is given is no number.
+
+    Notes
+    -----
+    S2: ``S2CellId(S2LatLng::FromDegrees(latitude, longitude))``, which takes the latitude first.
+
+    Examples
+    --------
     >>> leaves([2.3522, 180.0], [48.8566, -16.5])
     array([5180949494577750587, 7935343058781468041], dtype=uint64)
     """
@@ -114,8 +139,35 @@ def leaves(longitude: Any, latitude: Any) -> Any:
 
 
 def leaf(longitude: float, latitude: float) -> int:
-    """The leaf of one place. The longitude comes first, then the latitude, in degrees; errors are those of `leaves`.
+    """The leaf of one place.
 
+    .. versionadded:: 1.1
+
+    Parameters
+    ----------
+    longitude : float
+        From -540 to 540 degrees; it comes first.
+    latitude : float
+        From -90 to 90 degrees.
+
+    Returns
+    -------
+    int
+        The cell.
+
+    Raises
+    ------
+    ValueError
+        A number is out of range.
+    TypeError
+        What is given is no number.
+
+    Notes
+    -----
+    S2: ``S2CellId(S2LatLng::FromDegrees(latitude, longitude))``, which takes the latitude first.
+
+    Examples
+    --------
     >>> from s2union import token
     >>> token(leaf(longitude=2.3522, latitude=48.8566))
     '47e66e1d8f8be23b'
@@ -124,9 +176,35 @@ def leaf(longitude: float, latitude: float) -> int:
 
 
 def points(cells: Any) -> Any:
-    """The longitudes and then the latitudes of the middles of cells, as two arrays, in degrees from -180 to 180 and
-    from -90 to 90. The middle of a leaf is less than 8 mm from each place in it. ValueError names what is no cell.
+    """The middles of cells. That of a leaf is less than 8 mm from each place in it.
 
+    .. versionadded:: 1.1
+
+    Parameters
+    ----------
+    cells : iterable or array of int
+        Cells of any level.
+
+    Returns
+    -------
+    longitude : array of float64
+        From -180 to 180 degrees.
+    latitude : array of float64
+        From -90 to 90 degrees.
+
+    Raises
+    ------
+    NotACellError
+        A number is not a cell.
+    TypeError
+        What is given is no int.
+
+    Notes
+    -----
+    S2: ``S2CellId::ToLatLng``.
+
+    Examples
+    --------
     >>> [float(round(found[0], 6)) for found in points([leaf(2.3522, 48.8566)])]
     [2.3522, 48.8566]
     """
