@@ -29,8 +29,8 @@ JAVA = re.compile(r"(?:^  /\*\*((?:(?!\*/)[\s\S])*?)\*/\n)?(?:  @Override\n)?^  
                   r"(\w+)\(([^)]*)\) \{\n([\s\S]*?)^  \}$", re.M)
 TYPES = re.compile(r"(?:^ *(/\*\*(?:(?!\*/)[\s\S])*?)\*/\n)?^(?:export function |  (?:static |readonly )*)"
                    r"(constructor|\[Symbol\.iterator\]|\w+)(\(.*\))?(?:: (.*))?;$", re.M)
-RUSTS = re.compile(r"((?:^ *///.*\n)*)(?:^ *#\[.*\n)*^ *pub (?:const )?fn (\w+)(?:<.*?>)?\((.*?)\)(?: -> (.*?))? \{\n"
-                   r"([\s\S]*?)^(?:    )?\}$", re.M)
+RUSTS = re.compile(r"((?:^ *///.*\n)*)(?:^ *#\[.*\n)*^ *pub (?:const )?fn (\w+)(?:<.*?>)?\((.*?)\)(?: -> (.*?))?"
+                   r"(?: |\n *where\n(?:.*,\n)+ *)\{\n([\s\S]*?)^(?:    )?\}$", re.M)
 GOES = re.compile(r"((?:^//.*\n)*)^func (?:\((\w+) \*?(\w+)\) )?([A-Z]\w*)(?:\[.*?\])?\(.*\{(?:.*\}|[\s\S]*?^\})$",
                   re.M)
 SINCE = r"Since(?: |\n *//+ )\d"
@@ -135,11 +135,13 @@ def of_rust(found, name, text):
     for comment, member, _, result, body in RUSTS.findall(text):
         calls = re.findall(r"\b(?:calls|lists)::(\w+)", body)
         is_refused = "Result<" in result
+        section = comment.partition("# Errors")[2].partition("# Examples")[0]
         yield f"Rust: {name}: {member}", [
             *([] if re.match(r" */// \S", comment) else ["a sentence"]),
             *(["# Errors"] if is_refused and "# Errors" not in comment else []),
             *([] if re.search(SINCE, comment) else ["Since"]),
-            *(errors(found, calls, RUST, comment, f"Rust: {member}", name == "file" and member != "new") if is_refused
+            *([] if re.search(r"/// # Examples\n *///\n */// ```\n", comment) else ["# Examples, with one that runs"]),
+            *(errors(found, calls, RUST, section, f"Rust: {member}", name == "file" and member != "new") if is_refused
               else [])]
 
 

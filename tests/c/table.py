@@ -13,8 +13,8 @@ from typing import NamedTuple
 TOP = Path(__file__).resolve().parents[2]
 READ = ["tools/calls", "crates/s2union_c/src", "crates/s2union_c/include", "crates/s2cover/src/lib.rt",
         "bindings/rust/src", "bindings/python/s2union", "bindings/java/s2union", "bindings/java/s2union.c",
-        "bindings/page/core.js", "bindings/js/s2union.d.ts", "bindings/go", "tests/c/calls.h", "docs/SQLITE.md",
-        "databases/sqlite/functions.h", "databases/sqlite/s2union_geo.c"]
+        "bindings/page/core.js", "bindings/js/s2union.d.ts", "bindings/go", "bindings/c/s2union.ffi.h",
+        "tests/c/calls.h", "docs/SQLITE.md", "databases/sqlite/functions.h", "databases/sqlite/s2union_geo.c"]
 HEADER = "crates/s2union_c/include/s2union.h"
 
 
@@ -98,6 +98,13 @@ MISTAKES = [
     Mistake("an error of Rust left out", "bindings/rust/src/cell.rs",
             "    /// - [`Error::NoCell`]: the text is the token", "    /// - the text is the token",
             "from_token: its comment lacks the error NoCell"),
+    Mistake("an example of Rust left out", "bindings/rust/src/cell.rs",
+            "    ///\n    /// # Examples\n    ///\n    /// ```\n    /// # use s2union::*;\n"
+            "    /// assert_eq!(CellId::from_token(\"89c25\")?.face(), 4);\n"
+            "    /// # Ok::<(), Error>(())\n    /// ```\n", "", "Rust: cell: face: its comment lacks # Examples"),
+    Mistake("an example of Rust that isn't run", "bindings/rust/src/lib.rs",
+            "/// ```\n/// # use s2union::*;", "/// ```ignore\n/// # use s2union::*;",
+            "Rust: lib: version: its comment lacks # Examples"),
     Mistake("an example of Go left out", "bindings/go/example_each_test.go", "func ExampleCellID_Face() {",
             "func ExampleCellID_Faces() {", "Go: cell: CellID.Face: its comment lacks an Example function"),
     Mistake("a version of Go left out", "bindings/go/cell.go", "Face is 0 to 5. Since 0.2.", "Face is 0 to 5.",

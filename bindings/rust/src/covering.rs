@@ -39,6 +39,16 @@ impl Rect {
     /// - [`Error::Memory`]: there is no memory
     /// - [`Error::Argument`]: a face, coordinate or level is out of range, or an end comes before its begin
     /// - [`Error::Many`]: there would be more than `most` cells, or than [`MOST_COVERING`](crate::MOST_COVERING)
+    ///
+    /// # Examples
+    ///
+    /// ```
+    /// # use s2union::*;
+    /// let corner = Rect { face: 0, i0: 0, i1: 9, j0: 0, j1: 9 };
+    /// assert_eq!(corner.outer(1, 10)?.to_string(), "04");
+    /// assert_eq!(corner.outer(31, 10), Err(Error::Argument));
+    /// # Ok::<(), Error>(())
+    /// ```
     pub fn outer(&self, level: u32, most: usize) -> Result<CellUnion, Error> {
         CellUnion::made(lists::outer(self, level, most))
     }
@@ -50,6 +60,16 @@ impl Rect {
     /// - [`Error::Memory`]: there is no memory
     /// - [`Error::Argument`]: a face, coordinate or level is out of range, or an end comes before its begin
     /// - [`Error::Many`]: there would be more than `most` cells, or than [`MOST_COVERING`](crate::MOST_COVERING)
+    ///
+    /// # Examples
+    ///
+    /// ```
+    /// # use s2union::*;
+    /// let half = Rect { face: 0, i0: 0, i1: (1 << 30) - 1, j0: 0, j1: (1 << 29) - 1 };
+    /// assert_eq!(half.inner(1, 10)?.to_string(), "04 1c");
+    /// assert_eq!(half.inner(1, 1), Err(Error::Many));
+    /// # Ok::<(), Error>(())
+    /// ```
     pub fn inner(&self, level: u32, most: usize) -> Result<CellUnion, Error> {
         CellUnion::made(lists::inner(self, level, most))
     }
@@ -63,6 +83,15 @@ impl CellUnion {
     /// - [`Error::Argument`]: the level is above 30
     /// - [`Error::Many`]: there would be more than `most` cells, or than [`MOST_COVERING`](crate::MOST_COVERING)
     /// - [`Error::Memory`]: there is no memory
+    ///
+    /// # Examples
+    ///
+    /// ```
+    /// # use s2union::*;
+    /// let leaf = CellUnion::from(CellId::from_face_ij(0, 0, 0)?);
+    /// assert_eq!(leaf.outer(1, 10)?.to_string(), "04");
+    /// # Ok::<(), Error>(())
+    /// ```
     pub fn outer(&self, level: u32, most: usize) -> Result<CellUnion, Error> {
         CellUnion::made(lists::outer_of(self.as_ref(), level, most))
     }
@@ -74,6 +103,15 @@ impl CellUnion {
     /// - [`Error::Argument`]: the level is above 30
     /// - [`Error::Many`]: there would be more than `most` cells, or than [`MOST_COVERING`](crate::MOST_COVERING)
     /// - [`Error::Memory`]: there is no memory
+    ///
+    /// # Examples
+    ///
+    /// ```
+    /// # use s2union::*;
+    /// let union = CellUnion::from_ids([1, 0x1400000000000000])?;
+    /// assert_eq!(union.inner(1, 10)?.to_string(), "14");
+    /// # Ok::<(), Error>(())
+    /// ```
     pub fn inner(&self, level: u32, most: usize) -> Result<CellUnion, Error> {
         CellUnion::made(lists::inner_of(self.as_ref(), level, most))
     }
@@ -110,6 +148,16 @@ impl CellUnion {
     /// - [`Error::Memory`]: there is no memory
     /// - [`Error::Argument`]: a face, coordinate or level is out of range, or an end comes before its begin
     /// - [`Error::Many`]: there would be more than `most` cells, or than [`MOST_COVERING`](crate::MOST_COVERING)
+    ///
+    /// # Examples
+    ///
+    /// ```
+    /// # use s2union::*;
+    /// let half = Rect { face: 0, i0: 0, i1: (1 << 30) - 1, j0: 0, j1: (1 << 29) - 1 };
+    /// let union: CellUnion = "04 0c".parse()?;
+    /// assert_eq!(union.inner_in(&half, 1, 10)?.to_string(), "04");
+    /// # Ok::<(), Error>(())
+    /// ```
     pub fn inner_in(&self, rect: &Rect, level: u32, most: usize) -> Result<CellUnion, Error> {
         CellUnion::made(lists::inner_in(self.as_ref(), rect, level, most))
     }

@@ -32,6 +32,16 @@ impl<'a> UnionFile<'a> {
     /// - [`Error::FileTrailing`]: bytes follow the last cell
     /// - [`Error::FileCell`]: a number in the file is not the identifier of a cell
     /// - [`Error::NotNormalized`]: the cells of the file are not normalized: [`CellUnion::decode`] takes it
+    ///
+    /// # Examples
+    ///
+    /// ```
+    /// # use s2union::*;
+    /// let bytes = "04 0c".parse::<CellUnion>()?.encode()?;
+    /// assert_eq!(UnionFile::new(&bytes)?.len(), 2);
+    /// assert_eq!(UnionFile::new(&bytes[..24]).err(), Some(Error::FileShort));
+    /// # Ok::<(), Error>(())
+    /// ```
     pub fn new(bytes: &'a [u8]) -> Result<UnionFile<'a>, Error> {
         match calls::file_check(bytes) {
             0 => Err(Error::NotNormalized),
@@ -40,6 +50,15 @@ impl<'a> UnionFile<'a> {
     }
 
     /// How many cells the union has. Since 0.2.
+    ///
+    /// # Examples
+    ///
+    /// ```
+    /// # use s2union::*;
+    /// let bytes = "04 0c".parse::<CellUnion>()?.encode()?;
+    /// assert_eq!(UnionFile::new(&bytes)?.len(), 2);
+    /// # Ok::<(), Error>(())
+    /// ```
     pub fn len(&self) -> usize {
         let mut count = 0;
         calls::file_count(self.bytes, &mut count);
@@ -47,11 +66,30 @@ impl<'a> UnionFile<'a> {
     }
 
     /// Whether the union has no leaf. Since 0.2.
+    ///
+    /// # Examples
+    ///
+    /// ```
+    /// # use s2union::*;
+    /// let bytes = CellUnion::new().encode()?;
+    /// assert!(UnionFile::new(&bytes)?.is_empty());
+    /// # Ok::<(), Error>(())
+    /// ```
     pub fn is_empty(&self) -> bool {
         self.len() == 0
     }
 
     /// The cell at a place, in ascending order, if there is one. Since 0.2.
+    ///
+    /// # Examples
+    ///
+    /// ```
+    /// # use s2union::*;
+    /// let bytes = "04 0c".parse::<CellUnion>()?.encode()?;
+    /// let file = UnionFile::new(&bytes)?;
+    /// assert_eq!((file.cell(1), file.cell(2)), (Some("0c".parse()?), None));
+    /// # Ok::<(), Error>(())
+    /// ```
     pub fn cell(&self, place: usize) -> Option<CellId> {
         let mut id = 0;
         calls::file_cell(self.bytes, place as u64, &mut id);
@@ -59,6 +97,15 @@ impl<'a> UnionFile<'a> {
     }
 
     /// How many leaves the union has. Since 0.2.
+    ///
+    /// # Examples
+    ///
+    /// ```
+    /// # use s2union::*;
+    /// let bytes = "04 0c".parse::<CellUnion>()?.encode()?;
+    /// assert_eq!(UnionFile::new(&bytes)?.leaf_count(), 1 << 59);
+    /// # Ok::<(), Error>(())
+    /// ```
     pub fn leaf_count(&self) -> u64 {
         let mut leaves = 0;
         calls::file_leaf_count(self.bytes, &mut leaves);
@@ -66,21 +113,60 @@ impl<'a> UnionFile<'a> {
     }
 
     /// Whether the union has all leaves of a cell. It takes log n steps. Since 0.2.
+    ///
+    /// # Examples
+    ///
+    /// ```
+    /// # use s2union::*;
+    /// let bytes = "04 0c".parse::<CellUnion>()?.encode()?;
+    /// let file = UnionFile::new(&bytes)?;
+    /// assert!(file.contains_cell("0401".parse()?) && !file.contains_cell("1".parse()?));
+    /// # Ok::<(), Error>(())
+    /// ```
     pub fn contains_cell(&self, cell: CellId) -> bool {
         calls::file_contains_cell(self.bytes, cell.id()) == 1
     }
 
     /// Whether the union has a leaf of a cell. It takes log n steps. Since 0.2.
+    ///
+    /// # Examples
+    ///
+    /// ```
+    /// # use s2union::*;
+    /// let bytes = "04 0c".parse::<CellUnion>()?.encode()?;
+    /// let file = UnionFile::new(&bytes)?;
+    /// assert!(file.intersects_cell("1".parse()?) && !file.intersects_cell("14".parse()?));
+    /// # Ok::<(), Error>(())
+    /// ```
     pub fn intersects_cell(&self, cell: CellId) -> bool {
         calls::file_intersects_cell(self.bytes, cell.id()) == 1
     }
 
     /// Whether the union has all leaves of the union in another file. Since 0.2.
+    ///
+    /// # Examples
+    ///
+    /// ```
+    /// # use s2union::*;
+    /// let (park, pond) = ("1".parse::<CellUnion>()?.encode()?, "14".parse::<CellUnion>()?.encode()?);
+    /// let (park, pond) = (UnionFile::new(&park)?, UnionFile::new(&pond)?);
+    /// assert!(park.contains(&pond) && !pond.contains(&park));
+    /// # Ok::<(), Error>(())
+    /// ```
     pub fn contains(&self, other: &UnionFile<'_>) -> bool {
         calls::file_contains(self.bytes, other.bytes) == 1
     }
 
     /// Whether the unions of two files share a leaf. Since 0.2.
+    ///
+    /// # Examples
+    ///
+    /// ```
+    /// # use s2union::*;
+    /// let (park, pond) = ("1".parse::<CellUnion>()?.encode()?, "14".parse::<CellUnion>()?.encode()?);
+    /// assert!(UnionFile::new(&pond)?.intersects(&UnionFile::new(&park)?));
+    /// # Ok::<(), Error>(())
+    /// ```
     pub fn intersects(&self, other: &UnionFile<'_>) -> bool {
         calls::file_intersects(self.bytes, other.bytes) == 1
     }
@@ -90,6 +176,15 @@ impl<'a> UnionFile<'a> {
     /// # Errors
     ///
     /// - [`Error::Memory`]: there is no memory
+    ///
+    /// # Examples
+    ///
+    /// ```
+    /// # use s2union::*;
+    /// let bytes = "04 0c".parse::<CellUnion>()?.encode()?;
+    /// assert_eq!(format!("{:?}", UnionFile::new(&bytes)?.ancestors()?), "[0/0, 0/1, 0/]");
+    /// # Ok::<(), Error>(())
+    /// ```
     pub fn ancestors(&self) -> Result<Vec<CellId>, Error> {
         lists::file_ancestors(self.bytes).map(cells_of)
     }
@@ -99,6 +194,15 @@ impl<'a> UnionFile<'a> {
     /// # Errors
     ///
     /// - [`Error::Memory`]: there is no memory
+    ///
+    /// # Examples
+    ///
+    /// ```
+    /// # use s2union::*;
+    /// let bytes = "04 0c".parse::<CellUnion>()?.encode()?;
+    /// assert_eq!(UnionFile::new(&bytes)?.to_union()?.to_string(), "04 0c");
+    /// # Ok::<(), Error>(())
+    /// ```
     pub fn to_union(&self) -> Result<CellUnion, Error> {
         CellUnion::decode(self.bytes)
     }

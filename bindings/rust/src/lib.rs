@@ -40,6 +40,13 @@ pub use file::UnionFile;
 pub use union::CellUnion;
 
 /// The version of the library, as "1.0.0". Since 0.2.
+///
+/// # Examples
+///
+/// ```
+/// # use s2union::*;
+/// assert_eq!(version().split('.').count(), 3);
+/// ```
 pub fn version() -> String {
     let version = calls::version();
     format!("{}.{}.{}", version / 10_000, version / 100 % 100, version % 100)

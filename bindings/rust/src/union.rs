@@ -34,12 +34,28 @@ pub struct CellUnion {
 
 impl CellUnion {
     /// The empty union. Since 0.2.
+    ///
+    /// # Examples
+    ///
+    /// ```
+    /// # use s2union::*;
+    /// assert!(CellUnion::new().is_empty());
+    /// ```
     pub fn new() -> CellUnion {
         CellUnion::default()
     }
 
     /// The union of cells in any order, repeated, or inside one another. It takes no memory, and gives back what is
     /// more than half as much again as the union needs. Since 0.2.
+    ///
+    /// # Examples
+    ///
+    /// ```
+    /// # use s2union::*;
+    /// let cells = CellId::from_tokens("0c 04 0c 14 1c")?;
+    /// assert_eq!(CellUnion::from_cells(cells).to_string(), "1");
+    /// # Ok::<(), Error>(())
+    /// ```
     pub fn from_cells(cells: Vec<CellId>) -> CellUnion {
         CellUnion::from_ids(numbers_of(cells)).expect("cells are cells")
     }
@@ -71,6 +87,17 @@ impl CellUnion {
     /// # Errors
     ///
     /// - [`Error::NotNormalized`]: the cells are not normalized: [`CellUnion::from_cells`] takes them
+    ///
+    /// # Examples
+    ///
+    /// ```
+    /// # use s2union::*;
+    /// let mut cells = CellId::from_tokens("04 0c")?;
+    /// assert_eq!(CellUnion::from_normalized(cells.clone())?.len(), 2);
+    /// cells.reverse();
+    /// assert_eq!(CellUnion::from_normalized(cells), Err(Error::NotNormalized));
+    /// # Ok::<(), Error>(())
+    /// ```
     pub fn from_normalized(cells: Vec<CellId>) -> Result<CellUnion, Error> {
         if is_normalized(&cells) {
             Ok(CellUnion { cells })
@@ -85,6 +112,16 @@ impl CellUnion {
     ///
     /// - [`Error::Argument`]: the last leaf comes before the first
     /// - [`Error::Memory`]: there is no memory
+    ///
+    /// # Examples
+    ///
+    /// ```
+    /// # use s2union::*;
+    /// let (first, last) = (CellId::from_token("04")?, CellId::from_token("14")?);
+    /// assert_eq!(CellUnion::from_range(first, last)?.to_string(), "04 0c 14");
+    /// assert_eq!(CellUnion::from_range(last, first), Err(Error::Argument));
+    /// # Ok::<(), Error>(())
+    /// ```
     pub fn from_range(first: CellId, last: CellId) -> Result<CellUnion, Error> {
         CellUnion::made(lists::range(first.id(), last.id()))
     }
@@ -95,6 +132,17 @@ impl CellUnion {
     ///
     /// - [`Error::Argument`]: one is no leaf, or `end` comes first
     /// - [`Error::Memory`]: there is no memory
+    ///
+    /// # Examples
+    ///
+    /// ```
+    /// # use s2union::*;
+    /// let begin = CellId::from_token("04")?.range_min();
+    /// let end = CellId::from_token("14")?.range_min();
+    /// assert_eq!(CellUnion::from_begin_end(begin, Some(end))?.to_string(), "04 0c");
+    /// assert_eq!(CellUnion::from_begin_end(end, Some(begin)), Err(Error::Argument));
+    /// # Ok::<(), Error>(())
+    /// ```
     pub fn from_begin_end(begin: CellId, end: Option<CellId>) -> Result<CellUnion, Error> {
         let last = match end {
             Some(end) if end == begin && end.is_leaf() => return Ok(CellUnion::new()),
@@ -110,31 +158,83 @@ impl CellUnion {
     }
 
     /// All leaves. Since 0.2.
+    ///
+    /// # Examples
+    ///
+    /// ```
+    /// # use s2union::*;
+    /// assert_eq!(CellUnion::whole_sphere().to_string(), "1 3 5 7 9 b");
+    /// ```
     pub fn whole_sphere() -> CellUnion {
         (0..6).map(|face| CellId::from_face(face).expect("there are six faces")).collect()
     }
 
     /// How many cells the union has. Since 0.2.
+    ///
+    /// # Examples
+    ///
+    /// ```
+    /// # use s2union::*;
+    /// let half: CellUnion = "04 0c".parse()?;
+    /// assert_eq!(half.len(), 2);
+    /// # Ok::<(), Error>(())
+    /// ```
     pub fn len(&self) -> usize {
         self.cells.len()
     }
 
     /// Whether the union has no leaf. Since 0.2.
+    ///
+    /// # Examples
+    ///
+    /// ```
+    /// # use s2union::*;
+    /// let half: CellUnion = "04 0c".parse()?;
+    /// assert!(!half.is_empty() && (&half - &half).is_empty());
+    /// # Ok::<(), Error>(())
+    /// ```
     pub fn is_empty(&self) -> bool {
         self.cells.is_empty()
     }
 
     /// The cells, in ascending order. Since 0.2.
+    ///
+    /// # Examples
+    ///
+    /// ```
+    /// # use s2union::*;
+    /// let half: CellUnion = "04 0c".parse()?;
+    /// assert_eq!(half.cells(), CellId::from_tokens("04 0c")?);
+    /// # Ok::<(), Error>(())
+    /// ```
     pub fn cells(&self) -> &[CellId] {
         &self.cells
     }
 
     /// The cells themselves. Since 0.2.
+    ///
+    /// # Examples
+    ///
+    /// ```
+    /// # use s2union::*;
+    /// let half: CellUnion = "04 0c".parse()?;
+    /// assert_eq!(half.into_cells(), CellId::from_tokens("04 0c")?);
+    /// # Ok::<(), Error>(())
+    /// ```
     pub fn into_cells(self) -> Vec<CellId> {
         self.cells
     }
 
     /// An iterator over the cells, in ascending order. Since 0.2.
+    ///
+    /// # Examples
+    ///
+    /// ```
+    /// # use s2union::*;
+    /// let half: CellUnion = "04 0c".parse()?;
+    /// assert_eq!(half.iter().map(CellId::leaf_count).sum::<u64>(), half.leaf_count());
+    /// # Ok::<(), Error>(())
+    /// ```
     pub fn iter(&self) -> std::iter::Copied<std::slice::Iter<'_, CellId>> {
         self.cells.iter().copied()
     }
@@ -142,26 +242,74 @@ impl CellUnion {
     // ---- as a set of leaves
 
     /// Whether the union has all leaves of a cell. It takes log n steps. Since 0.2.
+    ///
+    /// # Examples
+    ///
+    /// ```
+    /// # use s2union::*;
+    /// let half: CellUnion = "04 0c".parse()?;
+    /// assert!(half.contains_cell("0401".parse()?) && !half.contains_cell("1".parse()?));
+    /// # Ok::<(), Error>(())
+    /// ```
     pub fn contains_cell(&self, cell: CellId) -> bool {
         calls::contains_cell(self.as_ref(), cell.id()) == 1
     }
 
     /// Whether the union has a leaf of a cell. It takes log n steps. Since 0.2.
+    ///
+    /// # Examples
+    ///
+    /// ```
+    /// # use s2union::*;
+    /// let half: CellUnion = "04 0c".parse()?;
+    /// assert!(half.intersects_cell("1".parse()?) && !half.intersects_cell("14".parse()?));
+    /// # Ok::<(), Error>(())
+    /// ```
     pub fn intersects_cell(&self, cell: CellId) -> bool {
         calls::intersects_cell(self.as_ref(), cell.id()) == 1
     }
 
     /// Whether the union has all leaves of each cell in turn. Cells in ascending order are quickest. Since 0.2.
+    ///
+    /// # Examples
+    ///
+    /// ```
+    /// # use s2union::*;
+    /// let half: CellUnion = "04 0c".parse()?;
+    /// let cells = CellId::from_tokens("0401 1 14")?;
+    /// assert_eq!(half.contains_cells(&cells), [true, false, false]);
+    /// # Ok::<(), Error>(())
+    /// ```
     pub fn contains_cells(&self, cells: &[CellId]) -> Vec<bool> {
         lists::contains_cells(self.as_ref(), numbers(cells))
     }
 
     /// Whether the union has a leaf of each cell in turn. Since 0.2.
+    ///
+    /// # Examples
+    ///
+    /// ```
+    /// # use s2union::*;
+    /// let half: CellUnion = "04 0c".parse()?;
+    /// let cells = CellId::from_tokens("0401 1 14")?;
+    /// assert_eq!(half.intersects_cells(&cells), [true, true, false]);
+    /// # Ok::<(), Error>(())
+    /// ```
     pub fn intersects_cells(&self, cells: &[CellId]) -> Vec<bool> {
         lists::intersects_cells(self.as_ref(), numbers(cells))
     }
 
     /// The cells of the union that share a leaf with a cell. It takes log n steps. Since 0.2.
+    ///
+    /// # Examples
+    ///
+    /// ```
+    /// # use s2union::*;
+    /// let half: CellUnion = "04 0c".parse()?;
+    /// assert_eq!(half.cells_at("1".parse()?), half.cells());
+    /// assert_eq!(half.cells_at("0401".parse()?), CellId::from_tokens("04")?);
+    /// # Ok::<(), Error>(())
+    /// ```
     pub fn cells_at(&self, cell: CellId) -> &[CellId] {
         let (mut first, mut count) = (0, 0);
         calls::cells_at(self.as_ref(), cell.id(), &mut first, &mut count);
@@ -169,26 +317,71 @@ impl CellUnion {
     }
 
     /// Whether the union has all leaves of another one. Since 0.2.
+    ///
+    /// # Examples
+    ///
+    /// ```
+    /// # use s2union::*;
+    /// let (park, pond): (CellUnion, CellUnion) = ("1".parse()?, "14".parse()?);
+    /// assert!(park.contains(&pond) && !pond.contains(&park));
+    /// # Ok::<(), Error>(())
+    /// ```
     pub fn contains(&self, other: &CellUnion) -> bool {
         calls::contains(self.as_ref(), other.as_ref()) == 1
     }
 
     /// Whether two unions share a leaf. Since 0.2.
+    ///
+    /// # Examples
+    ///
+    /// ```
+    /// # use s2union::*;
+    /// let (park, pond): (CellUnion, CellUnion) = ("1".parse()?, "14".parse()?);
+    /// assert!(pond.intersects(&park) && !pond.intersects(&(&park - &pond)));
+    /// # Ok::<(), Error>(())
+    /// ```
     pub fn intersects(&self, other: &CellUnion) -> bool {
         calls::intersects(self.as_ref(), other.as_ref()) == 1
     }
 
     /// `contains`, by the name that sets have for it. Since 0.2.
+    ///
+    /// # Examples
+    ///
+    /// ```
+    /// # use s2union::*;
+    /// let (park, pond): (CellUnion, CellUnion) = ("1".parse()?, "14".parse()?);
+    /// assert!(park.is_superset(&pond) && !pond.is_superset(&park));
+    /// # Ok::<(), Error>(())
+    /// ```
     pub fn is_superset(&self, other: &CellUnion) -> bool {
         self.contains(other)
     }
 
     /// Whether another union has all leaves of this one. Since 0.2.
+    ///
+    /// # Examples
+    ///
+    /// ```
+    /// # use s2union::*;
+    /// let (park, pond): (CellUnion, CellUnion) = ("1".parse()?, "14".parse()?);
+    /// assert!(pond.is_subset(&park) && !park.is_subset(&pond));
+    /// # Ok::<(), Error>(())
+    /// ```
     pub fn is_subset(&self, other: &CellUnion) -> bool {
         other.contains(self)
     }
 
     /// Whether two unions share no leaf. Since 0.2.
+    ///
+    /// # Examples
+    ///
+    /// ```
+    /// # use s2union::*;
+    /// let (park, pond): (CellUnion, CellUnion) = ("1".parse()?, "14".parse()?);
+    /// assert!(pond.is_disjoint(&(&park - &pond)) && !pond.is_disjoint(&park));
+    /// # Ok::<(), Error>(())
+    /// ```
     pub fn is_disjoint(&self, other: &CellUnion) -> bool {
         !self.intersects(other)
     }
@@ -198,6 +391,15 @@ impl CellUnion {
     /// # Errors
     ///
     /// - [`Error::Memory`]: there is no memory
+    ///
+    /// # Examples
+    ///
+    /// ```
+    /// # use s2union::*;
+    /// let (lawn, pond): (CellUnion, CellUnion) = ("04 0c 1c".parse()?, "14".parse()?);
+    /// assert_eq!(lawn.union(&pond)?.to_string(), "1");
+    /// # Ok::<(), Error>(())
+    /// ```
     pub fn union(&self, other: &CellUnion) -> Result<CellUnion, Error> {
         CellUnion::made(lists::union(self.as_ref(), other.as_ref()))
     }
@@ -237,6 +439,15 @@ impl CellUnion {
     /// # Errors
     ///
     /// - [`Error::Memory`]: there is no memory
+    ///
+    /// # Examples
+    ///
+    /// ```
+    /// # use s2union::*;
+    /// let (park, pond): (CellUnion, CellUnion) = ("1".parse()?, "14".parse()?);
+    /// assert_eq!(park.intersection(&pond)?, pond);
+    /// # Ok::<(), Error>(())
+    /// ```
     pub fn intersection(&self, other: &CellUnion) -> Result<CellUnion, Error> {
         CellUnion::made(lists::intersection(self.as_ref(), other.as_ref()))
     }
@@ -246,6 +457,16 @@ impl CellUnion {
     /// # Errors
     ///
     /// - [`Error::Memory`]: there is no memory
+    ///
+    /// # Examples
+    ///
+    /// ```
+    /// # use s2union::*;
+    /// let half: CellUnion = "04 0c".parse()?;
+    /// assert_eq!(half.intersection_with_cell("1".parse()?)?, half);
+    /// assert_eq!(half.intersection_with_cell("0401".parse()?)?.to_string(), "0401");
+    /// # Ok::<(), Error>(())
+    /// ```
     pub fn intersection_with_cell(&self, cell: CellId) -> Result<CellUnion, Error> {
         let found = if self.contains_cell(cell) { std::slice::from_ref(&cell) } else { self.cells_at(cell) };
         let mut cells = lists::roomy(found.len())?;
@@ -258,6 +479,15 @@ impl CellUnion {
     /// # Errors
     ///
     /// - [`Error::Memory`]: there is no memory
+    ///
+    /// # Examples
+    ///
+    /// ```
+    /// # use s2union::*;
+    /// let (park, pond): (CellUnion, CellUnion) = ("1".parse()?, "14".parse()?);
+    /// assert_eq!(park.difference(&pond)?.to_string(), "04 0c 1c");
+    /// # Ok::<(), Error>(())
+    /// ```
     pub fn difference(&self, other: &CellUnion) -> Result<CellUnion, Error> {
         CellUnion::made(lists::difference(self.as_ref(), other.as_ref()))
     }
@@ -267,6 +497,15 @@ impl CellUnion {
     /// # Errors
     ///
     /// - [`Error::Memory`]: there is no memory
+    ///
+    /// # Examples
+    ///
+    /// ```
+    /// # use s2union::*;
+    /// let (x, y): (CellUnion, CellUnion) = ("04 0c".parse()?, "0c 14".parse()?);
+    /// assert_eq!(x.symmetric_difference(&y)?.to_string(), "04 14");
+    /// # Ok::<(), Error>(())
+    /// ```
     pub fn symmetric_difference(&self, other: &CellUnion) -> Result<CellUnion, Error> {
         CellUnion::made(lists::symmetric_difference(self.as_ref(), other.as_ref()))
     }
@@ -292,6 +531,15 @@ impl CellUnion {
     }
 
     /// How many leaves the union has, of 6 * 4^30. Since 0.2.
+    ///
+    /// # Examples
+    ///
+    /// ```
+    /// # use s2union::*;
+    /// let half: CellUnion = "04 0c".parse()?;
+    /// assert_eq!((half.leaf_count(), CellUnion::whole_sphere().leaf_count()), (1 << 59, 6 << 60));
+    /// # Ok::<(), Error>(())
+    /// ```
     pub fn leaf_count(&self) -> u64 {
         calls::leaf_count(self.as_ref())
     }
@@ -330,6 +578,16 @@ impl CellUnion {
     /// # Errors
     ///
     /// - [`Error::Argument`]: the level is above 30, or the modulus is not 1 to 3
+    ///
+    /// # Examples
+    ///
+    /// ```
+    /// # use s2union::*;
+    /// let face: CellUnion = "1".parse()?;
+    /// assert_eq!((face.denormalized_len(1, 1)?, face.denormalized_len(30, 1)?), (4, 1 << 60));
+    /// assert_eq!(face.denormalized_len(1, 4), Err(Error::Argument));
+    /// # Ok::<(), Error>(())
+    /// ```
     pub fn denormalized_len(&self, min_level: u32, modulus: u32) -> Result<u64, Error> {
         let mut len = 0;
         Error::of(calls::denormalised_len(self.as_ref(), min_level, modulus, &mut len), 0)?;
@@ -359,6 +617,15 @@ impl CellUnion {
     /// # Errors
     ///
     /// - [`Error::Memory`]: there is no memory
+    ///
+    /// # Examples
+    ///
+    /// ```
+    /// # use s2union::*;
+    /// let pond: CellUnion = "14".parse()?;
+    /// assert_eq!(pond.encode()?, [1, 1, 0, 0, 0, 0, 0, 0, 0, 0, 0, 0, 0, 0, 0, 0, 0x14]);
+    /// # Ok::<(), Error>(())
+    /// ```
     pub fn encode(&self) -> Result<Vec<u8>, Error> {
         lists::encode(self.as_ref())
     }
