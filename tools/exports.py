@@ -33,6 +33,10 @@ RUSTS = re.compile(r"((?:^ *///.*\n)*)(?:^ *#\[.*\n)*^ *pub (?:const )?fn (\w+)(
                    r"(?: |\n *where\n(?:.*,\n)+ *)\{\n([\s\S]*?)^(?:    )?\}$", re.M)
 GOES = re.compile(r"((?:^//.*\n)*)^func (?:\((\w+) \*?(\w+)\) )?([A-Z]\w*)(?:\[.*?\])?\(.*\{(?:.*\}|[\s\S]*?^\})$",
                   re.M)
+CPP = re.compile(r"((?:^  ///.*\n)*)(?:^  template <.*>\n)?^  (?!static_assert|template|///?|\})(?:\S.*? )?[*&]*"
+                 r"(operator\S+?|\w+)\(", re.M)
+CPP_OWN = re.compile(r"^namespace internal \{[\s\S]*?^\}  // namespace internal$|^ private:[\s\S]*?^\};|"
+                     r"^/// @cond[\s\S]*?^/// @endcond$", re.M)
 SINCE = r"Since(?: |\n *//+ )\d"
 # What can't come: a text of 2^64 bytes, and what is wrong in a list that the language itself has made.
 NEVER = {("Python: tokens", "MANY"), ("Python: CellUnion.of", "ARGUMENT"), ("Python: CellUnion.tokens", "MANY"),
@@ -62,6 +66,16 @@ def of_header(found, statuses):
             *(f"the argument {word}, which it has not" for word in said if word not in names),
             *(f"the status {word}, which isn't one" for word in refused if word not in statuses),
             *(tag for tag in ("@return", "@since", f"@snippet examples.c s2u_{name}\n") if tag not in comment)]
+
+
+def of_cpp(text, examples):
+    for comment, member in CPP.findall(CPP_OWN.sub("", text)):
+        example = re.search(r"@snippet examples\.cc (.*)\n", comment)
+        is_run = example and examples.count(f"// [{example[1]}]\n") == 2
+        yield f"C++: {member}", [
+            *([] if re.match(r"  /// [A-Z]", comment) else ["a sentence"]),
+            *([] if "@since" in comment else ["@since"]),
+            *([] if is_run else ["an example of examples.cc"])]
 
 
 def errors(found, calls, names, comment, export, is_checked=False):
@@ -158,6 +172,9 @@ def lacking(header, statuses, sources):
     """Each export, with what its text lacks. `sources` answers the files of a language, each with its name and text."""
     found = facts(header)
     yield from of_header(found, statuses)
+    examples = "\n".join(text for _, text in sources("cpp examples"))
+    for _, text in sources("cpp"):
+        yield from of_cpp(text, examples)
     for _, text in sources("python"):
         yield from of_python(found, text)
     for name, text in sources("java"):

@@ -65,8 +65,10 @@ inline namespace aborts {
 class Error : public std::runtime_error {
  public:
   /// The refusal of a status below 0, with its text. @since 0.1
+  /// @snippet examples.cc Error
   explicit Error(int32_t status) : std::runtime_error(s2u_status_text(status)), status_(status) {}
   /// The status of s2union.h, below 0. @since 0.1
+  /// @snippet examples.cc Error.status
   int32_t status() const noexcept { return status_; }
 
  private:
@@ -148,13 +150,16 @@ class CellUnionOf {
   using iterator = const_iterator;                                  ///< the same
 
   /// The empty union. @since 0.1
+  /// @snippet examples.cc CellUnion
   CellUnionOf() = default;
 
   /// The union of these cells, in any order, repeated, or inside one another. S2U_NO_CELL. @since 0.1
+  /// @snippet examples.cc CellUnion of cells
   explicit CellUnionOf(std::vector<Id>&& cell_ids, int32_t* status = nullptr) { Init(std::move(cell_ids), status); }
 
   /// The same from a copy of the cells, which may be of another type: numbers where these are a class, or the other way
   /// round. S2U_NO_CELL, S2U_MEMORY. @since 0.1
+  /// @snippet examples.cc CellUnion of a copy
   template <class Other, class = std::enable_if_t<internal::is_cell<Other>>>
   explicit CellUnionOf(const std::vector<Other>& cell_ids, int32_t* status = nullptr) {
     Init(cell_ids, status);
@@ -162,12 +167,14 @@ class CellUnionOf {
 
   /// The union of the cells of another class, such as S2CellUnion; they need not be normalized. S2U_NO_CELL,
   /// S2U_MEMORY. @since 0.1
+  /// @snippet examples.cc CellUnion of another class
   template <class Theirs, class = std::enable_if_t<internal::is_cell<typename internal::ListOf<Theirs>::value_type>>>
   CellUnionOf(const Theirs& theirs, int32_t* status = nullptr) {
     Take(theirs.cell_ids(), status);
   }
 
   /// The same union in another class, such as S2CellUnion. @since 0.1
+  /// @snippet examples.cc operator Theirs
   template <class Theirs, class = decltype(Theirs::FromNormalized(std::declval<internal::ListOf<Theirs>>()))>
   explicit operator Theirs() const {
     internal::ListOf<Theirs> cells;
@@ -177,15 +184,18 @@ class CellUnionOf {
   }
 
   /// All leaves. S2U_MEMORY. @since 0.1
+  /// @snippet examples.cc WholeSphere
   static CellUnionOf WholeSphere(int32_t* status = nullptr) { return Range(kFirstFace, kLastFace, status); }
 
   /// The union whose cells these are. S2U_NO_UNION if they are not normalized. n steps. @since 0.1
+  /// @snippet examples.cc FromNormalized
   static CellUnionOf FromNormalized(std::vector<Id>&& cell_ids, int32_t* status = nullptr) {
     CellUnionOf made;
     if (internal::succeeded(UnionStatus(cell_ids), status)) made.cell_ids_ = std::move(cell_ids);
     return made;
   }
   /// The same from a copy. S2U_NO_UNION, S2U_MEMORY. @since 0.1
+  /// @snippet examples.cc FromNormalized of a copy
   static CellUnionOf FromNormalized(const std::vector<Id>& cell_ids, int32_t* status = nullptr) {
     CellUnionOf made;
     int32_t found = UnionStatus(cell_ids);
@@ -196,6 +206,7 @@ class CellUnionOf {
 
   /// The leaves from the first to the last, both included. S2U_NO_CELL, S2U_MEMORY. S2U_ARGUMENT: one is no leaf, or
   /// the last comes before the first. @since 0.1
+  /// @snippet examples.cc FromMinMax
   static CellUnionOf FromMinMax(Id min_id, Id max_id, int32_t* status = nullptr) {
     uint64_t first = internal::number_of(min_id), last = internal::number_of(max_id);
     if (!internal::succeeded(LeafStatus(first), status) || !internal::succeeded(LeafStatus(last), status)) return {};
@@ -205,6 +216,7 @@ class CellUnionOf {
   /// The leaves from `begin` up to `end`, which is not one of them: a leaf, or S2CellId::End(30), after the last leaf.
   /// Empty if both are the same. S2U_NO_CELL, S2U_MEMORY. S2U_ARGUMENT: one is no leaf and not the end, or `end` comes
   /// first. @since 0.1
+  /// @snippet examples.cc FromBeginEnd
   static CellUnionOf FromBeginEnd(Id begin, Id end, int32_t* status = nullptr) {
     uint64_t first = internal::number_of(begin), after = internal::number_of(end);
     bool begins_at_end = first == kLeafEnd, ends_at_end = after == kLeafEnd;
@@ -219,71 +231,93 @@ class CellUnionOf {
 
   /// Becomes the union of these cells, as the constructor makes it; after a refusal it is as it was. S2U_NO_CELL.
   /// @since 0.1
+  /// @snippet examples.cc Init
   void Init(std::vector<Id>&& cell_ids, int32_t* status = nullptr) {
     int32_t found = Normalized(&cell_ids);
     if (internal::succeeded(found, status)) cell_ids_ = std::move(cell_ids);
   }
   /// The same from a copy of the cells. S2U_NO_CELL, S2U_MEMORY. @since 0.1
+  /// @snippet examples.cc Init of a copy
   template <class Other, class = std::enable_if_t<internal::is_cell<Other>>>
   void Init(const std::vector<Other>& cell_ids, int32_t* status = nullptr) {
     Take(cell_ids, status);
   }
   /// Becomes what FromMinMax makes; after a refusal it is as it was. S2U_NO_CELL, S2U_ARGUMENT, S2U_MEMORY. @since 0.1
+  /// @snippet examples.cc InitFromMinMax
   void InitFromMinMax(Id min_id, Id max_id, int32_t* status = nullptr) {
     Become([&](int32_t* outcome) { return FromMinMax(min_id, max_id, outcome); }, status);
   }
   /// Becomes what FromBeginEnd makes; after a refusal it is as it was. S2U_NO_CELL, S2U_ARGUMENT, S2U_MEMORY.
   /// @since 0.1
+  /// @snippet examples.cc InitFromBeginEnd
   void InitFromBeginEnd(Id begin, Id end, int32_t* status = nullptr) {
     Become([&](int32_t* outcome) { return FromBeginEnd(begin, end, outcome); }, status);
   }
 
   /// Makes the union empty, and gives its memory back. @since 0.1
+  /// @snippet examples.cc Clear
   void Clear() { std::vector<Id>().swap(cell_ids_); }
   /// The cells themselves, moved out; the union is then empty. @since 0.1
+  /// @snippet examples.cc Release
   std::vector<Id> Release() { return std::exchange(cell_ids_, {}); }
   /// Gives memory back, by the vector's own shrink_to_fit, if there is room for more than `excess` further cells.
   /// @since 0.1
+  /// @snippet examples.cc Pack
   void Pack(size_t excess = 0) {
     if (cell_ids_.capacity() - size() > excess) cell_ids_.shrink_to_fit();
   }
   /// Exchanges two unions, without a copy. @since 0.1
+  /// @snippet examples.cc swap
   void swap(CellUnionOf& other) noexcept { cell_ids_.swap(other.cell_ids_); }
   /// The same. @since 0.1
+  /// @snippet examples.cc swap
   friend void swap(CellUnionOf& x, CellUnionOf& y) noexcept { x.swap(y); }
 
   // ---- the cells, in ascending order
 
   /// How many cells the union has, as an int: right up to 2^31 - 1 cells, 16 GB; above that use size(). @since 0.1
+  /// @snippet examples.cc num_cells
   int num_cells() const { return static_cast<int>(size()); }
   /// The cell at a place, which must be below size(): it is not checked. @since 0.1
+  /// @snippet examples.cc cell_id
   Id cell_id(size_t place) const { return cell_ids_[place]; }
   /// How many cells the union has. @since 0.1
+  /// @snippet examples.cc size
   size_t size() const { return cell_ids_.size(); }
   /// Whether the union has no cells, and so no leaves. @since 0.1
+  /// @snippet examples.cc empty
   bool empty() const { return cell_ids_.empty(); }
   /// The cell at a place, which must be below size(): it is not checked. @since 0.1
+  /// @snippet examples.cc operator[]
   Id operator[](size_t place) const { return cell_ids_[place]; }
   /// The first cell. Iterators stay good until the union is changed. @since 0.1
+  /// @snippet examples.cc begin
   const_iterator begin() const { return cell_ids_.begin(); }
   /// After the last cell. @since 0.1
+  /// @snippet examples.cc begin
   const_iterator end() const { return cell_ids_.end(); }
   /// The cells, as long as the union is not changed. @since 0.1
+  /// @snippet examples.cc cell_ids
   const std::vector<Id>& cell_ids() const { return cell_ids_; }
   /// The cells as the calls of s2union.h take them, which are questions about many cells at once and the like.
   /// @since 0.1
+  /// @snippet examples.cc ids
   const uint64_t* ids() const { return Numbers(cell_ids_); }
 
   /// Always true. See the static one for lists. @since 0.1
+  /// @snippet examples.cc IsValid
   bool IsValid() const { return true; }
   /// Always true. See the static one for lists. @since 0.1
+  /// @snippet examples.cc IsNormalized
   bool IsNormalized() const { return true; }
   /// Does nothing. See the static one for lists. @since 0.1
+  /// @snippet examples.cc Normalize
   void Normalize() {}
 
   /// Replaces `output` by the cells, each cut to the least level that is not coarser than its own and is `min_level`,
   /// 0 to 30, or deeper than it by a multiple of `level_mod`, which is 1 to 3; to leaves if there is none. A face has
   /// 4^30 leaves. After a refusal `output` is as it was. S2U_ARGUMENT, S2U_MEMORY. @since 0.1
+  /// @snippet examples.cc Denormalize
   void Denormalize(int min_level, int level_mod, std::vector<Id>* output, int32_t* status = nullptr) const {
     Cut(cell_ids_, min_level, level_mod, output, status);
   }
@@ -291,35 +325,43 @@ class CellUnionOf {
   // ---- as a set of leaves
 
   /// Whether all leaves of the cell are in the union. S2U_NO_CELL. log n steps. @since 0.1
+  /// @snippet examples.cc Contains a cell
   bool Contains(Id id, int32_t* status = nullptr) const {
     int32_t found = s2u_contains_cell(ids(), size(), internal::number_of(id));
     return internal::succeeded(found, status) && found == 1;
   }
   /// Whether the union has a leaf of the cell. S2U_NO_CELL. log n steps. @since 0.1
+  /// @snippet examples.cc Intersects a cell
   bool Intersects(Id id, int32_t* status = nullptr) const {
     int32_t found = s2u_intersects_cell(ids(), size(), internal::number_of(id));
     return internal::succeeded(found, status) && found == 1;
   }
   /// Whether all leaves of each cell in turn are in the union. Cells in ascending order are quickest. S2U_NO_CELL,
   /// S2U_MEMORY. @since 1.1
+  /// @snippet examples.cc ContainsCells
   std::vector<bool> ContainsCells(const std::vector<Id>& cells, int32_t* status = nullptr) const {
     return AboutEach(s2u_contains_cells, cells, status);
   }
   /// Whether the union has a leaf of each cell in turn. S2U_NO_CELL, S2U_MEMORY. @since 1.1
+  /// @snippet examples.cc IntersectsCells
   std::vector<bool> IntersectsCells(const std::vector<Id>& cells, int32_t* status = nullptr) const {
     return AboutEach(s2u_intersects_cells, cells, status);
   }
   /// Whether all leaves of y are in the union. @since 0.1
+  /// @snippet examples.cc Contains
   bool Contains(const CellUnionOf& y) const { return s2u_contains(ids(), size(), y.ids(), y.size()) == 1; }
   /// Whether the two share a leaf. @since 0.1
+  /// @snippet examples.cc Intersects
   bool Intersects(const CellUnionOf& y) const { return s2u_intersects(ids(), size(), y.ids(), y.size()) == 1; }
 
   /// The leaves of both. S2U_MEMORY. @since 0.1
+  /// @snippet examples.cc Union
   CellUnionOf Union(const CellUnionOf& y, int32_t* status = nullptr) const {
     return Both(s2u_union, size() + y.size(), y, status);
   }
   /// The leaves of any of many unions, which are merged in pairs. Takes memory for four times their cells. S2U_MEMORY.
   /// @since 1.0
+  /// @snippet examples.cc UnionOf
   static CellUnionOf UnionOf(const std::vector<CellUnionOf>& unions, int32_t* status = nullptr) {
     CellUnionOf made;
     std::vector<uint64_t> ids, work;
@@ -343,11 +385,13 @@ class CellUnionOf {
     return made;
   }
   /// The leaves that both have. S2U_MEMORY. @since 0.1
+  /// @snippet examples.cc Intersection
   CellUnionOf Intersection(const CellUnionOf& y, int32_t* status = nullptr) const {
     return Both(s2u_intersection, RoomForShared(cell_ids_, y.cell_ids_), y, status);
   }
   /// The leaves of the cell that the union has. S2U_NO_CELL. log n steps, and one for each cell of the result.
   /// @since 0.1
+  /// @snippet examples.cc Intersection with a cell
   CellUnionOf Intersection(Id id, int32_t* status = nullptr) const {
     CellUnionOf made;
     size_t first = 0, count = 0;
@@ -363,15 +407,18 @@ class CellUnionOf {
     return made;
   }
   /// The leaves that y doesn't have. S2U_MEMORY. @since 0.1
+  /// @snippet examples.cc Difference
   CellUnionOf Difference(const CellUnionOf& y, int32_t* status = nullptr) const {
     return Both(s2u_difference, size() + std::min(size(), y.size()) + S2U_MOST_DIFFERENCE(0, 1), y, status);
   }
 
   /// The leaves that exactly one of them has. S2U_MEMORY. @since 1.1
+  /// @snippet examples.cc SymmetricDifference
   CellUnionOf SymmetricDifference(const CellUnionOf& y, int32_t* status = nullptr) const {
     return Both(s2u_symmetric_difference, size() + y.size() + S2U_MOST_COMPLEMENT(1), y, status);
   }
   /// The leaves of the sphere that the union doesn't have. S2U_MEMORY. @since 1.1
+  /// @snippet examples.cc Complement
   CellUnionOf Complement(int32_t* status = nullptr) const {
     return Made(2 * size() + S2U_MOST_COMPLEMENT(1), status, [&](uint64_t* out, size_t room, size_t* len) {
       return s2u_complement(ids(), size(), out, room, len);
@@ -379,9 +426,11 @@ class CellUnionOf {
   }
 
   /// How many leaves the union has, of 6 * 4^30. @since 0.1
+  /// @snippet examples.cc LeafCellsCovered
   uint64_t LeafCellsCovered() const { return s2u_leaf_count(ids(), size()); }
 
   /// The cells and all their ancestors, ascending, each once: the keys of an index. S2U_MEMORY. @since 1.1
+  /// @snippet examples.cc Ancestors
   std::vector<Id> Ancestors(int32_t* status = nullptr) const {
     return Made(2 * size() + 30, status, [&](uint64_t* out, size_t room, size_t* len) {
       return s2u_ancestors(ids(), size(), out, room, len);
@@ -393,34 +442,40 @@ class CellUnionOf {
 
   /// The cells of the level that share a leaf with the union. The level is 0 to 30.
   /// S2U_ARGUMENT, S2U_MANY, S2U_MEMORY. @since 1.1
+  /// @snippet examples.cc Covering
   CellUnionOf Covering(int level, size_t most = S2U_MOST_COVERING, int32_t* status = nullptr) const {
     return Covered(s2u_outer_of, level, most, status);
   }
   /// The cells of the level that lie in the union. The level is 0 to 30.
   /// S2U_ARGUMENT, S2U_MANY, S2U_MEMORY. @since 1.1
+  /// @snippet examples.cc InteriorCovering
   CellUnionOf InteriorCovering(int level, size_t most = S2U_MOST_COVERING, int32_t* status = nullptr) const {
     return Covered(s2u_inner_of, level, most, status);
   }
   /// The cells of the level that share a leaf with what the union and a rectangle share. The level is 0 to 30.
   /// S2U_ARGUMENT, S2U_MANY, S2U_MEMORY. @since 1.1
+  /// @snippet examples.cc CoveringIn
   CellUnionOf CoveringIn(const s2u_rect& rect, int level, size_t most = S2U_MOST_COVERING,
                          int32_t* status = nullptr) const {
     return CoveredIn(s2u_outer_in, rect, level, most, status);
   }
   /// The cells of the level that lie in both. The level is 0 to 30.
   /// S2U_ARGUMENT, S2U_MANY, S2U_MEMORY. @since 1.1
+  /// @snippet examples.cc InteriorCoveringIn
   CellUnionOf InteriorCoveringIn(const s2u_rect& rect, int level, size_t most = S2U_MOST_COVERING,
                                  int32_t* status = nullptr) const {
     return CoveredIn(s2u_inner_in, rect, level, most, status);
   }
   /// The cells of the level that share a leaf with a rectangle. The level is 0 to 30.
   /// S2U_ARGUMENT, S2U_MANY, S2U_MEMORY. @since 1.1
+  /// @snippet examples.cc CoveringOf
   static CellUnionOf CoveringOf(const s2u_rect& rect, int level, size_t most = S2U_MOST_COVERING,
                                 int32_t* status = nullptr) {
     return CoveredRect(s2u_outer, rect, level, most, status);
   }
   /// The cells of the level that lie in a rectangle. The level is 0 to 30.
   /// S2U_ARGUMENT, S2U_MANY, S2U_MEMORY. @since 1.1
+  /// @snippet examples.cc InteriorCoveringOf
   static CellUnionOf InteriorCoveringOf(const s2u_rect& rect, int level, size_t most = S2U_MOST_COVERING,
                                         int32_t* status = nullptr) {
     return CoveredRect(s2u_inner, rect, level, most, status);
@@ -429,14 +484,18 @@ class CellUnionOf {
   // ---- equality of sets, and the order of their lists, element by element and then by length
 
   /// Whether both have the same leaves, and so the same list. @since 0.1
+  /// @snippet examples.cc operator==
   friend bool operator==(const CellUnionOf& x, const CellUnionOf& y) { return x.Order(y) == 0; }
   /// Whether one has a leaf that the other hasn't. @since 0.1
+  /// @snippet examples.cc operator==
   friend bool operator!=(const CellUnionOf& x, const CellUnionOf& y) { return x.Order(y) != 0; }
 #if defined(__cpp_impl_three_way_comparison) && defined(__cpp_lib_three_way_comparison)
   /// The order of lists, element by element and then by length, for maps and for sorting. @since 1.1
+  /// @snippet examples.cc order
   friend std::strong_ordering operator<=>(const CellUnionOf& x, const CellUnionOf& y) { return x.Order(y) <=> 0; }
 #else
   /// Whether x comes first in the order of lists, element by element and then by length. @since 1.1
+  /// @snippet examples.cc order
   friend bool operator<(const CellUnionOf& x, const CellUnionOf& y) { return x.Order(y) < 0; }
 #endif
 
@@ -444,6 +503,7 @@ class CellUnionOf {
 
   /// Appends the union file to what S2's Encoder, a std::string or a std::vector of bytes has. After a refusal `out` is
   /// as it was. S2U_MEMORY. @since 0.1
+  /// @snippet examples.cc Encode
   template <class Out>
   void Encode(Out* out, int32_t* status = nullptr) const {
     if constexpr (internal::is_encoder<Out>) {
@@ -459,6 +519,7 @@ class CellUnionOf {
 
   /// Becomes the union in a file, whose cells may be in any order. If it is refused, which is not thrown unless memory
   /// ran out, the answer is false and the union as it was. S2U_FILE_*, S2U_MEMORY. @since 0.1
+  /// @snippet examples.cc Decode
   bool Decode(const void* bytes, size_t n, int32_t* status = nullptr) {
     std::vector<Id> cells;
     int32_t found = Listed(S2U_MOST_IN_FILE(n), &cells, [&](uint64_t* out, size_t room, size_t* len) {
@@ -471,6 +532,7 @@ class CellUnionOf {
 
   /// The same from S2's Decoder, which goes on after the file if that is taken, and otherwise stays where it is.
   /// @since 0.1
+  /// @snippet examples.cc Decode of S2
   template <class Decoder, class = decltype(std::declval<Decoder&>().avail())>
   bool Decode(Decoder* decoder, int32_t* status = nullptr) {
     size_t size = decoder->avail();
@@ -486,6 +548,7 @@ class CellUnionOf {
   }
 
   /// S2's text: the number of cells, and the tokens of at most 500. @since 0.1
+  /// @snippet examples.cc ToString
   std::string ToString() const {
     constexpr size_t kMostShown = 500;
     std::string text = "Size:" + std::to_string(size()) + " S2CellIds:";
@@ -498,6 +561,7 @@ class CellUnionOf {
     return size() > kMostShown ? text + ",..." : text;
   }
   /// The tokens of all cells, with blanks between them. S2U_MEMORY. @since 1.1
+  /// @snippet examples.cc Tokens
   std::string Tokens(int32_t* status = nullptr) const {
     std::string text;
     size_t length = 0;
@@ -509,6 +573,7 @@ class CellUnionOf {
   }
   /// The union of the cells that a text names: words with blanks, tabs, line ends or commas between them, each a token
   /// or a debug text. S2U_NO_CELL, S2U_MEMORY. @since 1.1
+  /// @snippet examples.cc FromTokens
   static CellUnionOf FromTokens(std::string_view text, int32_t* status = nullptr) {
     CellUnionOf made;
     std::vector<Id> cells;
@@ -519,26 +584,31 @@ class CellUnionOf {
     return made;
   }
   /// Writes ToString(). @since 0.1
+  /// @snippet examples.cc operator<<
   friend std::ostream& operator<<(std::ostream& out, const CellUnionOf& x) { return out << x.ToString(); }
 
   // ---- lists of cells, in memory of the caller's own
 
   /// Whether these are the cells of a union. n steps. @since 0.1
+  /// @snippet examples.cc IsNormalized of a list
   static bool IsNormalized(const std::vector<Id>& cell_ids) {
     return s2u_is_union(Numbers(cell_ids), cell_ids.size()) == 1;
   }
   /// Normalizes a list of cells in place. S2U_NO_CELL, and then it is as it was. @since 0.1
+  /// @snippet examples.cc Normalize of a list
   static void Normalize(std::vector<Id>* cell_ids, int32_t* status = nullptr) {
     internal::succeeded(Normalized(cell_ids), status);
   }
   /// As the one of a union, which `in` must be: it is checked, n steps. It replaces `out`. S2U_NO_UNION, S2U_ARGUMENT,
   /// S2U_MEMORY. @since 0.1
+  /// @snippet examples.cc Denormalize of a list
   static void Denormalize(const std::vector<Id>& in, int min_level, int level_mod, std::vector<Id>* out,
                           int32_t* status = nullptr) {
     if (internal::succeeded(UnionStatus(in), status)) Cut(in, min_level, level_mod, out, status);
   }
   /// Replaces `out` by the leaves that two unions share. Both lists are checked, a step for each cell. S2U_NO_UNION,
   /// S2U_MEMORY. @since 0.1
+  /// @snippet examples.cc GetIntersection
   static void GetIntersection(const std::vector<Id>& x, const std::vector<Id>& y, std::vector<Id>* out,
                               int32_t* status = nullptr) {
     if (!internal::succeeded(UnionStatus(x), status) || !internal::succeeded(UnionStatus(y), status)) return;
@@ -708,6 +778,7 @@ class UnionFileOf {
  public:
   /// Checks the bytes once: they must be those that Encode makes of some union. S2U_FILE_*; S2U_NO_UNION: Decode takes
   /// it. After a refusal, which is thrown or reported, it is the file of the empty union. @since 1.1
+  /// @snippet examples.cc UnionFile
   UnionFileOf(const void* bytes, size_t n, int32_t* status = nullptr) {
     const auto* at = static_cast<const uint8_t*>(bytes);
     int32_t found = s2u_file_check(at, n);
@@ -717,16 +788,20 @@ class UnionFileOf {
   }
 
   /// How many cells the union has. @since 1.1
+  /// @snippet examples.cc UnionFile.size
   size_t size() const {
     uint64_t count = 0;
     s2u_file_count(bytes_, n_, &count);
     return static_cast<size_t>(count);
   }
   /// Whether the union has no cells, and so no leaves. @since 1.1
+  /// @snippet examples.cc UnionFile.empty
   bool empty() const { return size() == 0; }
   /// How many cells the union has, as an int: right up to 2^31 - 1 cells; above that use size(). @since 1.1
+  /// @snippet examples.cc UnionFile.num_cells
   int num_cells() const { return static_cast<int>(size()); }
   /// The cell at a place, in ascending order. 0: there is none. @since 1.1
+  /// @snippet examples.cc UnionFile.cell_id
   Id cell_id(size_t place) const {
     uint64_t number = 0;
     s2u_file_cell(bytes_, n_, place, &number);
@@ -734,21 +809,26 @@ class UnionFileOf {
   }
 
   /// Whether all leaves of the cell are in the union. S2U_NO_CELL. log n steps. @since 1.1
+  /// @snippet examples.cc UnionFile.Contains a cell
   bool Contains(Id id, int32_t* status = nullptr) const {
     int32_t found = s2u_file_contains_cell(bytes_, n_, internal::number_of(id));
     return internal::succeeded(found, status) && found == 1;
   }
   /// Whether the union has a leaf of the cell. S2U_NO_CELL. log n steps. @since 1.1
+  /// @snippet examples.cc UnionFile.Intersects a cell
   bool Intersects(Id id, int32_t* status = nullptr) const {
     int32_t found = s2u_file_intersects_cell(bytes_, n_, internal::number_of(id));
     return internal::succeeded(found, status) && found == 1;
   }
   /// Whether all leaves of the union in the other file are in this one. @since 1.1
+  /// @snippet examples.cc UnionFile.Contains
   bool Contains(const UnionFileOf& y) const { return s2u_file_contains(bytes_, n_, y.bytes_, y.n_) == 1; }
   /// Whether the two share a leaf. @since 1.1
+  /// @snippet examples.cc UnionFile.Intersects
   bool Intersects(const UnionFileOf& y) const { return s2u_file_intersects(bytes_, n_, y.bytes_, y.n_) == 1; }
 
   /// How many leaves the union has, of 6 * 4^30. @since 1.1
+  /// @snippet examples.cc UnionFile.LeafCellsCovered
   uint64_t LeafCellsCovered() const {
     uint64_t leaves = 0;
     s2u_file_leaf_count(bytes_, n_, &leaves);
@@ -756,6 +836,7 @@ class UnionFileOf {
   }
 
   /// The cells and all their ancestors, as those of the union. S2U_MEMORY. @since 1.1
+  /// @snippet examples.cc UnionFile.Ancestors
   std::vector<Id> Ancestors(int32_t* status = nullptr) const {
     return CellUnionOf<Id>::Made(2 * size() + 30, status, [&](uint64_t* out, size_t room, size_t* len) {
       return s2u_file_ancestors(bytes_, n_, out, room, len);
@@ -763,6 +844,7 @@ class UnionFileOf {
   }
 
   /// The union itself, copied. S2U_MEMORY. @since 1.1
+  /// @snippet examples.cc UnionFile.Union
   CellUnionOf<Id> Union(int32_t* status = nullptr) const {
     CellUnionOf<Id> made;
     made.Decode(static_cast<const void*>(bytes_), n_, status);

@@ -1,5 +1,6 @@
 /* The header for C++: what its unions answer, with numbers for cells and with a class for them, and how each refusal is
  * reported: by an exception, and by a status. Linked with libs2union_noheap.a, so that memory can run out. */
+#include "as_s2.h"
 #include "tests.h"
 #include <s2union.hpp>
 #include <set>
@@ -29,57 +30,11 @@ void operator delete(void* at) noexcept { free(at); }
 void operator delete(void* at, size_t) noexcept { free(at); }
 #endif
 
-/// A cell as S2CellId is one: a class of 64 bits, not aligned, that is made from a number only where that is written.
-class __attribute__((packed)) Cell {
- public:
-  Cell() : id_(0) {}
-  explicit Cell(uint64_t id) : id_(id) {}
-  uint64_t id() const { return id_; }
-  friend bool operator==(Cell x, Cell y) { return x.id_ == y.id_; }
-
- private:
-  uint64_t id_;
-};
-
-/// A class of unions as S2CellUnion is one. Its cells need not be normalized.
-class Theirs {
- public:
-  static Theirs FromNormalized(std::vector<Cell> cells) { return Theirs(std::move(cells)); }
-  explicit Theirs(std::vector<Cell> cells) : cells_(std::move(cells)) {}
-  const std::vector<Cell>& cell_ids() const { return cells_; }
-
- private:
-  std::vector<Cell> cells_;
-};
-
 /// A class whose numbers are too short for cells: no union is made of them.
 struct Short {
   std::vector<int32_t> cell_ids() const { return {1}; }
 };
 static_assert(!std::is_convertible_v<Short, s2union::CellUnion> && std::is_convertible_v<Theirs, s2union::CellUnion>);
-
-/// As S2's Encoder and Decoder, with the calls of these that the header makes.
-struct Encoder {
-  std::string bytes;
-  size_t ensured = 0;
-  void Ensure(size_t more) { ensured = bytes.size() + more; }
-  void putn(const void* from, size_t n) { bytes.append(static_cast<const char*>(from), n); }
-};
-class Decoder {
- public:
-  explicit Decoder(const std::string& bytes) : at_(bytes.data()), end_(at_ + bytes.size()) {}
-  size_t avail() const { return static_cast<size_t>(end_ - at_); }
-  unsigned char get8() { return static_cast<unsigned char>(*skip(1)); }
-  uint64_t get64() {
-    uint64_t number;
-    memcpy(&number, skip(8), 8);
-    return number;
-  }
-  const char* skip(ptrdiff_t n) { return std::exchange(at_, at_ + n); }
-
- private:
-  const char *at_, *end_;
-};
 
 /// That a call is refused with this status, and tells it in both ways. `call` takes the place for the status.
 template <class Call>
@@ -328,7 +283,7 @@ static void files() {
   CHECK(x.Decode(bytes.data(), bytes.size(), &status) && status == S2U_OK && x == two);
 
   const std::string both = bytes + bytes + "\1";
-  Decoder decoder(both);
+  Decoder decoder(both.data(), both.size());
   for (int round = 0; round < 2; round++) {
     x.Clear();
     CHECK(x.Decode(&decoder) && x == two);
@@ -336,11 +291,11 @@ static void files() {
   CHECK(decoder.avail() == 1 && !x.Decode(&decoder, &status) && status == S2U_FILE_SHORT && decoder.avail() == 1);
   std::string lies = bytes;
   for (size_t place = 1; place < 9; place++) lies[place] = static_cast<char>(0xff);
-  Decoder long_one(lies);
+  Decoder long_one(lies.data(), lies.size());
   CHECK(!x.Decode(&long_one, &status) && status == S2U_FILE_SHORT && long_one.avail() == 25 && x == two);
   lies = bytes;
   lies[1] = 3;
-  Decoder short_one(lies);
+  Decoder short_one(lies.data(), lies.size());
   CHECK(!x.Decode(&short_one, &status) && status == S2U_FILE_SHORT);
 }
 

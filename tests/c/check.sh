@@ -162,6 +162,14 @@ at_edges() {
     "$tests/edges.cc" "$static" -o "$work/at-edges" && "$work/at-edges" "$work/edges"
 }
 step "s2union.hpp and s2union.h: the edges" at_edges
+each_member() { # in the order of C++20, and of what comes first
+  local standard
+  for standard in 17 20; do
+    g++ -std=c++$standard -fsanitize=address,undefined -fno-sanitize-recover "${strict[@]}" -Wconversion -I"$include" \
+      "$tests/examples.cc" "$static" -o "$work/each-member" && "$work/each-member" || return 1
+  done
+}
+step "s2union.hpp: an example of each member" each_member
 step "s2union.hpp: g++, without exceptions" unions g++ -std=c++17 -fno-exceptions
 apart() { # no function of the header has one name in a file with exceptions and in one without
   local kind

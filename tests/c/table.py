@@ -14,7 +14,8 @@ TOP = Path(__file__).resolve().parents[2]
 READ = ["tools/calls", "crates/s2union_c/src", "crates/s2union_c/include", "crates/s2cover/src/lib.rt",
         "bindings/rust/src", "bindings/python/s2union", "bindings/java/s2union", "bindings/java/s2union.c",
         "bindings/page/core.js", "bindings/js/s2union.d.ts", "bindings/go", "bindings/c/s2union.ffi.h",
-        "tests/c/calls.h", "docs/SQLITE.md", "databases/sqlite/functions.h", "databases/sqlite/s2union_geo.c"]
+        "bindings/cpp", "tests/c/examples.cc", "tests/c/calls.h", "docs/SQLITE.md", "databases/sqlite/functions.h",
+        "databases/sqlite/s2union_geo.c"]
 HEADER = "crates/s2union_c/include/s2union.h"
 
 
@@ -90,6 +91,13 @@ MISTAKES = [
             "Python: child: its comment lacks the argument"),
     Mistake("an example of Python left out", "bindings/python/s2union/__init__.py",
             "    >>> face(from_token(\"89c25\"))\n    4\n", "", "Python: face: its comment lacks >>> "),
+    Mistake("a member of C++ without its example", "bindings/cpp/s2union.hpp",
+            "  /// @snippet examples.cc Release\n", "", "C++: Release: its comment lacks an example of examples.cc"),
+    Mistake("an example of C++ left out", "tests/c/examples.cc", "    // [ToString]\n    CellUnion half",
+            "    CellUnion half", "C++: ToString: its comment lacks an example of examples.cc"),
+    Mistake("a member of C++ without its version", "bindings/cpp/s2union.hpp",
+            "  /// All leaves. S2U_MEMORY. @since 0.1\n", "  /// All leaves. S2U_MEMORY.\n",
+            "C++: WholeSphere: its comment lacks @since"),
     Mistake("an error of Java left out", "bindings/java/s2union/CellId.java",
             "{@link Refusal.Kind#NO_CELL} if a word names no cell", "if a word names no cell",
             "Java: CellId.fromTokens(String text): its comment lacks the error NO_CELL"),

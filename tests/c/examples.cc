@@ -1,0 +1,520 @@
+/* An example of each member of s2union.hpp, which the header's reference shows: a program whose last line is 'N passed,
+ * M failed'. */
+#include "as_s2.h"
+#include "tests.h"
+#include <s2union.hpp>
+#include <set>
+#include <sstream>
+
+using s2union::CellUnion;
+using s2union::UnionFile;
+using S2CellId = Cell;
+using S2CellUnion = Theirs;
+
+#define check(...) check((__VA_ARGS__), #__VA_ARGS__)
+
+/// The file of the cells 04 and 14.
+static const std::string bytes("\1\2\0\0\0\0\0\0\0\0\0\0\0\0\0\0\4\0\0\0\0\0\0\0\x14", 25);
+
+int main() {
+  {
+    // [Error]
+    check(std::string(s2union::Error(S2U_NO_CELL).what()) == "not a cell");
+    // [Error]
+  }
+  {
+    // [Error.status]
+    int32_t caught = S2U_OK;
+    try {
+      CellUnion::FromTokens("xyz");
+    } catch (const s2union::Error& error) {
+      caught = error.status();
+    }
+    check(caught == S2U_NO_CELL);
+    // [Error.status]
+  }
+  {
+    // [CellUnion]
+    check(CellUnion().empty());
+    // [CellUnion]
+  }
+  {
+    // [CellUnion of cells]
+    std::vector<uint64_t> cells = {0x0c00000000000000, 0x0400000000000000, 0x0c00000000000000};
+    check(CellUnion(std::move(cells)).Tokens() == "04 0c");
+    // [CellUnion of cells]
+  }
+  {
+    // [CellUnion of a copy]
+    std::vector<int64_t> column = {0x0400000000000000, 2};
+    int32_t status;
+    check(CellUnion(column, &status).empty() && status == S2U_NO_CELL);
+    // [CellUnion of a copy]
+  }
+  {
+    // [CellUnion of another class]
+    S2CellUnion theirs = S2CellUnion::FromNormalized({S2CellId(0x0400000000000000), S2CellId(0x1400000000000000)});
+    s2union::CellUnionOf<S2CellId> ours = theirs;
+    check(ours.Tokens() == "04 14");
+    // [CellUnion of another class]
+  }
+  {
+    // [operator Theirs]
+    s2union::CellUnionOf<S2CellId> ours = s2union::CellUnionOf<S2CellId>::FromTokens("04 14");
+    S2CellUnion theirs(ours);
+    check(theirs.cell_ids() == ours.cell_ids());
+    // [operator Theirs]
+  }
+  {
+    // [WholeSphere]
+    check(CellUnion::WholeSphere().Tokens() == "1 3 5 7 9 b");
+    // [WholeSphere]
+  }
+  {
+    // [FromNormalized]
+    check(CellUnion::FromNormalized({0x0400000000000000, 0x0c00000000000000}).Tokens() == "04 0c");
+    int32_t status;
+    check(CellUnion::FromNormalized({0x0c00000000000000, 0x0400000000000000}, &status).empty());
+    check(status == S2U_NO_UNION);
+    // [FromNormalized]
+  }
+  {
+    // [FromNormalized of a copy]
+    const std::vector<uint64_t> cells = {0x0400000000000000, 0x0c00000000000000};
+    check(CellUnion::FromNormalized(cells).cell_ids() == cells);
+    // [FromNormalized of a copy]
+  }
+  {
+    // [FromMinMax]
+    CellUnion leaves = CellUnion::FromMinMax(1, 0x07ffffffffffffff);
+    check(leaves.Tokens() == "04");
+    // [FromMinMax]
+  }
+  {
+    // [FromBeginEnd]
+    CellUnion leaves = CellUnion::FromBeginEnd(1, 0x0800000000000001);
+    check(leaves.Tokens() == "04");
+    // [FromBeginEnd]
+  }
+  {
+    // [Init]
+    CellUnion half = CellUnion::FromTokens("04 0c");
+    half.Init(std::vector<uint64_t>{0x1c00000000000000, 0x1400000000000000});
+    check(half.Tokens() == "14 1c");
+    // [Init]
+  }
+  {
+    // [Init of a copy]
+    CellUnion half = CellUnion::FromTokens("04 0c");
+    const std::vector<uint64_t> cells = {2};
+    int32_t status;
+    half.Init(cells, &status);
+    check(status == S2U_NO_CELL && half.Tokens() == "04 0c");
+    // [Init of a copy]
+  }
+  {
+    // [InitFromMinMax]
+    CellUnion leaves;
+    leaves.InitFromMinMax(1, 0x07ffffffffffffff);
+    check(leaves.Tokens() == "04");
+    // [InitFromMinMax]
+  }
+  {
+    // [InitFromBeginEnd]
+    CellUnion leaves;
+    leaves.InitFromBeginEnd(1, 0x0800000000000001);
+    check(leaves.Tokens() == "04");
+    // [InitFromBeginEnd]
+  }
+  {
+    // [Clear]
+    CellUnion half = CellUnion::FromTokens("04 0c");
+    half.Clear();
+    check(half.empty());
+    // [Clear]
+  }
+  {
+    // [Release]
+    CellUnion half = CellUnion::FromTokens("04 0c");
+    std::vector<uint64_t> cells = half.Release();
+    check(cells.size() == 2 && half.empty());
+    // [Release]
+  }
+  {
+    // [Pack]
+    CellUnion half = CellUnion::FromTokens("04 0c");
+    half.Pack();
+    check(half.size() == 2);
+    // [Pack]
+  }
+  {
+    // [swap]
+    CellUnion park = CellUnion::FromTokens("1"), pond = CellUnion::FromTokens("14");
+    park.swap(pond);
+    swap(park, pond);
+    check(park.Contains(pond));
+    // [swap]
+  }
+  {
+    // [num_cells]
+    check(CellUnion::WholeSphere().num_cells() == 6);
+    // [num_cells]
+  }
+  {
+    // [cell_id]
+    CellUnion half = CellUnion::FromTokens("04 0c");
+    check(half.cell_id(1) == 0x0c00000000000000);
+    // [cell_id]
+  }
+  {
+    // [size]
+    check(CellUnion::WholeSphere().size() == 6);
+    // [size]
+  }
+  {
+    // [empty]
+    check(CellUnion().empty() && !CellUnion::WholeSphere().empty());
+    // [empty]
+  }
+  {
+    // [operator[]]
+    CellUnion half = CellUnion::FromTokens("04 0c");
+    check(half[1] == 0x0c00000000000000);
+    // [operator[]]
+  }
+  {
+    // [begin]
+    CellUnion half = CellUnion::FromTokens("04 0c");
+    uint64_t leaves = 0;
+    for (uint64_t id : half) leaves += s2u_size(id);
+    check(leaves == half.LeafCellsCovered() && half.end() - half.begin() == 2);
+    // [begin]
+  }
+  {
+    // [cell_ids]
+    CellUnion half = CellUnion::FromTokens("04 0c");
+    check(half.cell_ids() == std::vector<uint64_t>({0x0400000000000000, 0x0c00000000000000}));
+    // [cell_ids]
+  }
+  {
+    // [ids]
+    CellUnion half = CellUnion::FromTokens("04 0c");
+    size_t first, count;
+    check(s2u_cells_at(half.ids(), half.size(), 0x1000000000000000, &first, &count) == S2U_OK && count == 2);
+    // [ids]
+  }
+  {
+    // [IsValid]
+    check(CellUnion().IsValid());
+    // [IsValid]
+  }
+  {
+    // [IsNormalized]
+    check(CellUnion(std::vector<uint64_t>{0x0c00000000000000, 0x0400000000000000}).IsNormalized());
+    // [IsNormalized]
+  }
+  {
+    // [Normalize]
+    CellUnion half = CellUnion::FromTokens("04 0c");
+    half.Normalize();
+    check(half.Tokens() == "04 0c");
+    // [Normalize]
+  }
+  {
+    // [Denormalize]
+    std::vector<uint64_t> cells;
+    CellUnion::FromTokens("1").Denormalize(1, 1, &cells);
+    check(cells == std::vector<uint64_t>({0x0400000000000000, 0x0c00000000000000, 0x1400000000000000,
+                                         0x1c00000000000000}));
+    // [Denormalize]
+  }
+  {
+    // [Contains a cell]
+    CellUnion half = CellUnion::FromTokens("04 0c");
+    check(half.Contains(1) && !half.Contains(0x1000000000000000));
+    // [Contains a cell]
+  }
+  {
+    // [Intersects a cell]
+    CellUnion half = CellUnion::FromTokens("04 0c");
+    check(half.Intersects(0x1000000000000000) && !half.Intersects(0x1400000000000000));
+    // [Intersects a cell]
+  }
+  {
+    // [ContainsCells]
+    CellUnion half = CellUnion::FromTokens("04 0c");
+    check(half.ContainsCells({1, 0x1000000000000000}) == std::vector<bool>({true, false}));
+    // [ContainsCells]
+  }
+  {
+    // [IntersectsCells]
+    CellUnion half = CellUnion::FromTokens("04 0c");
+    check(half.IntersectsCells({0x1000000000000000, 0x1400000000000000}) == std::vector<bool>({true, false}));
+    // [IntersectsCells]
+  }
+  {
+    // [Contains]
+    CellUnion park = CellUnion::FromTokens("1"), pond = CellUnion::FromTokens("14");
+    check(park.Contains(pond) && !pond.Contains(park));
+    // [Contains]
+  }
+  {
+    // [Intersects]
+    CellUnion park = CellUnion::FromTokens("1"), pond = CellUnion::FromTokens("14");
+    check(pond.Intersects(park) && !pond.Intersects(park.Difference(pond)));
+    // [Intersects]
+  }
+  {
+    // [Union]
+    CellUnion half = CellUnion::FromTokens("04 0c");
+    check(half.Union(CellUnion::FromTokens("14 1c")).Tokens() == "1");
+    // [Union]
+  }
+  {
+    // [UnionOf]
+    CellUnion half = CellUnion::FromTokens("04 0c");
+    check(CellUnion::UnionOf({half, CellUnion::FromTokens("14"), half}).Tokens() == "04 0c 14");
+    // [UnionOf]
+  }
+  {
+    // [Intersection]
+    CellUnion park = CellUnion::FromTokens("1"), pond = CellUnion::FromTokens("14");
+    check(park.Intersection(pond) == pond);
+    // [Intersection]
+  }
+  {
+    // [Intersection with a cell]
+    CellUnion half = CellUnion::FromTokens("04 0c");
+    check(half.Intersection(0x1000000000000000) == half && half.Intersection(1).LeafCellsCovered() == 1);
+    // [Intersection with a cell]
+  }
+  {
+    // [Difference]
+    CellUnion park = CellUnion::FromTokens("1"), pond = CellUnion::FromTokens("14");
+    check(park.Difference(pond).Tokens() == "04 0c 1c");
+    // [Difference]
+  }
+  {
+    // [SymmetricDifference]
+    CellUnion half = CellUnion::FromTokens("04 0c");
+    check(half.SymmetricDifference(CellUnion::FromTokens("0c 14")).Tokens() == "04 14");
+    // [SymmetricDifference]
+  }
+  {
+    // [Complement]
+    CellUnion half = CellUnion::FromTokens("04 0c");
+    check(half.Complement().Tokens() == "14 1c 3 5 7 9 b");
+    // [Complement]
+  }
+  {
+    // [LeafCellsCovered]
+    CellUnion half = CellUnion::FromTokens("04 0c");
+    check(half.LeafCellsCovered() == uint64_t{1} << 59);
+    // [LeafCellsCovered]
+  }
+  {
+    // [Ancestors]
+    std::vector<uint64_t> keys = CellUnion::FromTokens("14").Ancestors();
+    check(keys == std::vector<uint64_t>({0x1000000000000000, 0x1400000000000000}));
+    // [Ancestors]
+  }
+  {
+    // [Covering]
+    check(CellUnion(std::vector<uint64_t>{1}).Covering(1).Tokens() == "04");
+    int32_t status;
+    check(CellUnion::WholeSphere().Covering(0, 5, &status).empty() && status == S2U_MANY);
+    // [Covering]
+  }
+  {
+    // [InteriorCovering]
+    check(CellUnion(std::vector<uint64_t>{1, 0x1400000000000000}).InteriorCovering(1).Tokens() == "14");
+    // [InteriorCovering]
+  }
+  {
+    // [CoveringIn]
+    s2u_rect corner = {0, 0, 9, 0, 9};
+    check(CellUnion::FromTokens("1").CoveringIn(corner, 1).Tokens() == "04");
+    // [CoveringIn]
+  }
+  {
+    // [InteriorCoveringIn]
+    s2u_rect side = {0, 0, (1 << 30) - 1, 0, (1 << 29) - 1};
+    check(CellUnion::FromTokens("04 0c").InteriorCoveringIn(side, 1).Tokens() == "04");
+    // [InteriorCoveringIn]
+  }
+  {
+    // [CoveringOf]
+    s2u_rect edge = {0, 0, (1 << 30) - 1, 0, 0};
+    check(CellUnion::CoveringOf(edge, 1).Tokens() == "04 1c");
+    int32_t status;
+    check(CellUnion::CoveringOf(edge, 1, 1, &status).empty() && status == S2U_MANY);
+    // [CoveringOf]
+  }
+  {
+    // [InteriorCoveringOf]
+    s2u_rect side = {0, 0, (1 << 30) - 1, 0, (1 << 29) - 1};
+    check(CellUnion::InteriorCoveringOf(side, 1).Tokens() == "04 1c");
+    // [InteriorCoveringOf]
+  }
+  {
+    // [operator==]
+    CellUnion park = CellUnion::FromTokens("1"), pond = CellUnion::FromTokens("14");
+    check(park != pond && park == pond.Union(park));
+    // [operator==]
+  }
+  {
+    // [order]
+    CellUnion park = CellUnion::FromTokens("1"), pond = CellUnion::FromTokens("14");
+    check(park < pond && std::set<CellUnion>({pond, park, pond}).size() == 2);
+    // [order]
+  }
+  {
+    // [Encode]
+    std::string out;
+    CellUnion::FromTokens("04 14").Encode(&out);
+    check(out == bytes);
+    // [Encode]
+  }
+  {
+    // [Decode]
+    CellUnion union_of_file;
+    check(union_of_file.Decode(bytes.data(), bytes.size()) && union_of_file.Tokens() == "04 14");
+    check(!union_of_file.Decode(bytes.data(), 24));
+    // [Decode]
+  }
+  {
+    // [Decode of S2]
+    std::string both = bytes + bytes;
+    Decoder decoder(both.data(), both.size());
+    CellUnion first;
+    check(first.Decode(&decoder) && first.size() == 2 && decoder.avail() == bytes.size());
+    // [Decode of S2]
+  }
+  {
+    // [ToString]
+    CellUnion half = CellUnion::FromTokens("04 0c");
+    check(half.ToString() == "Size:2 S2CellIds:04,0c");
+    // [ToString]
+  }
+  {
+    // [Tokens]
+    check(CellUnion(std::vector<uint64_t>{0x0c00000000000000, 0x0400000000000000}).Tokens() == "04 0c");
+    // [Tokens]
+  }
+  {
+    // [FromTokens]
+    check(CellUnion::FromTokens("0c, 0/0").Tokens() == "04 0c");
+    int32_t status;
+    check(CellUnion::FromTokens("0c, x", &status).empty() && status == S2U_NO_CELL);
+    // [FromTokens]
+  }
+  {
+    // [operator<<]
+    CellUnion half = CellUnion::FromTokens("04 0c");
+    std::ostringstream out;
+    out << half;
+    check(out.str() == "Size:2 S2CellIds:04,0c");
+    // [operator<<]
+  }
+  {
+    // [IsNormalized of a list]
+    check(CellUnion::IsNormalized({0x0400000000000000, 0x0c00000000000000}));
+    check(!CellUnion::IsNormalized({0x0c00000000000000, 0x0400000000000000}));
+    // [IsNormalized of a list]
+  }
+  {
+    // [Normalize of a list]
+    std::vector<uint64_t> cells = {0x0c00000000000000, 0x0400000000000000, 0x0c00000000000000};
+    CellUnion::Normalize(&cells);
+    check(cells == std::vector<uint64_t>({0x0400000000000000, 0x0c00000000000000}));
+    // [Normalize of a list]
+  }
+  {
+    // [Denormalize of a list]
+    std::vector<uint64_t> cells = {0x1000000000000000};
+    CellUnion::Denormalize(cells, 1, 1, &cells);
+    check(cells.size() == 4);
+    // [Denormalize of a list]
+  }
+  {
+    // [GetIntersection]
+    std::vector<uint64_t> shared;
+    CellUnion::GetIntersection({0x0400000000000000, 0x1400000000000000}, {0x1000000000000000}, &shared);
+    check(shared == std::vector<uint64_t>({0x0400000000000000, 0x1400000000000000}));
+    // [GetIntersection]
+  }
+  {
+    // [UnionFile]
+    UnionFile held(bytes.data(), bytes.size());
+    int32_t status;
+    check(held.size() == 2 && UnionFile(bytes.data(), 24, &status).empty() && status == S2U_FILE_SHORT);
+    // [UnionFile]
+  }
+  {
+    // [UnionFile.size]
+    UnionFile held(bytes.data(), bytes.size());
+    check(held.size() == 2);
+    // [UnionFile.size]
+  }
+  {
+    // [UnionFile.empty]
+    UnionFile held(bytes.data(), bytes.size());
+    check(!held.empty());
+    // [UnionFile.empty]
+  }
+  {
+    // [UnionFile.num_cells]
+    UnionFile held(bytes.data(), bytes.size());
+    check(held.num_cells() == 2);
+    // [UnionFile.num_cells]
+  }
+  {
+    // [UnionFile.cell_id]
+    UnionFile held(bytes.data(), bytes.size());
+    check(held.cell_id(1) == 0x1400000000000000 && held.cell_id(2) == 0);
+    // [UnionFile.cell_id]
+  }
+  {
+    // [UnionFile.Contains a cell]
+    UnionFile held(bytes.data(), bytes.size());
+    check(held.Contains(1) && !held.Contains(0x1000000000000000));
+    // [UnionFile.Contains a cell]
+  }
+  {
+    // [UnionFile.Intersects a cell]
+    UnionFile held(bytes.data(), bytes.size());
+    check(held.Intersects(0x1000000000000000) && !held.Intersects(0x0c00000000000000));
+    // [UnionFile.Intersects a cell]
+  }
+  {
+    // [UnionFile.Contains]
+    UnionFile held(bytes.data(), bytes.size());
+    check(held.Contains(held));
+    // [UnionFile.Contains]
+  }
+  {
+    // [UnionFile.Intersects]
+    UnionFile held(bytes.data(), bytes.size());
+    check(held.Intersects(held));
+    // [UnionFile.Intersects]
+  }
+  {
+    // [UnionFile.LeafCellsCovered]
+    UnionFile held(bytes.data(), bytes.size());
+    check(held.LeafCellsCovered() == uint64_t{1} << 59);
+    // [UnionFile.LeafCellsCovered]
+  }
+  {
+    // [UnionFile.Ancestors]
+    UnionFile held(bytes.data(), bytes.size());
+    check(held.Ancestors() == std::vector<uint64_t>({0x0400000000000000, 0x1000000000000000, 0x1400000000000000}));
+    // [UnionFile.Ancestors]
+  }
+  {
+    // [UnionFile.Union]
+    UnionFile held(bytes.data(), bytes.size());
+    check(held.Union().Tokens() == "04 14");
+    // [UnionFile.Union]
+  }
+  return report();
+}
