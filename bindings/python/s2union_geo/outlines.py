@@ -27,7 +27,7 @@ def area(union: Union) -> float:
     Returns
     -------
     float
-        Square kilometers. The earth is flattened, so an area there differs by up to 0.6 percent.
+        Square kilometers. The earth is flattened, so an area there differs by less than 1 percent.
 
     Raises
     ------
