@@ -85,6 +85,7 @@ VERSIONS = [
     ("bindings/python/s2union/__init__.py", r'\n__version__ = "', '"', "{0}.{1}.{2}"),
     ("bindings/rust/Cargo.toml", r'\nversion = "', '"', "{0}.{1}.{2}"),
     ("bindings/rust/serde/Cargo.toml", r'\nversion = "', '"', "{0}.{1}.{2}"),
+    ("bindings/r/DESCRIPTION", r"\nVersion: ", "\n", "{0}.{1}.{2}"),
     ("bindings/js/package.json", r'\n  "version": "', '"', "{0}.{1}.{2}"),
     ("databases/postgres/s2union.control", "default_version = '", "'", "{0}.{1}"),
     ("databases/postgres/s2union_geo.control", "default_version = '", "'", "{0}.{1}"),

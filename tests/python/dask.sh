@@ -1,7 +1,7 @@
 #!/usr/bin/env bash
 # The tests of unions on a cluster of worker processes, of docs/ENGINES.md over MariaDB, ClickHouse and pandas, and of
-# docs/FFI.md in five languages: tests/run dask -- [CELLS]. It installs the Debian packages that it needs, and prints
-# the figures of docs/DASK.md. Its last line is 'N passed, M failed'; the status is 1 if any failed.
+# docs/FFI.md in five languages, and of docs/R.md: tests/run dask -- [CELLS]. It installs the Debian packages that it
+# needs, and prints the figures of docs/DASK.md. Its last line is 'N passed, M failed'; the status is 1 if any failed.
 . "$(dirname "$0")/../steps.sh"
 [ -z "${1:-}" ] || export S2UNION_CELLS=$1
 
@@ -13,7 +13,7 @@ need mono mono-runtime
 need php php-cli
 need luajit luajit
 need_file /usr/include/mariadb/mysql.h libmariadb-dev
-need_installed ruby ruby-ffi libffi-platypus-perl
+need_installed ruby ruby-ffi libffi-platypus-perl pkg-config r-base-dev r-cran-s2
 need_packages
 . "$top/tests/geo/countries.sh"
 need_countries
@@ -54,16 +54,33 @@ open("tokens", "w").write("".join(f"{token}\n" for token in tokens(points)))
 print(len(earth.all_pairs(points, earth.coverings(os.environ["WORLD"]))))' >pairs && [ "$(cat pairs)" -gt 10000 ])
 }
 step "all pairs of the points and the countries, by a loop" plainly
-by_ffi() ( # FENCE ENDING COMMAND..: a program of docs/FFI.md
-  cd "$work" && export LD_LIBRARY_PATH=$work/usr/lib S2UNION_FFI=$work/usr/include/s2union.ffi.h &&
-    block FFI.md "$1" >"pairs.$2" && { [ "$2" != cs ] || mcs pairs.cs; } && "${@:3}" tokens "$WORLD"/*.outer >said &&
-    diff pairs said
+export LD_LIBRARY_PATH=$work/usr/lib S2UNION_FFI=$work/usr/include/s2union.ffi.h
+pairs_by() ( # PAGE FENCE ENDING COMMAND..: a program of a page
+  cd "$work" && block "$1" "$2" >"pairs.$3" && { [ "$3" != cs ] || mcs pairs.cs; } &&
+    "${@:4}" tokens "$WORLD"/*.outer >said && diff pairs said
 )
+by_ffi() { pairs_by FFI.md "$@"; }
 step "docs/FFI.md: C#" by_ffi csharp cs mono pairs.exe
 step "docs/FFI.md: PHP" by_ffi php php php -d ffi.enable=1 pairs.php
 step "docs/FFI.md: Ruby" by_ffi ruby rb ruby pairs.rb
 step "docs/FFI.md: Perl" by_ffi perl pl perl pairs.pl
 step "docs/FFI.md: Lua" by_ffi lua lua luajit pairs.lua
+
+mkdir -p "$work/library" "$work/src/contrib" && : >"$work/src/contrib/PACKAGES" # a repository with no package
+echo "options(repos = c(CRAN = 'file://$work'))" >"$work/profile"
+export PKG_CONFIG_PATH=$work/usr/lib/pkgconfig R_LIBS=$work/library R_PROFILE=$work/profile
+for_r() (
+  cp -r "$top/bindings/r" "$work/r" && "$top/tools/packaging/described" "$work/r" docs/R.md && cd "$work" &&
+    R CMD build r && R CMD check --no-manual s2union_*.tar.gz && grep -qx 'Status: OK' s2union.Rcheck/00check.log &&
+    R CMD INSTALL s2union_*.tar.gz
+)
+page_of_r() (
+  cd "$work" && block R.md r >first.R && block R.md "text r" >wanted && [ -s wanted ] && Rscript first.R >said &&
+    diff wanted said
+)
+step "the package for R: R CMD check, with its tests beside S2's own operations" for_r
+step "docs/R.md" page_of_r
+step "docs/R.md: all pairs" pairs_by R.md "r pairs" R Rscript pairs.R
 
 step "ten million cells on 1, 2 and 4 workers, and with one that is killed" tests test_dask.OnACluster
 grep -E '^one process|^[0-9] worker|^a worker' "$work/log" | sed 's/^/       /'
