@@ -33,6 +33,8 @@ WORDS = {
     **dict.fromkeys(("id", "cell", "a", "b", "whole", "part", "first", "last"), CELL),
     **dict.fromkeys(("ids", "xs", "ys", "cells"), CELLS),
 }
+NO_TEXT = "a cell is an int, not str: from_token reads a token, and from_tokens several"
+DEGREES = "from_face_ij takes one point, and s2union_geo.leaves longitudes and latitudes"
 OTHERS = {"from_debug": ("0/2",), "file_contains": (FILE, FILE), "file_intersects": (FILE, FILE)}
 TYPES = (Path(calls.__file__).parent / "_library.pyi").read_text()
 
@@ -106,7 +108,19 @@ class Taken(unittest.TestCase):
                 (lambda: s2union.contains(0, 2), "not a cell: 0x0"),
                 (lambda: s2union.common_ancestor(6, 2), "not a cell: 0x6"),
                 (lambda: s2union.level(True), "a cell is an int, not a bool"),
-                (lambda: s2union.level("1"), "a cell is an int, not str"),
+                (lambda: s2union.level("1"), NO_TEXT), (lambda: "1" in Union([FACE]), NO_TEXT),
+                (lambda: Union("04 0c"), NO_TEXT), (lambda: Union(["04"]), NO_TEXT),
+                (lambda: s2union.tokens("04"), NO_TEXT), (lambda: Union([FACE]).contains_cells(["04"]), NO_TEXT),
+                (lambda: Union([FACE])["a"], "the place of a cell is an int or a slice, not str"),
+                (lambda: UnionFile(FILE)[1.5], "the place of a cell is an int or a slice, not float"),
+                (lambda: Union([FACE])[9], "there is no cell 9: the union has 1"),
+                (lambda: Union([FACE])[-2**70], f"there is no cell {-2**70}: the union has 1"),
+                (lambda: UnionFile(FILE)[9], "there is no cell 9: the union has 2"),
+                (lambda: Union.of(Union([FACE])), "of takes an iterable of unions, and this is one union, of 1 cells"),
+                (lambda: s2union.from_points(2.35, 48.85, 0),
+                 f"a face of each point is wanted: 'float' object is not iterable. {DEGREES}"),
+                (lambda: s2union.from_points([2.35], [48.85], [0]),
+                 f"a face of each point is wanted: a face is an int, not float. {DEGREES}"),
                 (lambda: s2union.level(2**64), f"a cell is out of range: {2**64}"),
                 (lambda: s2union.child(CELL, 4), "a child's number is out of range: 4"),
                 (lambda: s2union.from_face_ij(0, 0, 2**30), f"j is out of range: {2**30}"),
@@ -132,7 +146,7 @@ class Taken(unittest.TestCase):
                 (lambda: Union([FACE]).contains_cells([FACE, 0]), "not a cell at place 1: 0x0"),
                 (lambda: Union([FACE]).denormalised(3, 0), "a modulus is out of range: 0"),
                 (lambda: Union([FACE]).denormalised(3, 4), "a modulus is out of range: 4")):
-            with self.assertRaises((ValueError, TypeError)) as refusal:
+            with self.assertRaises((ValueError, TypeError, IndexError)) as refusal:
                 call()
             self.assertEqual(str(refusal.exception), message)
         with self.assertRaisesRegex(MemoryError, "^s2union: out of memory: what$"):

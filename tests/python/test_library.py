@@ -737,6 +737,14 @@ class TheModule(unittest.TestCase):
             self.assertEqual("".join(frame[a.contains_cells(column)].name), "ace")
             self.assertEqual("".join(frame[a.intersects_cells(column)].name), "acde")
         self.assertEqual((Union(frame.leaf), Union(pandas.Series(cells, dtype="uint64"))), (Union(cells), Union(cells)))
+        for kind in ("float64", "Int64", "object"):
+            missing = pandas.Series([FACE, 3 * FACE, None], dtype=kind, name="leaf", index=list("abc"))
+            for name, column in ((" 'leaf'", missing), ("", missing.rename(None)), ("", missing.to_numpy())):
+                for call in (Union, a.contains_cells, s2union.tokens):
+                    with self.assertRaises(TypeError) as refusal:
+                        call(column)
+                    self.assertEqual(str(refusal.exception).partition(": ")[0],
+                                     f"the column{name} has a missing value at place 2")
 
     @unittest.skipUnless(numpy, "numpy is not installed")
     def test_columns_without_a_copy(self):

@@ -1006,6 +1006,8 @@ def from_points(face: Any, i: Any, j: Any) -> Any:
         A number is out of range: of arrays, the message has its place.
     ValueError
         There are not as many of each.
+    TypeError
+        Something is no int: `from_face_ij` takes one point, `s2union_geo.leaves` degrees.
 
     Notes
     -----
@@ -1037,12 +1039,16 @@ def _points_of(*parts: tuple[Any, int, str]) -> _array[int]:
 
 def _column_of(numbers: Any, most: int, what: str) -> _array[int]:
     """Numbers from 0 to `most`, of 32 bits each."""
+    others = "from_face_ij takes one point, and s2union_geo.leaves longitudes and latitudes"
     if not _is_array(numbers):
-        return _array("I", [_library.number(value, most, what) for value in numbers])
+        try:
+            return _array("I", [_library.number(value, most, what) for value in numbers])
+        except TypeError as error:
+            raise TypeError(f"{what} of each point is wanted: {error}. {others}") from error
     import numpy
     given = numpy.asarray(numbers)
     if given.ndim != 1 or given.dtype.kind not in "iu":
-        raise TypeError(f"{what} is an int, not of {given.ndim} dimensions and the type {given.dtype}")
+        raise TypeError(f"{what} is an int, not of {given.ndim} dimensions and the type {given.dtype}. {others}")
     if given.size and (given.min() < 0 or given.max() > most):
         place = numpy.argmax((given < 0) | (given > most))
         raise OutOfRangeError(f"{what} is out of range at place {place}: {given[place]}")
@@ -1207,12 +1213,26 @@ def _view_of(cells: Any) -> memoryview | None:
         return None
 
 
+def _refuse_missing(cells: Any) -> None:
+    """Raises the error of the first missing value of an array or column, if it has one: by its name and place."""
+    for place, value in enumerate(cells.__array__().flat if _is_array(cells) else ()):
+        if value is None or type(value).__name__ == "NAType" or isinstance(value, float) and value != value:
+            name = getattr(cells, "name", None)
+            raise TypeError(f"the column{'' if name is None else f' {name!r}'} has a missing value at place {place}: "
+                            "drop or fill missing values before they make floats of a column")
+
+
 def _ids_of(cells: Any) -> bytes | memoryview:
     """The numbers in a buffer of 64-bit integers, where they lie, or the cells of an iterable."""
     view = _view_of(cells)
     if view is None:
-        return _library.list_of(cells)
+        try:
+            return _library.list_of(cells)
+        except TypeError:
+            _refuse_missing(cells)
+            raise
     if view.ndim != 1 or view.itemsize != 8 or view.format.lstrip("@=<") not in ("Q", "L", "N", "q", "l", "n"):
+        _refuse_missing(cells)
         rule = "; floats are rounded: drop or fill missing values before they make floats of a column"
         raise TypeError("a buffer of cells has one dimension and 64-bit integers "
                         f"(this one has {view.ndim} and the format {view.format!r}"
@@ -1230,6 +1250,13 @@ def _read(cells: Any) -> bytes:
 
 def _cells_in(ids: bytes) -> memoryview:
     return memoryview(ids).cast("Q")
+
+
+def _refuse_place(place: Any, size: int) -> NoReturn:
+    """Raises the error of a place at which a union of this size has no cell."""
+    if not hasattr(type(place), "__index__"):
+        raise TypeError(f"the place of a cell is an int or a slice, not {type(place).__name__}") from None
+    raise IndexError(f"there is no cell {place}: the union has {size}") from None
 
 
 def _shown(bounds: Iterable[SupportsIndex], level: SupportsIndex, most: SupportsIndex) -> str:
@@ -1393,10 +1420,10 @@ class UnionFile:
     def __getitem__(self, place: Any) -> Any:
         if isinstance(place, slice):
             return [self._cell_at(k) for k in range(*place.indices(self._size))]
-        place = _operator.index(place)
-        if not -self._size <= place < self._size:
-            raise IndexError("there is no such cell")
-        return self._cell_at(place % self._size)
+        at = _operator.index(place) if hasattr(type(place), "__index__") else self._size
+        if not -self._size <= at < self._size:
+            _refuse_place(place, self._size)
+        return self._cell_at(at % self._size)
 
     def _cell_at(self, place: int) -> int:
         return _library.file_cell(self._bytes, place)
@@ -1791,7 +1818,7 @@ class CellUnion:
         NotACellError
             A number among cells is the identifier of no cell.
         TypeError
-            Something among them is no int.
+            Something among them is no int, or one union is given in place of several.
         OutOfMemoryError
             There is no memory for the result.
 
@@ -1804,6 +1831,8 @@ class CellUnion:
         >>> CellUnion.of([CellUnion.from_tokens(text) for text in ("04 0c", "", "14", "1c")])
         <CellUnion of 1 cells: 1>
         """
+        if isinstance(unions, CellUnion):
+            raise TypeError(f"of takes an iterable of unions, and this is one union, of {len(unions)} cells")
         lists = [_union_of(union)._ids for union in unions]
         ends = _array("Q", _accumulate(len(ids) // 8 for ids in lists))
         return cls._holding(_library.union_of_many(b"".join(lists), memoryview(ends)))
@@ -2133,8 +2162,12 @@ class CellUnion:
     def __getitem__(self, place: slice) -> list[int]: ...
 
     def __getitem__(self, place: Any) -> Any:
-        found = self.ids[place]
-        return list(found) if isinstance(place, slice) else found
+        if isinstance(place, slice):
+            return list(self.ids[place])
+        try:
+            return self.ids[place]
+        except (IndexError, TypeError):
+            _refuse_place(place, len(self))
 
     @property
     def ids(self) -> memoryview:

@@ -144,6 +144,8 @@ static bool as_number(PyObject* given, const char* what, uint64_t least, uint64_
 static bool as_cell(PyObject* given, uint64_t* bits) {
   bool is_below, is_int = PyLong_CheckExact(given);
   PyObject* index = is_int ? given : index_of(given, "a cell");
+  if (!index && PyUnicode_Check(given))
+    PyErr_SetString(PyExc_TypeError, "a cell is an int, not str: from_token reads a token, and from_tokens several");
   if (!index) return false;
   bool fits = bits_of(index, bits, &is_below);
   if (!fits) raise_refusal(S2U_NO_CELL, "a cell is out of range: %S", index);
