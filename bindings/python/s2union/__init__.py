@@ -1831,7 +1831,7 @@ class CellUnion:
         >>> CellUnion.of([CellUnion.from_tokens(text) for text in ("04 0c", "", "14", "1c")])
         <CellUnion of 1 cells: 1>
         """
-        if isinstance(unions, CellUnion):
+        if isinstance(unions, CellUnion) and unions:
             raise TypeError(f"of takes an iterable of unions, and this is one union, of {len(unions)} cells")
         lists = [_union_of(union)._ids for union in unions]
         ends = _array("Q", _accumulate(len(ids) // 8 for ids in lists))
