@@ -27,7 +27,7 @@ export function load(): Promise<void>;
 export function version(): string;
 
 /**
- * What a call refused: MEMORY, there is none; NO_CELL, a number is no cell, or a text names none; NO_UNION, a list is
+ * The kind of an error: MEMORY, there is none; NO_CELL, a number is no cell, or a text names none; NO_UNION, a list is
  * not normalized; ARGUMENT, a level, coordinate, modulus or place is out of range; MANY, there would be more cells than
  * are allowed; FILE_SHORT, FILE_VERSION, FILE_TRAILING, FILE_CELL, bytes are no union file, since they end too early,
  * begin with another version, go on after the last cell, or have a number that is no cell. ROOM is not thrown, and
@@ -38,7 +38,7 @@ export type RefusalKind = "ROOM" | "MEMORY" | "NO_CELL" | "NO_UNION" | "ARGUMENT
   | "FILE_VERSION" | "FILE_TRAILING" | "FILE_CELL" | "OTHER";
 
 /**
- * What calls throw for a value that is wrong. For a value of a wrong type they throw a TypeError: a cell that isn't a
+ * Calls throw it for a value that is wrong. For a value of a wrong type they throw a TypeError: a cell that isn't a
  * BigInt, a text that isn't a string, something else than a union, a list whose buffer went elsewhere.
  * @since 1.1
  * @example
@@ -53,7 +53,7 @@ export class Refusal extends Error {
    */
   static readonly Kind: {readonly [kind in RefusalKind]: kind};
   /**
-   * What was refused.
+   * The kind of the error.
    * @since 1.2
    */
   readonly kind: RefusalKind;

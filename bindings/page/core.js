@@ -47,7 +47,7 @@ class Refusal extends Error {
   }
 }
 
-/** What a question answers, yes or no; its refusal is thrown. */
+/** The answer to a question, yes or no; its refusal is thrown. */
 function isYes(status) {
   if (status < 0) throw new Refusal(status, 0);
   return status === 1;

@@ -17,7 +17,7 @@ package s2union;
  */
 public final class Refusal extends IllegalArgumentException {
   /**
-   * What was refused, by the name that it has in s2union.h.
+   * The kind of an error, by the name that it has in s2union.h.
    *
    * @since 1.2
    */
@@ -38,7 +38,7 @@ public final class Refusal extends IllegalArgumentException {
     FILE_TRAILING(-12),
     /** A number in a file is not a cell. */
     FILE_CELL(-13),
-    /** What a later version of the library refuses. */
+    /** An error of a later version of the library. */
     OTHER(0);
 
     private final int status;
@@ -100,7 +100,7 @@ public final class Refusal extends IllegalArgumentException {
   }
 
   /**
-   * What was refused, for a {@code switch}.
+   * The kind of the error, for a {@code switch}.
    *
    * @return a kind, never null
    * @since 1.2
@@ -110,7 +110,7 @@ public final class Refusal extends IllegalArgumentException {
   }
 
   /**
-   * What was refused, as a number.
+   * The kind of the error, as a number.
    *
    * @return the status of s2union.h, a constant of this class
    * @since 1.1

@@ -18,7 +18,7 @@ them; cells that are given back are not signed. A value that is wrong raises a s
 `ValueError` or a `MemoryError` too; one of a wrong type raises `TypeError`. All work is done by the library
 libs2union, whose every call is proved; this module turns its statuses into exceptions and does no arithmetic on cells.
 The library is looked for at $S2UNION_LIBRARY, beside this module, in the two folders above it, and in the system's own
-places. What a call takes is looked at in `_library`, which is written in C.
+places. The arguments of a call are checked in `_library`, which is written in C.
 """
 
 from __future__ import annotations
@@ -2505,7 +2505,7 @@ class CellUnion:
         Returns
         -------
         CellUnion
-            What is left.
+            The leaves that are left.
 
         Raises
         ------

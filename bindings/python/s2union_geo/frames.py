@@ -23,7 +23,7 @@ __all__ = ["Frame"]
 
 @pandas.api.extensions.register_dataframe_accessor("s2")
 class Frame:
-    """What a frame has in cells: its attribute ``s2``.
+    """The cells of a frame: its attribute ``s2``.
 
     .. versionadded:: 1.2
 
@@ -95,7 +95,7 @@ class Frame:
         Raises
         ------
         ValueError
-            What `s2union_geo.coverings` refuses, with the row.
+            The errors of `s2union_geo.coverings`, with the row.
         TypeError
             A number of cells or a level is no int.
 
@@ -139,7 +139,7 @@ class Frame:
         Raises
         ------
         ValueError
-            What `coverings` and `leaves` refuse.
+            The errors of `coverings` and `leaves`.
         TypeError
             A number of cells is no int.
 

@@ -32,7 +32,7 @@ def read_geojson(path: str | os.PathLike[str]) -> Any:
     Returns
     -------
     object
-        What the file has, as objects of Python.
+        The content of the file, as objects of Python.
 
     Raises
     ------

@@ -74,9 +74,9 @@ def covering(shape: Any, max_cells: int = 200, max_level: int = 30) -> Union:
     Raises
     ------
     ValueError
-        What is no polygon, a position out of range, a ring that is open, or crosses or runs along itself, by its
-        polygon and ring; more than ``MOST_POSITIONS`` positions, or ``MOST_BYTES`` bytes of a text; a number of cells
-        or a level out of range.
+        Something isn't a polygon, a position is out of range, or a ring is open, crosses itself or runs along itself:
+        the message has its polygon and ring. Or there are more than ``MOST_POSITIONS`` positions, or ``MOST_BYTES``
+        bytes of a text. Or a number of cells or a level is out of range.
     TypeError
         A number of cells or a level is no int.
 
@@ -121,9 +121,9 @@ def interior(shape: Any, max_cells: int = 200, max_level: int = 30) -> Union:
     Raises
     ------
     ValueError
-        What is no polygon, a position out of range, a ring that is open, or crosses or runs along itself, by its
-        polygon and ring; more than ``MOST_POSITIONS`` positions, or ``MOST_BYTES`` bytes of a text; a number of cells
-        or a level out of range.
+        Something isn't a polygon, a position is out of range, or a ring is open, crosses itself or runs along itself:
+        the message has its polygon and ring. Or there are more than ``MOST_POSITIONS`` positions, or ``MOST_BYTES``
+        bytes of a text. Or a number of cells or a level is out of range.
     TypeError
         A number of cells or a level is no int.
 
@@ -160,16 +160,16 @@ def coverings(shape: Any, max_cells: int = 200, max_level: int = 30) -> tuple[Un
     Returns
     -------
     outer : CellUnion
-        What `covering` returns.
+        The result of `covering`.
     inner : CellUnion
-        What `interior` returns.
+        The result of `interior`.
 
     Raises
     ------
     ValueError
-        What is no polygon, a position out of range, a ring that is open, or crosses or runs along itself, by its
-        polygon and ring; more than ``MOST_POSITIONS`` positions, or ``MOST_BYTES`` bytes of a text; a number of cells
-        or a level out of range.
+        Something isn't a polygon, a position is out of range, or a ring is open, crosses itself or runs along itself:
+        the message has its polygon and ring. Or there are more than ``MOST_POSITIONS`` positions, or ``MOST_BYTES``
+        bytes of a text. Or a number of cells or a level is out of range.
     TypeError
         A number of cells or a level is no int.
 

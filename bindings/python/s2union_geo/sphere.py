@@ -122,7 +122,7 @@ def leaves(longitude: Any, latitude: Any) -> Any:
     ValueError
         A number is out of range, or missing: the message has its place. Or the shapes differ.
     TypeError
-        What is given is no number.
+        A value isn't a number.
 
     Notes
     -----
@@ -160,7 +160,7 @@ def leaf(longitude: float, latitude: float) -> int:
     ValueError
         A number is out of range.
     TypeError
-        What is given is no number.
+        A value isn't a number.
 
     Notes
     -----
@@ -176,7 +176,7 @@ def leaf(longitude: float, latitude: float) -> int:
 
 
 def points(cells: Any) -> Any:
-    """The middles of cells. That of a leaf is less than 8 mm from each place in it.
+    """The middles of cells. The middle of a leaf is less than 8 mm from each place in it.
 
     .. versionadded:: 1.1
 
@@ -197,7 +197,7 @@ def points(cells: Any) -> Any:
     NotACellError
         A number is not a cell.
     TypeError
-        What is given is no int.
+        A value isn't an int.
 
     Notes
     -----
