@@ -3,7 +3,7 @@
 //!
 //! Four searches don't wait for each other: while one waits for memory, the others go on. Where they end is a guess,
 //! which the walk tests by the cells at that place.
-ghost use Rattle.std.specs.Prelude.{◌*◌, ◌≤◌, IsTrue, length};
+ghost use Rattle.std.specs.Prelude.{◌*◌, ◌≤◌, ◌↔◌, IsTrue, length};
 ghost use Rattle.s2list.specs.Packed.{EndsAfter, FirstEndBy, IsPacked};
 
 use crate::along::find_along;
@@ -17,9 +17,13 @@ use s2cell::CellId;
 /// than that, so the searches for all cells of the short one take no more than a pass.
 const MUCH_LONGER: usize = 64;
 
+/// A search that goes this many cells ahead of a walk, or fewer, goes by leaps: these cells lie in the cache or come
+/// there without being asked for, and leaps take fewer looks than a search in all of the list.
+const NEAR: usize = 32;
+
 /// Whether a list of `few` cells is short beside one of `many`.
 pub fn is_short(few: usize, many: usize) -> bool
-    ensures { IsTrue result → 64 * few ≤ many }
+    ensures { IsTrue result ↔ 64 * few ≤ many }
 {
     few <= many / MUCH_LONGER
 }
@@ -72,10 +76,17 @@ impl Fours {
         }
     }
 
-    /// Where the cell at index `i` of a short list may lie in a longer one. None if fewer than four are left.
-    fn guess<X: Cells, Y: Cells>(&mut self, few: &X, i: usize, many: &Y) -> Option<usize> {
+    /// Where the cell at index `i` of a short list may lie in a longer one, on a walk that stands at index `start` of
+    /// that. None if it lies near, or if fewer than four are left.
+    fn guess<X: Cells, Y: Cells>(
+        &mut self,
+        few: &X,
+        i: usize,
+        many: &Y,
+        start: usize,
+    ) -> Option<usize> {
         if i >= self.until {
-            self.places = four_from(few, i, many)?;
+            self.places = four_ahead(few, i, many, start)?;
             self.until = i.saturating_add(4);
         }
         match self.until - i {
@@ -94,7 +105,7 @@ impl<X: Cells, Y: Cells> Seek<X, Y> for Fours {
         if at == 0 {
             return find_along(ys, 0, start, lo, &mut Uncounted);
         }
-        match self.guess(xs, i, ys) {
+        match self.guess(xs, i, ys, start) {
             Some(guess) => {
                 let from = first_place(ys, guess, lo).max(start);
                 find_from(ys, from, lo)
@@ -104,9 +115,10 @@ impl<X: Cells, Y: Cells> Seek<X, Y> for Fours {
     }
 }
 
-/// Where four cells of a list from index `i` on lie in another list, if there are as many.
-fn four_from<X: Cells, Y: Cells>(few: &X, i: usize, many: &Y) -> Option<Places> {
-    if few.len().saturating_sub(i) < 4 {
+/// Where four cells of a list from index `i` on lie in another list, if there are as many and the first of them isn't
+/// near index `start`.
+fn four_ahead<X: Cells, Y: Cells>(few: &X, i: usize, many: &Y, start: usize) -> Option<Places> {
+    if few.len().saturating_sub(i) < 4 || is_near(many, start, few.id(i)) {
         return None;
     }
     let first = CellId::from_id(few.id(i))?;
@@ -114,4 +126,10 @@ fn four_from<X: Cells, Y: Cells>(few: &X, i: usize, many: &Y) -> Option<Places> 
     let third = CellId::from_id(few.id(i + 2))?;
     let fourth = CellId::from_id(few.id(i + 3))?;
     Some(places_of_four(many, first, second, third, fourth))
+}
+
+/// Whether a cell of `many` soon after index `start` comes after this one, or `many` ends.
+fn is_near<Y: Cells>(many: &Y, start: usize, id: u64) -> bool {
+    let at = start.saturating_add(NEAR);
+    at >= many.len() || many.id(at) > id
 }
