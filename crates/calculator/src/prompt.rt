@@ -9,7 +9,7 @@ use std::io::Write;
 const PROMPT: &[u8] = b"s2calc> ";
 
 /// A reader that shows a prompt before each read, and ends the prompt's line at the end and if a read fails, if that is
-/// wanted. A prompt that can't be written is left out. What the reads give is what the reader below gives.
+/// wanted. A prompt that can't be written is left out. The reads give what the reader below gives.
 #[derive(Drop)]
 pub(crate) struct PromptingReader<R, W> {
     reader: R,

@@ -44,8 +44,8 @@ GetsList list r old reply new =
     ⊎ ((old.limit < length list) × (reply ≡ Refuses TooMany) × (new ≡ old))
 
 -- If one line saves a register, whose list is normalized and not too long for a file, as these bytes, and another line
--- finds just these bytes and loads them, then the loaded register gets the list of the saved one, unless memory runs
--- out. The names may differ, as for a file that was moved.
+-- finds just these bytes and loads them, then the loaded register gets the list of the saved one, unless the answer is
+-- of memory or of the file. The names may differ, as for a file that was moved.
 abbrev pub LoadGivesBack : Type 0
 LoadGivesBack =
     (a b c d : World) (line other name found_as bytes : List ℕ) (r s : ℕ) (y : Reply) →
@@ -56,7 +56,7 @@ LoadGivesBack =
     → GetsList (list_at a.state.now r) s c.state y d.state
 
 -- If one line dumps a state as these bytes, and another line finds just these bytes and restores them, in an editor of
--- that limit and depth, then the state is the dumped one, unless memory runs out.
+-- that limit and depth, then the state is the dumped one, unless the answer is of memory or of the file.
 abbrev pub RestoreGivesState : Type 0
 RestoreGivesState =
     (a b c d : World) (line other name found_as bytes : List ℕ) (y : Reply) → line_of line ≡ Does (Dump name) →

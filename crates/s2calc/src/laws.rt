@@ -68,9 +68,10 @@ pub fn states_stay_ordinary()
     ensures { KeepsOrdinary }
 {}
 
-/// What was stored comes back where it is found, over any shelf that lists what it stored and found, as the program's
-/// does: a `load` of the bytes that a `save` stored gives the register the list of the saved one, and a `restore` of
-/// those that a `dump` stored gives the dumped state.
+/// Lines that find the bytes which an earlier line stored give back what it stored, over any shelf that lists what it
+/// stored and found, as the program's does. A `load` of the bytes that a `save` stored gives the register the list of
+/// the saved one, or answers `error too-many`. A `restore` of those that a `dump` stored gives the dumped state. Lines
+/// that answer `error memory` or `error file` are left out.
 pub fn stored_comes_back()
     ensures { StoredComesBack }
 {}

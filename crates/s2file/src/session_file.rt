@@ -58,7 +58,7 @@ pub fn decode_session(alloc: Global, bytes: &[u8]) -> Result<Session, SessionFau
 /// Reads a session: a session file or a union file, as `decode_session` describes them.
 ///
 /// Answers `Form` if what was read is neither, `Memory` if an allocation failed or a read found no memory, and `Device`
-/// if a read failed otherwise, and only then. If 2^64 - 1 reads have given too little and none failed, that is `Memory`
+/// if a read failed otherwise. If 2^64 - 1 reads have given too little and none failed, that is `Memory`
 /// too. After a fault some bytes may have been read. A read that was interrupted is tried again; after one that failed
 /// otherwise nothing more is read. Reads pieces of 64 KiB: a session file to its end and one piece more at most, and of
 /// a union file at most one piece more than the longest has (`MOST_SIZE`). Never asks for more memory than a piece and

@@ -26,9 +26,10 @@ pub fn one_output<R, W, E, F: Folders>()
     ensures { OneOutput R W E F F.Folder.files F.opened }
 {}
 
-/// What was stored comes back where it is found. A `load` of the bytes that a `save` stored, in the same run or
-/// another, gives its register the list that the saved one had. A `restore` of those that a `dump` stored, in an editor
-/// of the same limit and depth, gives the dumped state.
+/// Lines that find the bytes which an earlier line stored give back what it stored. A `load` of the bytes that a `save`
+/// stored, in the same run or another, gives its register the list that the saved one had, or answers `error too-many`
+/// if a register may not have as many cells. A `restore` of the bytes that a `dump` stored, in an editor of the same
+/// limit and depth, gives the dumped state. Lines that answer `error memory` or `error file` are left out.
 ///
 /// Whether a folder that was given bytes has them later isn't known: it is said of a `load` or a `restore` that found
 /// them. The names of the two files may differ, as if a file was moved.

@@ -15,8 +15,8 @@ use std::io::{Read, Write};
 use std::rt::Files;
 use std::{fs, io};
 
-/// The files of the system. Each call stands in a list that only proofs read, in order. A method makes the one call
-/// that it lists.
+/// The files of the system. Each call stands in a list that only proofs read, in order. A method makes the call that
+/// it lists, and no other; to read or write many bytes may take several calls of the system.
 #[derive(Drop)]
 pub(crate) struct ListedFiles<R> {
     rt: R,
