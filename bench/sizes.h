@@ -24,6 +24,14 @@ class Sizes {
         both_ways(place, shorter);
       }
     }
+    for (size_t group : {10, 10000}) {
+      List shorter;
+      for (size_t k = 0; k < 10000; k++) {
+        u64 n = k / group * (kMost / 10000 * group) + k % group;
+        shorter.push_back(child_of(child_of(longer_[n], 1), 2));
+      }
+      both_ways("10000_in_groups_of_" + std::to_string(group), shorter);
+    }
     for (bool inside : {true, false}) {
       List shorter;
       u64 first = (4 * (kMost / 2) + (inside ? 0 : 2)) << 20;
