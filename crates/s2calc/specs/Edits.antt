@@ -2,9 +2,9 @@
 use Rattle.std.specs.Prelude.{◌≡◌, ◌≢◌, ℕ, ◌+◌, ◌<◌, ◌⊎◌, ◌&&◌, Bool, false, List, [], length}
 use Rattle.std.specs.Prelude.{Option, Some, None}
 use Rattle.s2cell.specs.Cell.{first_leaf, size_of}
+use Rattle.s2cell.specs.Rectangles.{Rect, rect_set}
 use Rattle.s2list.specs.Union.{has_leaf, between, IsNormalForm}
 use Rattle.s2list.specs.Sets.{either, shared, without}
-use Rattle.s2cover.specs.Rectangles.{Rect, rect_set}
 use Rattle.s2cover.specs.Coverings.{outer_set, inner_set}
 use Rattle.s2edit.specs.History.{History, sets, numbers}
 use Rattle.s2edit.specs.Named.{Becomes}

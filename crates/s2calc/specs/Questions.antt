@@ -3,9 +3,10 @@ use Rattle.std.specs.Prelude.{◌≡◌, ℕ, ◌<◌, ◌≤◌, ◌⊎◌, Boo
 use Rattle.s2cell.specs.Cell.{IsCell, level_of, first_leaf, covers}
 use Rattle.s2cell.specs.Curve.{IsPlaceOf}
 use Rattle.s2cell.specs.Square.{IsSquareOf}
+use Rattle.s2cell.specs.declared.TheConstants.{LEAVES}
 use Rattle.s2list.specs.Union.{has_leaf, IsWithin, ShareSome}
 use Rattle.s2list.specs.Count.{count_below}
-use Rattle.s2union.specs.Denorm.{denormalised}
+use Rattle.s2list.specs.Denorm.{denormalised}
 use Rattle.s2edit.specs.History.{History}
 use Rattle.s2edit.specs.Leads.{list_at}
 use Rattle.s2script.specs.declared.command.Comparison.{Comparison}
@@ -17,7 +18,6 @@ use Rattle.s2calc.specs.declared.refusal.Refusal.TheVariants.{TooMany}
 use Rattle.s2calc.specs.declared.limits.TheConstants.{MOST_LISTED}
 use Rattle.s2calc.specs.Replies.{Reply, Says, Refuses}
 use Rattle.s2calc.specs.Texts.{cell_line, square_line, count_line, history_line, yes_line, no_line, listing}
-use Rattle.s2cell.specs.declared.TheConstants.{LEAVES}
 
 -- `yes` if P holds, else `no`
 abbrev pub AnswersYesIf : Type 0 → Reply → Type 0

@@ -1,8 +1,8 @@
 //! Edits of a register: the union that an edit makes, how the register gets it, and undo and redo.
 ghost use Rattle.std.specs.Prelude.{◌≡◌, ◌<◌, ℕ, Bool, List, length, Ok, IfOk, IfErr};
+ghost use Rattle.s2cell.specs.Rectangles.{rect_set};
 ghost use Rattle.s2list.specs.Union.{IsNormalForm, has_leaf};
 ghost use Rattle.s2list.specs.Sets.{either, shared, without};
-ghost use Rattle.s2cover.specs.Rectangles.{rect_set};
 ghost use Rattle.s2cover.specs.Coverings.{outer_set, inner_set};
 ghost use Rattle.s2edit.specs.History.{undone, redone, sets};
 ghost use Rattle.s2calc.specs.Working.Answer.{reply_of};

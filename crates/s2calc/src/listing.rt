@@ -2,7 +2,7 @@
 ghost use Rattle.std.specs.Prelude.{◌≡◌, ◌≤◌, ◌+◌, ◌++◌, ℕ, List, Option, length, take, flat_map, OnOk, OnErr};
 ghost use Rattle.std.specs.Prelude.{IfOk, IfErr};
 ghost use Rattle.std.specs.Io.KnownBytes.{Appends};
-ghost use Rattle.s2union.specs.Denorm.{denormalised};
+ghost use Rattle.s2list.specs.Denorm.{denormalised};
 ghost use Rattle.s2calc.specs.Output.{AppendsPart};
 ghost use Rattle.s2calc.specs.Calls.{NoneFailed, LastFailed};
 ghost use Rattle.s2calc.specs.Texts.{token_line, listing};

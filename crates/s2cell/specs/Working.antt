@@ -2,3 +2,4 @@
 -- docs/STATEMENT.md says what is.
 pub mod Entries
 pub mod Words
+pub mod CutLevels

@@ -12,10 +12,10 @@ use Rattle.s2cell.proofs.CellLemmas.{own_place}
 use Rattle.s2cell.proofs.Family.{parent_around, parent_level}
 use Rattle.s2cell.proofs.Leaves.{inside_from_within}
 use Rattle.s2cell.proofs.Squares.{covered_block, covers_block, first_leaf_covered}
+use Rattle.s2cell.specs.Rectangles.{Rect, rect_set}
+use Rattle.s2cell.proofs.Rectangles.{in_rect_from}
 use Rattle.s2list.specs.Union.{has_leaf}
-use Rattle.s2cover.specs.Rectangles.{Rect, rect_set}
 use Rattle.s2cover.specs.Working.Around.{CoversSquare}
-use Rattle.s2cover.proofs.Rectangles.{in_rect_from}
 use Rattle.s2cover.proofs.Squares.{block_leaf, one_end}
 
 -- the level whose cells are at least as wide as some steps are long, by the zeros before their number

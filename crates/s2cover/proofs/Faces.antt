@@ -3,17 +3,17 @@ use Rattle.std.proofs.Common.{◌≡◌, ℕ, ◌+◌, ◌-◌, ◌/◌, ◌^◌
 use Rattle.std.proofs.Common.{[], length, Result, IfErr, refl, sym, ◌∙◌, ap, arith, max}
 use Rattle.std.proofs.lemmas.Bool.{both_ways}
 use Rattle.std.proofs.Math.Nat.{div-one}
+use Rattle.std.proofs.lemmas.Result.{IfErr-weaker}
 use Rattle.s2cell.proofs.Squares.{covers_block}
-use Rattle.s2cover.specs.Working.Descent.{depth_of, form_in, IsAligned}
-use Rattle.s2cover.specs.Rectangles.{Rect, rect_set}
-use Rattle.s2cover.proofs.Rectangles.{in_rect_from}
-use Rattle.s2cover.proofs.Formed.{formed}
+use Rattle.s2cell.specs.Rectangles.{Rect, rect_set}
+use Rattle.s2cell.proofs.Rectangles.{in_rect_from}
+use Rattle.s2cell.specs.Cell.{IsCell, level_of, place_of, face_of, covers}
+use Rattle.s2cell.proofs.CellLemmas.{own_place}
 use Rattle.s2list.specs.Union.{has_leaf, IsNormalForm}
 use Rattle.s2list.proofs.Normal.{normal_form_same, one_normal_form}
 use Rattle.s2list.proofs.Picking.{picked_none, picked_normal}
-use Rattle.s2cell.specs.Cell.{IsCell, level_of, place_of, face_of, covers}
-use Rattle.s2cell.proofs.CellLemmas.{own_place}
-use Rattle.std.proofs.lemmas.Result.{IfErr-weaker}
+use Rattle.s2cover.specs.Working.Descent.{depth_of, form_in, IsAligned}
+use Rattle.s2cover.proofs.Formed.{formed}
 
 pub and_of : (a s : Bool) → (s ≡ true → a ≡ true) → (a && s) ≡ s
 and_of true s h = refl

@@ -8,12 +8,12 @@ use Rattle.s2cell.proofs.Levels.{at_bounds}
 use Rattle.s2cell.proofs.Places.{place_is}
 use Rattle.s2cell.proofs.Squares.{in_block, block_of}
 use Rattle.s2cell.proofs.CellLemmas.{four_pos}
+use Rattle.s2cell.specs.Rectangles.{Rect, IsRect, rect_set}
+use Rattle.s2cell.specs.declared.TheConstants.{LEAVES}
+use Rattle.s2cell.proofs.Rectangles.{in_rect, in_rect_from}
 use Rattle.s2cover.specs.Coverings.{touched, outer_set, inner_set}
 use Rattle.s2cover.specs.Working.Descent.{blocks, IsAligned}
-use Rattle.s2cover.specs.Rectangles.{Rect, IsRect, rect_set}
-use Rattle.s2cell.specs.declared.TheConstants.{LEAVES}
 use Rattle.s2cover.proofs.Runs.{filled_each, filled_from, touched_none, block_here}
-use Rattle.s2cover.proofs.Rectangles.{in_rect, in_rect_from}
 use Rattle.s2cover.proofs.Coverings.{touched_some}
 use Rattle.s2cover.proofs.Formed.{blocks_aligned}
 use Rattle.s2cover.proofs.Squares.{Narrowed, Rounded, block_leaf, in_from, in_to, out_from, out_to, quotient_below}

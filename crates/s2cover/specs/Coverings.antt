@@ -2,10 +2,11 @@
 use Rattle.std.specs.Prelude.{◌≡◌, ℕ, zero, suc, ◌+◌, ◌-◌, ◌*◌, ◌/◌, ◌^◌, Bool, true, false, ◌&&◌}
 use Rattle.std.specs.Prelude.{◌||◌, nat_lt, ◌<◌, List, length}
 use Rattle.s2cell.specs.Cell.{IsCell, level_of, covers}
+use Rattle.s2cell.specs.Rectangles.{Rect, rect_set}
+use Rattle.s2cell.specs.declared.TheConstants.{LEAVES}
 use Rattle.s2list.specs.Union.{LiesIn, ShareSome, IsNormalForm, has_leaf}
 use Rattle.s2cover.specs.declared.region.CoverFault.{CoverFault}
 use Rattle.s2cover.specs.declared.region.CoverFault.TheVariants.{TooMany}
-use Rattle.s2cell.specs.declared.TheConstants.{LEAVES}
 
 -- no leaf of the cell `c` is in `S`
 abbrev pub LiesOutside : (ℕ → Bool) → ℕ → Type 0
@@ -54,3 +55,7 @@ HasLeavesOf S u = (x : ℕ) → has_leaf u x ≡ S x
 -- the fault is `TooMany` only if the normal form of `S` has more than `max` cells
 abbrev pub TooManyMeans : (ℕ → Bool) → ℕ → CoverFault → Type 0
 TooManyMeans S max fault = fault ≡ TooMany → (u : List ℕ) → IsNormalForm S u → max < length u
+
+-- the leaves of the cells `u` that are in the rectangle
+abbrev pub clipped : List ℕ → Rect → ℕ → Bool
+clipped u r x = has_leaf u x && rect_set r x

@@ -1,3 +1,2 @@
 pub mod Coverings
-pub mod Rectangles
 pub mod Working

@@ -1,11 +1,10 @@
 //! The few cells around a rectangle.
 ghost use Rattle.std.specs.Prelude.{◌-◌, ◌^◌, ◌<◌, ◌≤◌, max};
+ghost use Rattle.s2cell.specs.Rectangles.{rect_set};
 ghost use Rattle.s2list.specs.Union.{IsWithin, has_leaf};
-ghost use Rattle.s2cover.specs.Rectangles.{rect_set};
 ghost use Rattle.s2cover.specs.Working.Around.{CoversSquare};
 
-use crate::rect::FaceRect;
-use s2cell::{CellId, GREATEST_LEVEL, SIDE};
+use s2cell::{CellId, FaceRect, GREATEST_LEVEL, SIDE};
 
 /// Four cells of a level that have all leaves of a rectangle, in order: those that have its corners, at the deepest
 /// level whose cells are at least as wide as it is long. Some may be the same.

@@ -6,20 +6,21 @@ ghost use Rattle.std.specs.Prelude.{◌≡◌, ◌+◌, ◌-◌, ◌*◌, ◌^�
 ghost use Rattle.std.specs.Prelude.{length, IfOk, IfErr, OnErr};
 ghost use Rattle.std.specs.List.{flat_map};
 ghost use Rattle.s2cell.specs.Cell.{level_of};
+ghost use Rattle.s2cell.specs.Rectangles.{rect_set};
 ghost use Rattle.s2list.specs.Union.{has_leaf, IsLocal, IsNormalForm};
-ghost use Rattle.s2cover.specs.Coverings.{HasLeavesOf, TooManyMeans, inner_set, outer_set};
 ghost use Rattle.s2room.specs.Cut.{cells_cut, cells_kept};
+ghost use Rattle.s2cover.specs.Coverings.{HasLeavesOf, TooManyMeans, inner_set, outer_set};
 ghost use Rattle.s2cover.specs.Working.Cut.{cells_met};
 ghost use Rattle.s2cover.specs.Working.Descent.{IsAligned, form_in};
-ghost use Rattle.s2cover.specs.Rectangles.{clipped, rect_set};
+ghost use Rattle.s2cover.specs.Coverings.{clipped};
 
 use crate::MOST_CELLS;
 use crate::looks::{Looks, seek};
 use crate::met::add_met;
 use crate::placing::placed_cell;
-use crate::rect::FaceRect;
 use crate::region::CoverFault;
-use s2cell::{CellId, GREATEST_LEVEL};
+use crate::rounding::{round_inward, round_outward};
+use s2cell::{CellId, FaceRect, GREATEST_LEVEL};
 use s2list::{CellList, Listed};
 use s2room::union_cut;
 use s2union::CellUnion;
@@ -56,7 +57,14 @@ pub fn clip_outer(
     looks.count = 0;
     let _ = union.cells();
     let whole = cut_union(alloc, union, rect, level, looks)?;
-    clip_aligned(alloc, &whole, &rect.round_outward(level), level, max, looks)
+    clip_aligned(
+        alloc,
+        &whole,
+        &round_outward(rect, level),
+        level,
+        max,
+        looks,
+    )
 }
 
 /// The inner covering of what a union and a rectangle share: the answer of `inner` for a `Clip`. The time
@@ -85,7 +93,7 @@ pub fn clip_inner(
     ensures refused { IfErr result (λ fault. fault ≡ CoverFault.TooMany → max < looks.new.count) }
 {
     looks.count = 0;
-    match rect.round_inward(level) {
+    match round_inward(rect, level) {
         Some(narrow) => inner_part(alloc, union, narrow, level, max, looks),
         None => Ok(CellUnion::from_normalized(Vec::new(alloc))),
     }

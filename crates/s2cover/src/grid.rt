@@ -1,15 +1,15 @@
 //! The coverings of a rectangle in time proportional to the answer.
 ghost use Rattle.std.specs.Prelude.{◌≡◌, ◌+◌, ◌-◌, ◌*◌, ◌<◌, ◌≤◌, length, IfOk, IfErr, OnErr};
+ghost use Rattle.s2cell.specs.Rectangles.{rect_set};
 ghost use Rattle.s2list.specs.Union.{IsLocal, IsNormalForm};
 ghost use Rattle.s2cover.specs.Coverings.{HasLeavesOf, TooManyMeans, inner_set, outer_set};
 ghost use Rattle.s2cover.specs.Working.Descent.{IsAligned};
-ghost use Rattle.s2cover.specs.Rectangles.{rect_set};
 
 use crate::MOST_CELLS;
 use crate::looks::{Looks, seek};
-use crate::rect::FaceRect;
 use crate::region::CoverFault;
-use s2cell::{GREATEST_LEVEL, PlacedCell};
+use crate::rounding::{round_inward, round_outward};
+use s2cell::{FaceRect, GREATEST_LEVEL, PlacedCell};
 use s2union::CellUnion;
 use std::alloc::Global;
 
@@ -39,7 +39,7 @@ pub fn rect_outer(
     ensures refused { IfErr result (λ fault. fault ≡ CoverFault.TooMany → max < looks.new.count) }
 {
     looks.count = 0;
-    cover_aligned(alloc, &rect.round_outward(level), level, max, looks)
+    cover_aligned(alloc, &round_outward(rect, level), level, max, looks)
 }
 
 /// The inner covering of a rectangle: the answer of `inner`, in time proportional to the number of its cells.
@@ -66,7 +66,7 @@ pub fn rect_inner(
     ensures refused { IfErr result (λ fault. fault ≡ CoverFault.TooMany → max < looks.new.count) }
 {
     looks.count = 0;
-    match rect.round_inward(level) {
+    match round_inward(rect, level) {
         Some(narrow) => cover_aligned(alloc, &narrow, level, max, looks),
         None => Ok(CellUnion::from_normalized(Vec::new(alloc))),
     }

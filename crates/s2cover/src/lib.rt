@@ -34,8 +34,8 @@ pub use cut::{put_inner, put_outer, union_inner, union_outer};
 pub use grid::{rect_inner, rect_outer};
 pub use listed::{clip_inner_of, clip_outer_of};
 pub use looks::Looks;
-pub use rect::FaceRect;
 pub use region::{CoverFault, Part, Region};
+pub use s2cell::FaceRect;
 pub use union::Clip;
 
 /// The most cells that a call may allow a covering: the greatest `max`.

@@ -2,18 +2,17 @@
 //! for those near the rectangle, and not checked.
 ghost use Rattle.std.specs.Prelude.{◌≡◌, ◌-◌, ◌<◌, ◌≤◌, ℕ, length, slice_index, false, IfOk, IfErr};
 ghost use Rattle.s2list.specs.Union.{IsLocal, IsNormalForm};
-ghost use Rattle.s2cover.specs.Coverings.{TooManyMeans, inner_set, outer_set};
-ghost use Rattle.s2cover.specs.Rectangles.{clipped};
 ghost use Rattle.s2room.specs.Cut.{cells_kept};
+ghost use Rattle.s2cover.specs.Coverings.{TooManyMeans, inner_set, outer_set};
+ghost use Rattle.s2cover.specs.Coverings.{clipped};
 
 use crate::MOST_CELLS;
 use crate::around::cells_around;
 use crate::clip::{clip_inner, clip_outer};
 use crate::looks::Looks;
 use crate::met::add_met;
-use crate::rect::FaceRect;
 use crate::region::CoverFault;
-use s2cell::{CellId, GREATEST_LEVEL};
+use s2cell::{CellId, FaceRect, GREATEST_LEVEL};
 use s2list::{Cells, cells_at};
 use s2union::{CellUnion, normalise};
 use std::alloc::{AllocError, Global};

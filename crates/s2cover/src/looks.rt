@@ -2,16 +2,16 @@
 ghost use Rattle.std.specs.Prelude.{◌≡◌, ◌+◌, ◌-◌, ◌*◌, ◌^◌, ◌<◌, ◌≤◌, ◌↔◌, ◌++◌, ◌∷◌};
 ghost use Rattle.std.specs.Prelude.{[], ℕ, length, vec_len, OnOk, OnErr, IfErr};
 ghost use Rattle.s2cell.specs.Cell.{level_of};
-ghost use Rattle.s2list.specs.Union.{LiesIn};
 ghost use Rattle.s2cell.specs.Square.{IsPlacedCell, IsSquareOf};
+ghost use Rattle.s2cell.specs.Rectangles.{rect_set};
+ghost use Rattle.s2list.specs.Union.{LiesIn};
 ghost use Rattle.s2cover.specs.Coverings.{LiesOutside};
 ghost use Rattle.s2cover.specs.Working.Descent.{IsAligned, depth_of, form_in};
-ghost use Rattle.s2cover.specs.Rectangles.{rect_set};
 
 use crate::MOST_CELLS;
-use crate::rect::FaceRect;
+use crate::rect::part_of;
 use crate::region::{CoverFault, Part};
-use s2cell::{CellId, GREATEST_LEVEL, PlacedCell, SIDE, Square};
+use s2cell::{CellId, FaceRect, GREATEST_LEVEL, PlacedCell, SIDE, Square};
 
 /// How many quadrants a call has looked at: how often it asked whether a cell lies outside, inside or across.
 #[derive(Clone, Copy, PartialEq, Eq, Debug, Default)]
@@ -33,7 +33,7 @@ pub(crate) fn look(rect: &FaceRect, square: Square, looks: &mut Looks) -> Part
         (result ≡ Part.In) ↔ LiesIn (rect_set rect.now) c }
 {
     looks.count += 1;
-    rect.part_of(square)
+    part_of(rect, square)
 }
 
 /// Adds the greatest cells of a rectangle on the grid of a level that lie in one cell. Each is taken as it is found,

@@ -1,14 +1,13 @@
 //! The cells of a list that have a leaf in a rectangle.
 ghost use Rattle.std.specs.Prelude.{◌≡◌, ◌+◌, ◌^◌, ◌<◌, ◌≤◌, ◌++◌, ◌&&◌, All, length, take, drop, OnOk};
 ghost use Rattle.s2cell.specs.Cell.{IsCell};
+ghost use Rattle.s2cell.specs.Rectangles.{rect_set};
 ghost use Rattle.s2room.specs.Cut.{cells_kept, reaches};
-ghost use Rattle.s2cover.specs.Rectangles.{rect_set};
 ghost use Rattle.s2cover.specs.Working.Cut.{cells_met, meets};
 
 use crate::looks::{Looks, look};
-use crate::rect::FaceRect;
 use crate::region::Part;
-use s2cell::CellId;
+use s2cell::{CellId, FaceRect};
 use s2list::Cells;
 use std::alloc::AllocError;
 

@@ -1,54 +1,51 @@
 //! Rectangles rounded to the grid of a level, so that their sides are sides of its cells.
 ghost use Rattle.std.specs.Prelude.{◌≡◌, ◌+◌, ◌-◌, ◌*◌, ◌/◌, ◌^◌, ◌<◌, ◌≤◌, ℕ, false, IfSome};
 ghost use Rattle.std.specs.Prelude.{None};
+ghost use Rattle.s2cell.specs.Rectangles.{rect_set};
 ghost use Rattle.s2cover.specs.Coverings.{inner_set, outer_set};
 ghost use Rattle.s2cover.specs.Working.Descent.{IsAligned};
-ghost use Rattle.s2cover.specs.Rectangles.{rect_set};
 
-use crate::rect::FaceRect;
-use s2cell::{GREATEST_LEVEL, SIDE};
+use s2cell::{FaceRect, GREATEST_LEVEL, SIDE};
 
-impl FaceRect {
-    /// The rectangle rounded outward: the leaves of all cells of the level that share a leaf with it.
-    pub(crate) fn round_outward(&self, level: u8) -> FaceRect
-        requires { level ≤ GREATEST_LEVEL }
-        ensures leaves { (x : ℕ) → rect_set result x ≡ outer_set (rect_set self.now) level x }
-        ensures aligned { IsAligned (rect_set result) (30 - level) }
-    {
-        let side = side_of(level);
-        FaceRect {
-            face: self.face,
-            i0: round_down(self.i0, side),
-            i1: round_down(self.i1, side) + (side - 1),
-            j0: round_down(self.j0, side),
-            j1: round_down(self.j1, side) + (side - 1),
-        }
+/// The rectangle rounded outward: the leaves of all cells of the level that share a leaf with it.
+pub(crate) fn round_outward(rect: &FaceRect, level: u8) -> FaceRect
+    requires { level ≤ GREATEST_LEVEL }
+    ensures leaves { (x : ℕ) → rect_set result x ≡ outer_set (rect_set rect.now) level x }
+    ensures aligned { IsAligned (rect_set result) (30 - level) }
+{
+    let side = side_of(level);
+    FaceRect {
+        face: rect.face,
+        i0: round_down(rect.i0, side),
+        i1: round_down(rect.i1, side) + (side - 1),
+        j0: round_down(rect.j0, side),
+        j1: round_down(rect.j1, side) + (side - 1),
     }
+}
 
-    /// The rectangle rounded inward: the leaves of all cells of the level that lie inside it. None if there is no such
-    /// cell.
-    pub(crate) fn round_inward(&self, level: u8) -> Option<FaceRect>
-        requires { level ≤ GREATEST_LEVEL }
-        ensures leaves { IfSome result (λ r. (x : ℕ) → rect_set r x ≡ inner_set (rect_set self.now) level x) }
-        ensures aligned { IfSome result (λ r. IsAligned (rect_set r) (30 - level)) }
-        ensures none { result ≡ None → (x : ℕ) → inner_set (rect_set self.now) level x ≡ false }
-    {
-        let side = side_of(level);
-        let i0 = round_down(self.i0 + (side - 1), side);
-        let i_end = round_down(self.i1 + 1, side);
-        let j0 = round_down(self.j0 + (side - 1), side);
-        let j_end = round_down(self.j1 + 1, side);
-        if i0 < i_end && j0 < j_end {
-            Some(FaceRect {
-                face: self.face,
-                i0,
-                i1: i_end - 1,
-                j0,
-                j1: j_end - 1,
-            })
-        } else {
-            None
-        }
+/// The rectangle rounded inward: the leaves of all cells of the level that lie inside it. None if there is no such
+/// cell.
+pub(crate) fn round_inward(rect: &FaceRect, level: u8) -> Option<FaceRect>
+    requires { level ≤ GREATEST_LEVEL }
+    ensures leaves { IfSome result (λ r. (x : ℕ) → rect_set r x ≡ inner_set (rect_set rect.now) level x) }
+    ensures aligned { IfSome result (λ r. IsAligned (rect_set r) (30 - level)) }
+    ensures none { result ≡ None → (x : ℕ) → inner_set (rect_set rect.now) level x ≡ false }
+{
+    let side = side_of(level);
+    let i0 = round_down(rect.i0 + (side - 1), side);
+    let i_end = round_down(rect.i1 + 1, side);
+    let j0 = round_down(rect.j0 + (side - 1), side);
+    let j_end = round_down(rect.j1 + 1, side);
+    if i0 < i_end && j0 < j_end {
+        Some(FaceRect {
+            face: rect.face,
+            i0,
+            i1: i_end - 1,
+            j0,
+            j1: j_end - 1,
+        })
+    } else {
+        None
     }
 }
 

@@ -1,12 +1,12 @@
 //! A union as a region, and a union clipped by a rectangle.
 ghost use Rattle.std.specs.Prelude.{◌≡◌, ◌↔◌, ◌&&◌, ℕ, true, false, IsTrue};
+ghost use Rattle.s2cell.specs.Rectangles.{rect_set};
 ghost use Rattle.s2list.specs.Union.{has_leaf, LiesIn};
 ghost use Rattle.s2cover.specs.Coverings.{LiesOutside};
-ghost use Rattle.s2cover.specs.Rectangles.{clipped, rect_set};
+ghost use Rattle.s2cover.specs.Coverings.{clipped};
 
-use crate::rect::FaceRect;
 use crate::region::{Part, Region};
-use s2cell::{CellId, PlacedCell};
+use s2cell::{CellId, FaceRect, PlacedCell};
 use s2union::CellUnion;
 
 impl Region for CellUnion {

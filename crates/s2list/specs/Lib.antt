@@ -2,6 +2,7 @@ pub mod Union
 pub mod Packed
 pub mod Count
 pub mod Sets
+pub mod Denorm
 pub mod Search
 pub mod Looks
 pub mod Output

@@ -9,9 +9,10 @@ use Rattle.s2cell.specs.Descendant.{descendant_of}
 use Rattle.s2cell.proofs.CellLemmas.{cell_leaves, four_pos}
 use Rattle.s2cell.proofs.Calls.{fits_u64}
 use Rattle.s2cell.proofs.Descendants.{descendant, IsCell-descendant_of}
+use Rattle.s2cell.specs.CutLevels.{cells_in, cut_level}
 use Rattle.s2list.specs.Union.{IsLocal}
-use Rattle.s2union.specs.Denorm.{cells_in, cut_level, denormalised}
-use Rattle.s2union.proofs.Items.{Listing, listing_start, listing_more, listing_done, length-denormalised-le}
+use Rattle.s2list.specs.Denorm.{denormalised}
+use Rattle.s2list.proofs.Items.{Listing, listing_start, listing_more, listing_done, length-denormalised-le}
 use Rattle.s2room.specs.Working.Room.{IsPut}
 use Rattle.s2room.specs.Room.{PutsOne}
 use Rattle.s2room.proofs.Putting.{item_put, put_none}

@@ -1,13 +1,13 @@
 //! The cells of a union, cut to levels, written straight into a room.
 ghost use Rattle.std.specs.Prelude.{◌≡◌, ◌++◌, ◌-◌, ◌<◌, ◌≤◌, ℕ, List, drop, length};
 ghost use Rattle.s2cell.specs.Cell.{IsCell, level_of};
+ghost use Rattle.s2cell.specs.CutLevels.{cells_in, cut_level};
 ghost use Rattle.s2list.specs.Union.{IsLocal};
-ghost use Rattle.s2union.specs.Denorm.{cells_in, cut_level, denormalised};
+ghost use Rattle.s2list.specs.Denorm.{denormalised};
 ghost use Rattle.s2room.specs.Working.Room.{IsPut, LeavesRest};
 ghost use Rattle.s2room.specs.Room.{PutsOne};
 
-use s2cell::{CellId, GREATEST_LEVEL};
-use s2union::{CutLevels, count_descendants};
+use s2cell::{CellId, CutLevels, GREATEST_LEVEL, count_descendants};
 
 /// Puts the cells that the cells of a union are cut into at the front of a room, if they fit, and answers how many they
 /// are. Each cell is cut to the least level that is at least its own, is at least `min`, and differs from `min` by a

@@ -17,8 +17,7 @@ use crate::number::number_within;
 use crate::place::Place;
 use crate::span::Span;
 use crate::words::Words;
-use s2cell::CellId;
-use s2cover::FaceRect;
+use s2cell::{CellId, FaceRect};
 use s2edit::Register;
 
 /// The register that a word names, if it names one.

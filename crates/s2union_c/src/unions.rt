@@ -2,10 +2,10 @@
 ghost use Rattle.std.specs.Prelude.{◌≡◌, ◌+◌, ◌*◌, ◌<◌, ◌≤◌, ◌↔◌, ℕ, IsTrue, All, List, length};
 ghost use Rattle.s2cell.specs.Cell.{IsCell, first_leaf, size_of};
 ghost use Rattle.s2list.specs.Union.{IsLocal, IsNormalForm, between, has_leaf};
-ghost use Rattle.s2union.specs.Denorm.{denormalised};
+ghost use Rattle.s2list.specs.Denorm.{denormalised};
+ghost use Rattle.s2list.specs.Search.{IsFirstWrong};
 ghost use Rattle.s2room.specs.Ancestors.{AreHolders};
 ghost use Rattle.s2room.specs.Normalising.{IsNormalisedIn};
-ghost use Rattle.s2list.specs.Search.{IsFirstWrong};
 ghost use Rattle.s2union_c.specs.Ends.{AreEnds};
 ghost use Rattle.s2union_c.specs.Results.{KeepsRest, Made, MadeInPlace, MadeOne, Refused};
 ghost use Rattle.s2union_c.specs.Cutting.{IsCutting};

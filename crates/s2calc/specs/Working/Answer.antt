@@ -1,11 +1,11 @@
 -- What the code keeps of a reply until it is written.
 use Rattle.std.specs.Prelude.{ℕ, List, Bool, true, false}
+use Rattle.s2list.specs.Denorm.{denormalised}
+use Rattle.s2edit.specs.History.{History}
+use Rattle.s2edit.specs.Leads.{list_at}
 use Rattle.s2calc.specs.declared.answer.Answer.{Answer}
 use Rattle.s2calc.specs.declared.answer.Answer.TheVariants.{Nothing, Cell, Square, Moved, Count, YesOrNo, Listing, Cut}
 use Rattle.s2calc.specs.declared.answer.Answer.TheVariants.{Sides, Done, Refused}
-use Rattle.s2union.specs.Denorm.{denormalised}
-use Rattle.s2edit.specs.History.{History}
-use Rattle.s2edit.specs.Leads.{list_at}
 use Rattle.s2calc.specs.Replies.{Reply, Silent, Says, Refuses}
 use Rattle.s2calc.specs.Texts.{cell_line, square_line, ok_line, count_line, history_line, yes_line, no_line, done_line}
 use Rattle.s2calc.specs.Texts.{listing}

@@ -1,13 +1,7 @@
--- What only private contracts need, beside Denorm.antt, which has what public contracts need.
-use Rattle.std.specs.Prelude.{◌≡◌, ℕ, ◌-◌, ◌^◌, ◌<◌, ◌≤◌, List, length, get_or, slice_index}
+-- Where an iterator over the cells that a union is cut into is.
+use Rattle.std.specs.Prelude.{◌≡◌, ℕ, ◌-◌, ◌^◌, ◌<◌, ◌≤◌, List, length, slice_index}
 use Rattle.s2cell.specs.Cell.{level_of}
-use Rattle.s2union.specs.Denorm.{cut_level}
-
--- the table has the level that a cell of each level is cut to
-pub record AreCutLevels (least modulus : ℕ) (levels : List ℕ) : Type 0 where
-  pub some : 0 < modulus
-  pub size : length levels ≡ 31
-  pub each : (level : ℕ) → level ≤ 30 → get_or levels level 0 ≡ cut_level level least modulus
+use Rattle.s2cell.specs.CutLevels.{cut_level}
 
 -- where an iterator over that list is: at the item `number` of the `count` items of its first cell, which is cut to
 -- `level`

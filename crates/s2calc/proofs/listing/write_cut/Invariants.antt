@@ -1,6 +1,6 @@
 use Rattle.std.proofs.Common.{◌≡◌, ◌+◌, ◌≤◌, ◌++◌, length, take}
 use Rattle.std.specs.List.{flat_map}
-use Rattle.s2union.specs.Denorm.{denormalised}
+use Rattle.s2list.specs.Denorm.{denormalised}
 use Rattle.s2calc.specs.Texts.{token_line}
 use Rattle.s2calc.specs.Calls.{NoneFailed}
 use Rattle.s2calc.specs.Working.Listing.{IsUnderway}

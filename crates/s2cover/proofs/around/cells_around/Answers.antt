@@ -1,7 +1,7 @@
 use Rattle.std.proofs.Common.{◌≡◌, ◌-◌, ◌^◌, ◌<◌, ◌∙◌, max, true, subst, sym}
 use Rattle.std.proofs.lemmas.List.Sorted.{list_any-IsPermutation}
 use Rattle.s2cell.specs.Cell.{covers}
-use Rattle.s2cover.specs.Rectangles.{Rect, rect_set}
+use Rattle.s2cell.specs.Rectangles.{Rect, rect_set}
 use Rattle.s2cover.proofs.Corners.{four_around}
 use Rattle.s2cover.proofs.around.cells_around.Goals as goal
 

@@ -1,5 +1,5 @@
 use Rattle.std.proofs.Common.{◌-◌, max, ap, arith, refl}
-use Rattle.s2cover.specs.Rectangles.{Rect}
+use Rattle.s2cell.specs.Rectangles.{Rect}
 use Rattle.s2cover.proofs.Corners.{fits_steps}
 use Rattle.s2cover.proofs.around.level_around.Goals as goal
 

@@ -1,7 +1,7 @@
 use Rattle.std.proofs.Common.{arith, ◌≡◌, ◌+◌, ◌-◌, ◌*◌, length, length-append, vec_len, ◌∙◌, ap}
 use Rattle.std.proofs.lemmas.Result.{err_from_is_err_and}
+use Rattle.s2cell.specs.Rectangles.{rect_set}
 use Rattle.s2cover.specs.Working.Descent.{depth_of, form_in}
-use Rattle.s2cover.specs.Rectangles.{rect_set}
 use Rattle.s2cover.proofs.Parts.{gathered_next, gathered_many}
 use Rattle.s2cover.proofs.Searches.{added_next, added_stop}
 use Rattle.s2cover.proofs.clip.cells_within.Goals as goal

@@ -1,6 +1,6 @@
 use Rattle.std.proofs.Common.{◌-◌, take, vec_len}
+use Rattle.s2cell.specs.Rectangles.{rect_set}
 use Rattle.s2cover.specs.Working.Descent.{form_in}
-use Rattle.s2cover.specs.Rectangles.{rect_set}
 use Rattle.s2cover.proofs.Parts.{Gathered}
 use Rattle.s2cover.proofs.Searches.{Added}
 use Rattle.s2cover.proofs.clip.cells_within.Given as goal

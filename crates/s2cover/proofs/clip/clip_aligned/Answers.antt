@@ -1,10 +1,11 @@
 use Rattle.std.proofs.Common.{◌≡◌, ◌-◌, ◌<◌, List, ℕ, length, ◌∙◌, ap, sym, subst}
 use Rattle.std.proofs.lemmas.Result.{err_from_is_err_and}
 use Rattle.std.specs.List.{flat_map}
+use Rattle.s2cell.specs.Rectangles.{rect_set}
 use Rattle.s2list.specs.Union.{has_leaf, IsLocal, IsNormalForm}
 use Rattle.s2list.proofs.Normal.{local_from_normal}
 use Rattle.s2cover.specs.Working.Descent.{form_in}
-use Rattle.s2cover.specs.Rectangles.{clipped, rect_set}
+use Rattle.s2cover.specs.Coverings.{clipped}
 use Rattle.s2cover.proofs.Parts.{parts_normal, parts_many}
 use Rattle.s2cover.proofs.clip.clip_aligned.Goals as goal
 

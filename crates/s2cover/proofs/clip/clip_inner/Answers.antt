@@ -1,7 +1,7 @@
 use Rattle.std.proofs.Common.{◌≡◌, ℕ, ◌&&◌, ◌∙◌, refl}
+use Rattle.s2cell.specs.Rectangles.{rect_set}
 use Rattle.s2list.specs.Union.{has_leaf}
 use Rattle.s2cover.specs.Coverings.{inner_set}
-use Rattle.s2cover.specs.Rectangles.{rect_set}
 use Rattle.s2cover.proofs.Faces.{many_same, none_normal}
 use Rattle.s2cover.proofs.Clips.{narrow_clip, no_clip, leaves_ok, normal_ok}
 use Rattle.s2cover.proofs.clip.clip_inner.Goals as goal

@@ -1,7 +1,7 @@
 use Rattle.std.proofs.Common.{◌≡◌, ℕ, ◌&&◌, ◌∙◌}
+use Rattle.s2cell.specs.Rectangles.{rect_set}
 use Rattle.s2list.specs.Union.{has_leaf}
 use Rattle.s2cover.specs.Coverings.{outer_set}
-use Rattle.s2cover.specs.Rectangles.{rect_set}
 use Rattle.s2cover.proofs.Faces.{many_same}
 use Rattle.s2cover.proofs.Clips.{cut_clip, leaves_ok, normal_ok}
 use Rattle.s2cover.proofs.Parts.{shared_outer}

@@ -1,9 +1,9 @@
 use Rattle.std.proofs.Common.{arith, ◌≡◌, ◌-◌, ◌++◌, vec_len, ◌∙◌, ap}
 use Rattle.std.proofs.lemmas.Result.{err_from_is_err_and}
+use Rattle.s2cell.specs.Rectangles.{Rect, rect_set}
 use Rattle.s2list.specs.Union.{has_leaf}
 use Rattle.s2list.proofs.Normal.{local_from_normal}
 use Rattle.s2cover.specs.Working.Descent.{form_in}
-use Rattle.s2cover.specs.Rectangles.{Rect, rect_set}
 use Rattle.s2cover.proofs.Faces.{rect_face, too_long}
 use Rattle.s2cover.proofs.grid.cover_aligned.Goals as goal
 

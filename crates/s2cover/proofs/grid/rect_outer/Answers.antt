@@ -1,5 +1,5 @@
+use Rattle.s2cell.specs.Rectangles.{rect_set}
 use Rattle.s2cover.specs.Coverings.{outer_set}
-use Rattle.s2cover.specs.Rectangles.{rect_set}
 use Rattle.s2cover.proofs.Faces.{many_same}
 use Rattle.s2cover.proofs.grid.rect_outer.Goals as goal
 

@@ -1,4 +1,4 @@
-use Rattle.s2cover.specs.Rectangles.{rect_set}
+use Rattle.s2cell.specs.Rectangles.{rect_set}
 use Rattle.s2cover.proofs.Clips.{kept_clip, normal_ok}
 use Rattle.s2cover.proofs.Faces.{many_same}
 use Rattle.s2cover.proofs.listed.clip_inner_of.Goals as goal

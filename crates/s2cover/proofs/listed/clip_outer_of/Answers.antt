@@ -1,4 +1,4 @@
-use Rattle.s2cover.specs.Rectangles.{rect_set}
+use Rattle.s2cell.specs.Rectangles.{rect_set}
 use Rattle.s2cover.proofs.Clips.{normal_ok}
 use Rattle.s2cover.proofs.Faces.{many_same}
 use Rattle.s2cover.proofs.Near.{outer_near}

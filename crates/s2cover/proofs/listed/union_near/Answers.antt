@@ -1,6 +1,6 @@
 use Rattle.std.proofs.Common.{◌<◌, ◌≡◌, ◌∙◌, ◌&&◌, length, ap, arith, refl, subst, take}
 use Rattle.std.proofs.lemmas.List.{take_all}
-use Rattle.s2cover.specs.Rectangles.{rect_set}
+use Rattle.s2cell.specs.Rectangles.{rect_set}
 use Rattle.s2cover.proofs.Near.{HasNear, near_all, near_more, near_same}
 use Rattle.s2cover.proofs.listed.union_near.Goals as goal
 use Rattle.s2cover.proofs.listed.union_near.Goals.{then-is_new+in_ok-add_met, else-is_new}

@@ -1,6 +1,6 @@
 use Rattle.std.proofs.Common.{take}
+use Rattle.s2cell.specs.Rectangles.{rect_set}
 use Rattle.s2list.specs.Union.{IsLocal}
-use Rattle.s2cover.specs.Rectangles.{rect_set}
 use Rattle.s2cover.proofs.Near.{HasNear}
 use Rattle.s2cover.proofs.listed.union_near.Given as goal
 

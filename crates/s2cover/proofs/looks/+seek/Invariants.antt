@@ -1,7 +1,7 @@
 use Rattle.std.proofs.Common.{◌-◌, vec_len}
 use Rattle.s2cell.specs.Cell.{place_of}
+use Rattle.s2cell.specs.Rectangles.{rect_set}
 use Rattle.s2cover.specs.Working.Descent.{depth_of}
-use Rattle.s2cover.specs.Rectangles.{rect_set}
 use Rattle.s2cover.proofs.Searches.{Sought}
 use Rattle.s2cover.proofs.looks.+seek.Given as goal
 

@@ -1,5 +1,5 @@
 use Rattle.std.proofs.Common.{◌≡◌, ◌+◌, ◌∙◌, get_or, sym, arith}
-use Rattle.s2cover.specs.Rectangles.{rect_set}
+use Rattle.s2cell.specs.Rectangles.{rect_set}
 use Rattle.s2cover.proofs.Near.{met_left, met_taken}
 use Rattle.s2cover.proofs.met.add_met.Goals as goal
 use Rattle.s2cover.proofs.met.add_met.Goals.{in-Some+then-is_met+in_ok-push, in-Some+else-is_met, in_default}

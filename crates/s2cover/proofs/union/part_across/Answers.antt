@@ -1,7 +1,7 @@
 use Rattle.std.proofs.Common.{◌&&◌, sym, ◌∙◌, ap}
 use Rattle.std.proofs.lemmas.Bool.{false≢true}
 use Rattle.s2cell.specs.Cell.{level_of, place_of}
-use Rattle.s2cover.specs.Rectangles.{rect_set}
+use Rattle.s2cell.specs.Rectangles.{rect_set}
 use Rattle.s2cover.proofs.Regions.{across}
 use Rattle.s2cover.proofs.union.part_across.Goals as goal
 use Rattle.s2cover.proofs.union.part_across.Goals.{else-not-contains_cell-via-then-not-contains_cell+else-lie_outside}

@@ -5,8 +5,8 @@ use Rattle.std.proofs.lemmas.List.FromFn.{length-map-range_with_len}
 use Rattle.s2cell.specs.Cell.{level_of, size_of}
 use Rattle.s2cell.specs.Descendant.{descendant_of}
 use Rattle.s2cell.proofs.CellLemmas.{four_pos}
-use Rattle.s2union.specs.Denorm.{cells_in}
-use Rattle.s2union.proofs.Cutting.{length-cells_in}
+use Rattle.s2cell.specs.CutLevels.{cells_in}
+use Rattle.s2cell.proofs.Cutting.{length-cells_in}
 use Rattle.s2room.proofs.Cutting.{stepped, item_more}
 use Rattle.s2room.proofs.Putting.{items_put, put_past, rest_later, rest_run}
 use Rattle.s2room.proofs.denormalising.put_descendants.Goals as goal

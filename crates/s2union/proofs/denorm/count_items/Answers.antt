@@ -1,5 +1,5 @@
 use Rattle.std.proofs.Common.{arith}
-use Rattle.s2union.proofs.Items.{totalling_start, totalling_more}
+use Rattle.s2list.proofs.Items.{totalling_start, totalling_more}
 use Rattle.s2union.proofs.denorm.count_items.Goals as goal
 
 pub loop-cell-init : goal.loop-cell-init

@@ -1,4 +1,4 @@
-use Rattle.s2union.proofs.Items.{Totalling}
+use Rattle.s2list.proofs.Items.{Totalling}
 use Rattle.s2union.proofs.denorm.count_items.Given as goal
 
 abbrev pub invariant-loop-cell : goal.invariant-loop-cell

@@ -2,7 +2,7 @@ use Rattle.std.proofs.Common.{◌≡◌, refl, length, rules}
 use Rattle.std.specs.Int.{w32}
 use Rattle.std.proofs.lemmas.Int.{to_z-of_z}
 use mir.Val.{SFits}
-use Rattle.s2union.specs.Denorm.{denormalised}
+use Rattle.s2list.specs.Denorm.{denormalised}
 use Rattle.s2union_c.proofs.Placed.{kept, placed}
 use Rattle.s2union_c.proofs.unions.s2u_denormalised.Goals as goal
 

@@ -1,6 +1,6 @@
 use Rattle.std.proofs.Common.{rules, ◌≡◌, ◌<◌, length, ◌+◌, suc, [], ◌∷◌, sym, ◌∙◌, ap, drop}
 use Rattle.s2cell.specs.Descendant.{descendant_of}
-use Rattle.s2union.specs.Denorm.{denormalised}
+use Rattle.s2list.specs.Denorm.{denormalised}
 use Rattle.s2union.proofs.Items.{items_none, items_next, items_last, underway_level, none_from_test, some_from_test}
 use Rattle.s2union.proofs.denorm.DenormIterator.next.Goals as goal
 use Rattle.s2union.proofs.denorm.DenormIterator.next.Goals.{then-self, else-self}

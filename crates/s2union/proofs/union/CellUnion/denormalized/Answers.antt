@@ -1,4 +1,4 @@
-use Rattle.s2union.proofs.Items.{denormalised_is, length-denormalised-le}
+use Rattle.s2list.proofs.Items.{denormalised_is, length-denormalised-le}
 use Rattle.s2union.proofs.union.CellUnion.denormalized.Goals as goal
 
 pub returns-clause-meaning : goal.returns-clause-meaning

@@ -1,7 +1,7 @@
 use Rattle.std.proofs.Common.{arith}
-use Rattle.s2union.proofs.Cutting.{cut_below_more}
-use Rattle.s2union.proofs.denorm.CutLevels.new.Goals as goal
-use Rattle.s2union.proofs.denorm.CutLevels.new.Goals.{then-cut-level, else-cut-level}
+use Rattle.s2cell.proofs.Cutting.{cut_below_more}
+use Rattle.s2cell.proofs.cut_levels.CutLevels.new.Goals as goal
+use Rattle.s2cell.proofs.cut_levels.CutLevels.new.Goals.{then-cut-level, else-cut-level}
 
 pub loop-level-preserved : goal.loop-level-preserved
 loop-level-preserved c = cut_below_more c.if-cut-level.cut c.min.result (omega arith) c.requires.some c.requires.modulus

@@ -1,6 +1,5 @@
--- Unions whose cells are cut to the levels that a caller wants (`S2CellUnion::Denormalize`).
-use Rattle.std.specs.Prelude.{◌≡◌, ℕ, ◌+◌, ◌-◌, ◌*◌, ◌/◌, ◌%◌, ◌^◌, ◌≤◌, ◌⊎◌}
-use Rattle.std.specs.Prelude.{◌↔◌, min, List, [], ◌∷◌, ◌++◌, map, flat_map, Contains}
+-- The levels that cells are cut to, and the cells that this gives.
+use Rattle.std.specs.Prelude.{◌≡◌, ℕ, ◌+◌, ◌-◌, ◌*◌, ◌/◌, ◌%◌, ◌^◌, ◌≤◌, ◌⊎◌, ◌↔◌, min, List, map, Contains}
 use Rattle.std.specs.List.{range_with_len}
 use Rattle.std.specs.List.Sorted.{IsStrictlyIncreasing}
 use Rattle.s2cell.specs.Cell.{IsCell, level_of, IsInside}
@@ -29,13 +28,6 @@ pub record IsCut (c t : ℕ) (xs : List ℕ) : Type 0 where
   pub ascending : IsStrictlyIncreasing xs
   pub members : (d : ℕ) → Contains xs d ↔ (IsCell d × (level_of d ≡ t) × IsInside d c)
 
--- `xs` lists, for each cell of `u` in order, all cells that it is cut into
-abbrev pub IsDenormalised : ℕ → ℕ → List ℕ → List ℕ → Type 0
-IsDenormalised least modulus [] xs = xs ≡ []
-IsDenormalised least modulus (c ∷ u) xs =
-    (t : ℕ) × (ys : List ℕ) × (zs : List ℕ) × IsCutLevel (level_of c) least modulus t × IsCut c t ys
-    × IsDenormalised least modulus u zs × (xs ≡ ys ++ zs)
-
 -- the level that a cell of level `level` is cut to, computed
 unfoldable pub cut_level : ℕ → ℕ → ℕ → ℕ
 cut_level level least modulus = min (least + (level - least + (modulus - 1)) / modulus * modulus) 30
@@ -43,8 +35,3 @@ cut_level level least modulus = min (least + (level - least + (modulus - 1)) / m
 -- the cells of level `t` inside the cell `c`, computed, in order
 unfoldable pub cells_in : ℕ → ℕ → List ℕ
 cells_in t c = map (descendant_of c t) (range_with_len 0 (4 ^ (t - level_of c)))
-
--- for each cell of `u` in order, the cells that it is cut into: the one list that `IsDenormalised` allows
-unfoldable pub denormalised : ℕ → ℕ → List ℕ → List ℕ
-unfolding cut_level cells_in
-denormalised least modulus u = flat_map (λ c. cells_in (cut_level (level_of c) least modulus) c) u

@@ -15,7 +15,7 @@ use Rattle.s2cell.proofs.Calls.{size_at}
 use Rattle.s2cell.proofs.Leaves.{Within, inside_from_within, within_from_inside}
 use Rattle.s2cell.proofs.Family.{same_from_within, deeper_inside}
 use Rattle.s2cell.proofs.Descendants.{descendant, IsCell-descendant_of}
-use Rattle.s2union.specs.Denorm.{IsWanted, IsCutLevel, IsCut, cut_level, cells_in}
+use Rattle.s2cell.specs.CutLevels.{IsWanted, IsCutLevel, IsCut, cut_level, cells_in}
 
 -- the least multiple of the modulus from the cell's own level on
 record Steps (level least modulus steps : ℕ) : Type 0 where

@@ -1,7 +1,6 @@
 -- Rectangles of leaves on a face.
-use Rattle.std.specs.Prelude.{◌≡◌, ℕ, ◌/◌, ◌^◌, ◌<◌, ◌≤◌, Bool, ◌&&◌, ◌==◌, nat_le, List}
+use Rattle.std.specs.Prelude.{◌≡◌, ℕ, ◌/◌, ◌^◌, ◌<◌, ◌≤◌, Bool, ◌&&◌, ◌==◌, nat_le}
 use Rattle.s2cell.specs.Curve.{i_of, j_of}
-use Rattle.s2list.specs.Union.{has_leaf}
 
 -- a face, and the least and the greatest value of each coordinate
 pub record Rect : Type 0 where
@@ -28,7 +27,3 @@ unfoldable pub rect_set : Rect → ℕ → Bool
 unfolding i_of j_of
 rect_set r n = (n / 4 ^ 30 == r.face) && (nat_le r.i0 (i_of n) && nat_le (i_of n) r.i1)
     && (nat_le r.j0 (j_of n) && nat_le (j_of n) r.j1)
-
--- the leaves of the cells `u` that are in the rectangle
-abbrev pub clipped : List ℕ → Rect → ℕ → Bool
-clipped u r x = has_leaf u x && rect_set r x

@@ -1,7 +1,7 @@
 use Rattle.std.proofs.Common.{◌≡◌, get_or, arith}
-use Rattle.s2union.specs.Denorm.{cut_level}
-use Rattle.s2union.proofs.Cutting.{cut_level_is, cut_level_own, cut_level_most}
-use Rattle.s2union.proofs.denorm.CutLevels.of.Goals as goal
+use Rattle.s2cell.specs.CutLevels.{cut_level}
+use Rattle.s2cell.proofs.Cutting.{cut_level_is, cut_level_own, cut_level_most}
+use Rattle.s2cell.proofs.cut_levels.CutLevels.of.Goals as goal
 
 pub returns-clause-meaning : goal.returns-clause-meaning
 returns-clause-meaning c =
