@@ -3,11 +3,11 @@ use Rattle.std.proofs.Common.{◌≡◌, ◌≢◌, ℕ, ◌<◌, ◌≤◌, ◌
 use Rattle.std.proofs.Common.{◌++◌, length, take, drop, slice_index, refl, sym, ◌∙◌, subst, arith}
 use Rattle.std.proofs.lemmas.List.{length-append, length-take-le, take_all, take-append-drop, get_or_append_left}
 use Rattle.std.proofs.lemmas.Bool.Decides.{leb_tells}
+use Rattle.s2list.proofs.Numbers.{first_number-longer}
 use Rattle.s2file.specs.declared.union_file.TheConstants.{MOST_SIZE}
 use Rattle.s2file.specs.declared.fault.FileFault.{FileFault}
 use Rattle.s2file.specs.declared.fault.FileFault.TheVariants.{Version, Count, Short, Trailing, Cell, Memory}
 use Rattle.s2file.specs.File.{stated_count, File, HasVersion, HasHead, HasCount, HasFault}
-use Rattle.s2file.proofs.Numbers.{first_number-longer}
 
 pub longest : (bytes : List ℕ) (S : ℕ → Bool) → File bytes S → length bytes ≤ MOST_SIZE
 longest bytes S f = omega (arith, f.is.length_is, f.is.most)

@@ -1,4 +1,3 @@
-pub mod Numbers
 pub mod Reading
 pub mod Files
 pub mod Texts

@@ -7,9 +7,10 @@ use Rattle.std.proofs.lemmas.List.Elements.{All-push}
 use borrow.Author.Count.{below_more}
 use Rattle.s2cell.specs.Cell.{IsCell}
 use Rattle.s2list.specs.Union.{has_leaf}
-use Rattle.s2file.specs.File.{first_number, number_at, IsFileOf, File, HasFrame, HasFault}
+use Rattle.s2list.specs.Numbers.{first_number}
+use Rattle.s2list.proofs.Numbers.{first_number-append}
+use Rattle.s2file.specs.File.{number_at, IsFileOf, File, HasFrame, HasFault}
 use Rattle.s2file.specs.declared.fault.FileFault.TheVariants.{Cell}
-use Rattle.s2file.proofs.Numbers.{first_number-append}
 
 -- these are the first identifiers after the head, and the rest is still to be read
 pub record ReadsSome (bytes ids rest : List ℕ) : Type 0 where

@@ -10,14 +10,14 @@ use Rattle.std.proofs.lemmas.Grind.{flat_map-append}
 use Rattle.std.proofs.lemmas.Nat.{le_bytes_8}
 use Rattle.s2cell.specs.Cell.{IsCell}
 use Rattle.s2list.specs.Union.{IsLocal}
+use Rattle.s2list.specs.Numbers.{first_number, number_text}
+use Rattle.s2list.proofs.Numbers.{length-number_text, first_number-append, length-number_texts}
 use Rattle.s2file.specs.declared.TheConstants.{SESSION_CELLS}
 use Rattle.s2file.specs.declared.session.ReadFault.{ReadFault}
 use Rattle.s2file.specs.declared.session.ReadFault.TheVariants.{Form, Device, Memory}
-use Rattle.s2file.specs.File.{first_number, number_text}
 use Rattle.s2file.specs.Session.{list_text, AreCells, IsRegisterList}
 use Rattle.s2file.specs.Working.SessionParts.{Begins, BeginsNone, Refuses, IsNumber}
 use Rattle.s2file.specs.Working.SessionParts.{identifiers_text, AreCounted, SpellsMore, SpellsWrong}
-use Rattle.s2file.proofs.Numbers.{length-number_text, first_number-append, length-number_texts}
 use Rattle.s2file.proofs.Fronts.{one_number, one_list, register_cells, list_count}
 
 pub refuses : (fault : ReadFault) (P Q : Type 0) → (P → Q) → Refuses fault P → Refuses fault Q

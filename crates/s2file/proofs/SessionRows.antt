@@ -2,7 +2,7 @@
 use Rattle.std.proofs.Common.{◌≡◌, ◌≢◌, ℕ, ◌+◌, ◌<◌, List, [], ◌∷◌, ◌++◌, length, flat_map, sym, ap, ◌∙◌, subst}
 use Rattle.std.proofs.Common.{append_assoc, arith}
 use Rattle.std.specs.List.{AllByRecursion}
-use Rattle.s2file.specs.File.{number_text}
+use Rattle.s2list.specs.Numbers.{number_text}
 use Rattle.s2file.specs.Session.{Diff, Content, list_text, move_text, moves_text, parts_text}
 use Rattle.s2file.specs.Session.{AreCells, IsRegisterList, IsMove, IsContent, IsSessionFile}
 use Rattle.s2file.specs.Working.SessionParts.{Begins, BeginsNone, IsNumber, AreMoves, AreRegisters, IsRow}

@@ -6,19 +6,19 @@ use Rattle.std.proofs.lemmas.List.Elements.{All-append, recursion_from_All}
 use Rattle.std.proofs.lemmas.Grind.{flat_map-append}
 use Rattle.s2cell.specs.Cell.{IsCell}
 use Rattle.s2cell.proofs.Calls.{fits_u64}
+use Rattle.s2list.specs.Numbers.{first_number, number_text}
+use Rattle.s2list.proofs.Numbers.{first_number-number_text, first_number-longer, first_number-append}
+use Rattle.s2list.proofs.Numbers.{length-number_texts}
 use Rattle.s2shelf.specs.OpenedFile.{Claim}
 use Rattle.s2file.specs.Reading.{WasLeft}
 use Rattle.s2file.specs.Working.Source.{Ahead, Passes, held}
 use Rattle.s2file.specs.declared.source.Buffer.{Buffer}
-use Rattle.s2file.specs.File.{first_number, number_text}
 use Rattle.s2file.specs.Session.{list_text, AreCells}
 use Rattle.s2file.specs.Working.SessionParts.{Begins, BeginsNone, Refuses, Takes, Lacks, IsNumber, AreCounted}
 use Rattle.s2file.specs.Working.SessionParts.{IsByte, byte_text, identifiers_text, SpellsMore, SpellsWrong}
 use Rattle.s2file.specs.declared.TheConstants.{SESSION_CELLS}
 use Rattle.s2file.specs.declared.session.ReadFault.{ReadFault}
 use Rattle.s2file.specs.declared.session.ReadFault.TheVariants.{Form}
-use Rattle.s2file.proofs.Numbers.{first_number-number_text, first_number-longer, first_number-append}
-use Rattle.s2file.proofs.Numbers.{length-number_texts}
 use Rattle.s2file.proofs.Fronts.{one_cell, no_more, list_count}
 use Rattle.s2file.proofs.SessionReading.{refuses, number_begins, list_counts_many, list_lacks}
 use Rattle.s2file.proofs.Taking.{joined, later, of_front, refuses_later, refuses_weaker, front_taken, held_front}

@@ -4,8 +4,8 @@ use Rattle.std.proofs.Common.{subst, arith, append_assoc}
 use Rattle.std.proofs.lemmas.List.Elements.{All-from_recursion, All-push, recursion_from_All}
 use Rattle.std.specs.List.{AllByRecursion}
 use Rattle.s2list.specs.Union.{IsLocal}
+use Rattle.s2list.specs.Numbers.{number_text}
 use Rattle.s2shelf.specs.OpenedFile.{Claim}
-use Rattle.s2file.specs.File.{number_text}
 use Rattle.s2file.specs.Session.{Diff, list_text, move_text, moves_text, AreCells, IsRegisterList, IsMove}
 use Rattle.s2file.specs.Working.Source.{Passes}
 use Rattle.s2file.specs.Working.SessionParts.{Takes, Lacks, IsByte, IsNumber, AreMoves}

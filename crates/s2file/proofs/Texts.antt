@@ -7,9 +7,10 @@ use Rattle.s2cell.specs.Cell.{IsCell}
 use Rattle.s2cell.proofs.Calls.{fits_u64}
 use Rattle.s2list.specs.Union.{has_leaf, IsLocal}
 use Rattle.s2list.proofs.Normal.{normal_from_local, normal_form_same, one_normal_form}
+use Rattle.s2list.specs.Numbers.{first_number, number_text}
+use Rattle.s2list.proofs.Numbers.{first_number-number_text, length-number_text, drop-number_texts, length-number_texts}
 use Rattle.s2file.specs.declared.union_file.TheConstants.{MOST_CELLS}
-use Rattle.s2file.specs.File.{first_number, number_text, IsFileOf, File, file_text, Bytes}
-use Rattle.s2file.proofs.Numbers.{first_number-number_text, length-number_text, drop-number_texts, length-number_texts}
+use Rattle.s2file.specs.File.{IsFileOf, File, file_text, Bytes}
 
 pub text_is_file : (ids : List ℕ) → All IsCell ids → length ids ≤ MOST_CELLS → IsFileOf (file_text ids) ids
 text_is_file ids cells most =

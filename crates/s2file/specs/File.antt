@@ -1,26 +1,13 @@
 -- The union file: the byte 1, a count, and that many identifiers of cells, each number in eight bytes, the lowest
 -- first.
-use Rattle.std.specs.Prelude.{◌≡◌, ◌≢◌, ℕ, zero, suc, ◌+◌, ◌*◌, ◌^◌, ◌<◌, ◌≤◌, ◌⊎◌, Bool, List}
+use Rattle.std.specs.Prelude.{◌≡◌, ◌≢◌, ℕ, ◌+◌, ◌*◌, ◌<◌, ◌≤◌, ◌⊎◌, Bool, List}
 use Rattle.std.specs.Prelude.{◌∷◌, ◌++◌, length, drop, slice_index, All, flat_map}
-use Rattle.byteorder.specs.Endian.{little_bytes}
 use Rattle.s2cell.specs.Cell.{IsCell}
+use Rattle.s2list.specs.Numbers.{first_number, number_text}
 use Rattle.s2list.specs.Union.{has_leaf, IsNormalForm}
 use Rattle.s2file.specs.declared.union_file.TheConstants.{MOST_CELLS}
 use Rattle.s2file.specs.declared.fault.FileFault.{FileFault}
 use Rattle.s2file.specs.declared.fault.FileFault.TheVariants.{Version, Count, Short, Trailing, Cell, Memory}
-
--- the sum of the first `n` bytes, each times 256 to the power of its place
-abbrev pub weighed : ℕ → List ℕ → ℕ
-weighed zero bytes = 0
-weighed (suc n) bytes = weighed n bytes + slice_index bytes n * 256 ^ n
-
--- the number in the first eight bytes
-unfoldable pub first_number : List ℕ → ℕ
-first_number bytes = weighed 8 bytes
-
--- the eight bytes of a number
-unfoldable pub number_text : ℕ → List ℕ
-number_text x = little_bytes 8 x
 
 -- the count that a file states, after its first byte
 abbrev pub stated_count : List ℕ → ℕ

@@ -6,8 +6,9 @@ use Rattle.std.specs.List.{AllByRecursion}
 use Rattle.std.specs.List.Sorted.{IsStrictlyIncreasing}
 use Rattle.s2cell.specs.Cell.{IsCell}
 use Rattle.s2list.specs.Union.{Union, has_leaf, IsLocal}
+use Rattle.s2list.specs.Numbers.{number_text}
 use Rattle.s2union.specs.Apply.{has}
-use Rattle.s2file.specs.File.{number_text, File}
+use Rattle.s2file.specs.File.{File}
 use Rattle.s2file.specs.declared.TheConstants.{SESSION_REGISTERS, SESSION_CELLS, SESSION_CHANGES}
 use Rattle.s2file.specs.declared.session.Move.{Move}
 use Rattle.s2file.specs.declared.session.Session.{Session}

@@ -2,6 +2,7 @@
 ghost use Rattle.std.specs.Prelude.{◌≡◌, ◌≢◌, ℕ, List, [], ◌∷◌, ◌++◌, map, replicate};
 ghost use Rattle.std.specs.Prelude.{true, MatchResult, IfOk, IsErrOf, OnOk};
 ghost use Rattle.s2list.specs.Union.{Union};
+ghost use Rattle.s2shelf.specs.OpenedFile.{Left, has_ended, has_failed};
 ghost use Rattle.s2file.specs.Session.{Content, content_of, content_of_parts, content_of_list, list_text, move_text};
 ghost use Rattle.s2file.specs.Session.{moves_text, session_text, IsContent, IsSessionFile, IsUnionFile};
 ghost use Rattle.s2file.specs.Session.{Spells};
@@ -9,16 +10,16 @@ ghost use Rattle.s2file.specs.Working.SessionParts.{Refuses, registers_text};
 ghost use Rattle.s2file.specs.Working.Source.{Ahead, Passes};
 ghost use Rattle.s2file.specs.Working.Reading.{Judges};
 ghost use Rattle.s2file.specs.Reading.{RefusesToRead, WasLeft};
-ghost use Rattle.s2shelf.specs.OpenedFile.{Left, has_ended, has_failed};
 
 use crate::changes::{BorrowedMove, Changes};
 use crate::fault::FileFault;
 use crate::parts::{byte_at, moves_at, registers_at};
 use crate::session::{ReadFault, Session, SessionFault};
 use crate::source::Buffer;
-use crate::union_file::{MOST_SIZE, NUMBER_SIZE, VERSION, decode, put_number};
+use crate::union_file::{MOST_SIZE, VERSION, decode};
 use crate::{SESSION_CHANGES, SESSION_REGISTERS};
 use s2cell::CellId;
+use s2list::{NUMBER_SIZE, put_number};
 use s2shelf::OpenedFile;
 use s2union::CellUnion;
 use std::alloc::{AllocError, Global};

@@ -1,12 +1,12 @@
 //! The union file: a union of cells as bytes.
-ghost use Rattle.std.specs.Prelude.{◌≡◌, ◌≤◌, ◌++◌, ℕ, Bool, length, MatchResult, IfOk, OnOk};
+ghost use Rattle.std.specs.Prelude.{◌≡◌, ◌≤◌, ℕ, Bool, length, MatchResult, IfOk};
 ghost use Rattle.s2list.specs.Union.{has_leaf, IsLocal};
 ghost use Rattle.s2file.specs.declared.union_file.TheConstants.{MOST_CELLS};
-ghost use Rattle.s2file.specs.File.{first_number, number_text, HasFrame, IsFileOf, File, HasFault, file_text, Bytes};
+ghost use Rattle.s2file.specs.File.{HasFrame, IsFileOf, File, HasFault, file_text, Bytes};
 
 use crate::fault::FileFault;
-use byteorder::{ByteOrder, LittleEndian};
 use s2cell::CellId;
+use s2list::{NUMBER_SIZE, number, put_number};
 use s2union::{CellUnion, normalise};
 use std::alloc::{AllocError, Global};
 
@@ -15,9 +15,6 @@ pub const VERSION: u8 = 1;
 
 /// How many bytes come before the identifiers: the version and the count.
 pub const HEAD_SIZE: usize = 9;
-
-/// The size of a number, in bytes.
-pub(crate) const NUMBER_SIZE: usize = 8;
 
 /// How many identifiers a file may hold: the greatest count that `decode` accepts.
 pub const MOST_CELLS: u64 = 1_000_000;
@@ -87,15 +84,6 @@ fn cells_of(alloc: Global, bytes: &[u8]) -> Result<Vec<CellId>, FileFault>
     Ok(cells)
 }
 
-/// The number in the first eight bytes.
-#[tactic(auto, unfolding(crate::specs::File::first_number))]
-pub(crate) fn number(bytes: &[u8]) -> u64
-    requires { 8 ≤ length bytes.now }
-    ensures { result ≡ first_number bytes.now }
-{
-    LittleEndian::read_u64(bytes)
-}
-
 /// The file of a union: its cells in ascending order, however many they are.
 ///
 /// Two unions with the same leaves have the same file. `decode` reads it back, if the union has at most `MOST_CELLS`
@@ -118,14 +106,4 @@ pub fn encode(alloc: Global, union: &CellUnion) -> Result<Vec<u8>, AllocError>
         put_number(&mut bytes, cell.id())?;
     }
     Ok(bytes)
-}
-
-/// Adds the eight bytes of a number.
-#[tactic(auto, unfolding(crate::specs::File::number_text))]
-pub(crate) fn put_number(bytes: &mut Vec<u8>, number: u64) -> Result<(), AllocError>
-    ensures { OnOk result (bytes.new.items ≡ bytes.old.items ++ number_text number) }
-{
-    let mut text = [0u8; NUMBER_SIZE];
-    LittleEndian::write_u64(&mut text, number);
-    bytes.extend_from_slice(&text)
 }

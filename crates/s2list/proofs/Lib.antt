@@ -22,6 +22,8 @@ pub mod Shared
 pub mod Subtracting
 pub mod Writing
 pub mod Heaping
+-- Cited by the crates above: the numbers in a file.
+pub mod Numbers
 -- Cited by the crates above: unions cut to levels.
 pub mod Items
 -- Of this crate alone.

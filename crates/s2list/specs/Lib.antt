@@ -6,4 +6,5 @@ pub mod Denorm
 pub mod Search
 pub mod Looks
 pub mod Output
+pub mod Numbers
 pub mod Working

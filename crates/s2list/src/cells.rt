@@ -1,5 +1,6 @@
 //! Numbers by their indexes, and the cells of a list.
 ghost use Rattle.std.specs.Prelude.{◌≡◌, ◌<◌, ℕ, List, length, slice_index};
+ghost use Rattle.s2cell.specs.Cell.{IsCell};
 
 use s2cell::CellId;
 
@@ -60,4 +61,15 @@ impl<'a> Cells for CellList<'a> {
     fn id(&self, k: usize) -> u64 {
         self.cells[k].id()
     }
+}
+
+/// The cell with this identifier.
+pub fn cell_of(id: u64) -> CellId
+    requires { IsCell id }
+    ensures { result ≡ id }
+{
+    let Some(cell) = CellId::from_id(id) else {
+        unreachable!();
+    };
+    cell
 }

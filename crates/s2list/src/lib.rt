@@ -19,6 +19,7 @@ mod appending;
 mod ask;
 mod cells;
 mod differing;
+mod eight_bytes;
 mod find;
 mod four;
 mod join;
@@ -42,8 +43,9 @@ pub use ask::{
     intersects_cell, intersects_cell_at, intersects_cell_at_counted, intersects_cell_counted,
     place_near,
 };
-pub use cells::{CellList, Cells, IdList, Listed};
+pub use cells::{CellList, Cells, IdList, Listed, cell_of};
 pub use differing::write_symmetric_difference;
+pub use eight_bytes::{NUMBER_SIZE, number, put_number};
 pub use find::{
     NEARBY, end_of, find_counted, find_from, find_from_counted, find_id, first_of, first_place,
 };

@@ -1,7 +1,7 @@
 -- The numbers in the bytes of a file.
 use Rattle.std.specs.Prelude.{ℕ, ◌*◌, ◌/◌, List, map, length, drop}
 use Rattle.std.specs.List.{range_with_len}
-use Rattle.s2file.specs.File.{first_number}
+use Rattle.s2list.specs.Numbers.{first_number}
 
 -- the number at index `i` in the bytes, eight bytes each
 abbrev pub number_in : List ℕ → ℕ → ℕ

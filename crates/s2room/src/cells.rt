@@ -1,15 +1,9 @@
 //! The numbers of a file by their indexes, in its bytes.
-ghost use Rattle.std.specs.Prelude.{◌≡◌, ◌*◌, ◌/◌, ◌<◌, ◌≤◌, length};
-ghost use Rattle.s2cell.specs.Cell.{IsCell};
-ghost use Rattle.s2file.specs.File.{first_number};
+ghost use Rattle.std.specs.Prelude.{◌≡◌, ◌*◌, ◌/◌, ◌<◌, length};
 ghost use Rattle.s2room.specs.Numbers.{number_in, numbers_in};
 
 use byteorder::{ByteOrder, LittleEndian};
-use s2cell::CellId;
-use s2list::{Cells, Listed};
-
-/// The size of a number in a file, in bytes.
-pub const NUMBER_SIZE: usize = 8;
+use s2list::{Cells, Listed, NUMBER_SIZE, number};
 
 /// The numbers of a union file after its head: eight bytes each, the lowest byte first.
 #[derive(Clone, Copy)]
@@ -40,30 +34,10 @@ fn number_at(bytes: &[u8], k: usize) -> u64
     number(&bytes[NUMBER_SIZE * k..])
 }
 
-/// The number that the first eight bytes stand for.
-#[tactic(auto, unfolding(s2file::specs::File::first_number))]
-pub fn number(bytes: &[u8]) -> u64
-    requires { 8 ≤ length bytes.now }
-    ensures { result ≡ first_number bytes.now }
-{
-    LittleEndian::read_u64(bytes)
-}
-
 /// Fills a list with the numbers of bytes, eight bytes each, which are as many.
 pub fn read_numbers(bytes: &[u8], out: &mut [u64])
     requires { length bytes.now ≡ 8 * length out.old }
     ensures { out.new ≡ numbers_in bytes.now }
 {
     LittleEndian::read_u64_into(bytes, out);
-}
-
-/// The cell with this identifier.
-pub fn cell_of(id: u64) -> CellId
-    requires { IsCell id }
-    ensures { result ≡ id }
-{
-    let Some(cell) = CellId::from_id(id) else {
-        unreachable!();
-    };
-    cell
 }

@@ -9,10 +9,9 @@ ghost use Rattle.s2room.specs.Cut.{cells_cut, cells_kept, cut_at};
 ghost use Rattle.s2room.specs.Room.{PutsUpTo};
 ghost use Rattle.s2room.specs.Working.Rows.{HasRow};
 
-use crate::cells::cell_of;
 use crate::room::{Room, put};
 use s2cell::{CellId, GREATEST_LEVEL};
-use s2list::{Cells, Output, end_of, find_from, first_of};
+use s2list::{Cells, Output, cell_of, end_of, find_from, first_of};
 use s2union::{CellUnion, Grown};
 use std::alloc::{AllocError, Global};
 

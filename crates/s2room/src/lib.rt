@@ -23,7 +23,7 @@ mod room;
 mod share;
 mod subtract;
 
-pub use cells::{FileIds, NUMBER_SIZE, cell_of, number, read_numbers};
+pub use cells::{FileIds, read_numbers};
 pub use cut::{put_cut, put_kept, union_cut, union_kept};
 pub use denormalising::denormalise;
 pub use differing::put_symmetric_difference;

@@ -6,9 +6,8 @@ ghost use Rattle.s2list.specs.Union.{has_leaf};
 ghost use Rattle.s2list.specs.Packed.{IsPacked};
 ghost use Rattle.s2room.specs.Normalising.{IsNormalisedIn};
 
-use crate::cells::cell_of;
 use s2cell::CellId;
-use s2list::{IdList, new_end};
+use s2list::{IdList, cell_of, new_end};
 
 /// Makes the front of a list of cells the union that has their leaves, and answers how many cells that union has. The
 /// cells may be in any order, and one may lie in another. Takes no memory and can't fail. A sort and one pass. What the

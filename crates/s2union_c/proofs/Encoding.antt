@@ -4,8 +4,9 @@ use Rattle.std.proofs.Common.{drop, take, flat_map}
 use Rattle.std.proofs.Math.ListN.{set}
 use Rattle.std.proofs.lemmas.List.{append-nil, drop_all, length-append, length-drop, take_at}
 use borrow.Rule.Slice.PartMut.{put_mid}
-use Rattle.s2file.specs.File.{number_text, file_text}
-use Rattle.s2file.proofs.Numbers.{length-number_text, length-number_texts}
+use Rattle.s2list.specs.Numbers.{number_text}
+use Rattle.s2list.proofs.Numbers.{length-number_text, length-number_texts}
+use Rattle.s2file.specs.File.{file_text}
 
 pub length-file_text : (ids : List ℕ) → length (file_text ids) ≡ 9 + 8 * length ids
 length-file_text ids =

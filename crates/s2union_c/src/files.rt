@@ -23,8 +23,8 @@ use crate::unions::LEVELS;
 use byteorder::{ByteOrder, LittleEndian};
 use s2cell::{CellId, LEAVES};
 use s2file::{HEAD_SIZE, VERSION};
-use s2list::{Cells, Listed, first_wrong, is_union};
-use s2room::{FileIds, NUMBER_SIZE, ancestors, number, read_numbers};
+use s2list::{Cells, Listed, NUMBER_SIZE, first_wrong, is_union, number};
+use s2room::{FileIds, ancestors, read_numbers};
 use s2union::normalise;
 use std::alloc::Global;
 

@@ -10,10 +10,9 @@ ghost use Rattle.s2union_c.specs.Status.{IsBit, made, no_cell, no_room};
 use crate::status::{MADE, NO_CELL, NO_ROOM};
 use s2cell::CellId;
 use s2list::{
-    IdList, NEARBY, Question, contains_cell_at, first_wrong, intersects_cell_at, place_near,
-    places_of_four,
+    IdList, NEARBY, Question, cell_of, contains_cell_at, first_wrong, intersects_cell_at,
+    place_near, places_of_four,
 };
-use s2room::cell_of;
 
 /// Whether a union has all leaves of each cell in turn: 1 or 0 for each. `bad` is the index of the first number that is
 /// not a cell, or if there is none, how many answers there are. A search begins at the index of the one before, so

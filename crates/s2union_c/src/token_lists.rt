@@ -16,8 +16,7 @@ ghost use Rattle.s2union_c.specs.Working.Texts.{piece};
 
 use crate::status::{MADE, NO_CELL, NO_ROOM, TOO_MANY};
 use s2cell::CellId;
-use s2list::{IdList, first_wrong};
-use s2room::cell_of;
+use s2list::{IdList, cell_of, first_wrong};
 
 /// How many hexadecimal digits an identifier has.
 const DIGITS: usize = 16;

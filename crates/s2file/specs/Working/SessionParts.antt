@@ -3,8 +3,8 @@ use Rattle.std.specs.Prelude.{◌≡◌, ℕ, ◌≤◌, ◌<◌, ◌^◌, List,
 use Rattle.std.specs.declared.result.Result.{Result}
 use Rattle.std.specs.List.{AllByRecursion}
 use Rattle.s2cell.specs.Cell.{IsCell}
+use Rattle.s2list.specs.Numbers.{first_number, number_text}
 use Rattle.s2shelf.specs.OpenedFile.{Claim}
-use Rattle.s2file.specs.File.{first_number, number_text}
 use Rattle.s2file.specs.Reading.{WasLeft}
 use Rattle.s2file.specs.Working.Source.{Passes}
 use Rattle.s2file.specs.Session.{Diff, list_text, move_text, IsRegisterList, IsMove}

@@ -1,6 +1,6 @@
 use Rattle.std.proofs.Common.{[], refl, lit≤}
 use Rattle.s2cell.specs.Cell.{covers}
-use Rattle.s2file.specs.File.{number_text}
+use Rattle.s2list.specs.Numbers.{number_text}
 use Rattle.s2file.proofs.Known.{file_from_text, face, doubled, four_children, no_cells, face_cells, doubled_cells}
 use Rattle.s2file.proofs.Known.{four_cells, turned, siblings_leaves}
 use Rattle.s2file.proofs.laws.known_files.Goals as goal

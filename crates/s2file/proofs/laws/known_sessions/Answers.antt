@@ -1,5 +1,5 @@
 use Rattle.std.proofs.Common.{refl}
-use Rattle.s2file.specs.File.{number_text}
+use Rattle.s2list.specs.Numbers.{number_text}
 use Rattle.s2file.proofs.laws.known_sessions.Goals as goal
 
 pub returns-clause-untouched : goal.returns-clause-untouched

@@ -1,5 +1,6 @@
 use Rattle.std.proofs.Common.{◌∷◌, List, ℕ, inl, inr, refl, lit<, lit≤, arith}
-use Rattle.s2file.specs.File.{first_number, HasVersion}
+use Rattle.s2list.specs.Numbers.{first_number}
+use Rattle.s2file.specs.File.{HasVersion}
 use Rattle.s2file.proofs.Known.{zero_is_none, odd_place_is_none, face_6_is_none}
 use Rattle.s2file.proofs.laws.refused_bytes.Goals as goal
 

@@ -1,7 +1,7 @@
 use Rattle.std.proofs.Common.{rules, ◌≡◌, ℕ, length, ap, ◌∙◌, arith, subst}
 use Rattle.std.proofs.lemmas.List.{length-append, length_push}
 use Rattle.s2cell.specs.Cell.{IsCell}
-use Rattle.s2file.specs.File.{first_number}
+use Rattle.s2list.specs.Numbers.{first_number}
 use Rattle.s2file.proofs.SessionReading.{part_more, part_wrong, part_all}
 use Rattle.s2file.proofs.parts.push_cells.Goals as goal
 

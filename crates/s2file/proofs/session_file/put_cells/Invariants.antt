@@ -1,5 +1,5 @@
 use Rattle.std.proofs.Common.{◌≡◌, ◌++◌, length, take, flat_map}
-use Rattle.s2file.specs.File.{number_text}
+use Rattle.s2list.specs.Numbers.{number_text}
 use Rattle.s2file.proofs.session_file.put_cells.Given as goal
 
 abbrev pub invariant-loop-cell : goal.invariant-loop-cell

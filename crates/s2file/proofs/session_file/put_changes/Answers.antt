@@ -1,6 +1,6 @@
 use Rattle.std.proofs.Common.{length, sym, arith}
 use Rattle.std.proofs.lemmas.Option.{slice_get_within}
-use Rattle.s2file.specs.File.{number_text}
+use Rattle.s2list.specs.Numbers.{number_text}
 use Rattle.s2file.specs.Session.{move_text}
 use Rattle.s2file.proofs.Places.{one_more, no_more_left}
 use Rattle.s2file.proofs.session_file.put_changes.Goals as goal

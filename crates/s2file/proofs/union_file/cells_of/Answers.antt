@@ -1,7 +1,7 @@
 use Rattle.std.proofs.Common.{rules, ◌≡◌, ℕ, length, ap, ◌∙◌, arith, subst}
 use Rattle.std.proofs.lemmas.List.{length-append, length_push}
 use Rattle.s2cell.specs.Cell.{IsCell}
-use Rattle.s2file.specs.File.{first_number}
+use Rattle.s2list.specs.Numbers.{first_number}
 use Rattle.s2file.proofs.Reading.{reads_more, reads_wrong}
 use Rattle.s2file.proofs.union_file.cells_of.Goals as goal
 

@@ -1,7 +1,7 @@
 use Rattle.std.proofs.Common.{◌≡◌, ◌+◌, refl, rules, arith, length}
 use Rattle.std.proofs.lemmas.Grind.{common_steps}
 use Rattle.std.proofs.lemmas.Slice.{overwrites}
-use Rattle.s2file.specs.File.{number_text}
+use Rattle.s2list.specs.Numbers.{number_text}
 use Rattle.s2union_c.proofs.Encoding.{file_written}
 use Rattle.s2union_c.proofs.files.write_file.Goals as goal
 

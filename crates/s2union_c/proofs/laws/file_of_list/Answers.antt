@@ -1,8 +1,9 @@
 use Rattle.std.proofs.Common.{◌≡◌, ℕ, ◌<◌, ◌^◌, List, length, slice_index, All, flat_map, refl, ap, ◌∙◌, arith}
 use Rattle.std.proofs.lemmas.List.{drop_at, ext_get_or}
 use Rattle.std.proofs.lemmas.List.Elements.{All-get_or}
-use Rattle.s2file.specs.File.{first_number, number_text, file_text, stated_count}
-use Rattle.s2file.proofs.Numbers.{first_number-number_text, length-number_text, drop-number_texts, length-number_texts}
+use Rattle.s2list.specs.Numbers.{first_number, number_text}
+use Rattle.s2list.proofs.Numbers.{first_number-number_text, length-number_text, drop-number_texts, length-number_texts}
+use Rattle.s2file.specs.File.{file_text, stated_count}
 use Rattle.s2room.specs.Numbers.{numbers_in}
 use Rattle.s2room.proofs.Numbers.{length-numbers, get_or-numbers}
 use Rattle.s2union_c.specs.Files.{IsFramed}

@@ -4,7 +4,7 @@ use Rattle.std.proofs.Common.{length, drop, slice_index, flat_map, refl, sym, ap
 use Rattle.std.proofs.lemmas.List.{length-append, drop-drop, drop_at, get_or_append_left}
 use Rattle.byteorder.specs.Endian.{little_bytes, little_number}
 use Rattle.byteorder.specs.Numbers.{length-bytes_low_first, little_number-reads_back}
-use Rattle.s2file.specs.File.{weighed, first_number, number_text}
+use Rattle.s2list.specs.Numbers.{weighed, first_number, number_text}
 
 weighed-append : (n : ℕ) (chunk more : List ℕ) → n ≤ length chunk → weighed n (chunk ++ more) ≡ weighed n chunk
 weighed-append zero chunk more h = refl
