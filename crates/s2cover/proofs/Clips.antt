@@ -11,12 +11,12 @@ use Rattle.std.proofs.lemmas.Result.{IfOk-weaker}
 use Rattle.s2cell.specs.Cell.{IsCell, level_of, first_leaf, size_of, covers}
 use Rattle.s2cell.proofs.Family.{deeper_inside}
 use Rattle.s2cell.proofs.Leaves.{covers_from, covers_there, inside_from_within}
+use Rattle.s2cell.specs.declared.TheConstants.{LEAVES}
 use Rattle.s2list.specs.Union.{has_leaf, IsLocal, IsNormalForm, Union}
 use Rattle.s2list.proofs.Normal.{leaf_to, normal_form_same}
 use Rattle.s2cover.specs.Coverings.{filled, outer_set, inner_set, IsInOuter, IsInInner}
-use Rattle.s2room.specs.Cut.{cells_cut, cells_kept}
-use Rattle.s2cover.specs.Working.Cut.{meets, cells_met}
-use Rattle.s2cell.specs.declared.TheConstants.{LEAVES}
+use Rattle.s2cover.specs.Working.Cut.{cells_cut, meets, cells_met}
+use Rattle.s2cover.specs.Cut.{cells_kept}
 use Rattle.s2cover.proofs.Runs.{touched_none, touched_from_none}
 use Rattle.s2cover.proofs.Squares.{same_bool}
 use Rattle.s2cover.proofs.Faces.{and_of}

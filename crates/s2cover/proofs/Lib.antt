@@ -1,6 +1,8 @@
 mod Parents
 mod Parts
 mod Runs
+pub mod Levelling
+mod Rows
 mod Forms
 mod Visits
 mod Formed

@@ -11,7 +11,7 @@ use Rattle.s2cell.specs.Cell.{IsCell, covers, level_of}
 use Rattle.s2cell.proofs.Calls.{shallow}
 use Rattle.s2list.specs.Search.{IsRunAt}
 use Rattle.s2list.specs.Union.{IsWithin, ShareSome, has_leaf}
-use Rattle.s2room.specs.Cut.{cells_kept, reaches}
+use Rattle.s2cover.specs.Cut.{cells_kept, reaches}
 use Rattle.s2cover.specs.Coverings.{outer_set}
 use Rattle.s2cover.specs.Working.Cut.{cells_met, meets}
 use Rattle.s2cover.proofs.Clips.{met_true, outer_same}

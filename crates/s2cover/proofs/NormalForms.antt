@@ -5,8 +5,9 @@ use Rattle.s2list.specs.Union.{IsLocal, IsNormalForm, has_leaf}
 use Rattle.s2list.proofs.Checking.{packed_from_local}
 use Rattle.s2list.proofs.Normal.{local_from_normal, normal_form_same}
 use Rattle.s2list.proofs.Shortest.{shortest}
-use Rattle.s2room.specs.Cut.{cells_cut, cells_kept, cut_at}
-use Rattle.s2room.proofs.Levelling.{begins_cut, kept_few}
+use Rattle.s2cover.specs.Working.Cut.{cells_cut, cut_at}
+use Rattle.s2cover.specs.Cut.{cells_kept}
+use Rattle.s2cover.proofs.Levelling.{begins_cut, kept_few}
 use Rattle.s2cover.specs.Coverings.{outer_set, inner_set}
 use Rattle.s2cover.specs.Working.Descent.{blocks, form_faces}
 use Rattle.s2cover.proofs.Formed.{covering_leaves, covering_normal}

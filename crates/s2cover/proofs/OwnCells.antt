@@ -7,21 +7,22 @@ use Rattle.std.specs.List.{filter}
 use Rattle.std.proofs.lemmas.Bool.{cases_lt, le-leb, leb-true, and_right, and_parts, and_from}
 use Rattle.std.proofs.lemmas.List.Elements.{All-contains}
 use Rattle.std.proofs.lemmas.List.Folds.{Any-from_list_any, list_any_at}
+use Rattle.std.specs.List.{list_any}
 use Rattle.s2cell.specs.Cell.{IsCell, level_of, first_leaf, covers, parent_of, id_at}
 use Rattle.s2cell.proofs.CellLemmas.{level_of_cell}
 use Rattle.s2cell.proofs.Calls.{IsCell-parent_of, shallow}
 use Rattle.s2cell.proofs.Family.{deeper_inside, parent_level, parent_around, same_from_within}
 use Rattle.s2cell.proofs.Leaves.{Within, covers_from, inside_from_within}
 use Rattle.s2cell.proofs.Squares.{covers_block, first_leaf_covered}
+use Rattle.s2cell.specs.declared.TheConstants.{LEAVES}
 use Rattle.s2list.specs.Union.{has_leaf, IsLocal, IsNormalForm}
 use Rattle.s2list.proofs.Normal.{all_held, holder, family, leaf_to, normal_form_same}
 use Rattle.s2list.proofs.Normal.{normal_from_leaves, one_normal_form}
-use Rattle.std.specs.List.{list_any}
-use Rattle.s2room.specs.Room.{PutsUpTo}
-use Rattle.s2room.proofs.Levelling.{cut_parent, cut_same, filter_local}
+use Rattle.s2list.specs.Room.{PutsUpTo}
+use Rattle.s2cover.proofs.Levelling.{cut_parent, cut_same, filter_local}
 use Rattle.s2cover.specs.Coverings.{touched, outer_set, inner_set, IsInOuter, IsInInner}
-use Rattle.s2room.specs.Cut.{reaches, cut_at, cells_cut, cells_kept}
-use Rattle.s2cell.specs.declared.TheConstants.{LEAVES}
+use Rattle.s2cover.specs.Working.Cut.{cut_at, cells_cut}
+use Rattle.s2cover.specs.Cut.{reaches, cells_kept}
 use Rattle.s2cover.proofs.Runs.{touched_from_none}
 use Rattle.s2cover.proofs.Squares.{same_bool}
 use Rattle.s2cover.proofs.Coverings.{around_leaf, leaf_limit, outer_in, outer_from, inner_in, inner_from}

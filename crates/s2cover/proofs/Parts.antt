@@ -13,22 +13,23 @@ use Rattle.s2cell.proofs.Calls.{IsCell-parent_of}
 use Rattle.s2cell.proofs.Family.{deeper_inside, parent_level, parent_around}
 use Rattle.s2cell.proofs.Leaves.{covers_from, inside_from_within}
 use Rattle.s2cell.proofs.Squares.{first_leaf_covered}
+use Rattle.s2cell.specs.declared.TheConstants.{LEAVES}
+use Rattle.s2cell.proofs.CellLemmas.{cell_leaves, four_pos}
 use Rattle.s2list.specs.Union.{has_leaf, IsGreatestIn, IsLocal, IsNormalForm}
 use Rattle.s2list.specs.Packed.{EndsBefore}
 use Rattle.s2list.proofs.Normal.{leaf_from, leaf_to, member_greatest, one_normal_form}
 use Rattle.s2list.proofs.Checking.{packed_from_local}
 use Rattle.s2list.proofs.Picking.{picked_normal}
 use Rattle.s2cover.specs.Coverings.{filled, touched, outer_set, inner_set}
-use Rattle.s2cell.specs.declared.TheConstants.{LEAVES}
-use Rattle.s2cell.proofs.CellLemmas.{cell_leaves, four_pos}
-use Rattle.s2room.specs.Cut.{reaches, cells_cut, cells_kept}
+use Rattle.s2cover.specs.Working.Cut.{cells_cut}
+use Rattle.s2cover.specs.Cut.{reaches, cells_kept}
 use Rattle.s2cover.specs.Working.Descent.{form_in, form, joined, cell_at, depth_of, IsAligned}
 use Rattle.s2cover.proofs.Runs.{block_in, is_touched, touched_from_none, filled_from, not_filled}
 use Rattle.s2cover.proofs.Forms.{child_run}
 use Rattle.s2cover.proofs.Rounded.{leaf_in_block, block_leaves}
 use Rattle.s2cover.proofs.Squares.{same_bool}
 use Rattle.s2cover.proofs.Visits.{covers_at, leaf_at}
-use Rattle.s2room.proofs.Levelling.{cut_cell, cut_same, cut_parent}
+use Rattle.s2cover.proofs.Levelling.{cut_cell, cut_same, cut_parent}
 use Rattle.s2cover.proofs.Formed.{Run, formed, all_pairs_append, or_and}
 
 -- ---- two sets with the same leaves in a cell

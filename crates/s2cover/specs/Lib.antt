@@ -1,2 +1,3 @@
 pub mod Coverings
+pub mod Cut
 pub mod Working

@@ -3,3 +3,4 @@
 pub mod Around
 pub mod Cut
 pub mod Descent
+pub mod Rows

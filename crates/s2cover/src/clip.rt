@@ -8,13 +8,13 @@ ghost use Rattle.std.specs.List.{flat_map};
 ghost use Rattle.s2cell.specs.Cell.{level_of};
 ghost use Rattle.s2cell.specs.Rectangles.{rect_set};
 ghost use Rattle.s2list.specs.Union.{has_leaf, IsLocal, IsNormalForm};
-ghost use Rattle.s2room.specs.Cut.{cells_cut, cells_kept};
-ghost use Rattle.s2cover.specs.Coverings.{HasLeavesOf, TooManyMeans, inner_set, outer_set};
-ghost use Rattle.s2cover.specs.Working.Cut.{cells_met};
+ghost use Rattle.s2cover.specs.Working.Cut.{cells_cut, cells_met};
+ghost use Rattle.s2cover.specs.Cut.{cells_kept};
+ghost use Rattle.s2cover.specs.Coverings.{HasLeavesOf, TooManyMeans, inner_set, outer_set, clipped};
 ghost use Rattle.s2cover.specs.Working.Descent.{IsAligned, form_in};
-ghost use Rattle.s2cover.specs.Coverings.{clipped};
 
 use crate::MOST_CELLS;
+use crate::cut_to_level::union_cut;
 use crate::looks::{Looks, seek};
 use crate::met::add_met;
 use crate::placing::placed_cell;
@@ -22,7 +22,6 @@ use crate::region::CoverFault;
 use crate::rounding::{round_inward, round_outward};
 use s2cell::{CellId, FaceRect, GREATEST_LEVEL};
 use s2list::{CellList, Listed};
-use s2room::union_cut;
 use s2union::CellUnion;
 use std::alloc::{AllocError, Global};
 

@@ -1,13 +1,13 @@
 //! The coverings of a union, which are its own cells cut to a level.
 ghost use Rattle.std.specs.Prelude.{◌≡◌, ◌<◌, ◌≤◌, drop, length, IfOk, IfErr};
 ghost use Rattle.s2list.specs.Union.{has_leaf, IsLocal, IsNormalForm};
+ghost use Rattle.s2list.specs.Room.{PutsUpTo};
 ghost use Rattle.s2cover.specs.Coverings.{HasLeavesOf, TooManyMeans, inner_set, outer_set};
-ghost use Rattle.s2room.specs.Room.{PutsUpTo};
 
+use crate::cut_to_level::{put_cut, put_kept, union_cut, union_kept};
 use crate::region::CoverFault;
 use s2cell::GREATEST_LEVEL;
 use s2list::{CellList, Cells};
-use s2room::{put_cut, put_kept, union_cut, union_kept};
 use s2union::CellUnion;
 use std::alloc::Global;
 

@@ -16,6 +16,7 @@ mod around;
 mod clip;
 mod covering;
 mod cut;
+mod cut_to_level;
 mod descent;
 mod grid;
 pub mod laws;

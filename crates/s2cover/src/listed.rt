@@ -2,9 +2,8 @@
 //! for those near the rectangle, and not checked.
 ghost use Rattle.std.specs.Prelude.{◌≡◌, ◌-◌, ◌<◌, ◌≤◌, ℕ, length, slice_index, false, IfOk, IfErr};
 ghost use Rattle.s2list.specs.Union.{IsLocal, IsNormalForm};
-ghost use Rattle.s2room.specs.Cut.{cells_kept};
-ghost use Rattle.s2cover.specs.Coverings.{TooManyMeans, inner_set, outer_set};
-ghost use Rattle.s2cover.specs.Coverings.{clipped};
+ghost use Rattle.s2cover.specs.Cut.{cells_kept};
+ghost use Rattle.s2cover.specs.Coverings.{TooManyMeans, inner_set, outer_set, clipped};
 
 use crate::MOST_CELLS;
 use crate::around::cells_around;

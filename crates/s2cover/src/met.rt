@@ -2,7 +2,7 @@
 ghost use Rattle.std.specs.Prelude.{◌≡◌, ◌+◌, ◌^◌, ◌<◌, ◌≤◌, ◌++◌, ◌&&◌, All, length, take, drop, OnOk};
 ghost use Rattle.s2cell.specs.Cell.{IsCell};
 ghost use Rattle.s2cell.specs.Rectangles.{rect_set};
-ghost use Rattle.s2room.specs.Cut.{cells_kept, reaches};
+ghost use Rattle.s2cover.specs.Cut.{cells_kept, reaches};
 ghost use Rattle.s2cover.specs.Working.Cut.{cells_met, meets};
 
 use crate::looks::{Looks, look};

@@ -2,8 +2,7 @@
 ghost use Rattle.std.specs.Prelude.{◌≡◌, ◌↔◌, ◌&&◌, ℕ, true, false, IsTrue};
 ghost use Rattle.s2cell.specs.Rectangles.{rect_set};
 ghost use Rattle.s2list.specs.Union.{has_leaf, LiesIn};
-ghost use Rattle.s2cover.specs.Coverings.{LiesOutside};
-ghost use Rattle.s2cover.specs.Coverings.{clipped};
+ghost use Rattle.s2cover.specs.Coverings.{LiesOutside, clipped};
 
 use crate::region::{Part, Region};
 use s2cell::{CellId, FaceRect, PlacedCell};

@@ -22,6 +22,7 @@ pub mod Shared
 pub mod Subtracting
 pub mod Writing
 pub mod Heaping
+pub mod Putting
 -- Cited by the crates above: the numbers in a file.
 pub mod Numbers
 -- Cited by the crates above: unions cut to levels.

@@ -6,5 +6,6 @@ pub mod Denorm
 pub mod Search
 pub mod Looks
 pub mod Output
+pub mod Room
 pub mod Numbers
 pub mod Working

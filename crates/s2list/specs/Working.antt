@@ -5,3 +5,4 @@ pub mod Packed
 pub mod Search
 pub mod Walk
 pub mod Piles
+pub mod Room

@@ -13,9 +13,8 @@ use Rattle.s2cell.specs.CutLevels.{cells_in, cut_level}
 use Rattle.s2list.specs.Union.{IsLocal}
 use Rattle.s2list.specs.Denorm.{denormalised}
 use Rattle.s2list.proofs.Items.{Listing, listing_start, listing_more, listing_done, length-denormalised-le}
-use Rattle.s2room.specs.Working.Room.{IsPut}
-use Rattle.s2room.specs.Room.{PutsOne}
-use Rattle.s2room.proofs.Putting.{item_put, put_none}
+use Rattle.s2list.specs.Room.{IsPut, PutsOne}
+use Rattle.s2list.proofs.Putting.{item_put, put_none}
 
 -- the cells of a level in a cell are one step apart
 pub record Stepped (n k i f s : ℕ) : Type 0 where

@@ -15,8 +15,8 @@ use Rattle.s2cell.proofs.Leaves.{Within, before, after, within, around, meeting,
 use Rattle.s2cell.proofs.Leaves.{within_from_inside}
 use Rattle.s2cell.proofs.Family.{same_from_within, deeper_inside, parent_level, parent_around}
 use Rattle.s2list.proofs.Checking.{member_at}
+use Rattle.s2list.specs.Room.{IsPut}
 use Rattle.s2room.specs.Working.Ancestors.{Gains, IsBefore, IsAfter, LeadsTo}
-use Rattle.s2room.specs.Working.Room.{IsPut}
 
 -- ---- lists that ascend
 

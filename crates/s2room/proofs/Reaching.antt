@@ -15,11 +15,9 @@ use Rattle.s2list.specs.Packed.{IsPacked}
 use Rattle.s2list.proofs.Checking.{member_at}
 use Rattle.s2list.proofs.Normal.{leaf_from, leaf_to}
 use Rattle.s2list.proofs.PackedLocal.{place}
+use Rattle.s2list.specs.Room.{IsPut, PutsOne}
 use Rattle.s2room.specs.Ancestors.{AreHolders, IsHolder, ShareHolder}
-use Rattle.s2room.specs.Working.Ancestors.{Gains, IsBefore, IsAfter, LeadsTo}
-use Rattle.s2room.specs.Working.Ancestors.{PutsThose}
-use Rattle.s2room.specs.Working.Room.{IsPut}
-use Rattle.s2room.specs.Room.{PutsOne}
+use Rattle.s2room.specs.Working.Ancestors.{Gains, IsBefore, IsAfter, LeadsTo, PutsThose}
 use Rattle.s2room.proofs.Holders.{rises_more}
 
 -- `c` holds one of the first `k` cells

@@ -1,6 +1,4 @@
 -- What only private contracts and loops need. No public contract rests on it, so it is no part of the statement:
 -- docs/STATEMENT.md says what is.
-pub mod Room
 pub mod Ancestors
-pub mod Rows
 pub mod Merging

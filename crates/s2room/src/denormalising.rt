@@ -4,8 +4,7 @@ ghost use Rattle.s2cell.specs.Cell.{IsCell, level_of};
 ghost use Rattle.s2cell.specs.CutLevels.{cells_in, cut_level};
 ghost use Rattle.s2list.specs.Union.{IsLocal};
 ghost use Rattle.s2list.specs.Denorm.{denormalised};
-ghost use Rattle.s2room.specs.Working.Room.{IsPut, LeavesRest};
-ghost use Rattle.s2room.specs.Room.{PutsOne};
+ghost use Rattle.s2list.specs.Room.{IsPut, LeavesRest, PutsOne};
 
 use s2cell::{CellId, CutLevels, GREATEST_LEVEL, count_descendants};
 

@@ -2,10 +2,9 @@
 ghost use Rattle.std.specs.Prelude.{◌≡◌, drop, length};
 ghost use Rattle.s2list.specs.Union.{IsLocal, IsNormalForm, has_leaf};
 ghost use Rattle.s2list.specs.Sets.{in_one};
-ghost use Rattle.s2room.specs.Room.{PutsOne};
+ghost use Rattle.s2list.specs.Room.{PutsOne};
 
-use crate::room::Room;
-use s2list::{Cells, write_symmetric_difference};
+use s2list::{Cells, Room, write_symmetric_difference};
 
 /// Puts the leaves that exactly one of two unions has into the room, if there is enough of it, and answers how many
 /// cells they are. One pass over both lists: each turn passes the cell that ends first, or both if they end together.

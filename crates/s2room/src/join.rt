@@ -2,10 +2,9 @@
 ghost use Rattle.std.specs.Prelude.{◌≡◌, drop, length};
 ghost use Rattle.s2list.specs.Union.{IsLocal, IsNormalForm, has_leaf};
 ghost use Rattle.s2list.specs.Sets.{either};
-ghost use Rattle.s2room.specs.Room.{PutsOne};
+ghost use Rattle.s2list.specs.Room.{PutsOne};
 
-use crate::room::Room;
-use s2list::{Cells, write_union};
+use s2list::{Cells, Room, write_union};
 
 /// Puts the leaves of either union into the room, if there is enough of it, and answers how many cells they are. One
 /// pass over both lists. Many cells of one before the next of the other are passed by a search, in steps that leap,

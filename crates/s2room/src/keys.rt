@@ -7,14 +7,12 @@ ghost use Rattle.std.specs.Prelude.{◌∷◌, ◌++◌, drop, length, slice_ind
 ghost use Rattle.std.specs.List.Sorted.{IsStrictlyIncreasing};
 ghost use Rattle.s2cell.specs.Cell.{IsCell, IsInside, first_leaf, level_of, parent_of};
 ghost use Rattle.s2list.specs.Union.{IsLocal};
+ghost use Rattle.s2list.specs.Room.{IsPut, LeavesRest, PutsOne};
 ghost use Rattle.s2room.specs.Ancestors.{AreHolders};
 ghost use Rattle.s2room.specs.Working.Ancestors.{IsAfter, IsBefore, LeadsTo, PutsThose};
-ghost use Rattle.s2room.specs.Working.Room.{IsPut, LeavesRest};
-ghost use Rattle.s2room.specs.Room.{PutsOne};
 
-use crate::room::put;
 use s2cell::CellId;
-use s2list::Cells;
+use s2list::{Cells, put};
 
 /// Puts the cells of a union and all their ancestors, ascending, each once, at the front of a room, if they fit, and
 /// answers how many they are. Takes no memory. The work is in proportion to their number, at most 31 for each cell of

@@ -3,14 +3,11 @@
 //!
 //! They copy no list and take no memory, and have no precondition on a list: whatever the numbers are, the call is safe
 //! and returns. The result is exact if the numbers are the cells of normalized unions; for other numbers it means
-//! nothing. So it is with `ancestors`, the keys of an index, with `denormalise`, and with `put_cut` and `put_kept`, the
-//! coverings of a union. `normalise` makes a list of cells a union in place, and `union_of_many` many lists one; all
-//! numbers that they are given must be cells. Two calls take memory, for a union of their own: `union_cut` and
-//! `union_kept`, which cut as `put_cut` and `put_kept`, and must be given the cells of a union.
+//! nothing. So it is with `ancestors`, the keys of an index, and with `denormalise`. `normalise` makes a list of cells a
+//! union in place, and `union_of_many` many lists one; all numbers that they are given must be cells.
 #![tactic(auto)]
 
 mod cells;
-mod cut;
 mod denormalising;
 mod differing;
 mod join;
@@ -19,12 +16,10 @@ pub mod laws;
 mod merge;
 mod normalising;
 mod outside;
-mod room;
 mod share;
 mod subtract;
 
 pub use cells::{FileIds, read_numbers};
-pub use cut::{put_cut, put_kept, union_cut, union_kept};
 pub use denormalising::denormalise;
 pub use differing::put_symmetric_difference;
 pub use join::put_union;

@@ -2,10 +2,9 @@
 ghost use Rattle.std.specs.Prelude.{◌≡◌, drop, length};
 ghost use Rattle.s2list.specs.Union.{IsLocal, IsNormalForm, has_leaf};
 ghost use Rattle.s2list.specs.Sets.{outside};
-ghost use Rattle.s2room.specs.Room.{PutsOne};
+ghost use Rattle.s2list.specs.Room.{PutsOne};
 
-use crate::room::Room;
-use s2list::{Cells, write_complement};
+use s2list::{Cells, Room, write_complement};
 
 /// Puts the leaves of the six faces that a union lacks into the room, if there is enough of it, and answers how many
 /// cells they are. One pass, which fills the gaps between the cells.

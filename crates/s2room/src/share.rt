@@ -2,10 +2,9 @@
 ghost use Rattle.std.specs.Prelude.{◌≡◌, drop, length};
 ghost use Rattle.s2list.specs.Union.{IsLocal, IsNormalForm, has_leaf};
 ghost use Rattle.s2list.specs.Sets.{shared};
-ghost use Rattle.s2room.specs.Room.{PutsOne};
+ghost use Rattle.s2list.specs.Room.{PutsOne};
 
-use crate::room::Room;
-use s2list::{Cells, write_shared};
+use s2list::{Cells, Room, write_shared};
 
 /// Puts the leaves that two unions share into the room, if there is enough of it, and answers how many cells they are.
 /// Whichever list is behind is searched for the cell of the other, in leaps, and the cells of one that lie in a cell of

@@ -2,10 +2,9 @@
 ghost use Rattle.std.specs.Prelude.{◌≡◌, drop, length};
 ghost use Rattle.s2list.specs.Union.{IsLocal, IsNormalForm, has_leaf};
 ghost use Rattle.s2list.specs.Sets.{without};
-ghost use Rattle.s2room.specs.Room.{PutsOne};
+ghost use Rattle.s2list.specs.Room.{PutsOne};
 
-use crate::room::Room;
-use s2list::{Cells, write_difference};
+use s2list::{Cells, Room, write_difference};
 
 /// Puts the leaves of the first union that the second doesn't have into the room, if there is enough of it, and answers
 /// how many cells they are. Searches, in steps that leap, for the next cell of `ys` that ends after the leaves done,

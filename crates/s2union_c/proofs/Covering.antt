@@ -2,7 +2,7 @@
 use Rattle.std.proofs.Common.{ℕ, ◌<◌, ◌≤◌, inl, inr, ap, arith, Bool, List, length}
 use Rattle.s2list.specs.Union.{IsLocal, IsNormalForm, has_leaf}
 use Rattle.s2list.proofs.Normal.{one_normal_form}
-use Rattle.s2room.specs.Room.{PutsOne, PutsUpTo}
+use Rattle.s2list.specs.Room.{PutsOne, PutsUpTo}
 use Rattle.s2cover.proofs.NormalForms.{inner_few, outer_few}
 use Rattle.s2union_c.specs.declared.coverings.Side.{Side}
 use Rattle.s2union_c.specs.declared.coverings.Side.TheVariants.{Outer, Inner}

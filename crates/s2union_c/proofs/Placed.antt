@@ -10,8 +10,8 @@ use Rattle.std.proofs.lemmas.Slice.{drop-append-drop}
 use Rattle.s2cell.specs.Cell.{IsCell}
 use Rattle.s2list.specs.Union.{IsNormalForm, has_leaf}
 use Rattle.s2list.proofs.Lengths.{normal_few}
-use Rattle.s2room.specs.Room.{PutsOne}
-use Rattle.s2room.proofs.Putting.{rest_later}
+use Rattle.s2list.specs.Room.{PutsOne}
+use Rattle.s2list.proofs.Putting.{rest_later}
 use Rattle.s2union_c.specs.Results.{ExceedsRoom, HasNoRoom, IsWritten, KeepsRest, Made, MadeInPlace, MadeOne, Refused}
 use Rattle.s2union_c.specs.Status.{made, no_memory, no_room}
 

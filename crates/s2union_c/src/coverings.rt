@@ -3,9 +3,8 @@ ghost use Rattle.std.specs.Prelude.{◌≡◌, ◌<◌, ◌≤◌, ◌⊎◌, �
 ghost use Rattle.std.specs.Prelude.{drop, length, min};
 ghost use Rattle.s2cell.specs.Rectangles.{IsRect, rect_set};
 ghost use Rattle.s2list.specs.Union.{IsLocal, IsNormalForm, has_leaf};
-ghost use Rattle.s2room.specs.Room.{PutsUpTo};
-ghost use Rattle.s2cover.specs.Coverings.{TooManyMeans, inner_set, outer_set};
-ghost use Rattle.s2cover.specs.Coverings.{clipped};
+ghost use Rattle.s2list.specs.Room.{PutsUpTo};
+ghost use Rattle.s2cover.specs.Coverings.{TooManyMeans, inner_set, outer_set, clipped};
 ghost use Rattle.s2union_c.specs.Rectangles.{rect_with};
 ghost use Rattle.s2union_c.specs.Results.{FindsMany, KeepsRest, MadeInPlace, MadeOne, Refused};
 ghost use Rattle.s2union_c.specs.Status.{bad_argument, too_many};

@@ -1,12 +1,12 @@
 //! Laws about the definitions, and what the calls for C have in common with those of `CellUnion` and of s2file.
 ghost use Rattle.std.specs.Prelude.{◌≡◌, ◌<◌, ◌≤◌, ℕ, ℤ, Bool, IfOk, List, drop, length, take};
 ghost use Rattle.s2list.specs.Union.{IsLocal, IsNormalForm, has_leaf};
-ghost use Rattle.s2cover.specs.Coverings.{inner_set, outer_set};
+ghost use Rattle.s2list.specs.Room.{PutsOne};
 ghost use Rattle.s2file.specs.declared.union_file.TheConstants.{MOST_CELLS};
 ghost use Rattle.s2file.specs.File.{File, HasFault, stated_count};
-ghost use Rattle.s2room.specs.Cut.{cells_kept};
 ghost use Rattle.s2room.specs.Normalising.{IsNormalisedIn};
-ghost use Rattle.s2room.specs.Room.{PutsOne};
+ghost use Rattle.s2cover.specs.Coverings.{inner_set, outer_set};
+ghost use Rattle.s2cover.specs.Cut.{cells_kept};
 ghost use Rattle.s2union_c.specs.Files.{IsCellFile, file_ids};
 ghost use Rattle.s2union_c.specs.Laws.{AreCutTo, HasItsNumbers, IsStatusOf, OneReading, RefusesFile};
 ghost use Rattle.s2union_c.specs.Results.{KeepsRest, MadeInPlace};

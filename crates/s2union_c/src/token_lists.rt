@@ -9,10 +9,8 @@ ghost use Rattle.s2cell.specs.Words.{NamesCell};
 ghost use Rattle.s2cell.specs.Working.Words.{EndsWordAt};
 ghost use Rattle.s2union_c.specs.Results.{Made, Refused};
 ghost use Rattle.s2union_c.specs.Status.{no_cell, too_many};
-ghost use Rattle.s2union_c.specs.Working.Texts.{IsFilled, IsNextWord};
-ghost use Rattle.s2union_c.specs.Texts.{IsFirstNameless};
-ghost use Rattle.s2union_c.specs.Texts.{is_between, tokens_of, words_of_text};
-ghost use Rattle.s2union_c.specs.Working.Texts.{piece};
+ghost use Rattle.s2union_c.specs.Working.Texts.{IsFilled, IsNextWord, piece};
+ghost use Rattle.s2union_c.specs.Texts.{IsFirstNameless, is_between, tokens_of, words_of_text};
 
 use crate::status::{MADE, NO_CELL, NO_ROOM, TOO_MANY};
 use s2cell::CellId;

@@ -2,7 +2,7 @@
 use Rattle.std.specs.Prelude.{ℕ, ◌<◌, ◌≤◌, ◌⊎◌, ◌↔◌, List, Contains}
 use Rattle.std.specs.List.Sorted.{IsStrictlyIncreasing}
 use Rattle.s2cell.specs.Cell.{IsCell, IsInside, first_leaf}
-use Rattle.s2room.specs.Working.Room.{IsPut}
+use Rattle.s2list.specs.Room.{IsPut}
 
 -- `new` ascends, and has exactly the numbers of `old` and those with the property `P`
 pub record Gains (P : ℕ → Type 0) (old new : List ℕ) : Type 0 where

@@ -4,8 +4,7 @@ use Rattle.s2cell.specs.Cell.{IsCell}
 use Rattle.s2cell.specs.Rectangles.{rect_set}
 use Rattle.s2list.specs.Union.{has_leaf, IsLocal}
 use Rattle.s2list.proofs.Normal.{local_from_normal}
-use Rattle.s2room.specs.Cut.{cells_cut}
-use Rattle.s2cover.specs.Working.Cut.{meets, cells_met}
+use Rattle.s2cover.specs.Working.Cut.{cells_cut, meets, cells_met}
 use Rattle.s2cover.proofs.Near.{kept_all}
 use Rattle.s2cover.proofs.NormalForms.{cut_few}
 use Rattle.s2cover.proofs.Parts.{normal_above, cut_above, cut_cells}

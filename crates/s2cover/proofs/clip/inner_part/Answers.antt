@@ -1,7 +1,7 @@
 use Rattle.std.proofs.Common.{◌≡◌, ℕ, ◌&&◌, ◌∙◌}
 use Rattle.s2cell.specs.Rectangles.{rect_set}
 use Rattle.s2list.specs.Union.{has_leaf}
-use Rattle.s2room.specs.Cut.{cells_kept}
+use Rattle.s2cover.specs.Cut.{cells_kept}
 use Rattle.s2cover.specs.Coverings.{inner_set}
 use Rattle.s2cover.proofs.Faces.{many_same}
 use Rattle.s2cover.proofs.Clips.{kept_clip, leaves_ok, met_clip, normal_ok}

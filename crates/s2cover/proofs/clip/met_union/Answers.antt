@@ -3,8 +3,8 @@ use Rattle.std.proofs.lemmas.List.Elements.{All-filter}
 use Rattle.s2cell.specs.Cell.{level_of}
 use Rattle.s2cell.specs.Rectangles.{rect_set}
 use Rattle.s2list.specs.Union.{IsLocal}
-use Rattle.s2room.specs.Cut.{cells_kept, reaches}
-use Rattle.s2room.proofs.Levelling.{filter_local, kept_few}
+use Rattle.s2cover.specs.Cut.{cells_kept, reaches}
+use Rattle.s2cover.proofs.Levelling.{filter_local, kept_few}
 use Rattle.s2cover.specs.Working.Cut.{meets}
 use Rattle.s2cover.proofs.Clips.{met_few}
 use Rattle.s2cover.proofs.Near.{added_all}

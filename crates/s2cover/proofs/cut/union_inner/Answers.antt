@@ -1,7 +1,7 @@
 use Rattle.std.proofs.Common.{◌∙◌, ap, sym, length, arith}
 use Rattle.s2list.specs.Union.{has_leaf}
 use Rattle.s2list.proofs.Normal.{local_from_normal, one_normal_form}
-use Rattle.s2room.specs.Cut.{cells_kept}
+use Rattle.s2cover.specs.Cut.{cells_kept}
 use Rattle.s2cover.specs.Coverings.{inner_set}
 use Rattle.s2cover.proofs.OwnCells.{inner_cells, kept_normal}
 use Rattle.s2cover.proofs.cut.union_inner.Goals as goal

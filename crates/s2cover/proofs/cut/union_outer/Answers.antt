@@ -1,7 +1,7 @@
 use Rattle.std.proofs.Common.{◌∙◌, ap, sym}
 use Rattle.s2list.specs.Union.{has_leaf}
 use Rattle.s2list.proofs.Normal.{local_from_normal, normal_form_same}
-use Rattle.s2room.specs.Cut.{cells_cut}
+use Rattle.s2cover.specs.Working.Cut.{cells_cut}
 use Rattle.s2cover.specs.Coverings.{outer_set}
 use Rattle.s2cover.proofs.OwnCells.{cut_normal, outer_cells}
 use Rattle.s2cover.proofs.cut.union_outer.Goals as goal

@@ -1,7 +1,7 @@
 use Rattle.std.proofs.Common.{◌≡◌, ◌+◌, ◌≤◌, ◌++◌, All, take, drop}
 use Rattle.s2cell.specs.Cell.{IsCell}
 use Rattle.s2cell.specs.Rectangles.{rect_set}
-use Rattle.s2room.specs.Cut.{cells_kept}
+use Rattle.s2cover.specs.Cut.{cells_kept}
 use Rattle.s2cover.specs.Working.Cut.{cells_met}
 use Rattle.s2cover.proofs.met.add_met.Given as goal
 

@@ -7,8 +7,8 @@ use Rattle.s2cell.specs.Descendant.{descendant_of}
 use Rattle.s2cell.proofs.CellLemmas.{four_pos}
 use Rattle.s2cell.specs.CutLevels.{cells_in}
 use Rattle.s2cell.proofs.Cutting.{length-cells_in}
+use Rattle.s2list.proofs.Putting.{items_put, put_past, rest_later, rest_run}
 use Rattle.s2room.proofs.Cutting.{stepped, item_more}
-use Rattle.s2room.proofs.Putting.{items_put, put_past, rest_later, rest_run}
 use Rattle.s2room.proofs.denormalising.put_descendants.Goals as goal
 use Rattle.s2room.proofs.denormalising.put_descendants.Goals.{else-n-out-via-then-n-out+else-count-out}
 use Rattle.s2room.proofs.denormalising.put_descendants.Goals.{else-n-out-via-else-n-out}

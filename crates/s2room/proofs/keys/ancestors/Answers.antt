@@ -1,7 +1,7 @@
 use Rattle.std.proofs.Common.{◌≡◌, ◌+◌, ◌<◌, [], length, get_or, ◌∙◌, refl, ap, arith}
 use Rattle.s2cell.specs.Cell.{first_leaf, size_of}
 use Rattle.s2list.proofs.Checking.{packed_from_local}
-use Rattle.s2room.proofs.Putting.{put_none}
+use Rattle.s2list.proofs.Putting.{put_none}
 use Rattle.s2room.proofs.Reaching.{reached_start, reached_step, puts_holders}
 use Rattle.s2room.proofs.keys.ancestors.Goals as goal
 use Rattle.s2room.proofs.keys.ancestors.Goals.{in-Some, in_default}

@@ -1,6 +1,6 @@
 use Rattle.std.proofs.Common.{◌≡◌, ℕ, List, drop, length}
 use Rattle.s2list.specs.Union.{IsLocal}
-use Rattle.s2room.specs.Working.Room.{IsPut}
+use Rattle.s2list.specs.Room.{IsPut}
 use Rattle.s2room.proofs.Reaching.{Reached}
 use Rattle.s2room.proofs.keys.ancestors.Given as goal
 

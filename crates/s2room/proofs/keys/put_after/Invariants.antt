@@ -1,8 +1,8 @@
 use Rattle.std.proofs.Common.{◌≡◌, ◌≤◌, ℕ, List, Contains, length}
 use Rattle.std.specs.List.Sorted.{IsStrictlyIncreasing}
 use Rattle.s2cell.specs.Cell.{level_of}
+use Rattle.s2list.specs.Room.{LeavesRest}
 use Rattle.s2room.specs.Working.Ancestors.{PutsThose}
-use Rattle.s2room.specs.Working.Room.{LeavesRest}
 use Rattle.s2room.proofs.Holders.{AfterTo}
 use Rattle.s2room.proofs.keys.put_after.Given as goal
 

@@ -1,7 +1,7 @@
 use Rattle.std.proofs.Common.{◌≡◌, ◌≤◌, ℕ, List, length}
 use Rattle.s2cell.specs.Cell.{first_leaf, level_of, parent_of}
+use Rattle.s2list.specs.Room.{LeavesRest}
 use Rattle.s2room.specs.Working.Ancestors.{LeadsTo, PutsThose}
-use Rattle.s2room.specs.Working.Room.{LeavesRest}
 use Rattle.s2room.proofs.Holders.{BeforeTo}
 use Rattle.s2room.proofs.keys.put_before.Given as goal
 

@@ -4,15 +4,16 @@ use Rattle.std.proofs.lemmas.Bool.{cases_lt}
 use Rattle.std.proofs.lemmas.List.{ext_get_or, get_or-map, length-map}
 use Rattle.std.proofs.lemmas.List.Elements.{All-get_or}
 use Rattle.s2cell.specs.Cell.{IsCell, covers, first_leaf, level_of, parent_of}
-use Rattle.s2list.specs.Union.{has_leaf}
-use Rattle.s2list.proofs.Normal.{local_from_normal, normal_form_same, normal_from_local, one_normal_form}
-use Rattle.s2list.proofs.Normal.{same_level_same}
-use Rattle.s2room.specs.Cut.{cells_cut, cells_kept, cut_at}
 use Rattle.s2cell.proofs.Calls.{IsCell-parent_of}
 use Rattle.s2cell.proofs.CellLemmas.{cell_leaves}
 use Rattle.s2cell.proofs.Family.{parent_around, parent_level}
 use Rattle.s2cell.proofs.Leaves.{covers_there, inside_from_within}
-use Rattle.s2room.proofs.Levelling.{cut_parent, cut_same}
+use Rattle.s2list.specs.Union.{has_leaf}
+use Rattle.s2list.proofs.Normal.{local_from_normal, normal_form_same, normal_from_local, one_normal_form}
+use Rattle.s2list.proofs.Normal.{same_level_same}
+use Rattle.s2cover.specs.Working.Cut.{cells_cut, cut_at}
+use Rattle.s2cover.specs.Cut.{cells_kept}
+use Rattle.s2cover.proofs.Levelling.{cut_parent, cut_same}
 use Rattle.s2cover.specs.Coverings.{inner_set, outer_set}
 use Rattle.s2cover.proofs.OwnCells.{kept_normal, outer_cells}
 use Rattle.s2union_c.specs.Files.{file_ids}

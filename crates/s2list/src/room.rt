@@ -1,0 +1,97 @@
+//! Lists of identifiers that grow at the front of a room. What doesn't fit is counted, and not written.
+ghost use Rattle.std.specs.Prelude.{◌≡◌, ◌+◌, ◌-◌, ◌<◌, ◌≤◌, ◌++◌, ◌∷◌, [], ℕ, List, length, take, drop};
+ghost use Rattle.s2list.specs.Working.Room.{PutsGap};
+ghost use Rattle.s2list.specs.Room.{IsPut, LeavesRest};
+
+use crate::cells::Cells;
+use crate::output::{Copies, Output};
+use s2cell::{CellId, LEAVES};
+use std::alloc::AllocError;
+
+/// A caller's room, into which a set operation writes.
+#[derive(Drop)]
+pub struct Room<'a> {
+    /// The room.
+    pub out: &'a mut [u64],
+}
+
+impl<'a> Output for Room<'a> {
+    ghost holds = { λ list old now n. IsPut list old.out.now now.out.now n };
+
+    ghost rest = { λ old now n. drop n now.out.now ≡ drop n old.out.now };
+
+    ghost place = { λ r. r.out.ghost_name };
+
+    ghost refuses = { ⊥ };
+
+    fn put_gap(&mut self, n: usize, lo: u64, hi: u64) -> Result<usize, AllocError> {
+        Ok(put_gap(self.out, n, lo, hi))
+    }
+
+    ghost counts = { λ list old now n put few. put.len_is few };
+}
+
+impl<'a, C: Cells> Copies<C> for Room<'a> {
+    fn put_run(
+        &mut self,
+        n: usize,
+        cells: &C,
+        from: usize,
+        to: usize,
+    ) -> Result<usize, AllocError> {
+        Ok(put_run(self.out, n, cells, from, to))
+    }
+}
+
+/// Puts an identifier after the first `n`, if there is room, and answers how many they are then.
+#[inline(always)]
+pub fn put(out: &mut [u64], n: usize, id: u64) -> usize
+    ensures len { length out.new ≡ length out.old }
+    ensures put { (list room : List ℕ) → IsPut list room out.old n → IsPut (list ++ id ∷ []) room out.new result }
+    ensures rest { LeavesRest out.old out.new n result }
+{
+    if n < out.len() {
+        out[n] = id;
+        return n + 1;
+    }
+    n.saturating_add(1)
+}
+
+/// Puts the numbers at the places from `from` to before `to` after the first `n`, if there is room for all of them, and
+/// answers how many they are then.
+fn put_run<C: Cells>(out: &mut [u64], n: usize, cells: &C, from: usize, to: usize) -> usize
+    requires order { from ≤ to }
+    requires within { to ≤ length (C.ids cells.now) }
+    ensures len { length out.new ≡ length out.old }
+    ensures put { (list room : List ℕ) → IsPut list room out.old n
+        → IsPut (list ++ take (to - from) (drop from (C.ids cells.now))) room out.new result }
+    ensures rest { LeavesRest out.old out.new n result }
+{
+    let count = to - from;
+    if n <= out.len() && count <= out.len() - n {
+        for k in 0..count {
+            out[n + k] = cells.id(from + k);
+        }
+        return n + count;
+    }
+    n.saturating_add(count)
+}
+
+/// Puts the normal form of the leaves from `lo` to before `hi` after the first `n` identifiers, as far as there is
+/// room, and answers how many they are then. First comes the largest cell that begins at `lo` and fits, then the
+/// largest that begins after it, and so on.
+fn put_gap(out: &mut [u64], n: usize, lo: u64, hi: u64) -> usize
+    ensures len { length out.new ≡ length out.old }
+    ensures put { (lo < hi → hi ≤ LEAVES) → PutsGap out.old out.new n result lo hi }
+    ensures rest { LeavesRest out.old out.new n result }
+{
+    let end = hi.min(LEAVES);
+    let mut count = n;
+    let mut first = lo;
+    while first < end {
+        let cell = CellId::tile(first, end);
+        count = put(out, count, cell.id());
+        first = cell.end_leaf();
+    }
+    count
+}
