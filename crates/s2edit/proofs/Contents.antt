@@ -12,13 +12,13 @@ use Rattle.s2union.proofs.Applied.{applied-between}
 use Rattle.s2file.specs.declared.session.Move.{Move}
 use Rattle.s2file.specs.Session.{Diff, Content, diff_of, IsMove, IsContent, IsRegisterList, AreCells, IsDiff}
 use Rattle.s2file.specs.declared.TheConstants.{SESSION_CELLS}
+use Rattle.s2script.specs.declared.register.TheConstants.{REGISTERS}
 use Rattle.s2edit.proofs.Sizes.{fewer_without}
 use Rattle.s2edit.specs.History.{History, AllTables}
 use Rattle.s2edit.specs.Leads.{list_at, Leads}
 use Rattle.s2edit.specs.Chain.{IsLocalWithin}
 use Rattle.s2edit.specs.Working.Chain.{AllWithin}
 use Rattle.s2edit.specs.Session.{LeadBack, LeadAhead, Records}
-use Rattle.s2edit.specs.declared.TheConstants.{REGISTERS}
 use Rattle.s2edit.proofs.Tables.{AllWithin-at}
 use Rattle.s2edit.proofs.DiffLemmas.{IsDiff-between}
 use Rattle.s2edit.proofs.Telling.{told_past, told_future}

@@ -7,6 +7,7 @@ use Rattle.std.proofs.lemmas.Option.{get_or_from_slice_get, slice_get-get_or}
 use Rattle.s2list.specs.Union.{Union, has_leaf, IsLocal, IsNormalForm}
 use Rattle.s2list.proofs.Normal.{one_normal_form}
 use Rattle.s2file.specs.Session.{Diff}
+use Rattle.s2script.specs.declared.register.TheConstants.{REGISTERS}
 use Rattle.s2edit.specs.History.{History, Assigned, sets}
 use Rattle.s2edit.specs.Diff.{FitsList, apply}
 use Rattle.s2edit.specs.Leads.{list_at}
@@ -16,7 +17,6 @@ use Rattle.s2edit.specs.Working.Chain.{history, lists_of, list_after, AllWithin}
 use Rattle.s2edit.specs.Working.Named.{Gives}
 use Rattle.s2edit.specs.declared.editor.EditFault.{EditFault}
 use Rattle.s2edit.specs.declared.editor.EditFault.TheVariants.{TooMany}
-use Rattle.s2edit.specs.declared.TheConstants.{REGISTERS}
 use Rattle.s2edit.proofs.Assigning.{assigned_same}
 use Rattle.s2edit.proofs.Contents.{empty_list}
 use Rattle.s2edit.proofs.DiffLemmas.{nothing_applied}

@@ -9,13 +9,13 @@ use Rattle.s2union.specs.Apply.{Fits}
 use Rattle.s2file.specs.declared.session.Move.{Move}
 use Rattle.s2file.specs.Session.{Diff, IsMove, diff_of}
 use Rattle.s2file.specs.declared.TheConstants.{SESSION_CELLS}
+use Rattle.s2script.specs.declared.register.TheConstants.{REGISTERS}
 use Rattle.s2edit.specs.Diff.{inverse, apply, FitsList}
 use Rattle.s2edit.specs.Leads.{list_at}
 use Rattle.s2edit.specs.Working.Chain.{list_after, table_after, FitsTable, FitAlong, AllWithin}
 use Rattle.s2edit.specs.Working.InTurn.{FitInTurn, of_register}
 use Rattle.s2edit.specs.Working.Following.{MakesChanges}
 use Rattle.s2edit.specs.Working.Part.{resized, longest}
-use Rattle.s2edit.specs.declared.TheConstants.{REGISTERS}
 use Rattle.s2edit.proofs.Sizes.{length_applied}
 use Rattle.s2edit.proofs.Following.{applied_differs}
 use Rattle.s2edit.proofs.PartLemmas.{by_bool}

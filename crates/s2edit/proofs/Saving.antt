@@ -8,18 +8,18 @@ use Rattle.std.proofs.lemmas.Bool.{lt-ltb, le-ltb}
 use Rattle.std.proofs.lemmas.List.{length-map, length-reverse, length_push, map-append, append-nil, take_all}
 use Rattle.std.proofs.lemmas.List.{get_or-reverse, reverse-reverse}
 use Rattle.std.proofs.lemmas.Option.{slice_get_cases, slice_get-get_or}
-use Rattle.circular_buffer.specs.Buffer.{Buffer, buffer}
 use Rattle.std.specs.List.{AllByRecursion}
+use Rattle.circular_buffer.specs.Buffer.{Buffer, buffer}
 use Rattle.s2list.specs.Union.{Union}
 use Rattle.s2file.specs.Session.{Diff, Content, diff_of, IsMove, session_text}
 use Rattle.s2file.specs.declared.session.Move.{Move}
 use Rattle.s2file.specs.declared.TheConstants.{SESSION_CELLS, SESSION_CHANGES}
 use Rattle.s2file.proofs.Places.{take_one, none_past}
+use Rattle.s2script.specs.declared.register.TheConstants.{REGISTERS}
 use Rattle.s2edit.specs.Diff.{inverse}
 use Rattle.s2edit.specs.Working.Chain.{table_after, tables_after, FitAlong, lists_of, AllWithin, history}
 use Rattle.s2edit.specs.History.{History}
 use Rattle.s2edit.specs.Session.{Records, Text}
-use Rattle.s2edit.specs.declared.TheConstants.{REGISTERS}
 use Rattle.s2edit.proofs.Telling.{CanFollow, history_told, tells_it}
 
 more_within : (limit n : ℕ) (t : List (List ℕ)) → limit ≤ n → AllWithin limit t → AllWithin n t

@@ -4,13 +4,13 @@ use Rattle.std.proofs.Common.{subst, arith}
 use Rattle.std.proofs.lemmas.List.{length-set, length-map, length-reverse}
 use Rattle.s2file.specs.Session.{Diff, Content}
 use Rattle.s2file.specs.declared.TheConstants.{SESSION_CELLS, SESSION_CHANGES}
+use Rattle.s2script.specs.declared.register.TheConstants.{REGISTERS}
 use Rattle.s2edit.specs.History.{History, AllTables}
 use Rattle.s2edit.specs.Diff.{inverse}
 use Rattle.s2edit.specs.Leads.{list_at, Leads}
 use Rattle.s2edit.specs.Working.Chain.{table_after, tables_after, FitsTable, FitAlong, AllWithin}
 use Rattle.s2edit.specs.Chain.{IsLocalWithin}
 use Rattle.s2edit.specs.Session.{LeadBack, LeadAhead, Records}
-use Rattle.s2edit.specs.declared.TheConstants.{REGISTERS}
 use Rattle.s2edit.proofs.Tables.{AllWithin-at, fits_back, table_back, within_after, length-tables_after}
 use Rattle.s2edit.proofs.Assigning.{fits_table, between_table}
 use Rattle.s2edit.proofs.Leading.{lead_ahead, lead_back, AllTables-within}

@@ -2,10 +2,10 @@
 use Rattle.std.specs.Prelude.{◌≡◌, ℕ, ◌+◌, ◌<◌, ◌≤◌, Bool, List, [], ◌∷◌, length, reverse}
 use Rattle.s2file.specs.Session.{Diff, Content, session_text, Spells}
 use Rattle.s2file.specs.declared.TheConstants.{SESSION_CELLS, SESSION_CHANGES}
+use Rattle.s2script.specs.declared.register.TheConstants.{REGISTERS}
 use Rattle.s2edit.specs.History.{History, EachList, sets}
 use Rattle.s2edit.specs.Leads.{Leads}
 use Rattle.s2edit.specs.Chain.{IsLocalWithin}
-use Rattle.s2edit.specs.declared.TheConstants.{REGISTERS}
 use Rattle.s2edit.specs.declared.session.RestoreFault.{RestoreFault}
 use Rattle.s2edit.specs.declared.session.RestoreFault.TheVariants.{Fit, TooDeep, TooMany, Memory}
 

@@ -3,8 +3,8 @@ ghost use Rattle.std.specs.Prelude.{◌≡◌, ◌≤◌, [], length, IfOk, IsOk
 ghost use Rattle.s2file.specs.Session.{diff_of, IsDiff, IsMove};
 ghost use Rattle.s2edit.specs.Diff.{FitsList};
 
+use crate::Register;
 use crate::lacking::unshared_cells;
-use crate::register::Register;
 use s2cell::CellId;
 use s2file::Move;
 use s2union::CellUnion;

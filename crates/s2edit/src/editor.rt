@@ -10,8 +10,7 @@ ghost use Rattle.s2edit.specs.Working.Chain.{lists_of, AllRoomy};
 ghost use Rattle.s2edit.specs.declared.editor.EditFault.TheVariants.{Memory};
 
 use crate::change::Change;
-use crate::register::Register;
-use crate::{MOST_CELLS, MOST_STATES, REGISTERS};
+use crate::{MOST_CELLS, MOST_STATES, REGISTERS, Register};
 use circular_buffer::HeapCircularBuffer;
 use s2cell::CellId;
 use s2union::CellUnion;

@@ -3,8 +3,8 @@ ghost use Rattle.s2list.specs.Union.{has_leaf};
 ghost use Rattle.s2edit.specs.History.{sets};
 ghost use Rattle.s2edit.specs.Edits.{Edited, Ran};
 
+use crate::Register;
 use crate::editor::{EditFault, Editor};
-use crate::register::Register;
 use s2union::CellUnion;
 
 /// One edit.

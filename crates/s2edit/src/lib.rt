@@ -12,7 +12,6 @@ mod edits;
 mod lacking;
 pub mod laws;
 mod named;
-mod register;
 mod restore;
 mod session;
 mod sides;
@@ -20,11 +19,8 @@ mod sides;
 pub use change::Change;
 pub use editor::{EditFault, Editor};
 pub use edits::{Edit, EditOutcome, EditTally, run_edits};
-pub use register::Register;
+pub use s2script::{REGISTERS, Register};
 pub use session::RestoreFault;
-
-/// How many registers there are. They are named by the letters from `a` on.
-pub const REGISTERS: usize = 26;
 
 /// The most cells that a register may ever have: the greatest limit of an editor.
 pub const MOST_CELLS: usize = 1_000_000;

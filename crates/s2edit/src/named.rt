@@ -16,10 +16,9 @@ ghost use Rattle.s2edit.specs.Named.{Becomes};
 ghost use Rattle.s2edit.specs.Working.Chain.{list_after};
 ghost use Rattle.s2edit.specs.Working.Named.{Gives};
 
-use crate::REGISTERS;
 use crate::change::Change;
 use crate::editor::{EditFault, Editor, change_register};
-use crate::register::Register;
+use crate::{REGISTERS, Register};
 use s2cell::CellId;
 use s2list::{CellList, find_from};
 use s2union::{CellUnion, UnionFault, is_normalized};

@@ -1,9 +1,9 @@
 -- What an exit status says of a run.
 use Rattle.std.proofs.Common.{◌≡◌, ℕ, zero, suc, ◌-◌, ◌^◌, min, List, [], ◌++◌, Option, Result, Ok, Err, refl, sym}
 use Rattle.std.proofs.Common.{ap, ◌∙◌, subst, append-nil, arith, count_by, replicate, inl, inr}
-use Rattle.s2edit.specs.History.{untouched}
-use Rattle.s2edit.specs.declared.TheConstants.{REGISTERS}
 use Rattle.s2shelf.specs.Shelf.{Files}
+use Rattle.s2edit.specs.History.{untouched}
+use Rattle.s2script.specs.declared.register.TheConstants.{REGISTERS}
 use Rattle.s2calc.specs.declared.engine.Tally.{Tally}
 use Rattle.s2calc.specs.declared.fault.RunFault.{RunFault}
 use Rattle.s2calc.specs.declared.fault.RunFault.TheVariants.{Input, Output, Memory}

@@ -1,8 +1,8 @@
 -- What a run stored comes back where a run finds it.
 use Rattle.std.proofs.Common.{◌≡◌, ℕ, List, [], replicate, sym, ◌∙◌, arith}
-use Rattle.s2edit.specs.History.{untouched}
-use Rattle.s2edit.specs.declared.TheConstants.{REGISTERS}
 use Rattle.s2shelf.specs.Shelf.{Files}
+use Rattle.s2edit.specs.History.{untouched}
+use Rattle.s2script.specs.declared.register.TheConstants.{REGISTERS}
 use Rattle.s2calc.specs.LawsStored.{IsOrdinary}
 use Rattle.s2calc.specs.Replies.{Reply}
 use Rattle.s2calc.specs.World.{World, world}

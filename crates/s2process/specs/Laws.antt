@@ -1,10 +1,11 @@
 -- Laws about what the program did.
 use Rattle.std.specs.Prelude.{◌≡◌, ◌≤◌, ℕ, ◌⊎◌, Bool, true, List, [], ◌∷◌, ◌++◌, replicate, Option, Some, Ok, Err}
 use Rattle.std.specs.Prelude.{count_by}
+use Rattle.s2shelf.specs.Shelf.{Files, Found, Holding, Written}
 use Rattle.s2edit.specs.History.{History, untouched}
 use Rattle.s2edit.specs.Leads.{list_at}
-use Rattle.s2edit.specs.declared.TheConstants.{MOST_CELLS, REGISTERS}
-use Rattle.s2shelf.specs.Shelf.{Files, Found, Holding, Written}
+use Rattle.s2edit.specs.declared.TheConstants.{MOST_CELLS}
+use Rattle.s2script.specs.declared.register.TheConstants.{REGISTERS}
 use Rattle.s2script.specs.Line.{line_of}
 use Rattle.s2script.specs.Lines.{lines}
 use Rattle.s2script.specs.declared.command.Command.TheVariants.{Load, Save, Dump, Restore}

@@ -1,9 +1,9 @@
 -- What the program did, by what it was asked for.
 use Rattle.std.specs.Prelude.{◌≡◌, ℕ, ◌⊎◌, Bool, true, false, not, List, [], ◌∷◌, ◌++◌, map}
 use Rattle.std.specs.Prelude.{replicate, string_bytes, Result, Ok, Err}
-use Rattle.s2edit.specs.History.{History, untouched}
-use Rattle.s2edit.specs.declared.TheConstants.{REGISTERS}
 use Rattle.s2shelf.specs.Shelf.{Files}
+use Rattle.s2edit.specs.History.{History, untouched}
+use Rattle.s2script.specs.declared.register.TheConstants.{REGISTERS}
 use Rattle.s2calc.specs.declared.engine.Tally.{Tally}
 use Rattle.s2calc.specs.declared.fault.RunFault.{RunFault}
 use Rattle.s2calc.specs.declared.fault.RunFault.TheVariants.{Output, Memory}

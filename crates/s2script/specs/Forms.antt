@@ -3,7 +3,7 @@ use Rattle.std.specs.Prelude.{ℕ, ◌+◌, ◌-◌, ◌&&◌, List, [], ◌∷�
 use Rattle.std.specs.Prelude.{None, Result, Ok, Err}
 use Rattle.s2cell.specs.Cell.{first_leaf, size_of}
 use Rattle.s2cell.specs.Rectangles.{Rect}
-use Rattle.s2edit.specs.declared.TheConstants.{REGISTERS}
+use Rattle.s2script.specs.declared.register.TheConstants.{REGISTERS}
 use Rattle.s2script.specs.declared.misfit.Wanted.{Wanted}
 use Rattle.s2script.specs.declared.misfit.Wanted.TheVariants.{EndOfLine, Register, Cell, RangeEnd, Level, Modulus, Face}
 use Rattle.s2script.specs.declared.misfit.Wanted.TheVariants.{Coordinate, FileName}

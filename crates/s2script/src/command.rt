@@ -4,10 +4,9 @@ use crate::level::{Level, Modulus};
 use crate::name::Name;
 use crate::place::Place;
 use crate::refusal::Refusal;
+use crate::register::Register;
 use crate::span::Span;
-use s2cell::CellId;
-use s2cover::FaceRect;
-use s2edit::Register;
+use s2cell::{CellId, FaceRect};
 
 /// What a register becomes.
 #[derive(Drop)]

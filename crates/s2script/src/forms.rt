@@ -15,10 +15,10 @@ use crate::name::{Name, name_in};
 use crate::named::cell_in;
 use crate::number::number_within;
 use crate::place::Place;
+use crate::register::Register;
 use crate::span::Span;
 use crate::words::Words;
 use s2cell::{CellId, FaceRect};
-use s2edit::Register;
 
 /// The register that a word names, if it names one.
 fn register_in(word: &[u8]) -> Option<Register>

@@ -6,8 +6,8 @@
 //! A command refers to the words that it was read from. `Cells` goes over the cells of an `add`, however many there
 //! are. `Name` is the name of a file as it is in the line, and `Word` is a word that does not fit.
 //!
-//! Modules: `words` has the words of a line; `number`, `named`, `name`, `path`, `cells`, `level`, `place` and `span`
-//! what words may mean; `forms` the words that a command may have; `table` the commands by their names, and the help on
+//! Modules: `words` has the words of a line; `number`, `named`, `name`, `path`, `cells`, `level`, `place`, `register` and
+//! `span` what words may mean; `forms` the words that a command may have; `table` the commands by their names, and the help on
 //! them; `similar` the names that a word is like. `command`, `misfit` and `refusal` are what a line may ask for, where
 //! it may not fit, and why it is then refused; `grammar` is what a line says. `limits` are the limits.
 #![tactic(auto)]
@@ -26,6 +26,7 @@ mod number;
 mod path;
 mod place;
 mod refusal;
+mod register;
 mod similar;
 mod span;
 mod table;
@@ -44,6 +45,7 @@ pub use named::cell_in;
 pub use path::{Misnamed, misnamed_in};
 pub use place::Place;
 pub use refusal::Refusal;
+pub use register::{REGISTERS, Register};
 pub use span::Span;
 pub use table::HELP;
 pub use text::{TextSink, put_number, put_part};

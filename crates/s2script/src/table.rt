@@ -11,8 +11,8 @@ use crate::forms::{
     registers_level_rect, two_registers,
 };
 use crate::misfit::{Misfit, Wanted};
+use crate::register::Register;
 use crate::words::Words;
-use s2edit::Register;
 
 /// The help on a script: the commands of this table, with the forms of their words.
 pub const HELP: &str =

@@ -6,8 +6,7 @@ ghost use Rattle.s2file.specs.Session.{diff_of, IsMove};
 ghost use Rattle.s2edit.specs.Working.Chain.{lists_of};
 ghost use Rattle.s2edit.specs.Working.Part.{longest};
 
-use crate::REGISTERS;
-use crate::register::Register;
+use crate::{REGISTERS, Register};
 use s2file::Move;
 use s2union::CellUnion;
 use std::alloc::{AllocError, Global};

@@ -1,18 +1,18 @@
 use Rattle.std.proofs.Common.{◌≡◌, ◌≢◌, ◌<◌, ◌≤◌, ◌+◌, ℕ, List, [], ◌∷◌, length, take, slice_get}
 use Rattle.std.proofs.Common.{ap, refl, sym, ◌∙◌, subst, arith, rules}
 use Rattle.std.specs.Vec.{vec_len}
-use Rattle.circular_buffer.specs.Buffer.{Buffer}
 use Rattle.std.proofs.lemmas.List.{length-map, length-set}
 use Rattle.std.proofs.lemmas.Option.{slice_get-get_or}
+use Rattle.circular_buffer.specs.Buffer.{Buffer}
 use Rattle.s2list.specs.Union.{Union}
 use Rattle.s2file.specs.Session.{Diff}
+use Rattle.s2script.specs.declared.register.TheConstants.{REGISTERS}
 use Rattle.s2edit.specs.History.{History, changed, Assigned}
 use Rattle.s2edit.specs.Diff.{FitsList, change_between}
 use Rattle.s2edit.specs.Leads.{list_at}
 use Rattle.s2edit.specs.Chain.{IsLocalWithin}
 use Rattle.s2edit.specs.Working.Change.{diff_inside}
 use Rattle.s2edit.specs.Working.Chain.{lists_of, list_after, table_after, history}
-use Rattle.s2edit.specs.declared.TheConstants.{REGISTERS}
 use Rattle.s2edit.proofs.Tables.{list_read, AllRoomy-get}
 use Rattle.s2edit.proofs.Assigning.{Changes, changes_from, change_leaves, change_within, change_past, change_future}
 use Rattle.s2edit.proofs.Assigning.{change_bound, change_numbers, assigned_other}

@@ -2,9 +2,9 @@ use Rattle.std.proofs.Common.{◌≡◌, length, map, drop}
 use Rattle.std.specs.Prelude.{max}
 use Rattle.std.specs.List.{AllByRecursion}
 use Rattle.s2file.specs.Session.{diff_of, IsMove}
+use Rattle.s2script.specs.declared.register.TheConstants.{REGISTERS}
 use Rattle.s2edit.specs.Working.Chain.{lists_of}
 use Rattle.s2edit.specs.Working.Part.{longest}
-use Rattle.s2edit.specs.declared.TheConstants.{REGISTERS}
 use Rattle.s2edit.proofs.restore.lengths.longest.Given as goal
 
 abbrev pub invariant-loop-change : goal.invariant-loop-change

@@ -1,8 +1,10 @@
 //! The names of the registers.
 ghost use Rattle.std.specs.Prelude.{◌≡◌, ◌+◌, ◌<◌, ◌≤◌, MatchOption};
 
-use crate::REGISTERS;
 use std::marker::Model;
+
+/// How many registers there are. They are named by the letters from `a` on.
+pub const REGISTERS: usize = 26;
 
 /// A register. A contract sees its number, from 0 on.
 #[derive(Clone, Copy, PartialEq, Eq)]
@@ -12,7 +14,7 @@ pub struct Register {
 
 impl Model for Register {
     ghost use Rattle.std.specs.Prelude.{ℕ, ◌<◌};
-    ghost use Rattle.s2edit.specs.declared.TheConstants.{REGISTERS};
+    ghost use Rattle.s2script.specs.declared.register.TheConstants.{REGISTERS};
 
     ghost Value = { ℕ };
 
@@ -37,7 +39,7 @@ impl Register {
     }
 
     /// The register of a number.
-    pub(crate) fn at(number: u8) -> Register
+    pub fn at(number: u8) -> Register
         requires { number < REGISTERS }
         ensures { result ≡ number }
     {
