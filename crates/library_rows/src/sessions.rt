@@ -1,8 +1,9 @@
-//! Sessions: the calls of `s2file` on session files, and those of `s2edit` that make and take sessions.
+//! Sessions: the calls of `s2session` on session files, and those of `s2edit` that make and take sessions.
 use crate::texts::{add_bytes, add_change, add_tokens};
 use row_table::{add_line, bytes_of};
 use s2edit::{Editor, RestoreFault};
-use s2file::{Move, Session, SessionFault, decode_session, encode_session};
+use s2file::{Move, Session};
+use s2session::{SessionFault, decode_session, encode_parts, encode_session};
 use std::alloc::{AllocError, Global};
 
 /// Makes a call over an editor, and adds its answer. False for the name of another call.
@@ -35,7 +36,8 @@ fn add_session(
 ) -> Result<(), AllocError> {
     let wanted = bytes_of(alloc, digits)?;
     let bytes = encode_session(alloc, &editor.session()?)?;
-    let file = editor.session_file()?;
+    let sides = editor.sides();
+    let file = encode_parts(alloc, sides.registers, &sides.past, &sides.future)?;
     let (first, second) = (bytes.len(), file.len());
     add_line(found, &format!(in alloc; "bytes {first} {second}")?)?;
     if bytes.as_slice() == wanted.as_slice() && file.as_slice() == wanted.as_slice() {

@@ -61,5 +61,6 @@ pub use output::emit;
 pub use overlay::overlay_answer;
 pub use program::{answer_status, cell_answer, say, status};
 pub use refusal::Refusal;
+pub use sessions::session_file;
 pub use streams::{Sink, Source};
 pub use task::{Job, Stop};

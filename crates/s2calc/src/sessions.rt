@@ -1,12 +1,12 @@
 //! The registers and both sides of their history as a file.
 ghost use Rattle.std.specs.Prelude.{◌≡◌, List, ℕ, Some, Err, IfOk, OnErr, MatchResult};
+ghost use Rattle.s2shelf.specs.Shelf.{Finds, Opens};
 ghost use Rattle.s2file.specs.Session.{content_of, IsContent, Spells};
 ghost use Rattle.s2edit.specs.History.{History};
-ghost use Rattle.s2shelf.specs.Shelf.{Finds, Opens};
+ghost use Rattle.s2edit.specs.Session.{Text, Stored, Restored};
 ghost use Rattle.s2calc.specs.Working.Answer.{reply_of};
 ghost use Rattle.s2calc.specs.Working.Sessions.{ReadAs};
 ghost use Rattle.s2calc.specs.Fetch.{Fetches};
-ghost use Rattle.s2edit.specs.Session.{Stored, Restored};
 ghost use Rattle.s2calc.specs.Sessions.{refusal_of, RefusesBytes, FetchesNoState};
 ghost use Rattle.s2calc.specs.Step.{Dumps, Restores};
 ghost use Rattle.s2calc.specs.World.{world};
@@ -14,10 +14,22 @@ ghost use Rattle.s2calc.specs.World.{world};
 use crate::answer::Answer;
 use crate::refusal::Refusal;
 use s2edit::{Editor, RestoreFault};
-use s2file::{ReadFault, Session, read_session};
+use s2file::Session;
 use s2script::Name;
+use s2session::{ReadFault, encode_parts, read_session};
 use s2shelf::{OpenedFile, Shelf, ShelfFault};
-use std::alloc::Global;
+use std::alloc::{AllocError, Global};
+
+/// The session file of an editor's registers and of both sides of its history: what `encode_session` makes of
+/// `Editor::session`.
+///
+/// Takes one list of as many bytes as the file has. Nothing else is copied.
+pub fn session_file(alloc: Global, editor: &Editor) -> Result<Vec<u8>, AllocError>
+    ensures { IfOk result (λ bytes. Text editor.now bytes.items) }
+{
+    let sides = editor.sides();
+    encode_parts(alloc, sides.registers, &sides.past, &sides.future)
+}
 
 /// Writes the registers and both sides of their history to a file.
 pub(crate) fn dump<S: Shelf>(
@@ -29,7 +41,7 @@ pub(crate) fn dump<S: Shelf>(
     ensures { Dumps name.now (world editor.now (S.files shelf.old)) (reply_of result editor.now)
         (world editor.now (S.files shelf.new)) }
 {
-    let Ok(bytes) = editor.session_file() else {
+    let Ok(bytes) = session_file(alloc, editor) else {
         return Answer::Refused(Refusal::Memory);
     };
     match shelf.put(name.as_str(), bytes.as_slice()) {

@@ -21,6 +21,7 @@ pub use editor::{EditFault, Editor};
 pub use edits::{Edit, EditOutcome, EditTally, run_edits};
 pub use s2script::{REGISTERS, Register};
 pub use session::RestoreFault;
+pub use sides::{Future, Past, Sides};
 
 /// The most cells that a register may ever have: the greatest limit of an editor.
 pub const MOST_CELLS: usize = 1_000_000;

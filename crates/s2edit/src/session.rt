@@ -1,22 +1,22 @@
 //! An editor's registers and history as a session, and back.
-ghost use Rattle.std.specs.Prelude.{◌≡◌, ◌≤◌, ◌↔◌, ◌&&◌, length, map, IfOk, OnErr, IsTrue, MatchResult};
+ghost use Rattle.std.specs.Prelude.{◌≡◌, ◌≤◌, ◌↔◌, ◌&&◌, length, map, reverse, IfOk, OnErr, IsTrue, MatchResult};
 ghost use Rattle.std.specs.List.{AllByRecursion};
 ghost use Rattle.std.specs.Vec.{vec_len};
 ghost use Rattle.circular_buffer.specs.Buffer.{buffer};
-ghost use Rattle.s2file.specs.Session.{content_of, diff_of, IsContent, IsMove};
+ghost use Rattle.s2file.specs.Session.{content_of, content_of_parts, diff_of, IsContent, IsMove};
 ghost use Rattle.s2edit.specs.History.{AllLists};
 ghost use Rattle.s2edit.specs.Diff.{inverse};
 ghost use Rattle.s2edit.specs.Working.Chain.{lists_of};
-ghost use Rattle.s2edit.specs.Session.{Records, Text, Restored, RefusesToRestore};
+ghost use Rattle.s2edit.specs.Session.{Records, Restored, RefusesToRestore};
 ghost use Rattle.s2edit.specs.Working.Following.{HaveRoom, KeepRoom};
 ghost use Rattle.s2edit.specs.declared.session.RestoreFault.TheVariants.{Memory};
 
 use crate::change::Change;
 use crate::editor::Editor;
 use crate::restore::fit;
-use crate::sides::{Future, Past};
+use crate::sides::{Future, Past, Sides};
 use circular_buffer::HeapCircularBuffer;
-use s2file::{BorrowedMove, Changes, Move, Session, encode_parts};
+use s2file::{BorrowedMove, Changes, Move, Session};
 use s2union::CellUnion;
 use std::alloc::{AllocError, Global};
 use std::mem;
@@ -64,15 +64,17 @@ impl Editor {
         })
     }
 
-    /// The session file of the registers and of both sides of the history: what `encode_session` makes of `session`.
-    ///
-    /// Takes one list of as many bytes as the file has. Nothing else is copied.
-    pub fn session_file(&self) -> Result<Vec<u8>, AllocError>
-        ensures { IfOk result (λ bytes. Text self.now bytes.items) }
+    /// The registers and both sides of the history, where they lie: what `session` copies. `encode_parts` of `s2session`
+    /// writes a session file from there.
+    pub fn sides(&self) -> Sides<'_>
+        ensures { Records (content_of_parts result.registers.now (reverse result.past.ring.now.items)
+            result.future.ring.now.items) self.now }
     {
-        let past = Past { ring: &self.past };
-        let future = Future { ring: &self.future };
-        encode_parts(self.alloc, &self.registers, &past, &future)
+        Sides {
+            registers: &self.registers,
+            past: Past { ring: &self.past },
+            future: Future { ring: &self.future },
+        }
     }
 
     /// Takes over a session: its registers, and its changes as past and future. Nothing that the editor held stays.

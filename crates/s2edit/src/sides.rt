@@ -4,16 +4,30 @@ ghost use Rattle.std.specs.Prelude.{◌≡◌, reverse, option_copied};
 use crate::change::Change;
 use circular_buffer::HeapCircularBuffer;
 use s2file::{BorrowedMove, Changes};
+use s2union::CellUnion;
+
+/// The registers and both sides of a history, lent as a session has them.
+#[derive(Clone, Copy)]
+pub struct Sides<'a> {
+    /// The union of each register, in the order of their letters.
+    pub registers: &'a [CellUnion],
+    /// The changes that may be undone, the oldest first.
+    pub past: Past<'a>,
+    /// The changes that were undone and may be redone, the nearest to now first.
+    pub future: Future<'a>,
+}
 
 /// The past, the oldest change first: its ring has the newest at the front.
 #[derive(Clone, Copy)]
-pub(crate) struct Past<'a> {
+pub struct Past<'a> {
+    /// The ring of the changes.
     pub ring: &'a HeapCircularBuffer<Change>,
 }
 
 /// The future, the nearest to now first, as its ring has them.
 #[derive(Clone, Copy)]
-pub(crate) struct Future<'a> {
+pub struct Future<'a> {
+    /// The ring of the changes.
     pub ring: &'a HeapCircularBuffer<Change>,
 }
 

@@ -5,12 +5,4 @@ pub mod Places
 pub mod Beginnings
 pub mod Known
 pub mod Fronts
-pub mod SessionReading
-pub mod SessionRows
 pub mod Spelled
-pub mod Apart
-pub mod Pieces
-pub mod Taking
-pub mod TakingCells
-pub mod TakingRows
-pub mod TakingSession

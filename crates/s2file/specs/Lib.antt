@@ -1,4 +1,3 @@
 pub mod File
 pub mod Session
-pub mod Reading
 pub mod Working

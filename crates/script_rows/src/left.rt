@@ -3,7 +3,7 @@ use crate::known::count_of;
 use crate::narrow::{Mishap, Narrow};
 use crate::pieces::Pieces;
 use crate::row::{editor_of, shelf_of};
-use s2calc::{AnswerBuffer, RunFault, Tally, run, run_promptly};
+use s2calc::{AnswerBuffer, RunFault, Tally, run, run_promptly, session_file};
 use s2shelf::{MemoryShelf, Shelf};
 use std::alloc::{AllocError, Global};
 
@@ -90,7 +90,7 @@ pub fn run_over(
     Ok(Left {
         ended,
         answers,
-        session: editor.session_file()?,
+        session: session_file(alloc, &editor)?,
         files: files_of(alloc, &mut shelf)?,
         reads: count_of(reader.reads())?,
         writes: count_of(writer.made())?,

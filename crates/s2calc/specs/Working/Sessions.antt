@@ -1,8 +1,8 @@
 -- What only private contracts need, beside Sessions.antt, which has what public contracts need.
 use Rattle.std.specs.Prelude.{◌≡◌, Result, Ok, Err}
 use Rattle.s2file.specs.declared.session.Session.{Session}
-use Rattle.s2file.specs.declared.session.ReadFault.{ReadFault}
-use Rattle.s2file.specs.declared.session.ReadFault.TheVariants.{Form, Device, Memory}
+use Rattle.s2session.specs.declared.fault.ReadFault.{ReadFault}
+use Rattle.s2session.specs.declared.fault.ReadFault.TheVariants.{Form, Device, Memory}
 use Rattle.s2calc.specs.declared.refusal.Refusal.{Refusal}
 use Rattle.s2calc.specs.declared.refusal.Refusal.TheVariants.{Session as NoSession, Memory as NoMemory}
 

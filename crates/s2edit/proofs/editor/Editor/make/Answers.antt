@@ -21,8 +21,7 @@ use Rattle.s2edit.proofs.Making.{in_table, fits_here, within_here, fewer, sizes,
 use Rattle.s2edit.proofs.Moves.{rewrites_from}
 use Rattle.s2edit.proofs.Numbers.{numbers-same}
 use Rattle.s2edit.proofs.editor.Editor.make.Goals as goal
-use Rattle.s2edit.proofs.editor.Editor.make.Goals.{After-len-put, After-len}
-use Rattle.s2edit.proofs.editor.Editor.make.Goals.{else-out-eq0-via-then-out-eq0+else-put-eq0}
+use Rattle.s2edit.proofs.editor.Editor.make.Goals.{After-len-put, After-len, else-out-eq0-via-then-out-eq0+else-put-eq0}
 use Rattle.s2edit.proofs.editor.Editor.make.Goals.{else-out-eq0-via-else-out-eq0}
 
 -- how many cells the change takes out and puts in

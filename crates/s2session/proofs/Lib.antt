@@ -1,0 +1,8 @@
+mod SessionReading
+mod SessionRows
+mod Apart
+mod Pieces
+mod Taking
+mod TakingCells
+mod TakingRows
+mod TakingSession
