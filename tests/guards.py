@@ -60,6 +60,7 @@ def statement():
 
 ARMS = "".join(f"        {number} => {number},\n" for number in range(8))
 HOST = "crates" + ".io"  # in two words, since no file may name it
+LAST_LEAF = "a_cell_for_its_last_leaf"
 WHOLE = "int32_t s2u_is_cell(uint64_t id);"
 MISTAKES = [
     Mistake("a link that leads nowhere", pages.broken_links, "README.md",
@@ -112,13 +113,18 @@ MISTAKES = [
     Mistake("a sentence that begins with a free what", prose.habits, "README.md",
             ended_by("\nWhat is here has to be read twice.\n")),
     Mistake("proofs that grow", rot.proofs, "crates/s2cell/proofs/Ancestors.antt", ended_by("-- more\n" * 100_000)),
-    Mistake("a mutant whose text is gone", texts.misfits, "crates/s2cell/mutants/a_cell_for_its_last_leaf.edit",
-            swapped("old: ", "old: once ")),
-    Mistake("a mutant of a function that is gone", texts.misfits,
-            "crates/s2cell/mutants/a_cell_for_its_last_leaf.edit", ended_by("function: nowhere\n")),
-    Mistake("a mutant of a test that is gone", texts.misfits, "tests/faults/let-through/a_long_union_not_saved.edit",
-            swapped("test: test_options_of_a_run", "test: test_options")),
-    Mistake("a mutant of a row that is gone", texts.misfits, "tests/faults/let-through/folder_has_no_file.edit",
+    Mistake("a mutant whose text is gone", texts.misfits, "crates/s2cell/mutants.txt",
+            swapped("old: id: self.id + (", "old: once id: self.id + (")),
+    Mistake("a mutant of a function that is gone", texts.misfits, "crates/s2cell/mutants.txt",
+            swapped(f"## {LAST_LEAF}\n", f"## {LAST_LEAF}\nfunction: nowhere\n")),
+    Mistake("a mutant with a line that has no meaning", texts.misfits, "crates/s2cell/mutants.txt",
+            swapped(f"## {LAST_LEAF}\n", f"## {LAST_LEAF}\ngates: always\n")),
+    Mistake("two mutants with one name", texts.misfits, "crates/s2cell/mutants.txt",
+            lambda text: text + text[text.index(f"\n## {LAST_LEAF}\n"):]),
+    Mistake("a mutant of a test that is gone", texts.misfits, "tests/faults/mutants.txt",
+            swapped("## a_long_union_not_saved\ntest: test_options_of_a_run",
+                    "## a_long_union_not_saved\ntest: test_options")),
+    Mistake("a mutant of a row that is gone", texts.misfits, "tests/faults/mutants.txt",
             swapped("test: Union files that are read from a folder", "test: Union files")),
 ]
 
@@ -149,8 +155,10 @@ STEPS = [
     ("tests() { return 137; }; survives() { refuse; }; step a found edit", "0 passed, 1 failed"),
     ("tests() { return 124; }; survives() { refuse; }; step a found edit", "0 passed, 1 failed"),
     ("survives() { [ -z \"$1\" ] || return 124; }; step a found edit", "1 passed, 0 failed"),
-    ("survives() { return 1; }; try_mutants \"$work\"", "0 passed, 1 failed"),
-    ("survives() { return 0; }; try_mutants \"$work\"", "1 passed, 1 failed"),
+    ("survives() { return 1; }; echo '## a' >\"$work/m\"; try_mutants \"$work/m\"", "0 passed, 1 failed"),
+    ("survives() { return 0; }; echo '## a' >\"$work/m\"; try_mutants \"$work/m\"", "1 passed, 1 failed"),
+    ("survives() { [ -z \"$1\" ]; }; echo '## a' >\"$work/m\"; try_mutants \"$work/m\"", "2 passed, 0 failed"),
+    ("survives() { [ -z \"$1\" ]; }; try_mutants /dev/null", "1 passed, 1 failed"),
     ("calls() { echo s2u_a | has_all_calls \"$work/h\" none; }; echo 's2u_a(' >\"$work/h\"; step a calls",
      "1 passed, 0 failed"),
     ("calls() { echo s2u_a | has_all_calls \"$work/h\" none; }; echo 's2u_a(s2u_b(' >\"$work/h\"; step a calls",

@@ -112,9 +112,13 @@ block() { # PAGE FENCE: the first block of a page of docs that begins with this 
 
 # ---- mutants, in the form of tests/mutants/mutant_texts.py
 
-mutant() { # EDIT SOURCE..: copies of the sources in $work/mutant, with the mistake if EDIT isn't empty
+mutant_texts() { # FILE [NAME FOLDER]
+  /usr/bin/python3 "$top/tests/mutants/mutant_texts.py" "$@"
+}
+
+mutant() { # NAME SOURCE..: copies of the sources in $work/mutant, with the mistake if NAME isn't empty
   rm -rf "$work/mutant" && mkdir "$work/mutant" && cp -r "${@:2}" "$work/mutant" || return
-  [ -z "$1" ] || /usr/bin/python3 "$top/tests/mutants/mutant_texts.py" "$1" "$work/mutant"
+  [ -z "$1" ] || mutant_texts "$mutants" "$1" "$work/mutant"
 }
 
 refuse() { # TEST..: status 0 if the tests find nothing, 1 if they do, 2 if they were killed, 124 if they took too long
@@ -127,7 +131,7 @@ refuse() { # TEST..: status 0 if the tests find nothing, 1 if they do, 2 if they
   esac
 }
 
-found() { # EDIT: also if its tests come to no end, while without it they still do in the same time
+found() { # NAME: also if its tests come to no end, while without it they still do in the same time
   survives "$1"
   case $? in
     1) ;;
@@ -136,14 +140,16 @@ found() { # EDIT: also if its tests come to no end, while without it they still 
   esac
 }
 
-# Tries the mutants of a folder, or those with these names. `survives EDIT` of the caller ends with 0 if the tests find
+# Tries the mutants of a file, or those with these names. `survives NAME` of the caller ends with 0 if the tests find
 # nothing, with 1 if they do, with 124 if they took too long, and with 2 if it is no mutant or wasn't tried.
-try_mutants() { # FOLDER [NAME..]
-  local folder=$1 edits=("$1"/*.edit) edit
+try_mutants() { # FILE [NAME..]
+  local names name
+  mutants=$1
+  mapfile -t names < <(mutant_texts "$mutants")
   shift
-  [ $# -eq 0 ] || { edits=("${@/#/$folder/}") && edits=("${edits[@]/%/.edit}"); }
+  [ $# -eq 0 ] || names=("$@")
   step "no mistake, no complaint" survives ""
   [ "$failed" -eq 0 ] || finish
-  for edit in "${edits[@]}"; do step "$(basename "$edit" .edit)" found "$edit"; done
+  for name in "${names[@]}"; do step "$name" found "$name"; done
   finish
 }

@@ -21,8 +21,9 @@ import sys
 from pathlib import Path
 
 ROOT = Path(__file__).resolve().parents[2]
-sys.path.append(str(ROOT / "tests"))
+sys.path += [str(ROOT / "tests"), str(ROOT / "tests" / "mutants")]
 from checks import has_wrong, tracked  # noqa: E402
+from mutant_texts import mutants_of  # noqa: E402
 
 LINK = re.compile(r"\]\((?!https?://)([^)#\s]*)(?:#([^)\s]+))?[^)]*\)")
 BLOCK = re.compile(r"^```.*?^```", re.S | re.M)
@@ -30,9 +31,9 @@ PLACED = re.compile(r"`(\w+)`(?: and `(\w+)`)? (?:in|of) `([\w./-]+\.(?:rt|antt|
 NAMES = re.compile(r"\[((?:`\w+`(?:, | and )?)+)\]\(([^)#\s]+(?<!lib)\.(?:rt|antt))\)")
 CODE = re.compile(r"`([^`\n]+)`")
 PATH = re.compile(r"[\w.*/-]+")
-FILE = re.compile(r"[\w.-]+\.(?:rt|antt|py|sh|md|edit|hpp|h|cc|go|rs|sql)")
+FILE = re.compile(r"[\w.-]+\.(?:rt|antt|py|sh|md|hpp|h|cc|go|rs|sql)")
 # Names that stand for any file of their kind, and headers of S2.
-EXAMPLES = {"NAME.edit", "s2union--OLD--NEW.sql", "s2union--NEW.sql", "s2cell_id.h", "s2cell_union.h"}
+EXAMPLES = {"s2union--OLD--NEW.sql", "s2union--NEW.sql", "s2cell_id.h", "s2cell_union.h"}
 GONE = {"peer", "faults", "examples"}
 STEP = re.compile(r"^\d+\. `(\w+/src)/(\w+\.rt)`: (.*)$", re.M)
 CALL = re.compile(r"`(\w+)`(?: and `(\w+)`)? calls? `(\w+)`")
@@ -136,9 +137,10 @@ def paths():
 
 def is_there(page, path):
     crate, _, name = path.partition("/")
-    places = [(ROOT, path), (ROOT / "crates", path), (page.parent, path),
-              (ROOT / "crates" / crate, f"mutants/{name}.edit")]
-    return any(next(folder.glob(it.replace("NAME", "*").replace("VERSION", "*")), None) for folder, it in places)
+    found = path.replace("NAME", "*").replace("VERSION", "*")
+    mutants = ROOT / "crates" / crate / "mutants.txt"
+    return any(next(folder.glob(found), None) for folder in (ROOT, ROOT / "crates", page.parent)) or (
+        mutants.exists() and name in dict(mutants_of(mutants)))
 
 
 def names_in_links():

@@ -40,7 +40,7 @@ PROOFS = {"library_rows": 143, "s2calc": 6654, "s2cell": 4876, "s2cover": 4464, 
 FUNCTION = re.compile(r"( *)(?:pub(?:\([a-z]+\))? )?(?:const |unsafe |final |extern \"C\" )*fn ")
 CLAUSE = re.compile(r" *(?:requires|ensures)")
 # Files whose lines may be long: pages and tables of rows, which are not wrapped, texts of others, and what pins a line.
-UNWRAPPED = re.compile(r"\.(?:md|svg|png|outer|cells|sums|edit)$|^LICENSE$|/(?:stdin|stdout)$")
+UNWRAPPED = re.compile(r"\.(?:md|svg|png|outer|cells|sums)$|^LICENSE$|/(?:stdin|stdout|mutants\.txt)$")
 
 
 def text_of(name):
@@ -229,7 +229,7 @@ def hosts():
 
 def avoided():
     """The number of words that the house avoids, and those that stand more often than they did, with where."""
-    files = [name for name in tracked(ROOT) if not name.endswith((".edit", "/rot.py", "docs/STATEMENT.md"))]
+    files = [name for name in tracked(ROOT) if not name.endswith(("/mutants.txt", "/rot.py", "docs/STATEMENT.md"))]
     texts = {name: re.sub(r"\s+", " ", text_of(name)) for name in files}
     more = []
     for word, most in WORDS.items():

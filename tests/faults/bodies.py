@@ -2,12 +2,12 @@
 """Tries the mutants that the contracts let through, since every contract allows memory and disks to fail:
 tests/run bodies -- [NAME..].
 
-Each file tests/faults/let-through/NAME.edit names a test, and has the form of tests/mutants/mutant_texts.py. The test
-is one of tests/program, or if the file names a crate, the title of a row of that crate's table. Each mutant is built
-unproved, in a copy of the repository, and its test has to fail. All these tests and rows have to pass there without a
-mutant. `.ci/run` tries those that were asked for (--asked), some of them built together: NAME+NAME, where no mistake of
-one can be seen in the row of the other. The last line is 'N passed, M failed'. Those that were refused on this machine,
-of the same sources by the same tests, aren't tried again, unless they are named.
+Each mutant in tests/faults/mutants.txt names a test, in the form of tests/mutants/mutant_texts.py. The test is one of
+tests/program, or if the mutant names a crate, the title of a row of that crate's table. Each mutant is built unproved,
+in a copy of the repository, and its test has to fail. All these tests and rows have to pass there without a mutant.
+`.ci/run` tries those that were asked for (--asked), some of them built together: NAME+NAME, where no mistake of one can
+be seen in the row of the other. The last line is 'N passed, M failed'. Those that were refused on this machine, of the
+same sources by the same tests, aren't tried again, unless they are named.
 """
 import collections
 import contextlib
@@ -20,7 +20,7 @@ import sys
 import tempfile
 
 TOP = os.path.dirname(os.path.dirname(os.path.dirname(os.path.realpath(__file__))))
-FOLDER = os.path.join(TOP, "tests", "faults", "let-through")
+MUTANTS = os.path.join(TOP, "tests", "faults", "mutants.txt")
 ASKED = [
     "assignments_count_as_out_of_memory+decode_always_out_of_memory+folder_always_fails",
     "folder_has_no_file",
@@ -31,7 +31,7 @@ ASKED = [
 sys.path += [os.path.join(TOP, "tests"), os.path.join(TOP, "tests", "mutants"), os.path.join(TOP, "tools")]
 import verdicts  # noqa: E402
 from checks import copy_tracked, tracked  # noqa: E402
-from mutant_texts import CRATE, TEST, make  # noqa: E402
+from mutant_texts import CRATE, TEST, make, mutant_of, mutants_of  # noqa: E402
 from over_gate import build_unproved, crate_of, words_of_trial  # noqa: E402
 from sources import sum_of_sources  # noqa: E402
 
@@ -59,11 +59,9 @@ def row_of(crate, title):
 
 class Mutant:
     def __init__(self, name):
-        self.name, self.file = name, os.path.join(FOLDER, name + ".edit")
-        with open(self.file, encoding="utf-8") as it:
-            text = it.read()
-        crate = CRATE.search(text)
-        self.crate, self.test = crate and crate[1], TEST.search(text)[1]
+        self.name, self.text = name, mutant_of(MUTANTS, name)
+        crate = CRATE.search(self.text)
+        self.crate, self.test = crate and crate[1], TEST.search(self.text)[1]
 
     @functools.cached_property
     def verdict(self):
@@ -71,8 +69,8 @@ class Mutant:
         of_program = ["tests/*.py", "tests/program", "tests/peer", "tests/python"]
         of = [f"crates/{self.crate}/stdin"] if self.crate else of_program
         made_by = ["tests/mutants/mutant_texts.py", "tools/over_gate.py"]
-        files = [self.file, __file__, *(os.path.join(TOP, name) for name in tracked(TOP, *made_by, *of))]
-        return verdicts.name_of(files, sum_of_sources(self.crate or "calculator"))
+        files = [__file__, *(os.path.join(TOP, name) for name in tracked(TOP, *made_by, *of))]
+        return verdicts.name_of(files, self.text, sum_of_sources(self.crate or "calculator"))
 
     def is_refused(self, said):
         """Whether the mutant's test ran and failed."""
@@ -104,7 +102,7 @@ def tried(copy, mutants):
     """How many of these mutants, which are built together, are refused."""
     originals = {}
     for mutant in mutants:
-        originals = {**make(mutant.file, copy), **originals}
+        originals = {**make(mutant.text, copy), **originals}
     try:
         said = said_of(copy, mutants)
     finally:
@@ -125,7 +123,7 @@ def pass_without_a_mutant(copy, mutants):
 
 def main():
     named = [it for it in sys.argv[1:] if it != "--asked"]
-    names = named or (ASKED if sys.argv[1:] else sorted(it.removesuffix(".edit") for it in os.listdir(FOLDER)))
+    names = named or (ASKED if sys.argv[1:] else [name for name, _ in mutants_of(MUTANTS)])
     groups = [[Mutant(name) for name in group.split("+")] for group in names]
     known = [] if named else [group for group in groups if all(verdicts.is_kept(it.verdict) for it in group)]
     for mutant in itertools.chain(*known):

@@ -25,7 +25,8 @@ import sys
 import tempfile
 from pathlib import Path
 
-from mutant_texts import ALWAYS, FUNCTION, all_functions, functions_at, functions_of, make, misfit
+from mutant_texts import (ALWAYS, FUNCTION, all_functions, files_of_mutants, functions_at, functions_of, make, misfit,
+                          mutants_of)
 
 sys.path.insert(0, str(Path(__file__).resolve().parents[2] / "tools"))
 import verdicts  # noqa: E402
@@ -51,13 +52,11 @@ TRIED_BY = [Path(__file__), Path(__file__).with_name("mutant_texts.py"), Path(TO
 
 
 class Mutant:
-    def __init__(self, file):
-        self.file, self.folder = file, file.parent.parent
-        self.crate, self.name = self.folder.name, file.stem
-        text = file.read_text()
+    def __init__(self, folder, name, text):
+        self.folder, self.crate, self.name, self.text = folder, folder.name, name, text
         self.is_named, self.is_grave = bool(FUNCTION.search(text)), bool(ALWAYS.search(text))
-        self.functions = functions_of(file, self.folder)
-        self.changed = {*(self.functions or ()), *(functions_at(file, self.folder) or ())}
+        self.functions = functions_of(text, folder)
+        self.changed = {*(self.functions or ()), *(functions_at(text, folder) or ())}
 
     def says(self, verdict, more=""):
         print(f"{self.crate}/{self.name}: {verdict}{more}", flush=True)
@@ -68,7 +67,7 @@ class Mutant:
     @functools.cached_property
     def verdict(self):
         """The name of the verdict that it is refused."""
-        return verdicts.name_of([self.file, *TRIED_BY], self.crate, sources_of(self.crate))
+        return verdicts.name_of(TRIED_BY, self.text, self.crate, sources_of(self.crate))
 
 
 @functools.cache
@@ -77,7 +76,8 @@ def sources_of(crate):
 
 
 def mutants():
-    return [Mutant(file) for file in sorted(Path(TOP, "crates").glob("*/mutants/*.edit"))]
+    files = [file for file in files_of_mutants(TOP) if file.parents[1].name == "crates"]
+    return [Mutant(file.parent, *mutant) for file in files for mutant in mutants_of(file)]
 
 
 def rounds(mutants):
@@ -125,7 +125,7 @@ class Copy:
     def without_mistake(self, mutant):
         """The same functions with nothing changed, but for those that only the mutant has."""
         same, there = copy.copy(mutant), all_functions(self.folder)
-        same.file = os.devnull
+        same.text = ""
         same.functions = [it for it in mutant.functions if any(ends_in(words, it) for words in there)]
         return same
 
@@ -189,7 +189,7 @@ class Copy:
 
     def alone(self, mutant):
         """What was found of a mutant that its functions alone don't refuse: those that call them may do."""
-        texts = make(mutant.file, self.folder)
+        texts = make(mutant.text, self.folder)
         status, lines = self.check()
         restore(texts)
         if status == 0:
@@ -212,7 +212,7 @@ def ends_in(words, name):
 def made(mutant, folder):
     """The texts that a mutant replaces in a copy, or None if it can't be made there."""
     try:
-        return make(mutant.file, folder)
+        return make(mutant.text, folder)
     except ValueError:
         return None
 
@@ -252,7 +252,7 @@ def tried(chosen, is_proved=False, takes_kept=True):
     for mutant in chosen:
         if takes_kept and verdicts.is_kept(mutant.verdict):
             found.append(mutant.says(REFUSED, ", as is known of the same sources"))
-        elif why := misfit(mutant.file, mutant.folder):
+        elif why := misfit(mutant.text, mutant.folder):
             found.append(mutant.says(NOT_TRIED, f": {why}"))
         else:
             crates[mutant.crate].append(mutant)

@@ -1,20 +1,25 @@
-"""The one form of a mutant, and what makes it: mutant_texts.py MUTANT FOLDER makes it in a copy of the sources.
+"""The one form of mutants, and what makes one: mutant_texts.py FILE prints the names of those in a file, and
+mutant_texts.py FILE NAME FOLDER makes one in a copy of the sources.
 
-A mutant is a file with lines 'file: PATH', and after each such line pairs of one or more lines 'old: TEXT' and one or
-more lines 'new: TEXT'. The old text stands in that file of the folder once. Beside them it may have these lines:
+The mutants of a crate, a binding or a database are in its file mutants.txt, and those that only a test can refuse in
+tests/faults/mutants.txt. One begins with a line '## NAME'. Below it are lines 'file: PATH', and after each such line
+pairs of one or more lines 'old: TEXT' and one or more lines 'new: TEXT'. The old text stands in that file once; the
+path begins at the folder of mutants.txt, but for tests/faults at the top of the repository. It may also have:
 
     function: PATH    the function that the prover has to refuse, if it isn't the one in which the old text stands
     gate: always      `.ci/run` tries it
     test: NAME        the test that has to refuse it, since no contract can
     crate: NAME       the test is a row of this crate's table
 
-The folder of a mutant of the crates and of the databases is the one above its own; of those in tests/faults/let-through
-it is the top of the repository.
+Any other line is for readers, and doesn't begin with a word and a colon.
 """
 import re
 import sys
 from pathlib import Path
 
+BEGIN = re.compile(r"^## (.*)\n", re.M)
+WORD = re.compile(r"^(\w+):", re.M)
+WORDS = {"file", "old", "new", "function", "gate", "test", "crate"}
 LINE = re.compile(r"^(file|old|new): ?(.*)$", re.M)
 FUNCTION = re.compile(r"^function: (\S+)$", re.M)
 ALWAYS = re.compile(r"^gate: always$", re.M)
@@ -26,10 +31,34 @@ TRAIT = ("trait ", "pub trait ")
 BLOCK = re.compile(r"^(?:pub )?(?:impl(?:<(.*?)>)? (?:(\w+)(?:<(.*?)>)? for )?|trait )(?:&(?:mut )?)?(\w+)")
 
 
+def files_of_mutants(top):
+    """The files of mutants in a repository."""
+    return sorted(Path(top).glob("*/*/mutants.txt"))
+
+
+def mutants_of(file):
+    """The mutants in a file: each name with the lines below it."""
+    _, *parts = BEGIN.split(Path(file).read_text(encoding="utf-8"))
+    return [(name, lines.strip("\n")) for name, lines in zip(parts[::2], parts[1::2])]
+
+
+def mutant_of(file, name):
+    """The lines of the mutant with this name in a file."""
+    for it, mutant in mutants_of(file):
+        if it == name:
+            return mutant
+    raise ValueError(f"no mutant has the name {name}")
+
+
+def home(file):
+    """The folder at which the paths begin that the mutants of a file have."""
+    return Path(file).parents[2 if Path(file).parent.name == "faults" else 0]
+
+
 def changes(mutant):
     """The changes of a mutant, as (file, lines of the old text, lines of the new)."""
     file, olds, news = None, [], []
-    for word, text in LINE.findall(Path(mutant).read_text()):
+    for word, text in LINE.findall(mutant):
         if word != "new" and news:
             yield file, olds, news
             olds, news = [], []
@@ -59,7 +88,7 @@ def changed_texts(mutant, folder):
 def functions_of(mutant, folder):
     """The functions that a mutant of a crate changes, by the ends of their names: the one that it names, or else those
     in which its old texts stand. None if one of them stands in no function."""
-    named = FUNCTION.search(Path(mutant).read_text())
+    named = FUNCTION.search(mutant)
     return [named[1]] if named else functions_at(mutant, folder)
 
 
@@ -138,15 +167,17 @@ def all_functions(folder):
 
 
 def misfit(mutant, folder):
-    """Why a mutant of the folder can't be tried, or None: it can't be made, or names a function or a test that isn't
-    there."""
+    """Why a mutant of the folder can't be tried, or None: a line has no meaning, it can't be made, or names a function
+    or a test that isn't there."""
+    unknown = set(WORD.findall(mutant)) - WORDS
+    if unknown:
+        return f"a line begins with {unknown.pop()}:"
     try:
         texts = changed_texts(mutant, folder)
     except ValueError as why:
         return str(why)
-    text = Path(mutant).read_text()
-    test, named = TEST.search(text), FUNCTION.search(text)
-    if test and not has_test(Path(folder), CRATE.search(text), test[1]):
+    test, named = TEST.search(mutant), FUNCTION.search(mutant)
+    if test and not has_test(Path(folder), CRATE.search(mutant), test[1]):
         return f"no test has the name {test[1]}"
     if not named:
         return None
@@ -177,5 +208,12 @@ def make(mutant, folder):
     return originals
 
 
+def main(file, name=None, folder=None):
+    if name:
+        make(mutant_of(file, name), folder)
+    else:
+        print("\n".join(name for name, _ in mutants_of(file)))
+
+
 if __name__ == "__main__":
-    make(*sys.argv[1:])
+    main(*sys.argv[1:])

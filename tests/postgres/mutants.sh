@@ -1,13 +1,13 @@
 #!/usr/bin/env bash
 # Makes mistakes in the extension for PostgreSQL, each of which its tests must find: tests/run postgres-mutants --
-# [NAME..]. They are the edits of databases/postgres/mutants. Each is built over guarded allocations and put into one
+# [NAME..]. They are those of databases/postgres/mutants.txt. Each is built over guarded allocations and put into one
 # running server, where it gets a database of its own. One whose tests were killed was not tried, and fails. The last
 # line is 'N passed, M failed'.
 . "$(dirname "$0")/../steps.sh"
 . "$top/tests/postgres/server.sh"
 export S2UNION_ROUNDS=60 SECONDS_OF_TESTS=120
 
-survives() { # EDIT
+survives() { # NAME
   mutant "$1" "$top"/databases/postgres/{*.c,*.h,*.sql,*.control} && guarded build "$work/mutant" -B COPT=-O1 &&
     cp "$work"/mutant/*.{sql,control} "$work/build" && put_in build && is_up && : >"$work/data/log" &&
     dropdb --if-exists --force mutant && createdb mutant &&
@@ -19,4 +19,4 @@ survives() { # EDIT
 
 step "a copy of PostgreSQL $server" copied
 step "a cluster on a socket" begun data
-try_mutants "$top/databases/postgres/mutants" "$@"
+try_mutants "$top/databases/postgres/mutants.txt" "$@"

@@ -1,6 +1,6 @@
 #!/usr/bin/env bash
 # Makes mistakes in the module for Python, each of which its tests must find: tests/run python-mutants -- [NAME..].
-# They are the edits of bindings/python/mutants. One whose tests were killed was not tried, and fails. The last line is
+# They are those of bindings/python/mutants.txt. One whose tests were killed was not tried, and fails. The last line is
 # 'N passed, M failed'.
 . "$(dirname "$0")/../steps.sh"
 need /usr/bin/python3 python3
@@ -19,9 +19,9 @@ compiled() (
   cd "$work/mutant" && S2UNION_INCLUDE=$work/usr/include /usr/bin/python3 setup.py -q build_ext --inplace &&
     /usr/bin/python3 -m compileall -q s2union
 )
-survives() { # EDIT
+survives() { # NAME
   mutant "$1" "$top"/bindings/python/{s2union,setup.py,pyproject.toml} && compiled || return 2
   refuse
 }
 
-try_mutants "$top/bindings/python/mutants" "$@"
+try_mutants "$top/bindings/python/mutants.txt" "$@"
