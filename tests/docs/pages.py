@@ -1,5 +1,5 @@
 #!/usr/bin/env python3
-"""Checks the pages: docs/STATEMENT.md is what tools/statement makes; each definition has a sentence, and stands in
+"""Checks the pages: docs/statement.sums is what tools/statement makes; each definition has a sentence, and stands in
 specs/Working if no public contract needs it; every relative link of every page leads to a file, and to its heading;
 if the link's text is names of the sources, the file has them, as it has those that a page says are in it; each path
 in backticks is there; the files that docs/ARCHITECTURE.md walks through have the functions that it names, and one
@@ -32,8 +32,9 @@ NAMES = re.compile(r"\[((?:`\w+`(?:, | and )?)+)\]\(([^)#\s]+(?<!lib)\.(?:rt|ant
 CODE = re.compile(r"`([^`\n]+)`")
 PATH = re.compile(r"[\w.*/-]+")
 FILE = re.compile(r"[\w.-]+\.(?:rt|antt|py|sh|md|hpp|h|cc|go|rs|sql)")
-# Names that stand for any file of their kind, and headers of S2.
+# Names that stand for any file of their kind, and headers of S2; and the page that tools/statement makes.
 EXAMPLES = {"s2union--OLD--NEW.sql", "s2union--NEW.sql", "s2cell_id.h", "s2cell_union.h"}
+MADE = "docs/STATEMENT.md"
 GONE = {"peer", "faults", "examples"}
 STEP = re.compile(r"^\d+\. `(\w+/src)/(\w+\.rt)`: (.*)$", re.M)
 CALL = re.compile(r"`(\w+)`(?: and `(\w+)`)? calls? `(\w+)`")
@@ -132,7 +133,7 @@ def paths():
             if FILE.fullmatch(path):
                 yield page, path, path in names
             elif PATH.fullmatch(path) and "/" in path and path.split("/")[0] in folders:
-                yield page, path, is_there(page, path.rstrip("/."))
+                yield page, path, path == MADE or is_there(page, path.rstrip("/."))
 
 
 def is_there(page, path):

@@ -1,6 +1,6 @@
 """Habits that make pages hard to read, counted: python3 tests/docs/prose.py [PAGE..] lists the sentences that have one.
 
-The pages are README.md and those of docs/, without STATEMENT.md, code, tables and headings. HABITS has the most that
+The pages are README.md and those of docs/, without code, tables and headings. HABITS has the most that
 may stand of each habit, which only falls; tests/docs/rot.py asks it.
 """
 import re
@@ -60,7 +60,7 @@ def sentences(text):
 
 
 def pages():
-    return [name for name in tracked(ROOT, "README.md", "docs/*.md") if name != "docs/STATEMENT.md"]
+    return tracked(ROOT, "README.md", "docs/*.md")
 
 
 def found_in(name):
