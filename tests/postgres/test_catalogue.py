@@ -10,7 +10,6 @@ import model
 from test_postgres import PAGES, TRY, Tests, ask, psql
 
 VERSION = model.VERSION.rpartition(".")[0]
-EARLIER = ("0.1", "0.2", "1.0", "1.1")
 MEMBERS = """
     SELECT d.classid, d.objid, pg_describe_object(d.classid, d.objid, 0) AS object FROM pg_depend d
     JOIN pg_extension e ON e.oid = d.refobjid AND e.extname IN ('s2union', 's2union_geo') WHERE d.deptype = 'e'
@@ -278,7 +277,11 @@ class Updates(unittest.TestCase):
         self.assertGreater(len(self.whole), 400)
 
     def test_the_update_from_each_earlier_version(self):
-        for earlier in EARLIER:
+        scripts = " ".join(os.listdir(os.environ["EXTENSIONS"]))
+        versions = sorted(set(re.findall(r"\bs2union--([\d.]+)--", scripts)))
+        self.assertEqual(versions[0], "1.0")
+        self.assertNotIn(VERSION, versions)
+        for earlier in versions:
             with self.subTest(earlier=earlier):
                 self.update_from(earlier)
 
