@@ -5,12 +5,10 @@
 
 #include "access/detoast.h"
 #include "access/htup_details.h"
-#include "access/stratnum.h"
 #include "catalog/pg_statistic.h"
 #include "catalog/pg_type.h"
 #include "commands/vacuum.h"
 #include "common/pg_prng.h"
-#include "fmgr.h"
 #include "miscadmin.h"
 #include "nodes/makefuncs.h"
 #include "nodes/nodeFuncs.h"
@@ -22,12 +20,7 @@
 #include "utils/datum.h"
 #include "utils/fmgroids.h"
 #include "utils/lsyscache.h"
-#include "utils/memutils.h"
 #include "utils/selfuncs.h"
-
-#pragma GCC visibility push(hidden)
-#include <s2union.h>
-#pragma GCC visibility pop
 
 #include "value.h"
 

@@ -1,7 +1,7 @@
 """How much of a source in C its tests have executed, by gcovr: coverage.py FOLDER NAME=SOURCE..
 
 FOLDER is where gcc has compiled the source with --coverage and where the tests have left their counts; NAME is the name
-that the source has there, and SOURCE its path in the repository. Each line has to be executed, and no more branches may
+that the source has there, and SOURCE its path in the repository, or the folder of it with / at its end. Each line has to be executed, and no more branches may
 be left than tests/c/uncovered.txt says. Of a source that isn't in that file only the figure is printed, which is the
 last line.
 """
@@ -50,6 +50,7 @@ def judged(source, lines):
 def main():
     folder = Path(sys.argv[1]).resolve()
     sources = [word.partition("=")[::2] for word in sys.argv[2:]]
+    sources = [(name, source + name if source.endswith("/") else source) for name, source in sources]
     return not all([judged(source, lines_of(folder, name)) for name, source in sources])
 
 

@@ -11,7 +11,7 @@
 
 step "a copy of PostgreSQL $server" copied
 source=$top/databases/postgres
-for file in s2union.c planner.c value.h; do step "no arithmetic on cells: $file" no_arithmetic "$source/$file"; done
+for file in "$source"/*.[ch]; do step "no arithmetic on cells: ${file##*/}" no_arithmetic "$file"; done
 step "build" built build COPT=-Werror
 rebuilt() { # if the header or the archive has changed, and only then
   local make=(make -C "$work/build" PREFIX="$work/usr" PG_CONFIG="$config" COPT=-Werror) file
@@ -79,10 +79,11 @@ again() {
 put_in counted
 step "guarded: each allocation refused in turn, nothing written over, nothing left" again Planner
 covered() {
-  local sources=databases/postgres
+  local files=("$source"/*.[ch])
+  files=("${files[@]##*/}")
   tests LargeQuestions &&
-    /usr/bin/python3 "$top/tests/c/coverage.py" "$work/counted" rewritten.c=$sources/s2union.c \
-      planner.c=$sources/planner.c value.h=$sources/value.h geo.c=$sources/geo.c s2union_geo.h=bindings/c/s2union_geo.h
+    /usr/bin/python3 "$top/tests/c/coverage.py" "$work/counted" "${files[@]/%/=databases/postgres/}" \
+      s2union_geo.h=bindings/c/s2union_geo.h
 }
 step "what these tests execute" covered
 in_one_session() { S2UNION_ONE_SESSION=yes again "$@"; }

@@ -1,4 +1,4 @@
-/* The extension for PostgreSQL as its tests run it: s2union.c over an allocator that
+/* The extension for PostgreSQL as its tests run it: its files in one, over an allocator that
  *   - puts a guard after each block, and ends the session if one has been written over when the call ends,
  *   - hides the guard from the address sanitizer or from valgrind, so that a read of it is caught too,
  *   - refuses the allocation that s2_refuse(n) names: as the server does, or by telling the library that there is none,
@@ -7,18 +7,21 @@
  *   - counts where a call may be cancelled: s2_chances(),
  *   - counts the bytes that are compared with others: s2_compared(),
  *   - shows what a GIN index asks for and is answered: s2_keys(asked, strategy), s2_keys_found(strategy, found, exact).
- * The build has rewritten each 'Datum NAME(PG_FUNCTION_ARGS)' of s2union.c to GUARDED(NAME). */
+ * The build has rewritten each 'Datum NAME(PG_FUNCTION_ARGS)' of these files to GUARDED(NAME). */
 #include "postgres.h"
 
 #include "access/gin.h"
 #include "access/gist.h"
+#include "access/htup_details.h"
 #include "access/stratnum.h"
 #include "catalog/pg_type.h"
 #include "common/hashfn.h"
 #include "fmgr.h"
 #include "funcapi.h"
 #include "lib/ilist.h"
+#include "lib/stringinfo.h"
 #include "libpq/pqformat.h"
+#include "mb/pg_wchar.h"
 #include "miscadmin.h"
 #include "nodes/primnodes.h"
 #include "utils/array.h"

@@ -32,14 +32,19 @@ built() { # FOLDER FLAGS..: the extension as it is
     make -C "$folder" PREFIX="$work/usr" PG_CONFIG="$config" "$@"
 }
 
-guarded() { # FOLDER SOURCES FLAGS..: the extension over the allocator of guarded.c
-  local folder=$work/$1 sources=$2
+guarded() { # FOLDER SOURCES FLAGS..: the extension over the allocator of guarded.c, but its files for planner and degrees
+  local folder=$work/$1 sources=$2 file name
   shift 2
-  mkdir -p "$folder" && cp "$top"/databases/postgres/{Makefile,*.control,*.sql} "$folder" &&
-    cp "$sources"/{planner.c,geo.c,value.h} "$folder" &&
-    cp "$top/tests/postgres/guarded.c" "$folder/s2union.c" &&
-    sed -E 's/Datum ([a-z0-9_]+)\(PG_FUNCTION_ARGS\)/GUARDED(\1)/' "$sources/s2union.c" >"$folder/rewritten.c" &&
-    make -C "$folder" PREFIX="$work/usr" PG_CONFIG="$config" "$@"
+  mkdir -p "$folder/rewritten" && : >"$folder/rewritten.c" &&
+    cp "$top"/databases/postgres/{Makefile,*.control,*.sql} "$top/tests/postgres/guarded.c" "$folder" &&
+    cp "$sources"/{planner.c,geo.c,value.h} "$folder" || return
+  for file in "$sources"/*.c; do
+    name=$(basename "$file")
+    case $name in planner.c | geo.c) continue ;; esac
+    sed -E 's/Datum ([a-z0-9_]+)\(PG_FUNCTION_ARGS\)/GUARDED(\1)/' "$file" >"$folder/rewritten/$name" &&
+      echo "#include \"rewritten/$name\"" >>"$folder/rewritten.c" || return
+  done
+  make -C "$folder" PREFIX="$work/usr" PG_CONFIG="$config" OBJS="guarded.o planner.o geo.o" "$@"
 }
 
 put_in() { # FOLDER: sessions that begin from now on have the extension built there

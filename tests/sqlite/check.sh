@@ -14,9 +14,6 @@ sqlite=(sqlite3 -batch -init /dev/null :memory:) # without its user's settings
 
 source=$top/databases/sqlite
 step "no arithmetic on cells" no_arithmetic "$source/s2union.c"
-for file in s2union.c planner.c value.h; do
-  step "none in the extension for PostgreSQL: $file" no_arithmetic "$top/databases/postgres/$file"
-done
 # What is not proved stays short. Of these lines 110 are for listings that make a cell or a tile when it is asked for,
 # texts that are read in pieces, and windows, which the library, whose calls answer all at once, can't have. 5 are for
 # the list of the functions, whose texts tools/calls makes of the page.

@@ -1,0 +1,91 @@
+/* Unions of S2 cells in PostgreSQL, over libs2union: what the server gives to the library and hears from it, memory and
+ * errors. docs/POSTGRES.md says what each function does.
+ *
+ * Only the library knows about cells. The files of this folder have PostgreSQL's values, errors, memory and index
+ * classes, each what its name says; value.h has what they share. */
+#include "postgres.h"
+
+#include "lib/stringinfo.h"
+#include "mb/pg_wchar.h"
+
+#include "value.h"
+
+PG_MODULE_MAGIC;
+
+/* ---- memory: the library takes it from the current context, and no longjmp leaves a call of the library ---- */
+
+enum { ALIGNMENT = 16 };
+
+/* The library needs multiples of 16; palloc gives multiples of 8. The byte before a block says how much was skipped. */
+s2u_block s2u_heap_take(size_t size, size_t align) {
+  static uint64_t nowhere[2];
+  uint8_t* raw = NULL;
+  if (size <= MaxAllocHugeSize - ALIGNMENT)
+    raw = MemoryContextAllocExtended(CurrentMemoryContext, size + ALIGNMENT, MCXT_ALLOC_HUGE | MCXT_ALLOC_NO_OOM);
+  if (raw == NULL) return (s2u_block){0, nowhere};
+  size_t skip = ALIGNMENT - (uintptr_t)raw % ALIGNMENT;
+  raw[skip - 1] = (uint8_t)skip;
+  return (s2u_block){1, raw + skip};
+}
+
+void s2u_heap_give_back(void* at) {
+  pfree((uint8_t*)at - ((uint8_t*)at)[-1]);
+}
+
+s2u_block s2u_heap_grow(void* at, size_t old_size, size_t size, size_t align) {
+  s2u_block grown = s2u_heap_take(size, align);
+  if (!grown.ok) return grown;
+  memcpy(grown.at, at, Min(old_size, size));
+  s2u_heap_give_back(at);
+  return grown;
+}
+
+/* ---- errors: they name what was refused, at most its first 40 bytes ---- */
+
+/* The SQLSTATE of a refusal. */
+static int code_of(int32_t status) {
+  switch (status) {
+    case S2U_MEMORY: return ERRCODE_OUT_OF_MEMORY;
+    case S2U_MANY: return ERRCODE_PROGRAM_LIMIT_EXCEEDED;
+    case S2U_NO_UNION: return ERRCODE_DATA_CORRUPTED;
+    case S2U_FILE_SHORT:
+    case S2U_FILE_VERSION:
+    case S2U_FILE_TRAILING:
+    case S2U_FILE_CELL: return ERRCODE_INVALID_BINARY_REPRESENTATION;
+    default: return ERRCODE_INVALID_PARAMETER_VALUE;
+  }
+}
+
+void must_be_ok(int32_t status) {
+  if (status < 0) ereport(ERROR, errcode(code_of(status)), errmsg("s2union: %s", s2u_status_text(status)));
+}
+
+char* start_of(const char* text, size_t n) {
+  return pnstrdup(text, pg_mbcliplen(text, (int)n, 40));
+}
+
+void refuse(int32_t status, const char* value, bool is_text) {
+  ereport(ERROR, errcode(code_of(status)), errmsg("s2union: %s: %s", s2u_status_text(status), value),
+          is_text ? errhint("A text names a cell by its token or its debug text. A number has no quotes.") : 0);
+}
+
+void refuse_number(int64 number) {
+  refuse(S2U_NO_CELL, psprintf(INT64_FORMAT, number), false);
+}
+
+void refuse_text(const char* text, size_t n) {
+  refuse(S2U_NO_CELL, psprintf("\"%s\"", start_of(text, n)), true);
+}
+
+static void refuse_numbers(int32_t status, FunctionCallInfo fcinfo, int first) {
+  StringInfoData numbers;
+  initStringInfo(&numbers);
+  for (int k = first; k < PG_NARGS(); k++)
+    appendStringInfo(&numbers, "%s%d", k == first ? "" : ", ", PG_GETARG_INT32(k));
+  refuse(status, numbers.data, false);
+}
+
+void must_take_numbers(int32_t status, FunctionCallInfo fcinfo, int first) {
+  if (status == S2U_ARGUMENT || status == S2U_MANY) refuse_numbers(status, fcinfo, first);
+  must_be_ok(status);
+}
