@@ -4,7 +4,7 @@ import (
 	"bytes"
 	"encoding/json"
 	"fmt"
-	"s2union"
+	s2union "s2union.example.org/s2union/bindings/go"
 )
 
 func ExampleCellIDFromToken() {

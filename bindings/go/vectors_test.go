@@ -13,7 +13,7 @@ import (
 	"strings"
 	"testing"
 
-	"s2union"
+	s2union "s2union.example.org/s2union/bindings/go"
 )
 
 type (

@@ -15,7 +15,7 @@ READ = ["tools/calls", "crates/s2union_c/src", "crates/s2union_c/include", "crat
         "bindings/rust/src", "bindings/python/s2union", "bindings/java/s2union", "bindings/java/s2union.c",
         "bindings/page/core.js", "bindings/js/s2union.d.ts", "bindings/go", "bindings/c/s2union.ffi.h",
         "bindings/cpp", "tests/c/examples.cc", "tests/c/calls.h", "docs/SQLITE.md", "databases/sqlite/functions.h",
-        "databases/sqlite/s2union_geo.c"]
+        "databases/sqlite/s2union_geo.c", "docs/GO.md", "CITATION.cff"]
 HEADER = "crates/s2union_c/include/s2union.h"
 
 
@@ -117,6 +117,8 @@ MISTAKES = [
             "func ExampleCellID_Faces() {", "Go: cell: CellID.Face: its comment lacks an Example function"),
     Mistake("a version of Go left out", "bindings/go/cell.go", "Face is 0 to 5. Since 0.2.", "Face is 0 to 5.",
             "Go: cell: CellID.Face: its comment lacks Since"),
+    Mistake("another address of the repository than the path of Go", "CITATION.cff", "s2union.example.org", "example.com",
+            "bindings/go/go.mod: not what tools/calls makes"),
     Mistake("a list that JavaScript leaves out", "bindings/page/core.js", '"s2u_union", [xs, ys]', '"s2u_union", [xs]'),
     Mistake("a function that SQLite doesn't list", "docs/SQLITE.md", "\n| `s2_count(region)` |",
             "\n| `s2_size(region)` | how many |\n| `s2_count(region)` |"),
