@@ -64,8 +64,8 @@ impl Editor {
         })
     }
 
-    /// The registers and both sides of the history, where they lie: what `session` copies. `encode_parts` of `s2session`
-    /// writes a session file from there.
+    /// The registers and both sides of the history, where they lie: what `session` copies. `encode_parts` of
+    /// `s2session` writes a session file from there.
     pub fn sides(&self) -> Sides<'_>
         ensures { Records (content_of_parts result.registers.now (reverse result.past.ring.now.items)
             result.future.ring.now.items) self.now }

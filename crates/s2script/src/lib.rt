@@ -6,10 +6,10 @@
 //! A command refers to the words that it was read from. `Cells` goes over the cells of an `add`, however many there
 //! are. `Name` is the name of a file as it is in the line, and `Word` is a word that does not fit.
 //!
-//! Modules: `words` has the words of a line; `number`, `named`, `name`, `path`, `cells`, `level`, `place`, `register` and
-//! `span` what words may mean; `forms` the words that a command may have; `table` the commands by their names, and the help on
-//! them; `similar` the names that a word is like. `command`, `misfit` and `refusal` are what a line may ask for, where
-//! it may not fit, and why it is then refused; `grammar` is what a line says. `limits` are the limits.
+//! Modules: `words` has the words of a line; `number`, `named`, `name`, `path`, `cells`, `level`, `place`, `register`
+//! and `span` what words may mean; `forms` the words that a command may have; `table` the commands by their names, and
+//! the help on them; `similar` the names that a word is like. `command`, `misfit` and `refusal` are what a line may ask
+//! for, where it may not fit, and why it is then refused; `grammar` is what a line says. `limits` are the limits.
 #![tactic(auto)]
 
 mod cells;

@@ -1,5 +1,5 @@
 -- Where an iterator over the cells that a union is cut into is.
-use Rattle.std.proofs.Common.{zero, ◌≡◌, ℕ, suc, ◌+◌, ◌-◌, ◌^◌, ◌<◌, ◌≤◌, refl, sym}
+use Rattle.std.proofs.Common.{◌≡◌, ℕ, suc, ◌+◌, ◌-◌, ◌^◌, ◌<◌, ◌≤◌, refl, sym}
 use Rattle.std.proofs.Common.{◌∙◌, ap, arith, List, [], ◌∷◌, ◌++◌, length, get_or, drop, take}
 use Rattle.std.proofs.Common.{add-one, Bool, true, false}
 use Rattle.std.specs.Bool.{◌==◌}

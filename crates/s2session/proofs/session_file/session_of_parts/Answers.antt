@@ -6,8 +6,8 @@ use Rattle.s2shelf.proofs.Given.{none_left}
 use Rattle.s2file.specs.Session.{diff_of, content_of, IsContent}
 use Rattle.s2session.specs.Working.Source.{held}
 use Rattle.s2session.proofs.Taking.{failed, joined, held_front}
-use Rattle.s2session.proofs.TakingSession.{NoFile, no_head, no_registers, no_past, no_future, more_than_parts, all_taken}
-use Rattle.s2session.proofs.TakingSession.{too_many_changes, session_found}
+use Rattle.s2session.proofs.TakingSession.{NoFile, no_head, no_registers, no_past, no_future, more_than_parts}
+use Rattle.s2session.proofs.TakingSession.{all_taken, too_many_changes, session_found}
 use Rattle.s2session.proofs.session_file.session_of_parts.Goals as goal
 
 pub returns-in_err-take_head-clause-judges : goal.returns-in_err-take_head-clause-judges
