@@ -80,8 +80,6 @@ MISTAKES = [
     Mistake("a first page that is too long", pages.too_long, "README.md", ended_by("more\n" * 2000)),
     Mistake("a wrong number of cells of a level", pages.wrong_levels, "docs/CONCEPTS.md",
             swapped("| 5 | 291 km | 6,144 |", "| 5 | 291 km | 6,154 |")),
-    Mistake("another version in the header", pages.other_versions, "crates/s2union_c/include/s2union.h",
-            swapped("#define S2U_VERSION_MAJOR ", "#define S2U_VERSION_MAJOR 9")),
     Mistake("another kit on a page", pages.other_kits, "docs/PROOF.md", ended_by(f"\n`{'rattle-kit-0 logic 0'}`\n")),
     Mistake("a call that isn't made on the way of a line", pages.calls_on_the_walk, "docs/ARCHITECTURE.md",
             swapped("`run_observed` call `run_with`", "`run_observed` call `run_without`")),

@@ -2,16 +2,12 @@
 // The calls of s2union.h that take no memory, in a module for WebAssembly. Its memory has 32-bit addresses, which calls
 // take as BigInt, as they take lengths. A list is a BigUint64Array. The page has this file, and so has the package.
 
-const ROOM = -1;
-const MEMORY = -2;
-const NO_CELL = -3;
-const NO_UNION = -4;
-const ARGUMENT = -5;
-const MANY = -6;
 const LAST_LEVEL = 30;
-const MOST_TOKEN = 16;
 
 // made by tools/calls
+const ROOM = -1, MEMORY = -2, NO_CELL = -3, NO_UNION = -4, ARGUMENT = -5, MANY = -6, FILE_SHORT = -10,
+  FILE_VERSION = -11, FILE_TRAILING = -12, FILE_CELL = -13;
+const MOST_TOKEN = 16;
 const FAULTS = {
   [-1]: "too little room",
   [-2]: "out of memory",

@@ -15,7 +15,10 @@ READ = ["tools/calls", "crates/s2union_c/src", "crates/s2union_c/include", "crat
         "bindings/rust/src", "bindings/python/s2union", "bindings/java/s2union", "bindings/java/s2union.c",
         "bindings/page/core.js", "bindings/js/s2union.d.ts", "bindings/go", "bindings/c/s2union.ffi.h",
         "bindings/cpp", "tests/c/examples.cc", "tests/c/calls.h", "docs/SQLITE.md", "databases/sqlite/functions.h",
-        "databases/sqlite/s2union_geo.c", "docs/GO.md", "CITATION.cff"]
+        "databases/sqlite/s2union_geo.c", "docs/GO.md", "VERSION", "README.md", "CITATION.cff", "docs/C.md",
+        "crates/s2calc/src/command_line.rt", "bindings/rust/Cargo.toml", "bindings/rust/serde/Cargo.toml",
+        "bindings/r/DESCRIPTION", "bindings/js/package.json", "databases/postgres/s2union.control",
+        "databases/postgres/s2union_geo.control", "databases/postgres/s2union_postgis.control"]
 HEADER = "crates/s2union_c/include/s2union.h"
 
 
@@ -63,15 +66,12 @@ MISTAKES = [
             "LIBRARY(difference)(xs.at, xs.n, ys.at, ys.n,", "LIBRARY(difference)(ys.at, ys.n, xs.at, xs.n,"),
     Mistake("a call that Python lacks", "bindings/python/s2union/_library.c",
             "static PyObject* py_square_of(", "static PyObject* py_square(", "_library.c has to have it"),
-    Mistake("a text of another refusal in JavaScript", "bindings/page/core.js", '[-2]: "out of memory"',
-            '[-2]: "not a cell"'),
     Mistake("another number of a status in Java", "bindings/java/s2union/Refusal.java", "NO_CELL = -3", "NO_CELL = -4"),
+    Mistake("a status that Java lacks", "bindings/java/s2union/Refusal.java", "    NO_CELL(-3),", "",
+            "it has no place for NO_CELL"),
+    Mistake("another version in the header", HEADER, "#define S2U_VERSION_MAJOR ", "#define S2U_VERSION_MAJOR 9"),
     Mistake("the number of another call in Java", "bindings/java/s2union/Calls.java", " CONTAINS_CELL = 2,",
             " CONTAINS_CELL = 3,"),
-    Mistake("a text of another refusal in Java", "bindings/java/s2union/Refusal.java",
-            'case -6: return "too many cells"', 'case -6: return "not a cell"'),
-    Mistake("another limit in JavaScript", "bindings/page/core.js", "const MOST_TOKEN = 16;",
-            "const MOST_TOKEN = 17;"),
     Mistake("a call of JavaScript that the library lacks", "bindings/page/core.js", '"s2u_union", [xs, ys]',
             '"s2u_unite", [xs, ys]', "s2u_unite: no such export"),
     Mistake("a call of JavaScript that takes memory", "bindings/page/core.js", '"s2u_union", [xs, ys]',
@@ -117,8 +117,8 @@ MISTAKES = [
             "func ExampleCellID_Faces() {", "Go: cell: CellID.Face: its comment lacks an Example function"),
     Mistake("a version of Go left out", "bindings/go/cell.go", "Face is 0 to 5. Since 0.2.", "Face is 0 to 5.",
             "Go: cell: CellID.Face: its comment lacks Since"),
-    Mistake("another address of the repository than the path of Go", "CITATION.cff", "s2union.example.org", "example.com",
-            "bindings/go/go.mod: not what tools/calls makes"),
+    Mistake("another address of the repository than the path of Go", "CITATION.cff", "s2union.example.org",
+            "example.com", "bindings/go/go.mod: not what tools/calls makes"),
     Mistake("a list that JavaScript leaves out", "bindings/page/core.js", '"s2u_union", [xs, ys]', '"s2u_union", [xs]'),
     Mistake("a function that SQLite doesn't list", "docs/SQLITE.md", "\n| `s2_count(region)` |",
             "\n| `s2_size(region)` | how many |\n| `s2_count(region)` |"),

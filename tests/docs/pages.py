@@ -1,18 +1,17 @@
 #!/usr/bin/env python3
 """Checks the pages: docs/statement.sums is what tools/statement makes; each definition has a sentence, and stands in
-specs/Working if no public contract needs it; every relative link of every page leads to a file, and to its heading;
-if the link's text is names of the sources, the file has them, as it has those that a page says are in it; each path
-in backticks is there; the files that docs/ARCHITECTURE.md walks through have the functions that it names, and one
-calls another where it says so; each language has what docs/FROM_S2.md says it has; docs/TROUBLESHOOTING.md has each
-error that the sources make, and no others; docs/CONCEPTS.md has the edges and numbers of cells of all levels;
-docs/MARIADB.md lists the functions of install.sql; docs/README.md leads to each page; README.md has fewer than
-10,000 bytes; what can't read the file VERSION has the version that it gives, and a page that names the kit names the
-one of the file KIT; CHANGELOG.md says nothing twice; a contract has a limit as a number only where docs/EXTENDING.md
-says so; each part that a text names after `tests/run` is one; each command of tools/ and bench/ prints its usage
-with --help, and does nothing else; and what is a command, a file whose name has no ending and which names its
-interpreter, is executable, and no other file is. The last line is 'N passed, M failed', where N counts the
-definitions, the links, the paths, the names, the calls, the errors, the levels, the places of the version, the
-changes, the limits, the parts, the commands and the files. A check that has nothing to look at fails.
+specs/Working if no public contract needs it; every relative link of every page leads to a file, and to its heading; if
+the link's text is names of the sources, the file has them, as it has those that a page says are in it; each path in
+backticks is there; the files that docs/ARCHITECTURE.md walks through have the functions that it names, and one calls
+another where it says so; each language has what docs/FROM_S2.md says it has; docs/TROUBLESHOOTING.md has each error
+that the sources make, and no others; docs/CONCEPTS.md has the edges and numbers of cells of all levels;
+docs/MARIADB.md lists the functions of install.sql; docs/README.md leads to each page; README.md has fewer than 10,000
+bytes; a page that names the kit names the one of the file KIT; CHANGELOG.md says nothing twice; a contract has a limit
+as a number only where docs/EXTENDING.md says so; each part that a text names after `tests/run` is one; each command of
+tools/ and bench/ prints its usage with --help, and does nothing else; and what is a command, a file whose name has no
+ending and which names its interpreter, is executable, and no other file is. The last line is 'N passed, M failed',
+where N counts the definitions, the links, the paths, the names, the calls, the errors, the levels, the changes, the
+limits, the parts, the commands and the files. A check that has nothing to look at fails.
 """
 import functools
 import re
@@ -74,25 +73,6 @@ ERRORS = {
     "The calculator": (["crates/s2script/specs/Refusals.antt", "crates/s2calc/specs/Refusals.antt"],
                        r"codes \"([a-z-]+)\""),
 }
-# Where the version stands beside the file VERSION: a file, what comes before it and after it, and its form there.
-VERSIONS = [
-    ("CHANGELOG.md", r"\A# .*\n+(?:## Unreleased\n+(?:- .*\n+)*)?## ", r"(?: |$)", "{0}.{1}.{2}"),
-    ("CITATION.cff", "\nversion: ", "\n", "{0}.{1}.{2}"),
-    ("crates/s2calc/src/command_line.rt", r'\.version\("', '"', "{0}.{1}.{2}"),
-    ("crates/s2union_c/src/cells.rt", r"fn s2u_version\(\) -> u32\n.*\n\{\n +", "\n", "{3}"),
-    ("crates/s2union_c/include/s2union.h", '#define S2U_VERSION_TEXT "', '"', "{0}.{1}.{2}"),
-    ("crates/s2union_c/include/s2union.h", "#define S2U_VERSION_MAJOR ", "\n", "{0}"),
-    ("crates/s2union_c/include/s2union.h", "#define S2U_VERSION_MINOR ", "\n", "{1}"),
-    ("crates/s2union_c/include/s2union.h", "#define S2U_VERSION_PATCH ", "\n", "{2}"),
-    ("bindings/python/s2union/__init__.py", r'\n__version__ = "', '"', "{0}.{1}.{2}"),
-    ("bindings/rust/Cargo.toml", r'\nversion = "', '"', "{0}.{1}.{2}"),
-    ("bindings/rust/serde/Cargo.toml", r'\nversion = "', '"', "{0}.{1}.{2}"),
-    ("bindings/r/DESCRIPTION", r"\nVersion: ", "\n", "{0}.{1}.{2}"),
-    ("bindings/js/package.json", r'\n  "version": "', '"', "{0}.{1}.{2}"),
-    ("databases/postgres/s2union.control", "default_version = '", "'", "{0}.{1}"),
-    ("databases/postgres/s2union_geo.control", "default_version = '", "'", "{0}.{1}"),
-    ("databases/postgres/s2union_postgis.control", "default_version = '", "'", "{0}.{1}"),
-]
 
 
 def pages():
@@ -302,18 +282,6 @@ def wrong_levels():
     return len(rows), wrong if [row[0] for row in rows] == [str(level) for level in range(31)] else ["not all levels"]
 
 
-def other_versions():
-    """The number of places of the version, and those that have another one than the file VERSION, as 'file: what it
-    has'."""
-    numbers, others = [int(word) for word in (ROOT / "VERSION").read_text().split(".")], []
-    for name, before, after, form in VERSIONS:
-        wanted = form.format(*numbers, 10000 * numbers[0] + 100 * numbers[1] + numbers[2])
-        found = re.findall(f"{before}(.*?){after}", (ROOT / name).read_text(), re.M)
-        if found != [wanted]:
-            others.append(f"{name}: {', '.join(found) or 'none'}, not {wanted}")
-    return len(VERSIONS), others
-
-
 def other_kits():
     """The number of pages that name a kit of Rattle, and those that name another one than the file KIT."""
     kit = (ROOT / "KIT").read_text().strip()
@@ -370,7 +338,6 @@ CHECKS = {
     "not in the index docs/README.md": unlisted,
     "README.md is too long": too_long,
     "the table of levels": wrong_levels,
-    "another version": other_versions,
     "another kit": other_kits,
     "docs/ARCHITECTURE.md": calls_on_the_walk,
     "CHANGELOG.md says twice": said_twice,

@@ -5,6 +5,7 @@ import java.nio.file.Path;
 import java.util.Arrays;
 import java.util.HashMap;
 import java.util.HashSet;
+import java.util.Locale;
 import java.util.Map;
 import java.util.Set;
 import java.util.function.Function;
@@ -21,8 +22,6 @@ import s2union.UnionFile;
  * failed'.
  */
 final class Vectors {
-  private static final Map<Integer, String> NAMES = Map.of(-3, "no_cell", -4, "no_union", -5, "argument", -6, "many",
-      -10, "file_short", -11, "file_version", -12, "file_trailing", -13, "file_cell");
   private static final Map<String, Function<Given, String>> QUESTIONS = new HashMap<>();
 
   private Vectors() {}
@@ -237,7 +236,7 @@ final class Vectors {
     try {
       return question.apply(new Given(texts));
     } catch (Refusal refusal) {
-      return "!" + NAMES.get(refusal.status()) + (wanted.contains(" ") ? " " + refusal.place() : "");
+      return "!" + refusal.kind().name().toLowerCase(Locale.ROOT) + (wanted.contains(" ") ? " " + refusal.place() : "");
     }
   }
 

@@ -114,15 +114,13 @@ function withoutMemory(place, action) {
   return times;
 }
 
-const KINDS = {[-3]: "NO_CELL", [-4]: "NO_UNION", [-5]: "ARGUMENT", [-6]: "MANY", [-10]: "FILE_SHORT",
-  [-11]: "FILE_VERSION", [-12]: "FILE_TRAILING", [-13]: "FILE_CELL"};
-
-function refused(status, place, words, action, name = `${action}`) {
-  assert.throws(action, (error) => error instanceof Refusal && error instanceof Error && error.status === status &&
-    error.kind === Refusal.Kind[KINDS[status]] && error.place === place && error.message === words, name);
+function refused(kind, place, words, action, name = `${action}`) {
+  assert.throws(action, (error) => error instanceof Refusal && error instanceof Error && error.kind === kind &&
+    error.kind === Refusal.Kind[kind] && error.place === place && error.message === words, name);
 }
-const noCell = (place, action, name) => refused(-3, place, "not a cell", action, name);
-const outOfRange = (action, place = 0, name = undefined) => refused(-5, place, "argument out of range", action, name);
+const noCell = (place, action, name) => refused("NO_CELL", place, "not a cell", action, name);
+const outOfRange = (action, place = 0, name = undefined) =>
+  refused("ARGUMENT", place, "argument out of range", action, name);
 
 const TESTS = {
   "each call is asked": () => assert.deepEqual(namesOf(s2).sort(), Object.keys(CALLS).sort()),
@@ -184,8 +182,8 @@ const TESTS = {
       outOfRange(() => s2.fromPoints([[0, 0, 0], wrong]), 1);
     }
     outOfRange(() => s2.parents([LEAF, FACE], 3), 1);
-    refused(-6, 0, "too many cells", () => union.denormalized(30));
-    refused(-6, 0, "too many cells", () => union.denormalized(1, 1, 3));
+    refused("MANY", 0, "too many cells", () => union.denormalized(30));
+    refused("MANY", 0, "too many cells", () => union.denormalized(1, 1, 3));
   },
   "what is left out": () => {
     assert.deepEqual(s2.children(LEAF), []);
@@ -198,27 +196,27 @@ const TESTS = {
   "lists that are not normalized": () => {
     for (const wrong of [[LEAF, FACE], [FACE, FACE], s2.children(FACE), [2n]]) {
       assert.equal(s2.isUnion(wrong), false);
-      refused(-4, 0, "not a normalized list of cells", () => CellUnion.fromNormalized(wrong));
+      refused("NO_UNION", 0, "not a normalized list of cells", () => CellUnion.fromNormalized(wrong));
     }
   },
   "files": () => {
     const good = new CellUnion([FACE]).encode();
-    for (const [status, words, wrong] of [
-      [-10, "union file: bytes are missing", good.slice(0, 12)],
-      [-11, "union file: unknown version", Uint8Array.of(2, ...good.slice(1))],
-      [-12, "union file: bytes after the last cell", Uint8Array.of(...good, 0)],
+    for (const [kind, words, wrong] of [
+      ["FILE_SHORT", "union file: bytes are missing", good.slice(0, 12)],
+      ["FILE_VERSION", "union file: unknown version", Uint8Array.of(2, ...good.slice(1))],
+      ["FILE_TRAILING", "union file: bytes after the last cell", Uint8Array.of(...good, 0)],
     ]) {
-      refused(status, 0, words, () => CellUnion.decode(wrong));
-      refused(status, 0, words, () => new UnionFile(wrong));
-      refused(status, 0, words, () => UnionFile.check(wrong));
+      refused(kind, 0, words, () => CellUnion.decode(wrong));
+      refused(kind, 0, words, () => new UnionFile(wrong));
+      refused(kind, 0, words, () => UnionFile.check(wrong));
     }
     const damaged = Uint8Array.of(...good.slice(0, 9), 2, ...good.slice(10, 16), 0);
-    refused(-13, 0, "union file: a number that is not a cell", () => CellUnion.decode(damaged));
-    refused(-13, 0, "union file: a number that is not a cell", () => new UnionFile(damaged));
+    refused("FILE_CELL", 0, "union file: a number that is not a cell", () => CellUnion.decode(damaged));
+    refused("FILE_CELL", 0, "union file: a number that is not a cell", () => new UnionFile(damaged));
     const twice = Uint8Array.of(1, 2, ...good.slice(2), ...good.slice(9));
     assert.equal(CellUnion.decode(twice).size, 1);
     assert.equal(UnionFile.check(twice), false);
-    refused(-4, 0, "not a normalized list of cells", () => new UnionFile(twice));
+    refused("NO_UNION", 0, "not a normalized list of cells", () => new UnionFile(twice));
     for (const wrong of [1, -1, 0.5, 2 ** 64, NaN]) outOfRange(() => new UnionFile(good).at(wrong));
     assert.equal(new UnionFile(good.buffer).at(0), FACE);
     assert.equal(new UnionFile(Buffer.from(good)).toUnion().equals(new CellUnion([FACE])), true);

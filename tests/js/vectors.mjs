@@ -9,10 +9,6 @@ await s2.load();
 const {CellUnion, UnionFile, Refusal} = s2;
 
 const LACKING = ["range", "leaves", "outer_of_rectangle", "inner_of_rectangle", "outer_in", "inner_in"];
-const NAMES = {
-  [-3]: "no_cell", [-4]: "no_union", [-5]: "argument", [-6]: "many", [-10]: "file_short", [-11]: "file_version",
-  [-12]: "file_trailing", [-13]: "file_cell",
-};
 
 // ---- what is given, and what is shown
 
@@ -128,7 +124,7 @@ const QUESTIONS = {
 /** A refusal as the vectors have it: with its place, where a list or a text has one. */
 function refused(error, wanted) {
   if (!(error instanceof Refusal)) throw error;
-  return `!${NAMES[error.status]}${wanted.includes(" ") ? ` ${error.place}` : ""}`;
+  return `!${error.kind.toLowerCase()}${wanted.includes(" ") ? ` ${error.place}` : ""}`;
 }
 
 function answer(question, given, wanted) {

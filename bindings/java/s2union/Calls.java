@@ -9,13 +9,13 @@ import java.util.Arrays;
 
 /** The calls of s2union.h, by their numbers in s2union.c, and what their statuses mean. */
 final class Calls {
-  static final int ROOM = -1, MEMORY = -2;
   static final int TOKEN = 0, DEBUG = 1;
   static final int DECODE = 0, FILE_ANCESTORS = 1, FROM_TOKENS = 2;
-  static final int LAST_LEVEL = 30, MOST_TOKEN = 16, MOST_DEBUG = 32, HEAD = 9;
+  static final int LAST_LEVEL = 30, HEAD = 9;
   static final long[] NONE = {};
 
-  // made by tools/calls, of the cases of s2union.c
+  // made by tools/calls, of s2union.h and of the cases of s2union.c
+  static final int ROOM = -1, MEMORY = -2, MOST_TOKEN = 16, MOST_DEBUG = 32;
   static final int VERSION = 0, IS_CELL = 1, LEVEL = 2, FACE = 3, PARENT = 4, CHILD = 5, RANGE_MIN = 6,
       RANGE_MAX = 7, SIZE = 8, NEXT = 9, PREV = 10, COMMON_ANCESTOR = 11, CELL_CONTAINS = 12,
       CELL_INTERSECTS = 13;

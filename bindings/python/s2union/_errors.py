@@ -27,7 +27,7 @@ class NotACellError(S2UnionError, ValueError):
     .. versionadded:: 1.2
     """
 
-    status = -3
+    status = -3  # NO_CELL
 
 
 class NotNormalizedError(S2UnionError, ValueError):
@@ -36,7 +36,7 @@ class NotNormalizedError(S2UnionError, ValueError):
     .. versionadded:: 1.2
     """
 
-    status = -4
+    status = -4  # NO_UNION
 
 
 class OutOfRangeError(S2UnionError, ValueError):
@@ -45,7 +45,7 @@ class OutOfRangeError(S2UnionError, ValueError):
     .. versionadded:: 1.2
     """
 
-    status = -5
+    status = -5  # ARGUMENT
 
 
 class TooManyCellsError(S2UnionError, ValueError):
@@ -54,7 +54,7 @@ class TooManyCellsError(S2UnionError, ValueError):
     .. versionadded:: 1.2
     """
 
-    status = -6
+    status = -6  # MANY
 
 
 class OutOfMemoryError(S2UnionError, MemoryError):
@@ -63,7 +63,7 @@ class OutOfMemoryError(S2UnionError, MemoryError):
     .. versionadded:: 1.2
     """
 
-    status = -2
+    status = -2  # MEMORY
 
 
 class UnionFileError(S2UnionError, ValueError):
@@ -79,7 +79,7 @@ class FileShortError(UnionFileError):
     .. versionadded:: 1.2
     """
 
-    status = -10
+    status = -10  # FILE_SHORT
 
 
 class FileVersionError(UnionFileError):
@@ -88,7 +88,7 @@ class FileVersionError(UnionFileError):
     .. versionadded:: 1.2
     """
 
-    status = -11
+    status = -11  # FILE_VERSION
 
 
 class FileTrailingError(UnionFileError):
@@ -97,7 +97,7 @@ class FileTrailingError(UnionFileError):
     .. versionadded:: 1.2
     """
 
-    status = -12
+    status = -12  # FILE_TRAILING
 
 
 class FileCellError(UnionFileError):
@@ -106,7 +106,7 @@ class FileCellError(UnionFileError):
     .. versionadded:: 1.2
     """
 
-    status = -13
+    status = -13  # FILE_CELL
 
 
 class UnknownStatusError(S2UnionError, ValueError):
