@@ -39,7 +39,7 @@ def versions(text):
     """The places of the version, whose file has this text."""
     major, minor, patch = map(int, text.split("."))
     whole, short = text.strip(), f"{major}.{minor}"
-    header, control = "crates/s2union_c/include/s2union.h", "databases/postgres/{}.control"
+    header, control = "crates/s2union_c/include/s2union.h", "bindings/postgres/{}.control"
     control_form = r"default_version = '(?P<value>.*)'"
     found = [
         ("README.md", r"^Version (?P<value>[\d.]+);", whole),

@@ -98,7 +98,7 @@ page() { (cd "$top/tests/python" && PYTHONPATH=$arm/lib/python python_on_arm -m 
 step "Python: docs/PYTHON.md" page PYTHON.md
 
 extension() { # FOLDER FLAGS..
-  cp -r "$top/databases/sqlite" "$work/$1" && # all anew: what lies there may be for x86-64
+  cp -r "$top/bindings/sqlite" "$work/$1" && # all anew: what lies there may be for x86-64
     make -B -C "$work/$1" CC=aarch64-linux-gnu-gcc PREFIX="$arm" "${@:2}"
 }
 in_sqlite() { # FOLDER TEST..

@@ -13,12 +13,12 @@ from typing import NamedTuple
 TOP = Path(__file__).resolve().parents[2]
 READ = ["tools/calls", "crates/s2union_c/src", "crates/s2union_c/include", "crates/s2cover/src/lib.rt",
         "bindings/rust/src", "bindings/python/s2union", "bindings/java/s2union", "bindings/java/s2union.c",
-        "bindings/page/core.js", "bindings/js/s2union.d.ts", "bindings/go", "bindings/c/s2union.ffi.h",
-        "bindings/cpp", "tests/c/examples.cc", "tests/c/calls.h", "docs/SQLITE.md", "databases/sqlite/functions.h",
-        "databases/sqlite/s2union_geo.c", "docs/GO.md", "VERSION", "README.md", "CITATION.cff", "docs/C.md",
+        "bindings/js/core.js", "bindings/js/s2union.d.ts", "bindings/go", "bindings/c/s2union.ffi.h",
+        "bindings/cpp", "tests/c/examples.cc", "tests/c/calls.h", "docs/SQLITE.md", "bindings/sqlite/functions.h",
+        "bindings/sqlite/s2union_geo.c", "docs/GO.md", "VERSION", "README.md", "CITATION.cff", "docs/C.md",
         "crates/s2calc/src/command_line.rt", "bindings/rust/Cargo.toml", "bindings/rust/serde/Cargo.toml",
-        "bindings/r/DESCRIPTION", "bindings/js/package.json", "databases/postgres/s2union.control",
-        "databases/postgres/s2union_geo.control", "databases/postgres/s2union_postgis.control"]
+        "bindings/r/DESCRIPTION", "bindings/js/package.json", "bindings/postgres/s2union.control",
+        "bindings/postgres/s2union_geo.control", "bindings/postgres/s2union_postgis.control"]
 HEADER = "crates/s2union_c/include/s2union.h"
 
 
@@ -72,9 +72,9 @@ MISTAKES = [
     Mistake("another version in the header", HEADER, "#define S2U_VERSION_MAJOR ", "#define S2U_VERSION_MAJOR 9"),
     Mistake("the number of another call in Java", "bindings/java/s2union/Calls.java", " CONTAINS_CELL = 2,",
             " CONTAINS_CELL = 3,"),
-    Mistake("a call of JavaScript that the library lacks", "bindings/page/core.js", '"s2u_union", [xs, ys]',
+    Mistake("a call of JavaScript that the library lacks", "bindings/js/core.js", '"s2u_union", [xs, ys]',
             '"s2u_unite", [xs, ys]', "s2u_unite: no such export"),
-    Mistake("a call of JavaScript that takes memory", "bindings/page/core.js", '"s2u_union", [xs, ys]',
+    Mistake("a call of JavaScript that takes memory", "bindings/js/core.js", '"s2u_union", [xs, ys]',
             '"s2u_range", [xs, ys]'),
     Mistake("an argument of the header without a word", HEADER, " * @param whole,part any numbers\n",
             " * @param whole any numbers\n", "s2u_cell_contains: its comment lacks the argument part"),
@@ -119,7 +119,7 @@ MISTAKES = [
             "Go: cell: CellID.Face: its comment lacks Since"),
     Mistake("another address of the repository than the path of Go", "CITATION.cff", "s2union.example.org",
             "example.com", "bindings/go/go.mod: not what tools/calls makes"),
-    Mistake("a list that JavaScript leaves out", "bindings/page/core.js", '"s2u_union", [xs, ys]', '"s2u_union", [xs]'),
+    Mistake("a list that JavaScript leaves out", "bindings/js/core.js", '"s2u_union", [xs, ys]', '"s2u_union", [xs]'),
     Mistake("a function that SQLite doesn't list", "docs/SQLITE.md", "\n| `s2_count(region)` |",
             "\n| `s2_size(region)` | how many |\n| `s2_count(region)` |"),
 ]

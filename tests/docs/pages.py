@@ -53,7 +53,7 @@ CALLS = {
     "Rust": (r"\w{2,}", ["bindings/rust/src/*.rs"], r"\b(?:fn|struct) {}\b"),
     "Rattle": (r"\w{2,}", ["crates/s2*/src/*.rt"], r"\bpub (?:fn|struct) {}\b"),
     "Python": (r"(?!in\b)\w{2,}", ["bindings/python/s2union/__init__.py"], r"\b(?:def|class) (?:{0}|__{0}__)\b"),
-    "SQL": (r"s2_\w+", ["databases/sqlite/*.c", "databases/postgres/*.sql"], r"\b{}\b"),
+    "SQL": (r"s2_\w+", ["bindings/sqlite/*.c", "bindings/postgres/*.sql"], r"\b{}\b"),
     "Script": (r"[a-z]{2,}", ["docs/SCRIPT.md"], r"`{}\b"),
     "JavaScript": (r"\w+", ["bindings/js/s2union.d.ts"], r"(?:\bfunction |^  (?:static |readonly )?|\bclass ){}\b"),
     "Java": (r"\w+", ["bindings/java/s2union/*.java"], r"\bpublic (?:static |final )*[\w\[\]]+ {}\b"),
@@ -66,10 +66,10 @@ ERRORS = {
     "Rust": (["bindings/rust/src/error.rs"], r"^    ([A-Z]\w+)(?: \{|\(\w+\),|,)$"),
     "Python": (["bindings/python/s2union/*.[cp]*", "bindings/python/s2union_geo/[!_]*.py"],
                r"raise (\w+)\(|PyExc_(\w+)|^class (?!UnionFile)(\w+Error)\((?!Exception)"),
-    "JavaScript": (["bindings/js/*.js", "bindings/page/core.js"], r"throw new (\w+)\("),
+    "JavaScript": (["bindings/js/*.js"], r"throw new (\w+)\("),
     "Java": (["bindings/java/s2union/*.java"], r"throw new (\w+)\("),
-    "PostgreSQL": (["databases/postgres/*.c"], r"ERRCODE_(\w+)"),
-    "SQLite": (["databases/sqlite/s2union.c"], r"^    case N\w+: return \"(.*)\";"),
+    "PostgreSQL": (["bindings/postgres/*.c"], r"ERRCODE_(\w+)"),
+    "SQLite": (["bindings/sqlite/s2union.c"], r"^    case N\w+: return \"(.*)\";"),
     "The calculator": (["crates/s2script/specs/Refusals.antt", "crates/s2calc/specs/Refusals.antt"],
                        r"codes \"([a-z-]+)\""),
 }
@@ -249,7 +249,7 @@ def unexplained():
 def functions_of_mariadb():
     """The functions of install.sql, and what docs/MARIADB.md has more or less, or docs/SQLITE.md under no such name,
     where a question about a cell is one about a union."""
-    installed = set(re.findall(r"FUNCTION (\w+)", (ROOT / "databases" / "mariadb" / "install.sql").read_text()))
+    installed = set(re.findall(r"FUNCTION (\w+)", (ROOT / "bindings" / "mariadb" / "install.sql").read_text()))
     table = "".join(re.findall(r"^\|.*", (ROOT / "docs" / "MARIADB.md").read_text(), re.M))
     others = installed ^ set(re.findall(r"\bs2_\w+", table))
     known = set(re.findall(r"`(s2_\w+)\(", (ROOT / "docs" / "SQLITE.md").read_text()))

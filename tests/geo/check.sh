@@ -21,7 +21,7 @@ need_countries make time sqlite3 libsqlite3-dev gdal-bin python3-qgis qgis-provi
 step "a copy of PostgreSQL $server" copied
 step "the extension for PostgreSQL" built build
 in_sqlite() {
-  cp "$top"/databases/sqlite/{Makefile,*.[ch]} "$work/usr" && make -C "$work/usr" PREFIX="$work/usr" install
+  cp "$top"/bindings/sqlite/{Makefile,*.[ch]} "$work/usr" && make -C "$work/usr" PREFIX="$work/usr" install
 }
 step "the extension for SQLite" in_sqlite
 [ "$failed" -eq 0 ] || finish

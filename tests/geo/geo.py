@@ -64,7 +64,7 @@ class Geo(page.Page):
             self.assertLess(numpy.minimum(apart, 360 - apart).max(), 1e-12)
 
         package = self.file("js")
-        stand_in = "".join(Path(page.TOP, path).read_text() for path in ("bindings/page/sphere.js",
+        stand_in = "".join(Path(page.TOP, path).read_text() for path in ("bindings/js/sphere.js",
                                                                          "tests/page/standin.js"))
         runpy.run_path(os.path.join(page.TOP, "tools", "page"))["make_package"](package, b"", stand_in)
         Path(self.file("places.txt")).write_text(text)

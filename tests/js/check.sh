@@ -9,7 +9,7 @@ module=$package/s2union.js
 
 over_a_stand_in() { # the package as tools/page makes it, but with the stand-in for the module
   /usr/bin/python3 -c 'import runpy, sys; runpy.run_path(sys.argv[1])["make_package"](sys.argv[2], b"", sys.argv[3])' \
-    "$top/tools/page" "$package" "$(cat "$top/bindings/page/sphere.js" "$top/tests/page/standin.js")"
+    "$top/tools/page" "$package" "$(cat "$top/bindings/js/sphere.js" "$top/tests/page/standin.js")"
 }
 
 need node nodejs

@@ -65,7 +65,7 @@ def random_union(choice, count, depth):
 
 def page_over_a_stand_in(folder):
     """Makes the page in a folder as tools/page does, but with a stand-in for the module."""
-    sample, stand_in = (TOP / "bindings/page/land.cells").read_bytes(), (HERE / "standin.js").read_text()
+    sample, stand_in = (TOP / "page/land.cells").read_bytes(), (HERE / "standin.js").read_text()
     (folder / "index.html").write_text(run_path(str(TOP / "tools/page"))["page_of"](b"", sample, stand_in))
 
 

@@ -10,7 +10,7 @@
 # ---- the extension: as it is, over guarded allocations, and with the sanitizers
 
 step "a copy of PostgreSQL $server" copied
-source=$top/databases/postgres
+source=$top/bindings/postgres
 for file in "$source"/*.[ch]; do step "no arithmetic on cells: ${file##*/}" no_arithmetic "$file"; done
 step "build" built build COPT=-Werror
 rebuilt() { # if the header or the archive has changed, and only then
@@ -82,7 +82,7 @@ covered() {
   local files=("$source"/*.[ch])
   files=("${files[@]##*/}")
   tests LargeQuestions &&
-    /usr/bin/python3 "$top/tests/c/coverage.py" "$work/counted" "${files[@]/%/=databases/postgres/}" \
+    /usr/bin/python3 "$top/tests/c/coverage.py" "$work/counted" "${files[@]/%/=bindings/postgres/}" \
       s2union_geo.h=bindings/c/s2union_geo.h
 }
 step "what these tests execute" covered

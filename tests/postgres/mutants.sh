@@ -1,6 +1,6 @@
 #!/usr/bin/env bash
 # Makes mistakes in the extension for PostgreSQL, each of which its tests must find: tests/run postgres-mutants --
-# [NAME..]. They are those of databases/postgres/mutants.txt. Each is built over guarded allocations and put into one
+# [NAME..]. They are those of bindings/postgres/mutants.txt. Each is built over guarded allocations and put into one
 # running server, where it gets a database of its own. One whose tests were killed was not tried, and fails. The last
 # line is 'N passed, M failed'.
 . "$(dirname "$0")/../steps.sh"
@@ -8,7 +8,7 @@
 export S2UNION_ROUNDS=60 SECONDS_OF_TESTS=120
 
 survives() { # NAME
-  mutant "$1" "$top"/databases/postgres/{*.c,*.h,*.sql,*.control} && guarded build "$work/mutant" -B COPT=-O1 &&
+  mutant "$1" "$top"/bindings/postgres/{*.c,*.h,*.sql,*.control} && guarded build "$work/mutant" -B COPT=-O1 &&
     cp "$work"/mutant/*.{sql,control} "$work/build" && put_in build && is_up && : >"$work/data/log" &&
     dropdb --if-exists --force mutant && createdb mutant &&
     psql -qXd mutant -c "LOAD 's2union'" || return 2 # all that it calls is there
@@ -19,4 +19,4 @@ survives() { # NAME
 
 step "a copy of PostgreSQL $server" copied
 step "a cluster on a socket" begun data
-try_mutants "$top/databases/postgres/mutants.txt" "$@"
+try_mutants "$top/bindings/postgres/mutants.txt" "$@"

@@ -28,7 +28,7 @@ built() { # FOLDER FLAGS..: the extension as it is
   local folder=$work/$1
   shift
   mkdir -p "$folder" &&
-    cp -r "$top"/databases/postgres/{Makefile,*.c,*.h,*.control,*.sql,sql,expected} "$folder" &&
+    cp -r "$top"/bindings/postgres/{Makefile,*.c,*.h,*.control,*.sql,sql,expected} "$folder" &&
     make -C "$folder" PREFIX="$work/usr" PG_CONFIG="$config" "$@"
 }
 
@@ -36,7 +36,7 @@ guarded() { # FOLDER SOURCES FLAGS..: the extension over the allocator of guarde
   local folder=$work/$1 sources=$2 file name
   shift 2
   mkdir -p "$folder/rewritten" && : >"$folder/rewritten.c" &&
-    cp "$top"/databases/postgres/{Makefile,*.control,*.sql} "$top/tests/postgres/guarded.c" "$folder" &&
+    cp "$top"/bindings/postgres/{Makefile,*.control,*.sql} "$top/tests/postgres/guarded.c" "$folder" &&
     cp "$sources"/{planner.c,geo.c,value.h} "$folder" || return
   for file in "$sources"/*.c; do
     name=$(basename "$file")

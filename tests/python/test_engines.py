@@ -146,7 +146,7 @@ class Mariadb(Engine):
     def test_functions(self):
         """docs/MARIADB.md: all pairs of a leaf and a covering and of two coverings, set operations beside the module
         for Python, and what is wrong, which is NULL."""
-        install = (Path(__file__).resolve().parents[2] / "databases" / "mariadb" / "install.sql").read_text()
+        install = (Path(__file__).resolve().parents[2] / "bindings" / "mariadb" / "install.sql").read_text()
         values = ",".join(f"('{name}', x'{Union(cells).to_bytes().hex()}')" for name, cells in REGIONS.items())
         pairs_of_unions = "SELECT count(*) FROM regions a JOIN regions b ON a.name < b.name AND s2_intersects(a.u, b.u)"
         self.ask(f"""{self.given('')} {install}

@@ -12,7 +12,7 @@ sqlite=(sqlite3 -batch -init /dev/null :memory:) # without its user's settings
 
 # ---- the extension
 
-source=$top/databases/sqlite
+source=$top/bindings/sqlite
 step "no arithmetic on cells" no_arithmetic "$source/s2union.c"
 # What is not proved stays short. Of these lines 110 are for listings that make a cell or a tile when it is asked for,
 # texts that are read in pieces, and windows, which the library, whose calls answer all at once, can't have. 5 are for
@@ -93,8 +93,8 @@ covered() {
     tests covered test_sqlite.AgainstTheModel test_sqlite.WhatIsRefused test_geo &&
     "$work/memory" "$work/covered/"mod_s2union{,_geo} && documented covered &&
     "${sqlite[@]}" ".load $work/covered/mod_s2union sqlite3_sunion_init" &&
-    /usr/bin/python3 "$top/tests/c/coverage.py" "$work/covered" s2union.c=databases/sqlite/s2union.c \
-      s2union_geo.c=databases/sqlite/s2union_geo.c s2union_geo.h=bindings/c/s2union_geo.h
+    /usr/bin/python3 "$top/tests/c/coverage.py" "$work/covered" s2union.c=bindings/sqlite/s2union.c \
+      s2union_geo.c=bindings/sqlite/s2union_geo.c s2union_geo.h=bindings/c/s2union_geo.h
 }
 step "what these tests execute" covered
 valgrind_run() { # the page shows errors, so sqlite3 ends with 1; all its calls have to be there

@@ -1,6 +1,6 @@
 #!/usr/bin/env bash
 # Makes mistakes in the extension for SQLite, each of which its tests must find: tests/run sqlite-mutants -- [NAME..].
-# They are those of databases/sqlite/mutants.txt. The tests run plainly and then under the sanitizers. One whose tests
+# They are those of bindings/sqlite/mutants.txt. The tests run plainly and then under the sanitizers. One whose tests
 # were killed was not tried, and fails. The last line is 'N passed, M failed'.
 . "$(dirname "$0")/../steps.sh"
 . "$top/tests/sqlite/needs.sh"
@@ -25,10 +25,10 @@ tests() { # FOLDER PRELOAD
 }
 
 survives() { # NAME
-  mutant "$1" "$top"/databases/sqlite/{Makefile,*.[ch]} && build "$work/plain" CFLAGS="-O1 -Wno-error" || return 2
+  mutant "$1" "$top"/bindings/sqlite/{Makefile,*.[ch]} && build "$work/plain" CFLAGS="-O1 -Wno-error" || return 2
   refuse "$work/plain" "" || return
   build "$work/sanitized" CFLAGS="-O1 -g -Wno-error -fsanitize=address,undefined -fno-sanitize-recover" || return 2
   refuse "$work/sanitized" "$(gcc -print-file-name=libasan.so) $(gcc -print-file-name=libubsan.so)"
 }
 
-try_mutants "$top/databases/sqlite/mutants.txt" "$@"
+try_mutants "$top/bindings/sqlite/mutants.txt" "$@"
