@@ -5,8 +5,8 @@ Each end of a part that is no good one has to count as a failure in tests/run, e
 checks nothing, each mutant there that isn't found, each check of texts that finds something or looks at nothing, each
 page of SQL with an answer that isn't said, and each line of C that computes. The full tier has to have each test of the
 page. Then each mistake below is made in a copy of the repository, and the check beside it, of tests/docs, tests/mutants
-or tools/statement, has to find more than it does without it. tests/c/table.py does the same for tools/calls. The last
-line is 'N passed, M failed'.
+or tools/statement, has to find more than it does without it. tests/tools/table.py does the same for tools/calls. The
+last line is 'N passed, M failed'.
 """
 import contextlib
 import importlib.machinery

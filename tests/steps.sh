@@ -103,7 +103,7 @@ has_all_calls() { # HEADER BUT: whether the lines read have each call of a heade
 }
 
 no_arithmetic() { # FILE
-  /usr/bin/python3 "$top/tests/c/no_arithmetic.py" "$1"
+  /usr/bin/python3 "$top/tests/no_arithmetic.py" "$1"
 }
 
 block() { # PAGE FENCE: the first block of a page of docs that begins with this fence

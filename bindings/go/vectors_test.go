@@ -21,7 +21,7 @@ type (
 	CellUnion = s2union.CellUnion
 )
 
-// TestVectors asks the questions of tests/python/vectors.py and edges.py, in the file that S2UNION_VECTORS names, and
+// TestVectors asks the questions of tests/model/vectors.py and edges.py, in the file that S2UNION_VECTORS names, and
 // compares the answers.
 func TestVectors(t *testing.T) {
 	path := os.Getenv("S2UNION_VECTORS")

@@ -77,8 +77,8 @@ refusing() {
 }
 step "C: each allocation refused in turn" refusing
 unions() { # with a heap of its own
-  aarch64-linux-gnu-g++ -std=c++17 -D_DEFAULT_SOURCE -O2 "${strict[@]}" -I"$arm/include" "$top/tests/c/cell_union.cc" \
-    "$arm/lib/libs2union_noheap.a" -o "$work/unions" && on_arm "$work/unions"
+  aarch64-linux-gnu-g++ -std=c++17 -D_DEFAULT_SOURCE -O2 "${strict[@]}" -I"$arm/include" \
+    "$top/tests/cpp/cell_union.cc" "$arm/lib/libs2union_noheap.a" -o "$work/unions" && on_arm "$work/unions"
 }
 step "C++: s2union.hpp" unions
 wants() { # FILE: for any page size up to 64 KiB, with nothing of a C library after 2.17, and no executable stack
@@ -92,7 +92,9 @@ step "the shared library: pages, symbols, stack" wants "$arm/lib/libs2union.so.1
 
 # ---- Python, SQLite, Go
 
-in_python() { (cd "$top/tests/python" && PYTHONPATH=$arm/lib/python python_on_arm "$tests/unittests.py" "$@"); }
+in_python() ( # FOLDER TEST..
+  cd "$top/tests/python" && PYTHONPATH=$arm/lib/python:$top/tests python_on_arm "$tests/unittests.py" "$@"
+)
 step "Python: against the model, and the module" in_python "$top/tests/python" test_library
 page() { (cd "$top/tests/python" && PYTHONPATH=$arm/lib/python python_on_arm -m doctest "$top/docs/$1"); }
 step "Python: docs/PYTHON.md" page PYTHON.md
@@ -103,7 +105,7 @@ extension() { # FOLDER FLAGS..
 }
 in_sqlite() { # FOLDER TEST..
   (
-    cd "$top/tests/sqlite" && export PYTHONPATH=$top/tests/python S2UNION_ROUNDS=${S2UNION_ROUNDS:-1500}
+    cd "$top/tests/sqlite" && export PYTHONPATH=$top/tests S2UNION_ROUNDS=${S2UNION_ROUNDS:-1500}
     S2UNION_SQLITE=$work/$1/mod_s2union.so python_on_arm "$tests/unittests.py" "$top/tests/sqlite" "${@:2}"
   )
 }
@@ -119,7 +121,8 @@ step "SQLite: a union that is asked for each row is looked at once" in_sqlite co
 
 in_go() (
   export PYTHONDONTWRITEBYTECODE=1
-  for asked in vectors edges; do /usr/bin/python3 "$top/tests/python/$asked.py" || exit 1; done >"$work/vectors"
+  export PYTHONPATH=$top/tests
+  for asked in vectors edges; do /usr/bin/python3 -m "model.$asked" || exit 1; done >"$work/vectors"
   cd "$top/bindings/go" &&
     export GOPATH=$work/go GOCACHE=$work/go-cache GOFLAGS=-mod=mod GOPROXY=off GOTOOLCHAIN=local &&
     GOARCH=arm64 CGO_ENABLED=1 CC=aarch64-linux-gnu-gcc PKG_CONFIG_PATH=$arm/lib/pkgconfig \
@@ -139,7 +142,7 @@ rows() {
 }
 step "s2calc: its own row" rows
 as_a_process() {
-  PYTHONDONTWRITEBYTECODE=1 PYTHONPATH=$top/tests/peer:$top/tests/python /usr/bin/python3 "$tests/unittests.py" \
+  PYTHONDONTWRITEBYTECODE=1 PYTHONPATH=$top/tests /usr/bin/python3 "$tests/unittests.py" \
     "$top/tests/program"
 }
 step "s2calc: as a process" as_a_process

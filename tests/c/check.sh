@@ -91,7 +91,7 @@ done
 step "header: run" "$work/header"
 
 in_degrees() { # COMPILER OPTION..: places, with the leaves that S2 has there
-  (cd "$top/tests/python" && /usr/bin/python3 -Bc 'from places import POINTS
+  (cd "$top/tests" && /usr/bin/python3 -Bc 'from model.places import POINTS
 for place in POINTS: print(*place)') >"$work/places" &&
     "$@" "${strict[@]}" -I"$include" "$tests/points.c" -x none -o "$work/points" "$static" -lm &&
     "$work/points" <"$work/places"
@@ -143,8 +143,8 @@ step "fuzzer, $seconds seconds" fuzzed
 
 questions() { # what all bindings are asked; those for Go and Rust are also the plain model's, which they can't ask
   export PYTHONDONTWRITEBYTECODE=1
-  /usr/bin/python3 "$top/tests/python/edges.py" >"$work/edges" &&
-    /usr/bin/python3 "$top/tests/python/vectors.py" | cat - "$work/edges" >"$work/vectors"
+  PYTHONPATH=$top/tests /usr/bin/python3 -m model.edges >"$work/edges" &&
+    PYTHONPATH=$top/tests /usr/bin/python3 -m model.vectors | cat - "$work/edges" >"$work/vectors"
 }
 step "questions and edges for C++, Go and Rust" questions
 export S2UNION_VECTORS=$work/vectors
@@ -152,21 +152,21 @@ export S2UNION_VECTORS=$work/vectors
 # ---- unions for C++
 
 unions() { # COMPILER OPTION..: builds the test of s2union.hpp and runs it
-  "$@" -D_DEFAULT_SOURCE "${strict[@]}" -Wconversion -I"$include" "$tests/cell_union.cc" "$noheap" -o "$work/unions" \
-    && "$work/unions"
+  "$@" -D_DEFAULT_SOURCE "${strict[@]}" -Wconversion -I"$include" "$top/tests/cpp/cell_union.cc" "$noheap" \
+    -o "$work/unions" && "$work/unions"
 }
 step "s2union.hpp: g++, under the sanitizers" unions g++ -std=c++17 -fsanitize=address,undefined -fno-sanitize-recover
 step "s2union.hpp: clang++" unions clang++ -std=c++20
 at_edges() {
   g++ -std=c++17 -fsanitize=address,undefined -fno-sanitize-recover "${strict[@]}" -Wconversion -I"$include" \
-    "$tests/edges.cc" "$static" -o "$work/at-edges" && "$work/at-edges" "$work/edges"
+    "$top/tests/cpp/edges.cc" "$static" -o "$work/at-edges" && "$work/at-edges" "$work/edges"
 }
 step "s2union.hpp and s2union.h: the edges" at_edges
 each_member() { # in the order of C++20, and of what comes first
   local standard
   for standard in 17 20; do
     g++ -std=c++$standard -fsanitize=address,undefined -fno-sanitize-recover "${strict[@]}" -Wconversion -I"$include" \
-      "$tests/examples.cc" "$static" -o "$work/each-member" && "$work/each-member" || return 1
+      "$top/tests/cpp/examples.cc" "$static" -o "$work/each-member" && "$work/each-member" || return 1
   done
 }
 step "s2union.hpp: an example of each member" each_member
@@ -174,7 +174,8 @@ step "s2union.hpp: g++, without exceptions" unions g++ -std=c++17 -fno-exception
 apart() { # no function of the header has one name in a file with exceptions and in one without
   local kind
   for kind in exceptions no-exceptions; do
-    g++ -std=c++17 -D_DEFAULT_SOURCE "-f$kind" -I"$include" -c "$tests/cell_union.cc" -o "$work/$kind.o" || return 1
+    g++ -std=c++17 -D_DEFAULT_SOURCE "-f$kind" -I"$include" -c "$top/tests/cpp/cell_union.cc" \
+      -o "$work/$kind.o" || return 1
     nm "$work/$kind.o" | awk '$2 ~ /[VW]/ { print $3 }' | grep 7s2union | sort >"$work/$kind" && [ -s "$work/$kind" ] ||
       return 1
   done
@@ -183,7 +184,7 @@ apart() { # no function of the header has one name in a file with exceptions and
 step "s2union.hpp: with exceptions and without, in one program" apart
 covered() {
   unions g++ -std=c++17 -O0 -g --coverage -fkeep-inline-functions &&
-    /usr/bin/python3 "$top/tests/c/coverage.py" "$work" s2union.hpp=bindings/cpp/s2union.hpp
+    /usr/bin/python3 "$top/tests/coverage.py" "$work" s2union.hpp=bindings/cpp/s2union.hpp
 }
 step "s2union.hpp: what its test executes" covered
 
@@ -235,7 +236,7 @@ of_module() { # what the module wants and offers: what each Python from 3.8 on h
 step "Python: what its module wants of the system" of_module
 python() {
   (
-    cd "$top/tests/python" && export PYTHONPATH=$work/usr/lib/python PYTHONDONTWRITEBYTECODE=1
+    cd "$top/tests/python" && export PYTHONPATH=$work/usr/lib/python:$top/tests PYTHONDONTWRITEBYTECODE=1
     timeout 600 /usr/bin/python3 -X dev "$@"
   )
 }
@@ -252,8 +253,9 @@ sanitized() ( # the module in C with the sanitizers, and what C itself gives for
   mkdir "$work/sanitized" && cp -r "$work/usr/lib/python/s2union" "$work/sanitized" &&
     gcc -std=gnu11 -O1 -g -fsanitize=address,undefined -fno-sanitize-recover -fPIC -shared -I"$(python_headers)" \
       -I"$include" "$top/bindings/python/s2union/_library.c" -o "$work/sanitized/s2union/_library.abi3.so" || return
-  cd "$top/tests/python" && export PYTHONMALLOC=malloc PYTHONDONTWRITEBYTECODE=1 ASAN_OPTIONS=detect_leaks=0
-  LD_PRELOAD="$(gcc -print-file-name=libasan.so) $(gcc -print-file-name=libubsan.so)" PYTHONPATH=$work/sanitized \
+  cd "$top/tests/python" && export PYTHONPATH=$work/sanitized:$top/tests PYTHONDONTWRITEBYTECODE=1
+  export PYTHONMALLOC=malloc ASAN_OPTIONS=detect_leaks=0
+  LD_PRELOAD="$(gcc -print-file-name=libasan.so) $(gcc -print-file-name=libubsan.so)" \
     S2UNION_LIBRARY=$work/usr/lib/libs2union.so.1 timeout 600 /usr/bin/python3 -m unittest -q test_calls test_edges
 )
 step "Python: the same, and the edges, under the sanitizers" sanitized

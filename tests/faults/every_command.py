@@ -1,13 +1,13 @@
-"""The script with every command, and what a run of it may do in which some call failed. tests/peer/model.py says what
-all other lines do."""
+"""The script with every command, and what a run of it may do in which some call failed. The plain model says what all
+other lines do."""
 import copy
 import os
 import struct
 import sys
 
 TOP = os.path.dirname(os.path.dirname(os.path.dirname(os.path.abspath(__file__))))
-sys.path[:0] = [os.path.join(TOP, "tests/peer"), os.path.join(TOP, "tests/program")]
-import model
+sys.path[:0] = [os.path.join(TOP, "tests"), os.path.join(TOP, "tests/program")]
+from model import calculator as model
 from process import PROGRAM
 
 LIMIT, DEPTH = 10_000, 3  # the oldest states are dropped

@@ -4,7 +4,7 @@
 In each run one call of the proved program fails: a read or a write of the script, the answers or a file, or the
 opening, the look at or the closing of a file. In some runs each read of the script and each write of answers transfers
 a few bytes. Answers, status, standard error and files must be what docs/SCRIPT.md says of such a failure;
-tests/peer/model.py says what all other lines do. Each kind of call has to fail at least once, so that none passes by
+The plain model says what all other lines do. Each kind of call has to fail at least once, so that none passes by
 tests/refuse.c. Then the same with all calls of the kind from one on, as on a disk that goes on failing: such a run
 comes to an end, and tries nothing again and again. In one run each file becomes a device just before it is opened. The
 last line is 'N passed, M failed'.

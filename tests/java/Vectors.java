@@ -18,7 +18,7 @@ import s2union.Refusal;
 import s2union.UnionFile;
 
 /**
- * Asks the package for Java the questions of tests/python/vectors.py: java Vectors FILE. The last line is 'N passed, M
+ * Asks the package for Java the questions of tests/model/vectors.py: java Vectors FILE. The last line is 'N passed, M
  * failed'.
  */
 final class Vectors {

@@ -48,7 +48,7 @@ by_comments() {
     by_java -cp "$jar:$work/tests" Examples
 }
 step "the examples of its comments" by_comments
-questions() { PYTHONDONTWRITEBYTECODE=1 /usr/bin/python3 "$top/tests/python/vectors.py" >"$work/vectors"; }
+questions() { PYTHONDONTWRITEBYTECODE=1 PYTHONPATH=$top/tests /usr/bin/python3 -m model.vectors >"$work/vectors"; }
 step "questions" questions
 asked() { # [OPTION] CLASS WORD..: with Java's own checks of native code, which say what they find
   by_java -Xcheck:jni -cp "$jar:$work/tests" "$@" >"$work/said" 2>&1 || { tail -20 "$work/said" && return 1; }

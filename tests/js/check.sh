@@ -26,12 +26,12 @@ else
 fi
 [ "$failed" -eq 0 ] || finish
 
-questions() { PYTHONDONTWRITEBYTECODE=1 /usr/bin/python3 "$top/tests/python/vectors.py" "$rounds" >"$work/vectors"; }
+questions() { PYTHONPATH=$top/tests /usr/bin/python3 -B -m model.vectors "$rounds" >"$work/vectors"; }
 step "questions" questions
 step "against the model" node "$tests/vectors.mjs" "$module" "$work/vectors"
 step "what is refused, and what stays" node "$tests/refusals.mjs" "$module" "$version" "$cells"
 
-places() { PYTHONPATH=$top/tests/python /usr/bin/python3 -B -c 'from places import POINTS
+places() { PYTHONPATH=$top/tests /usr/bin/python3 -B -c 'from model.places import POINTS
 for place in POINTS: print(*place)' >"$work/places"; }
 step "places, with the leaves that S2 has there" places
 step "points in degrees, and GeoJSON" node "$tests/geo.mjs" "$package" "$work/places"

@@ -1,4 +1,4 @@
-// Asks the package for JavaScript the questions of tests/python/vectors.py: vectors.mjs MODULE VECTORS. What takes the
+// Asks the package for JavaScript the questions of tests/model/vectors.py: vectors.mjs MODULE VECTORS. What takes the
 // heap is not in it, and is named here. The last line is 'N passed, M failed'.
 import {readFileSync} from "node:fs";
 import {pathToFileURL} from "node:url";

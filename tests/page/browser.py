@@ -29,7 +29,8 @@ from selenium.webdriver.support.ui import Select
 
 HERE = Path(__file__).resolve().parent
 TOP = HERE.parents[1]
-sys.path.append(str(TOP / "tests/python"))
+sys.path.append(str(TOP / "tests"))
+from model import edges  # noqa: E402
 
 SIDE = 2**30
 FAULTS = {
@@ -573,10 +574,9 @@ class Trial:
         """What edges.py asks, of the calls that the page makes, but for numbers that are no cells in questions about a
         cell: the page asks these of its own cells alone."""
         self.open()
-        edges = run_path(str(TOP / "tests/python/edges.py"))
-        rows = [row for row in edges["rows"]()
+        rows = [row for row in edges.rows()
                 if not (row[0] in ("contains_cell", "intersects_cell") and row[-1] == "!no_cell")]
-        names = {text: name for name, (_, text) in edges["REFUSALS"].items()}
+        names = {text: name for name, (_, text) in edges.REFUSALS.items()}
         calls, answers = self.run((HERE / "edges.js").read_text(), [row[:-1] for row in rows], names)
         asked = [row for row in rows if row[0] in calls]
         wrong = [(row, answer) for row, answer in zip(asked, answers) if answer != row[-1]]

@@ -1,4 +1,4 @@
-// The page's answers to rows of tests/python/edges.py: the arguments are the rows without their answers, and the names
+// The page's answers to rows of tests/model/edges.py: the arguments are the rows without their answers, and the names
 // of refusals by what is said of them.
 const [rows, names] = arguments;
 const {core} = s2page;

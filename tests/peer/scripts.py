@@ -9,8 +9,9 @@ import subprocess
 import sys
 import tempfile
 
-from model import COMMANDS, COMPARISONS, EDITS_BY_REGISTER, LONGEST_LINE, REGISTERS, SIDE
-from model import Calculator, debug, identifier, joined, file_text, run_of, square, token
+sys.path.append(os.path.dirname(os.path.dirname(os.path.realpath(__file__))))
+from model.calculator import COMMANDS, COMPARISONS, EDITS_BY_REGISTER, LONGEST_LINE, REGISTERS, SIDE
+from model.calculator import Calculator, debug, identifier, joined, file_text, run_of, square, token
 
 TOP = os.path.dirname(os.path.dirname(os.path.dirname(os.path.abspath(__file__))))
 PROGRAM = os.environ.get("S2CALC", os.path.join(TOP, "crates/calculator/out/calculator"))

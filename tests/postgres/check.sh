@@ -82,7 +82,7 @@ covered() {
   local files=("$source"/*.[ch])
   files=("${files[@]##*/}")
   tests LargeQuestions &&
-    /usr/bin/python3 "$top/tests/c/coverage.py" "$work/counted" "${files[@]/%/=bindings/postgres/}" \
+    /usr/bin/python3 "$top/tests/coverage.py" "$work/counted" "${files[@]/%/=bindings/postgres/}" \
       s2union_geo.h=bindings/c/s2union_geo.h
 }
 step "what these tests execute" covered

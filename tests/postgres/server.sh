@@ -104,7 +104,7 @@ tests() { # TEST..: those of test_postgres.py, or of TESTS, or with the name of 
     case $name in test_*) names+=("$name") ;; *) names+=("${TESTS:-test_postgres}.$name") ;; esac
   done
   (
-    cd "$top/tests/postgres" && export PYTHONPATH=$top/tests/python:${PYTHONPATH:-} PYTHONDONTWRITEBYTECODE=1
+    cd "$top/tests/postgres" && export PYTHONPATH=$top/tests:${PYTHONPATH:-} PYTHONDONTWRITEBYTECODE=1
     export EXTENSIONS=$copy/usr/share/postgresql/$server/extension
     timeout "${SECONDS_OF_TESTS:-1800}" /usr/bin/python3 -m unittest -q -f "${names[@]}"
   )

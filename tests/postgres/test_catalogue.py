@@ -6,7 +6,7 @@ import os
 import re
 import unittest
 
-import model
+from model import unions as model
 from test_postgres import PAGES, TRY, Tests, ask, psql
 
 VERSION = model.VERSION.rpartition(".")[0]

@@ -7,7 +7,7 @@ import subprocess
 import time
 import unittest
 
-import model
+from model import unions as model
 from test_postgres import DATABASE, ROUNDS, Tests, array, psql, tokens, u
 
 # The most memory that a session has had, in MB.

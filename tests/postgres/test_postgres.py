@@ -1,6 +1,6 @@
 """The extension for PostgreSQL against the plain model, its indexes against scans, and what it refuses.
 
-The server is the one that PGHOST names, EXTENSIONS is its folder of extensions, and the model is in tests/python.
+The server is the one that PGHOST names, EXTENSIONS is its folder of extensions, and the model is in tests/model.
 S2UNION_ROUNDS is the number of random rows: 1,000 if it isn't set. With S2UNION_ONE_SESSION most scripts share one
 session."""
 
@@ -14,11 +14,11 @@ import time
 import unittest
 from pathlib import Path
 
-import model
-import plain_sql
-import random_cells
-from places import MIDDLES, POINTS
-from random_cells import signed
+from model import unions as model
+from model import plain_sql
+from model import random_cells
+from model.places import MIDDLES, POINTS
+from model.random_cells import signed
 
 ROUNDS = int(os.environ.get("S2UNION_ROUNDS", "1000"))
 FLIPPED = min(100, ROUNDS // 10)

@@ -13,7 +13,7 @@ import unittest
 
 TESTS = os.path.dirname(os.path.dirname(os.path.realpath(__file__)))
 FOLDER = os.path.join(TESTS, "program")
-sys.path += [TESTS, FOLDER, os.path.join(TESTS, "peer"), os.path.join(TESTS, "python")]
+sys.path += [TESTS, FOLDER]
 from counting import has_failed  # noqa: E402
 
 

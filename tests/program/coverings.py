@@ -1,11 +1,11 @@
 """The coverings of every rectangle in a corner of eight by eight leaves, and of what a union shares with it.
 
-What they have is found leaf by leaf, at the places where the plain model (tests/peer/model.py) has the leaves."""
+What they have is found leaf by leaf, at the places where the plain model (tests/model/calculator.py) has the leaves."""
 import functools
 import itertools
 import unittest
 
-from model import joined, leaf_at, normal_form, token
+from model.calculator import joined, leaf_at, normal_form, token
 from process import ran
 
 SPANS = [(low, high) for low in range(8) for high in range(low, 8)]

@@ -4,7 +4,7 @@ import random
 import tempfile
 import unittest
 
-from model import Calculator, file_text, joined, run_of, token
+from model.calculator import Calculator, file_text, joined, run_of, token
 from process import ran
 
 # Cells of these parents are in the register, but for one descendant: so one that is added merges with its siblings, one

@@ -1,12 +1,12 @@
 """Union files and session files: refused bytes, all beginnings, and all texts that differ from a file in one byte.
 
-What each text stands for is read by the plain model (tests/peer/model.py). None is too deep or has too many cells."""
+What each text stands for is read by the plain model. None is too deep or has too many cells."""
 import os
 import shutil
 import tempfile
 import unittest
 
-from model import MOST_CHANGES, MOST_IN_A_FILE, file_text, read_file, read_session, session_text
+from model.calculator import MOST_CHANGES, MOST_IN_A_FILE, file_text, read_file, read_session, session_text
 from process import ran
 from sessions import cells, change, number, session
 

@@ -7,7 +7,7 @@ import tempfile
 import unittest
 from xml.etree import ElementTree
 
-import model
+from model import calculator as model
 from process import ran
 
 SIDE = 2**30

@@ -6,7 +6,7 @@ import tempfile
 import unittest
 
 from long_registers import SECONDS, SQUARE, THIRDS, file_of, line
-from model import Calculator
+from model.calculator import Calculator
 from process import PROGRAM
 from sessions import size_after
 

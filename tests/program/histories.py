@@ -1,7 +1,7 @@
 """Undo and redo at the greatest depth, and edits that leave the history as it is."""
 import unittest
 
-from model import REGISTERS
+from model.calculator import REGISTERS
 from process import ran
 
 

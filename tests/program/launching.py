@@ -10,7 +10,7 @@ import subprocess
 import tempfile
 import unittest
 
-import model
+from model import calculator as model
 from process import LAUNCHER, PROGRAM, TOP, first_line, launched, ran
 import prompt  # which process finds
 

@@ -3,7 +3,7 @@ import re
 import tempfile
 import unittest
 
-from model import COMMANDS, LONGEST_LINE, REGISTERS, edited, question
+from model.calculator import COMMANDS, LONGEST_LINE, REGISTERS, edited, question
 from process import ran
 
 NAME = (b"a file name (1 to 64 letters, digits, '.', '_' or '-'; it must not begin with '.' or '-'; "

@@ -7,7 +7,7 @@ import subprocess
 import tempfile
 import unittest
 
-from model import REGISTERS
+from model.calculator import REGISTERS
 from process import PROGRAM, ran
 
 

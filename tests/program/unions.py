@@ -2,7 +2,7 @@
 import unittest
 
 from process import ran
-from worked import CUT, HELD, LEAF, NORMAL
+from model.worked import CUT, HELD, LEAF, NORMAL
 
 
 def said(a, b, *lines):

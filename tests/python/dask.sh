@@ -18,7 +18,7 @@ need_packages
 . "$top/tests/geo/countries.sh"
 need_countries
 need_library
-export PYTHONPATH=$work/usr/lib/python:$top/tests/python:$top/tests/geo:$top/docs/examples PYTHONDONTWRITEBYTECODE=1
+export PYTHONPATH=$work/usr/lib/python:$top/tests:$top/tests/geo:$top/docs/examples PYTHONDONTWRITEBYTECODE=1
 export WORLD=$work/world/countries WORK=$work
 
 page() {

@@ -10,7 +10,7 @@ need_packages
 need_library
 
 tests() (
-  cd "$top/tests/python" && export PYTHONPATH=$work/mutant PYTHONDONTWRITEBYTECODE=1
+  cd "$top/tests/python" && export PYTHONPATH=$work/mutant:$top/tests PYTHONDONTWRITEBYTECODE=1
   S2UNION_LIBRARY=$work/usr/lib/libs2union.so timeout 600 /usr/bin/python3 -m unittest -q -f test_library test_calls \
     test_edges
 )

@@ -18,7 +18,7 @@ import pandas
 from dask import bag, dataframe, delayed
 from dask.distributed import Client, LocalCluster, wait
 
-import random_cells
+from model import random_cells
 import s2union
 from s2union import Union
 

@@ -3,7 +3,7 @@
 import re
 import unittest
 
-import edges
+from model import edges
 import numpy
 import s2union
 from s2union import Union, UnionFile

@@ -13,8 +13,8 @@ from pathlib import Path
 
 import earth
 import numpy
-import plain_sql
-from random_cells import signed
+from model import plain_sql
+from model.random_cells import signed
 from s2union import Union, child, common_ancestor, from_token, level, parent, range_max, range_min, tokens
 
 WORK = Path(os.environ["WORK"])

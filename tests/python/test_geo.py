@@ -27,7 +27,7 @@ from s2union_geo import outlines
 from s2union_geo.geojson import rings
 from s2union_geo.sphere import geographic, on_cube
 
-from places import MIDDLES, POINTS
+from model.places import MIDDLES, POINTS
 
 SIDE = 2**24  # of a cell of level 6, in leaves
 SQUARE = [[0, 0], [10, 0], [10, 10], [0, 10], [0, 0]]

@@ -2,7 +2,7 @@
 
 import unittest
 
-import model
+from model import unions as model
 from hypothesis import given, settings
 from hypothesis import strategies as made
 from s2union import Union

@@ -26,11 +26,11 @@ from pathlib import Path
 from types import SimpleNamespace
 from unittest import mock
 
-import model
+from model import unions as model
 import s2union
-from random_cells import FACE, Random
+from model.random_cells import FACE, Random
 from s2union import Union, UnionFile
-from worked import CUT, HELD, LEAF, NORMAL
+from model.worked import CUT, HELD, LEAF, NORMAL
 
 try:
     import numpy

@@ -44,13 +44,13 @@ tests() { # FOLDER TEST..
   local folder=$1
   shift
   (
-    cd "$top/tests/sqlite" && export PYTHONPATH=$top/tests/python PYTHONDONTWRITEBYTECODE=1
+    cd "$top/tests/sqlite" && export PYTHONPATH=$top/tests PYTHONDONTWRITEBYTECODE=1
     S2UNION_SQLITE=$work/$folder/mod_s2union.so S2UNION_ROUNDS=${S2UNION_ROUNDS:-$rounds} timeout 1800 \
       /usr/bin/python3 -m unittest -q "$@"
   )
 }
 if [ "${1:-}" = --costs ]; then
-  cd "$top/tests/sqlite" && export PYTHONPATH=$top/tests/python PYTHONDONTWRITEBYTECODE=1
+  cd "$top/tests/sqlite" && export PYTHONPATH=$top/tests PYTHONDONTWRITEBYTECODE=1
   S2UNION_SQLITE=$work/plain/mod_s2union.so /usr/bin/python3 costs.py
   finish
 fi
@@ -93,7 +93,7 @@ covered() {
     tests covered test_sqlite.AgainstTheModel test_sqlite.WhatIsRefused test_geo &&
     "$work/memory" "$work/covered/"mod_s2union{,_geo} && documented covered &&
     "${sqlite[@]}" ".load $work/covered/mod_s2union sqlite3_sunion_init" &&
-    /usr/bin/python3 "$top/tests/c/coverage.py" "$work/covered" s2union.c=bindings/sqlite/s2union.c \
+    /usr/bin/python3 "$top/tests/coverage.py" "$work/covered" s2union.c=bindings/sqlite/s2union.c \
       s2union_geo.c=bindings/sqlite/s2union_geo.c s2union_geo.h=bindings/c/s2union_geo.h
 }
 step "what these tests execute" covered

@@ -17,7 +17,7 @@ gcc -std=c11 -D_DEFAULT_SOURCE -O1 "$top"/tests/{sqlite/memory,refuse}.c -lsqlit
 tests() { # FOLDER PRELOAD
   (
     LD_PRELOAD=$2 ASAN_OPTIONS=detect_leaks=0 timeout 100 "$work/memory" "$1/"mod_s2union{,_geo} || exit
-    cd "$top/tests/sqlite" && export PYTHONPATH=$top/tests/python PYTHONDONTWRITEBYTECODE=1
+    cd "$top/tests/sqlite" && export PYTHONPATH=$top/tests PYTHONDONTWRITEBYTECODE=1
     export ASAN_OPTIONS=detect_leaks=0
     LD_PRELOAD=$2 S2UNION_ROUNDS=300 S2UNION_SQLITE=$1/mod_s2union.so timeout 300 \
       /usr/bin/python3 -m unittest -q -f test_sqlite.WhatIsRefused test_sqlite.AgainstTheModel test_geo

@@ -7,7 +7,7 @@ import os
 import sqlite3
 import unittest
 
-from places import MIDDLES, POINTS
+from model.places import MIDDLES, POINTS
 from test_sqlite import NO_CELLS
 
 EXTENSION = os.path.join(os.path.dirname(os.environ["S2UNION_SQLITE"]), "mod_s2union_geo.so")

@@ -1,6 +1,6 @@
 """The extension for SQLite against the plain model; NULL, wrong types, faults of files, flipped bits, and heap limits.
 
-S2UNION_SQLITE is the path of the extension; the model is in tests/python."""
+S2UNION_SQLITE is the path of the extension; the model is in tests/model."""
 
 import ctypes
 import gc
@@ -10,10 +10,10 @@ import sqlite3
 import unittest
 from pathlib import Path
 
-import model
-import plain_sql
-import random_cells
-from random_cells import FACE, signed, unsigned
+from model import unions as model
+from model import plain_sql
+from model import random_cells
+from model.random_cells import FACE, signed, unsigned
 
 EXTENSION = os.environ["S2UNION_SQLITE"]
 ROUNDS = int(os.environ.get("S2UNION_ROUNDS", "1500"))

@@ -1,4 +1,4 @@
-//! The questions of tests/python/vectors.py and edges.py, in the file that S2UNION_VECTORS names, with their answers.
+//! The questions of tests/model/vectors.py and edges.py, in the file that S2UNION_VECTORS names, with their answers.
 
 use std::collections::BTreeSet;
 use std::{env, fs};

@@ -8,8 +8,8 @@ in decimal if not; a list has blanks between its cells; bytes and texts are in h
 
 import sys
 
-import model
-from random_cells import FACE, Random
+from model import unions as model
+from model.random_cells import FACE, Random
 
 peer_model = model.plain
 random = Random(20261126)

@@ -2,7 +2,7 @@
 
 FOLDER is where gcc has compiled the source with --coverage and where the tests have left their counts; NAME is the name
 that the source has there, and SOURCE its path in the repository, or the folder of it with / at its end. Each line has to be executed, and no more branches may
-be left than tests/c/uncovered.txt says. Of a source that isn't in that file only the figure is printed, which is the
+be left than tests/uncovered.txt says. Of a source that isn't in that file only the figure is printed, which is the
 last line.
 """
 import json
@@ -11,8 +11,8 @@ import subprocess
 import sys
 from pathlib import Path
 
-ROOT = Path(__file__).resolve().parents[2]
-LIST = ROOT / "tests" / "c" / "uncovered.txt"
+ROOT = Path(__file__).resolve().parents[1]
+LIST = ROOT / "tests" / "uncovered.txt"
 
 
 def lines_of(folder, name):

@@ -1,4 +1,4 @@
-/* The edges of tests/python/edges.py, asked of the unions of s2union.hpp, and of the calls of s2union.h where these
+/* The edges of tests/model/edges.py, asked of the unions of s2union.hpp, and of the calls of s2union.h where these
  * have no method: edges FILE. */
 #include <s2union.hpp>
 #include <fstream>

@@ -6,9 +6,9 @@ how it is said, which of several faults comes first, the version, the ends of ra
 a call names it in its test; what it can't be asked because a type forbids it, there counts as refused.
 """
 
-import model
-from random_cells import FACE
-from vectors import numbers, shown
+from model import unions as model
+from model.random_cells import FACE
+from model.vectors import numbers, shown
 
 WHOLE = [face * FACE for face in (1, 3, 5, 7, 9, 11)]
 FIRST_LEAF, LAST_LEAF = 1, 12 * FACE - 1

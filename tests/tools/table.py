@@ -1,4 +1,4 @@
-"""The table of the library's calls, and that a mistake in what is declared is refused: tests/c/table.py.
+"""The table of the library's calls, and that a mistake in what is declared is refused: tests/tools/table.py.
 
 First `tools/calls --check`. Then each mistake below is made in a copy of what it reads, and it has to find fault. The
 last line is 'N passed, M failed'.
@@ -14,7 +14,7 @@ TOP = Path(__file__).resolve().parents[2]
 READ = ["tools/calls", "crates/s2union_c/src", "crates/s2union_c/include", "crates/s2cover/src/lib.rt",
         "bindings/rust/src", "bindings/python/s2union", "bindings/java/s2union", "bindings/java/s2union.c",
         "bindings/js/core.js", "bindings/js/s2union.d.ts", "bindings/go", "bindings/c/s2union.ffi.h",
-        "bindings/cpp", "tests/c/examples.cc", "tests/c/calls.h", "docs/SQLITE.md", "bindings/sqlite/functions.h",
+        "bindings/cpp", "tests/cpp/examples.cc", "tests/c/calls.h", "docs/SQLITE.md", "bindings/sqlite/functions.h",
         "bindings/sqlite/s2union_geo.c", "docs/GO.md", "VERSION", "README.md", "CITATION.cff", "docs/C.md",
         "crates/s2calc/src/command_line.rt", "bindings/rust/Cargo.toml", "bindings/rust/serde/Cargo.toml",
         "bindings/r/DESCRIPTION", "bindings/js/package.json", "bindings/postgres/s2union.control",
@@ -93,7 +93,7 @@ MISTAKES = [
             "    >>> face(from_token(\"89c25\"))\n    4\n", "", "Python: face: its comment lacks >>> "),
     Mistake("a member of C++ without its example", "bindings/cpp/s2union.hpp",
             "  /// @snippet examples.cc Release\n", "", "C++: Release: its comment lacks an example of examples.cc"),
-    Mistake("an example of C++ left out", "tests/c/examples.cc", "    // [ToString]\n    CellUnion half",
+    Mistake("an example of C++ left out", "tests/cpp/examples.cc", "    // [ToString]\n    CellUnion half",
             "    CellUnion half", "C++: ToString: its comment lacks an example of examples.cc"),
     Mistake("a member of C++ without its version", "bindings/cpp/s2union.hpp",
             "  /// All leaves. S2U_MEMORY. @since 0.1\n", "  /// All leaves. S2U_MEMORY.\n",

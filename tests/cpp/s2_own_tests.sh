@@ -6,7 +6,7 @@
 # and installs the Debian packages that it needs. It takes some minutes, nearly all to compile. Its last line is
 # 'N passed, M failed', where N counts the names, the program and S2's tests; the status is 1 if any failed.
 . "$(dirname "$0")/../steps.sh"
-out=$top/tests/c/out sources=$top/tests/c/out/s2 processor=x86_64 system= cross= by=()
+out=$top/tests/cpp/out sources=$top/tests/cpp/out/s2 processor=x86_64 system= cross= by=()
 if [ "${1:-}" = --arm ]; then
   system=$2 processor=aarch64 cross=aarch64-linux-gnu- by=(qemu-aarch64-static -L "$2") out=$out/aarch64
   shift 2
@@ -39,7 +39,7 @@ export out source compiler
 printf '%s -O1\n' "${tests[@]}" "${users[@]}" | xargs -P "$(nproc)" -I{} bash -c 'compile {}'
 compile s2cell_union -O0 # nothing is inlined, so each call can be replaced
 "${cross}objcopy" --weaken "$out/s2cell_union.o" "$out/s2_union_weak.o"
-$compiler -O1 -I"$out/usr/include" -I"$source" -c "$top/tests/c/s2_operations.cc" -o "$out/s2_operations.o"
+$compiler -O1 -I"$out/usr/include" -I"$source" -c "$top/tests/cpp/s2_operations.cc" -o "$out/s2_operations.o"
 
 objects=("$out/s2_operations.o" "$out/s2_union_weak.o")
 for name in "${users[@]}"; do objects+=("$out/$name.o"); done

@@ -1,11 +1,10 @@
-"""The plain model of cells and unions, tests/peer/model.py, by identifiers: a union is the sorted list of its runs."""
+"""The plain model of cells and unions by identifiers: a union is the sorted list of its runs."""
 
 from functools import cache
 from pathlib import Path
-from runpy import run_path
-from types import SimpleNamespace
 
-plain = SimpleNamespace(**run_path(str(Path(__file__).resolve().parents[1] / "peer" / "model.py")))
+from model import calculator as plain
+
 LEAVES = plain.LEAVES
 VERSION = (Path(__file__).resolve().parents[2] / "VERSION").read_text().strip()
 cell = cache(plain.cell_of)

@@ -43,7 +43,7 @@ def key(cell, level):
 
 def questions(random):
     """Cells of all faces and levels, each with a level that is no deeper, and with a cell near it."""
-    import model
+    from model import unions as model
     for face in range(6):
         for level in range(31):
             for _ in range(4):

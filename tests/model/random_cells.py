@@ -2,7 +2,7 @@
 
 import random
 
-import model
+from model import unions as model
 
 FACE = model.identifier(0, 0)
 
