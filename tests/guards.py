@@ -225,6 +225,11 @@ def ends_of_parts(counts, room):
     table = "a                      3 passed    0 failed      1.5 s      0.2 s of processor time\n"
     runs = module.of_table(["a", "b"], f"{table}3 passed, 0 failed\n")
     counts.tell("a part beside the others without a row", (runs["a"].passed, runs["b"].failed) == (3, 1), str(runs))
+    runs = {"docs": module.Run(5, 1, 0, 0), "program": module.Run(3, 1, 0, 0)}
+    lines = list(module.table(runs))
+    counts.tell("what was looked at in texts, as tests that passed", lines[-1] == "3 passed, 2 failed", str(lines))
+    again = module.of_table(list(runs), "\n".join(lines))
+    counts.tell("a row of texts in the table of a lane", again == runs, str(again))
     done = subprocess.run([TOP / "tests" / "run", "no-such-part"], capture_output=True, text=True, check=False)
     counts.tell("a part that isn't there", done.returncode == 1 and "no part has the name" in done.stderr, done.stderr)
 
