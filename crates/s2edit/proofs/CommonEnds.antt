@@ -2,7 +2,7 @@
 use Rattle.std.proofs.Common.{◌≡◌, ℕ, ◌-◌, Bool, true, false, not, ◌||◌, ◌&&◌, eqb, List, [], ◌∷◌, ◌++◌}
 use Rattle.std.proofs.Common.{length, take, drop, refl, sym, ap, ◌∙◌, subst, arith, length-drop}
 use Rattle.std.proofs.Math.Bool.{or_assoc}
-use Rattle.std.proofs.lemmas.Bool.{or_left, or_right, true≢false}
+use Rattle.std.proofs.lemmas.Bool.{or_left, true≢false}
 use Rattle.std.proofs.lemmas.Grind.{common_steps}
 use Rattle.std.proofs.lemmas.List.{take_all, take-append-drop}
 use Rattle.std.specs.List.Sorted.{IsStrictlyIncreasing}
@@ -13,22 +13,6 @@ use Rattle.s2union.proofs.CellLists.{IsAscending-cells_without, ascends_from}
 has-append : (xs ys : List ℕ) (x : ℕ) → has (xs ++ ys) x ≡ (has xs x || has ys x)
 has-append [] ys x = refl
 has-append (y ∷ xs) ys x = ap (λ b. eqb y x || b) (has-append xs ys x) ∙ sym (or_assoc (eqb y x) (has xs x) (has ys x))
-
-has_either : (a b : Bool) {G : Type 0} → (a || b) ≡ true → (a ≡ true → G) → (b ≡ true → G) → G
-has_either true b e f g = f refl
-has_either false b e f g = g e
-
--- a part of a list, after other cells of it
-pub has_part : (xs near : List ℕ) (from n : ℕ) → ((x : ℕ) → has near x ≡ true → has xs x ≡ true) →
-    (x : ℕ) → has (near ++ take n (drop from xs)) x ≡ true → has xs x ≡ true
-has_part xs near from n f x h =
-    has_either (has near x) (has (take n (drop from xs)) x) (sym (has-append near (take n (drop from xs)) x) ∙ h) (f x)
-    (λ g.
-    let whole : has (drop from xs) x ≡ true = ap (λ (l : List ℕ). has l x) (sym (take-append-drop n (drop from xs)))
-    ∙ has-append (take n (drop from xs)) (drop n (drop from xs)) x
-    ∙ or_left (has (take n (drop from xs)) x) (has (drop n (drop from xs)) x) g in
-    ap (λ (l : List ℕ). has l x) (sym (take-append-drop from xs)) ∙ has-append (take from xs) (drop from xs) x
-    ∙ or_right (has (take from xs) x) (has (drop from xs) x) whole)
 
 -- a cell of an ascending list is in only one part of it
 one_part : (xs ys : List ℕ) (x : ℕ) → IsAscending (xs ++ ys) → has ys x ≡ true → has xs x ≡ false

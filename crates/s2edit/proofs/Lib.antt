@@ -22,5 +22,5 @@ pub mod PartLemmas
 pub mod Registers
 pub mod Turns
 pub mod Watching
-pub mod Near
+pub mod PartChange
 pub mod Making

@@ -15,7 +15,7 @@ use Rattle.s2list.proofs.Normal.{leaf_from, leaf_to, member_greatest, greatest_a
 use Rattle.s2union.proofs.CellLists.{IsAscending, same_cells, has-cells_without, has-applied, IsAscending-applied}
 use Rattle.s2union.proofs.CellLists.{IsAscending-cells_without, ascends_from, increasing_from}
 use Rattle.s2union.proofs.Applied.{local_ascends}
-use Rattle.s2edit.specs.Working.Part.{around, IsWatched, IsPart}
+use Rattle.s2edit.specs.Working.Part.{around, IsWatched, IsPart, CutsNone}
 
 pub by_bool : {A : Type 0} (b : Bool) → (b ≡ true → A) → (b ≡ false → A) → A
 by_bool true f g = f refl
@@ -228,23 +228,39 @@ module _ (S : ℕ → Bool) (u s u' s' : List ℕ) (before : IsPart S u s) (afte
     local = subst IsLocal (sym change_of_part) after.local;
   }
 
--- a list is a part of itself
-pub whole_part : (S : ℕ → Bool) (u : List ℕ) → IsLocal u → IsPart S u u
-whole_part S u l = record { local = l; part_local = l; inside = λ c h. h; rest = λ c x h v w. h }
-
--- the cells of a list that have leaves of a set
+-- the cells of a list that have leaves of a set, which cuts none of them
 pub part_from : (S : ℕ → Bool) (u s : List ℕ) → IsLocal u → IsLocal s
-    → ((x : ℕ) → has_leaf s x ≡ (has_leaf u x && S x)) → Fits s [] u → IsPart S u s
-part_from S u s lu ls leaves f = record {
-  local = lu;
-  part_local = ls;
-  inside = f.out_is_there;
-  rest = λ c x h v w.
-      let there : has_leaf s x ≡ true =
-      leaves x ∙ ap (λ b. b && S x) (leaf_to u c x (member_had u c h) v) ∙ w in
-      let d = leaf_from s x there in
-      let hd : has s d.cell ≡ true = has_member s d.cell d.member in
-      let same : c ≡ d.cell = one_cell u c d.cell x lu h (f.out_is_there d.cell hd) v
-      (covers_there d.cell x d.low d.high) in
-      subst (λ (k : ℕ). has s k ≡ true) (sym same) hd;
-}
+    → ((x : ℕ) → has_leaf s x ≡ (has_leaf u x && S x)) → CutsNone S u → IsPart S u s
+part_from S u s lu ls leaves none =
+    let lies : (c x : ℕ) → has u c ≡ true → covers c x ≡ true → S x ≡ true → LiesIn (has_leaf s) c =
+    λ c x h v w y k. leaves y ∙ ap (λ b. b && S y) (leaf_to u c y (member_had u c h) k) ∙ none c x h v w y k in
+    let of_list : (x : ℕ) → has_leaf s x ≡ true → (has_leaf u x ≡ true) × (S x ≡ true) =
+    λ x h. both (has_leaf u x) (S x) (sym (leaves x) ∙ h) in
+    let one : (c d x : ℕ) → has u c ≡ true → has s d ≡ true → covers c x ≡ true → covers d x ≡ true → c ≡ d =
+    λ c d x h m v k.
+    let there = of_list x (leaf_to s d x (member_had s d m) k) in
+    let g = member_greatest u lu c (member_had u c h) in
+    greatest_apart (has_leaf s) c d x (record {
+      cell = g.cell;
+      inside = lies c x h v there.1;
+      greatest = λ deep i. g.greatest deep (λ y l. (of_list y (i y l)).0);
+    }) (member_greatest s ls d (member_had s d m)) v k in
+    record {
+      local = lu;
+      part_local = ls;
+      inside = λ d m.
+          let v = leaf_there d (is_cell s d ls m) in
+          let x = first_leaf d in
+          let c = leaf_from u x (of_list x (leaf_to s d x (member_had s d m) v)).0 in
+          let h = has_member u c.cell c.member in
+          subst (λ (k : ℕ). has u k ≡ true) (one c.cell d x h m (covers_there c.cell x c.low c.high) v) h;
+      rest = λ c x h v w.
+          let d = leaf_from s x (lies c x h v w x v) in
+          let m = has_member s d.cell d.member in
+          subst (λ (k : ℕ). has s k ≡ true) (sym (one c d.cell x h m v (covers_there d.cell x d.low d.high))) m;
+    }
+  where
+    both : (a b : Bool) → (a && b) ≡ true → (a ≡ true) × (b ≡ true)
+    both true true h = (refl, refl)
+    both true false h = absurd (false≢true h)
+    both false b h = absurd (false≢true h)

@@ -2,7 +2,7 @@
 use Rattle.std.proofs.Common.{◌≡◌, ℕ, ◌+◌, ◌-◌, ◌*◌, ◌<◌, ◌≤◌, Bool, true, ◌||◌, eqb, List, [], ◌∷◌, ◌++◌, length}
 use Rattle.std.proofs.Common.{map, drop, get_or, refl, sym, ap, ◌∙◌, subst, arith}
 use Rattle.std.proofs.Math.Logic.{⊎_elim}
-use Rattle.std.proofs.lemmas.Bool.{cases_order}
+use Rattle.std.proofs.lemmas.Bool.{cases_order, cases_lt}
 use Rattle.std.proofs.lemmas.Grind.{common_steps}
 use Rattle.std.proofs.lemmas.List.Sorted.{Contains-permutation}
 use Rattle.std.proofs.lemmas.List.Folds.{list_any-append}
@@ -10,8 +10,8 @@ use Rattle.std.specs.List.{AllByRecursion}
 use Rattle.std.specs.List.Sorted.{IsPermutation}
 use Rattle.s2cell.specs.Cell.{IsCell, level_of, first_leaf, size_of, covers, child_of}
 use Rattle.s2cell.proofs.Calls.{IsCell-parent_of, child_leaves, shallow}
-use Rattle.s2cell.proofs.Family.{child_within, parent_level, parent_around}
-use Rattle.s2cell.proofs.Leaves.{covers_from, inside_from_within}
+use Rattle.s2cell.proofs.Family.{child_within, parent_level, parent_around, deeper_inside}
+use Rattle.s2cell.proofs.Leaves.{Within, covers_from, inside_from_within}
 use Rattle.s2list.specs.Packed.{IsPacked, IsPlace, FirstEndBy, EndsAfter}
 use Rattle.s2list.specs.Union.{has_leaf, IsLocal, IsWithin, LiesIn}
 use Rattle.s2list.proofs.Checking.{packed_from_local}
@@ -20,9 +20,9 @@ use Rattle.s2union.specs.Apply.{has}
 use Rattle.s2file.specs.declared.session.Move.{Move}
 use Rattle.s2file.specs.Session.{Diff, diff_of}
 use Rattle.s2edit.specs.Working.InTurn.{of_register}
-use Rattle.s2edit.specs.Working.Part.{around, IsWatched, HoldsNamed, AllWatched}
+use Rattle.s2edit.specs.Working.Part.{around, Grows, IsWatched, HoldsNamed, AllWatched}
 use Rattle.s2edit.proofs.Following.{drop_next}
-use Rattle.s2edit.proofs.PartLemmas.{by_bool, has_member, member_had, leaf_there, is_cell}
+use Rattle.s2edit.proofs.PartLemmas.{by_bool, has_member, member_had, one_cell, is_cell}
 
 -- the leaves of a list with one more cell
 module _ (xs ys : List ℕ) (c : ℕ) (e : ys ≡ xs ++ c ∷ []) where
@@ -35,18 +35,53 @@ module _ (xs ys : List ℕ) (c : ℕ) (e : ys ≡ xs ++ c ∷ []) where
   pub own_more : LiesIn (has_leaf ys) c
   own_more x h = grind (arith, common_steps, leaves_more x, h)
 
--- a cell of a local list is the first that ends after its first leaf
-pub place_is : (u : List ℕ) (c at : ℕ) → IsLocal u → IsPlace u (first_leaf c) at → has u c ≡ true →
+  -- the set of leaves grows by a cell that cuts none
+  pub grows_by : (u : List ℕ) → ((d x : ℕ) → has u d ≡ true → covers d x ≡ true → covers c x ≡ true →
+      LiesIn (has_leaf ys) d) → Grows (has_leaf xs) (has_leaf ys) u
+  grows_by u fits = record {
+    kept = kept_more;
+    uncut = λ none d x h v w. by_bool (has_leaf xs x)
+        (λ t. λ y k. kept_more y (none d x h v t y k))
+        (λ n. fits d x h v (grind (arith, common_steps, leaves_more x, n, w)));
+  }
+
+  -- .. by a cell of the list
+  pub grows_by_own : (u : List ℕ) → IsLocal u → has u c ≡ true → Grows (has_leaf xs) (has_leaf ys) u
+  grows_by_own u l m = grows_by u (λ d x h v w. subst (LiesIn (has_leaf ys)) (one_cell u c d x l m h w v) own_more)
+
+  -- .. by a cell, if the larger cells of the list that hold it are in the set
+  pub grows_within : (u : List ℕ) → IsLocal u → IsCell c
+      → ((d : ℕ) → has u d ≡ true → level_of d < level_of c → Within c d → LiesIn (has_leaf xs) d)
+      → Grows (has_leaf xs) (has_leaf ys) u
+  grows_within u l g held = grows_by u (λ d x h v w.
+      let gd = is_cell u d l h in
+      let a = covers_from c x w in
+      let b = covers_from d x v in
+      ⊎_elim
+      (λ (less : level_of d < level_of c). λ y k. kept_more y
+      (held d h less (deeper_inside c d x g gd (omega (arith, less)) a.0 a.1 b.0 b.1) y k))
+      (λ (more : level_of c ≤ level_of d). λ y k. own_more y
+      (inside_from_within d c (deeper_inside d c x gd g more b.0 b.1 a.0 a.1) y k))
+      (cases_lt (level_of d) (level_of c)))
+
+pub grows_none : (S : ℕ → Bool) (u : List ℕ) → Grows S S u
+grows_none S u = record { kept = λ x h. h; uncut = λ none. none }
+
+pub grows_on : {S T V : ℕ → Bool} {u : List ℕ} → Grows S T u → Grows T V u → Grows S V u
+grows_on a b = record { kept = λ x h. b.kept x (a.kept x h); uncut = λ none. b.uncut (a.uncut none) }
+
+-- the cell of a local list that has a leaf is the first that ends after it
+pub place_is : (u : List ℕ) (c x at : ℕ) → IsLocal u → IsPlace u x at → has u c ≡ true → covers c x ≡ true →
     (at < length u) × (get_or u at 0 ≡ c)
-place_is u c at l p h =
+place_is u c x at l p h v =
     let here = place u c (member_had u c h) in
-    let r = covers_from c (first_leaf c) (leaf_there c (is_cell u c l h)) in
+    let r = covers_from c x v in
     ⊎_elim (λ (e : at ≡ here.at). (omega (arith, e, here.below), ap (λ (k : ℕ). get_or u k 0) e ∙ here.is))
     (⊎_elim
     (λ (a : at < here.at).
     let next = p.next (omega (arith, a, here.below)) in
     let after = (packed_from_local u l).chain at here.at 0 a here.below in
-    absurd (omega (arith, next, after, ap first_leaf here.is)))
+    absurd (omega (arith, next, after, ap first_leaf here.is, r.0)))
     (λ (a : here.at < at).
     let ended = p.ended here.at a in
     absurd (omega (arith, ended, ap first_leaf here.is, ap size_of here.is, r.0, r.1))))
@@ -101,11 +136,14 @@ next_watched {T} {u} xs i c low is w rest k h =
     (λ e. subst (IsWatched T u) (grind (arith, common_steps, e)) w)
     (λ n. rest k (grind (arith, common_steps, n, here)))
 
+pub around_is_cell : (d : ℕ) → IsCell d → IsCell (around d)
+around_is_cell d g = IsCell-parent_of d (level_of d - 1) (around d) g (omega arith) refl
+
 -- a cell is watched if all of its parent is
 pub watched_around : {T : ℕ → Bool} {u : List ℕ} (d : ℕ) → IsCell d → LiesIn T (around d) → IsWatched T u d
 watched_around d g inside =
     let up : level_of d - 1 ≤ level_of d = omega arith in
-    let p : IsCell (around d) = IsCell-parent_of d (level_of d - 1) (around d) g up refl in
+    let p : IsCell (around d) = around_is_cell d g in
     let level = parent_level d (level_of d - 1) g up in
     let most = shallow d g in
     record {

@@ -12,6 +12,7 @@ mod edits;
 mod lacking;
 pub mod laws;
 mod named;
+mod near;
 mod restore;
 mod session;
 mod sides;

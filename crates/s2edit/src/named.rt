@@ -1,9 +1,9 @@
 //! Edits by a few named cells: how the change that they make is found near them.
 //!
-//! What the named cells add or take out concerns only a part of the register's list: the cells that they meet, and
-//! those that become one cell with them. So the part alone is joined with the named cells, or cut by them. The change
-//! of the part is then the change of the whole list, if it can be made there. That is tested; so a part that was chosen
-//! too small is found out, and the whole list is taken.
+//! What the named cells add or take out concerns only a part of the register's list: the cells near them (near.rt), or
+//! near those that become one cell with them. So the part alone is joined with the named cells, or cut by them. The
+//! change of the part is then the change of the whole list, if it can be made there. That is tested; so a part that was
+//! chosen too small is found out, and the whole list is taken.
 ghost use Rattle.std.specs.Prelude.{◌≡◌, ℕ, Bool, true, ◌<◌, ◌≤◌, ◌||◌, ◌&&◌, not, List, length};
 ghost use Rattle.std.specs.Prelude.{Err, IfOk, IfSome, OnOk, OnErr};
 ghost use Rattle.s2list.specs.Union.{has_leaf, IsNormalForm};
@@ -18,29 +18,18 @@ ghost use Rattle.s2edit.specs.Working.Named.{Gives};
 
 use crate::change::Change;
 use crate::editor::{EditFault, Editor, change_register};
+use crate::near::part_near;
 use crate::{REGISTERS, Register};
 use s2cell::CellId;
-use s2list::{CellList, find_from};
-use s2union::{CellUnion, UnionFault, is_normalized};
+use s2list::{CellList, find_from, first_place};
+use s2union::{CellUnion, UnionFault};
 use std::alloc::{AllocError, Global};
 
 /// The part is looked for if the register has at least this number of cells for each named one.
 const REGISTER_TO_NAMED: usize = 200;
 
-/// How many cells make a family with a named one.
+/// How many cells make a family with another.
 const SIBLINGS: usize = 3;
-
-/// How many cells before and after a named one can become one cell with it: three at each of thirty levels.
-const RELATIVES: usize = 90;
-
-/// Which cells of the list, beside those that meet a named cell, the part has.
-#[derive(Clone, Copy)]
-enum Reach {
-    /// Those that become one cell with the named one.
-    Family,
-    /// This many before the named one, and after it.
-    Cells(usize),
-}
 
 impl Editor {
     /// Adds the leaves of a union to a register, and answers how many cells were taken out of its list and put in: what
@@ -153,32 +142,27 @@ fn adding(
     if union.contains(named) {
         return change_of_part(alloc, register, union, &nothing, &nothing);
     }
-    let near = if named.len() == 1 {
-        Reach::Family
-    } else {
-        Reach::Cells(SIBLINGS)
-    };
-    if let Some(change) = adding_near(alloc, register, union, named, near)? {
+    if let Some(change) = adding_near(alloc, register, union, named, named)? {
         return Ok(Some(change));
     }
-    adding_near(alloc, register, union, named, Reach::Cells(RELATIVES))
+    let part = part_near(alloc, union, named.cells())?;
+    let joined = part.union(named)?;
+    adding_near(alloc, register, union, named, &joined)
 }
 
-/// The change that adds the leaves of the named cells, if it is found in the part of the union that `reach` says.
+/// The change that adds the leaves of the named cells, if it is found near the cells that others complete.
 fn adding_near(
     alloc: Global,
     register: Register,
     union: &CellUnion,
     named: &CellUnion,
-    reach: Reach,
+    others: &CellUnion,
 ) -> Result<Option<Change>, AllocError>
     ensures { IfOk result (λ found. IfSome found
         (Gives (either (has_leaf union.now.cells) (has_leaf named.now.cells)) register union.now.cells)) }
 {
-    let found = part_near(alloc, union, named, reach)?;
-    let Some(part) = found else {
-        return Ok(None);
-    };
+    let complete = completed_cells(alloc, union.cells(), others.cells())?;
+    let part = part_near(alloc, union, &complete)?;
     let joined = part.union(named)?;
     change_of_part(alloc, register, union, &part, &joined)
 }
@@ -200,93 +184,47 @@ fn removing(
     if let Some(change) = change_of_part(alloc, register, union, named, &nothing)? {
         return Ok(Some(change));
     }
-    let found = part_near(alloc, union, named, Reach::Cells(1))?;
-    let Some(part) = found else {
-        return Ok(None);
-    };
-    let shared = union.intersection(named)?;
-    if !part.contains(&shared) {
-        return Ok(None);
-    }
+    let part = part_near(alloc, union, named.cells())?;
     let rest = part.difference(named)?;
     change_of_part(alloc, register, union, &part, &rest)
 }
 
-/// The cells of a union that meet named ones, and others near these. `None` if they aren't normalized; as
-/// cells of a normalized list they are.
-fn part_near(
+/// The cells that take the place of given ones if these are added to a list: as long as the list has the three siblings
+/// of one, its parent.
+fn completed_cells(
     alloc: Global,
-    union: &CellUnion,
-    named: &CellUnion,
-    reach: Reach,
-) -> Result<Option<CellUnion>, AllocError>
-    ensures { IfOk result (λ found. IfSome found
-        (λ part. (c : ℕ) → has part.cells c ≡ true → has union.now.cells c ≡ true)) }
-{
-    let near = cells_near(alloc, union.cells(), named.cells(), reach)?;
-    if is_normalized(&near) {
-        Ok(Some(CellUnion::from_normalized(near)))
-    } else {
-        Ok(None)
-    }
-}
-
-/// The cells of a list that meet named ones, and those near each that `reach` says.
-fn cells_near(
-    alloc: Global,
+    list: &[CellId],
     cells: &[CellId],
-    named: &[CellId],
-    reach: Reach,
-) -> Result<Vec<CellId>, AllocError>
-    ensures { IfOk result (λ near. (c : ℕ) → has near.items c ≡ true → has cells.now c ≡ true) }
-{
-    let mut near = Vec::new(alloc);
-    let mut done = 0;
-    for cell in named {
-        let first = find_from(&CellList { cells }, done, cell.first_leaf());
-        let end = find_from(&CellList { cells }, first, cell.end_leaf());
-        let (from, to) = around(cells, first, end, *cell, reach);
-        let begin = from.max(done);
-        near.extend_from_slice(&cells[begin..to])?;
-        done = to;
+) -> Result<Vec<CellId>, AllocError> {
+    let mut complete = Vec::new(alloc);
+    let mut near = 0;
+    for cell in cells {
+        let from = first_place(&CellList { cells: list }, near, cell.first_leaf());
+        let first = find_from(&CellList { cells: list }, from, cell.first_leaf());
+        let end = find_from(&CellList { cells: list }, first, cell.end_leaf());
+        complete.push(completed(list, first, end, *cell))?;
+        near = first;
     }
-    Ok(near)
+    Ok(complete)
 }
 
-/// From which index of a list to which the cells lie that `reach` says, around those from `first` to `end`, which meet
-/// the named cell.
-fn around(cells: &[CellId], first: usize, end: usize, named: CellId, reach: Reach) -> (usize, usize)
-    requires { (first ≤ end) × (end ≤ length cells.now) }
-    ensures { (result.0 ≤ first) × (end ≤ result.1) × (result.1 ≤ length cells.now) }
-{
-    match reach {
-        Reach::Family => relatives(cells, first, end, named),
-        Reach::Cells(n) => (
-            first.saturating_sub(n),
-            end.saturating_add(n).min(cells.len()),
-        ),
-    }
-}
-
-/// From which index to which the cells lie that become one with the named cell: as long as three more lie in its
-/// parent, these too.
-fn relatives(cells: &[CellId], first: usize, end: usize, named: CellId) -> (usize, usize)
-    requires { (first ≤ end) × (end ≤ length cells.now) }
-    ensures { (result.0 ≤ first) × (end ≤ result.1) × (result.1 ≤ length cells.now) }
+/// The cell that takes the place of one, in which the cells of the list from `first` to `end` lie.
+fn completed(list: &[CellId], first: usize, end: usize, cell: CellId) -> CellId
+    requires { (first ≤ end) × (end ≤ length list.now) }
 {
     let mut from = first;
     let mut to = end;
-    let mut level = named.level();
+    let mut level = cell.level();
     while level > 0 {
-        level -= 1;
-        let (begin, next) = inside(cells, from, to, named.parent(level));
+        let (begin, next) = inside(list, from, to, cell.parent(level - 1));
         if (from - begin) + (next - to) != SIBLINGS {
-            return (from, to);
+            return cell.parent(level);
         }
+        level -= 1;
         from = begin;
         to = next;
     }
-    (from, to)
+    cell.parent(0)
 }
 
 /// From which index to which the cells lie in a parent, which holds those from `from` to `to`. Looks at no more than

@@ -3,7 +3,7 @@ use Rattle.std.specs.Prelude.{◌≡◌, ℕ, ◌+◌, ◌-◌, ◌^◌, ◌<◌
 use Rattle.std.specs.Prelude.{length, min, max, slice_set, slice_index_or}
 use Rattle.std.specs.List.{AllByRecursion}
 use Rattle.s2cell.specs.Cell.{IsCell, level_of, covers, parent_of, child_of}
-use Rattle.s2list.specs.Union.{IsLocal, LiesIn}
+use Rattle.s2list.specs.Union.{IsLocal, IsWithin, LiesIn}
 use Rattle.s2union.specs.Apply.{has}
 use Rattle.s2file.specs.Session.{Diff}
 
@@ -35,12 +35,27 @@ pub record IsDiffWatched (S : ℕ → Bool) (u : List ℕ) (d : Diff) : Type 0 w
 abbrev pub AllWatched : (ℕ → Bool) → List ℕ → List Diff → Type 0
 AllWatched S u ds = AllByRecursion (IsDiffWatched S u) ds
 
+-- the set cuts no cell of the list: each that it shares a leaf with lies in it
+abbrev pub CutsNone : (ℕ → Bool) → List ℕ → Type 0
+CutsNone S u = (c x : ℕ) → has u c ≡ true → covers c x ≡ true → S x ≡ true → LiesIn S c
+
+-- `T` has the leaves of `S`, and cuts no cell of the list if `S` cuts none
+pub record Grows (S T : ℕ → Bool) (u : List ℕ) : Type 0 where
+  pub kept : IsWithin S T
+  pub uncut : CutsNone S u → CutsNone T u
+
 -- `part` has some cells of the local list `u`, among them all that share a leaf with the set
 pub record IsPart (S : ℕ → Bool) (u part : List ℕ) : Type 0 where
   pub local : IsLocal u
   pub part_local : IsLocal part
   pub inside : (c : ℕ) → has part c ≡ true → has u c ≡ true
   pub rest : (c x : ℕ) → has u c ≡ true → covers c x ≡ true → S x ≡ true → has part c ≡ true
+
+-- `part` has the cells of `u` that share a leaf with these cells, or with siblings of these in `u`
+pub record IsPartNear (cells : ℕ → Bool) (u part : List ℕ) : Type 0 where
+  pub set : ℕ → Bool
+  pub watched : (c : ℕ) → cells c ≡ true → IsWatched set u c
+  pub is_part : IsPart set u part
 
 -- `part` has all cells of `u` on which it depends whether the changes can be made
 pub record IsPartFor (ds : List Diff) (u part : List ℕ) : Type 0 where

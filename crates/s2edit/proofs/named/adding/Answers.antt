@@ -1,7 +1,7 @@
 use Rattle.std.proofs.Common.{refl}
 use Rattle.s2list.specs.Union.{has_leaf}
 use Rattle.s2list.specs.Sets.{either}
-use Rattle.s2edit.proofs.Near.{put_alone, put_already}
+use Rattle.s2edit.proofs.PartChange.{put_alone, put_already}
 use Rattle.s2edit.proofs.named.adding.Goals as goal
 
 pub returns-in-Some : goal.returns-in-Some

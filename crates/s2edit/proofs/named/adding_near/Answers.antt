@@ -1,13 +1,16 @@
 use Rattle.s2list.specs.Union.{has_leaf}
 use Rattle.s2list.specs.Sets.{either}
-use Rattle.s2edit.proofs.Near.{leaf_inside, adds}
+use Rattle.s2edit.proofs.PartChange.{leaf_inside, adds}
 use Rattle.s2edit.proofs.named.adding_near.Goals as goal
 
 pub returns : goal.returns
 returns c =
     let u = c.args.union.now.cells in
-    let p = c.in-Some.part.cells in
+    let p = c.in_ok-part.part.cells in
     c.change_of_part.ensures (either (has_leaf u) (has_leaf c.args.named.now.cells))
     (λ x. adds (has_leaf u x) (has_leaf p x) (has_leaf c.in_ok-joined.joined.cells x)
     (has_leaf c.args.named.now.cells x) (c.in_ok-joined.ensures.leaves x)
-    (leaf_inside u p x (rw c.in-Some.is at c.in_ok-found.ensures)))
+    (leaf_inside u p x c.in_ok-part.ensures.is_part.inside))
+
+pub change_of_part-requires : goal.change_of_part-requires
+change_of_part-requires c k h n = c.in_ok-part.ensures.is_part.inside k h

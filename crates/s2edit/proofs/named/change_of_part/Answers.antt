@@ -1,5 +1,5 @@
 use Rattle.std.proofs.Common.{refl}
-use Rattle.s2edit.proofs.Near.{gives, all_inside}
+use Rattle.s2edit.proofs.PartChange.{gives, all_inside}
 use Rattle.s2edit.proofs.named.change_of_part.Goals as goal
 
 pub returns-then-fits : goal.returns-then-fits

@@ -12,6 +12,7 @@ use Rattle.s2union.proofs.CellLists.{has-cells_without, has-applied}
 use Rattle.s2file.specs.Session.{Diff}
 use Rattle.s2edit.specs.Diff.{change_between}
 use Rattle.s2edit.specs.Working.Named.{Gives}
+use Rattle.s2edit.specs.Working.Part.{IsPartNear}
 use Rattle.s2edit.proofs.PartLemmas.{by_bool, has_member, member_had, one_cell}
 
 -- two booleans that are true together
@@ -177,10 +178,20 @@ pub taken_alone : (u n w : List ℕ) (x : ℕ) → n ≡ [] →
 taken_alone u n w x e = rw e refl
 
 -- what cutting a part takes out of the whole list, if what is taken out of the list lies in the part
-pub takes : (u p w s i : Bool) → w ≡ (p && not s) → (p ≡ true → u ≡ true) → i ≡ (u && s) → (i ≡ true → p ≡ true) →
+pub takes : (u p w s : Bool) → w ≡ (p && not s) → (p ≡ true → u ≡ true) → (u ≡ true → s ≡ true → p ≡ true) →
     (w || (u && not p)) ≡ (u && not s)
-takes true true w s i e f g h = grind (arith, common_steps, e)
-takes true false w true i e f g h = absurd (false≢true (h g))
-takes true false w false i e f g h = grind (arith, common_steps, e)
-takes false true w s i e f g h = absurd (false≢true (f refl))
-takes false false w s i e f g h = grind (arith, common_steps, e)
+takes true true w s e f h = grind (arith, common_steps, e)
+takes true false w true e f h = absurd (false≢true (h refl refl))
+takes true false w false e f h = grind (arith, common_steps, e)
+takes false true w s e f h = absurd (false≢true (f refl))
+takes false false w s e f h = grind (arith, common_steps, e)
+
+-- a leaf of the list and of given cells is one of the part near these
+pub leaf_near : (u p w : List ℕ) (x : ℕ) → IsPartNear (has w) u p → has_leaf u x ≡ true → has_leaf w x ≡ true →
+    has_leaf p x ≡ true
+leaf_near u p w x near t s =
+    let c = leaf_from u x t in
+    let d = leaf_from w x s in
+    let v = covers_there c.cell x c.low c.high in
+    let own = (near.watched d.cell (has_member w d.cell d.member)).own x (covers_there d.cell x d.low d.high) in
+    leaf_to p c.cell x (member_had p c.cell (near.is_part.rest c.cell x (has_member u c.cell c.member) v own)) v
