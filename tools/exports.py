@@ -23,7 +23,7 @@ CALLED = {
     "CellUnion.intersectsEach": "intersects_cells", "CellUnion.cellsAt": "cells_at", "CellUnion.outer": "outer_of",
     "CellUnion.inner": "inner_of", "CellUnion.denormalized": "denormalised",
     "CellUnion.denormalizedSize": "denormalised_len", "UnionFile.constructor": "file_check",
-    "UnionFile.check": "file_check", "UnionFile.at": "file_cell",
+    "UnionFile.check": "file_check", "UnionFile.at": "file_cell", "UnionFile.hasEach": "file_contains_cells",
 }
 JAVA = re.compile(r"(?:^  /\*\*((?:(?!\*/)[\s\S])*?)\*/\n)?(?:  @Override\n)?^  public (?:static )?(?:([\w\[\].<>]+) )?"
                   r"(\w+)\(([^)]*)\) \{\n([\s\S]*?)^  \}$", re.M)
@@ -142,7 +142,8 @@ def of_types(found, text):
             *([] if re.match(r"/\*\*[\s*]+[A-Z]", comment) else ["a sentence"]),
             *(f"@param {word}" for word in given if not re.search(rf"@param {word} - \S", comment)),
             *(tag for tag in ["@since", "@example"] + ["@returns"] * is_answer if tag not in comment),
-            *errors(found, calls, KINDS, comment, f"TypeScript: {place}", place == "UnionFile.at")]
+            *errors(found, calls, KINDS, comment, f"TypeScript: {place}",
+                    place in ("UnionFile.at", "UnionFile.hasEach"))]
 
 
 def of_rust(found, name, text):

@@ -30,6 +30,8 @@ int32_t s2u_file_cell(const uint8_t* bytes, size_t n, uint64_t k, uint64_t* id);
 int32_t s2u_file_check(const uint8_t* bytes, size_t n);
 int32_t s2u_file_contains(const uint8_t* xs, size_t nx, const uint8_t* ys, size_t ny);
 int32_t s2u_file_contains_cell(const uint8_t* bytes, size_t n, uint64_t cell);
+int32_t s2u_file_contains_cells(const uint8_t* bytes, size_t n, const uint64_t* cells, size_t m, uint8_t* answers,
+  size_t room, size_t* bad);
 int32_t s2u_file_count(const uint8_t* bytes, size_t n, uint64_t* count);
 int32_t s2u_file_intersects(const uint8_t* xs, size_t nx, const uint8_t* ys, size_t ny);
 int32_t s2u_file_intersects_cell(const uint8_t* bytes, size_t n, uint64_t cell);

@@ -340,12 +340,12 @@ class CellUnionOf {
   /// S2U_MEMORY. @since 1.1
   /// @snippet examples.cc ContainsCells
   std::vector<bool> ContainsCells(const std::vector<Id>& cells, int32_t* status = nullptr) const {
-    return AboutEach(s2u_contains_cells, cells, status);
+    return AboutEach(s2u_contains_cells, ids(), size(), cells, status);
   }
   /// Whether the union has a leaf of each cell in turn. S2U_NO_CELL, S2U_MEMORY. @since 1.1
   /// @snippet examples.cc IntersectsCells
   std::vector<bool> IntersectsCells(const std::vector<Id>& cells, int32_t* status = nullptr) const {
-    return AboutEach(s2u_intersects_cells, cells, status);
+    return AboutEach(s2u_intersects_cells, ids(), size(), cells, status);
   }
   /// Whether all leaves of y are in the union. @since 0.1
   /// @snippet examples.cc Contains
@@ -721,14 +721,15 @@ class CellUnionOf {
 
   int32_t Order(const CellUnionOf& y) const { return s2u_compare(ids(), size(), y.ids(), y.size()); }
 
-  template <class Call>
-  std::vector<bool> AboutEach(Call call, const std::vector<Id>& cells, int32_t* status) const {
+  template <class Call, class Element>
+  static std::vector<bool> AboutEach(Call call, const Element* at, size_t n, const std::vector<Id>& cells,
+                                     int32_t* status) {
     std::vector<uint8_t> answers;
     std::vector<bool> made;
     size_t bad = 0;
     int32_t found = internal::resized(&answers, cells.size());
     if (found == S2U_OK) {
-      found = call(ids(), size(), Numbers(cells), cells.size(), answers.data(), answers.size(), &bad);
+      found = call(at, n, Numbers(cells), cells.size(), answers.data(), answers.size(), &bad);
     }
     if (found == S2U_OK) found = internal::resized(&made, cells.size());
     if (internal::succeeded(found, status)) {
@@ -819,6 +820,12 @@ class UnionFileOf {
   bool Intersects(Id id, int32_t* status = nullptr) const {
     int32_t found = s2u_file_intersects_cell(bytes_, n_, internal::number_of(id));
     return internal::succeeded(found, status) && found == 1;
+  }
+  /// Whether all leaves of each cell in turn are in the union. Cells in ascending order are quickest. S2U_NO_CELL,
+  /// S2U_MEMORY. @since 1.3
+  /// @snippet examples.cc UnionFile.ContainsCells
+  std::vector<bool> ContainsCells(const std::vector<Id>& cells, int32_t* status = nullptr) const {
+    return CellUnionOf<Id>::AboutEach(s2u_file_contains_cells, bytes_, n_, cells, status);
   }
   /// Whether all leaves of the union in the other file are in this one. @since 1.1
   /// @snippet examples.cc UnionFile.Contains

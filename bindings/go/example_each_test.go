@@ -543,6 +543,14 @@ func ExampleUnionFile_ContainsCellID() {
 	// Output: true
 }
 
+func ExampleUnionFile_ContainsCellIDs() {
+	union, _ := s2union.CellUnionFromTokens("04 0c")
+	bytes, _ := union.MarshalBinary()
+	file, _ := s2union.NewUnionFile(bytes)
+	fmt.Println(file.ContainsCellIDs(1, 0x1000000000000000))
+	// Output: [true false] <nil>
+}
+
 func ExampleUnionFile_IntersectsCellID() {
 	union, _ := s2union.CellUnionFromTokens("04 0c")
 	bytes, _ := union.MarshalBinary()

@@ -55,6 +55,15 @@ func (f UnionFile) ContainsCellID(id CellID) bool {
 	return answer(C.s2u_file_contains_cell(at, n, C.uint64_t(id)))
 }
 
+// ContainsCellIDs is whether the union has all leaves of each cell in turn. Cells in ascending order are quickest. A
+// PlaceError has the place of the first number that is no cell. Since 1.3.
+func (f UnionFile) ContainsCellIDs(ids ...CellID) ([]bool, error) {
+	at, n := placeOfBytes(f.file)
+	return asked(ids, func(cells *C.uint64_t, m C.size_t, answers *C.uint8_t, bad *C.size_t) C.int32_t {
+		return C.s2u_file_contains_cells(at, n, cells, m, answers, m, bad)
+	})
+}
+
 // IntersectsCellID is whether the union has a leaf of a cell. It takes log n steps. Since 0.2.
 func (f UnionFile) IntersectsCellID(id CellID) bool {
 	at, n := placeOfBytes(f.file)

@@ -175,7 +175,9 @@ var questions = map[string]func(given) string{
 	"union_intersects": func(g given) string {
 		return same(shown(g.union(0).Intersects(g.union(1))), shown(g.file(0).Intersects(g.file(1))))
 	},
-	"contains_cells":   func(g given) string { return shown(g.union(0).ContainsCellIDs(g.cells(1)...)) },
+	"contains_cells": func(g given) string {
+		return same(shown(g.union(0).ContainsCellIDs(g.cells(1)...)), shown(g.file(0).ContainsCellIDs(g.cells(1)...)))
+	},
 	"intersects_cells": func(g given) string { return shown(g.union(0).IntersectsCellIDs(g.cells(1)...)) },
 	"intersection_with_cell": func(g given) string {
 		return shown(s2union.CellUnionFromIntersectionWithCellID(g.union(0), g.cell(1)))

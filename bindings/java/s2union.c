@@ -269,15 +269,17 @@ static int32_t written(jint call, const passed* given, size_t* len) {
     case 3: return s2u_token_fields(LIST(0), TEXT(2), len);
     case 4: return s2u_contains_cells(LIST(0), LIST(1), BYTES(2), len);
     case 5: return s2u_intersects_cells(LIST(0), LIST(1), BYTES(2), len);
+    case 6: return s2u_file_contains_cells(BYTES(0), LIST(1), BYTES(2), len);
     default: return S2U_ARGUMENT;
   }
 }
 
-CALL(jint, write)(JNIEnv* env, jclass of, jint call, jlongArray xs, jlongArray ys, jbyteArray out, jlongArray length) {
+/* `xs` is the bytes of a file for the last of them, else a list. Questions of few cells end soon. */
+CALL(jint, write)(JNIEnv* env, jclass of, jint call, jarray xs, jlongArray ys, jbyteArray out, jlongArray length) {
   (void)of;
-  passed lists = {.env = env};
+  passed lists = {.env = env, .ends_soon = call >= 4 && (*env)->GetArrayLength(env, ys) <= SHORT};
   size_t len = 0;
-  add(&lists, xs, 0, 0), add(&lists, ys, 0, 0), add(&lists, out, 1, 1);
+  add(&lists, xs, call == 6, 0), add(&lists, ys, 0, 0), add(&lists, out, 1, 1);
   int32_t status = begin(&lists) ? written(call, &lists, &len) : S2U_MEMORY;
   return ended(&lists, status, length, len);
 }

@@ -366,10 +366,10 @@ class Core {
     return this.marks("s2u_intersects_cells", ids, cells);
   }
 
-  /** 1 or 0 for each of the cells. */
-  marks(name, ids, cells) {
-    this.stay(ids);
-    const [words, [out, bad]] = this.passed([ids, cells], [cells.length, 8]);
+  /** 1 or 0 for each of the cells, of a list or the bytes of a file. */
+  marks(name, of, cells) {
+    this.stay(of);
+    const [words, [out, bad]] = this.passed([of, cells], [cells.length, 8]);
     const status = this.calls[name](...words, BigInt(out), BigInt(cells.length), BigInt(bad));
     if (status < 0) throw new Refusal(status, Number(this.number(bad)));
     return this.bytes(out, cells.length).slice();
@@ -552,6 +552,10 @@ class Core {
   ofFile(name, bytes, ...more) {
     this.stay(bytes);
     return this.answer(name, [bytes], ...more);
+  }
+
+  fileContainsCells(bytes, cells) {
+    return this.marks("s2u_file_contains_cells", bytes, cells);
   }
 
   fileContains(bytes, cell) {

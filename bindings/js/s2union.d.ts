@@ -823,6 +823,17 @@ export class UnionFile {
    */
   has(cell: Cell): boolean;
   /**
+   * Whether all leaves of each cell are in it, in one call, which is quickest if they ascend.
+   * S2: `S2CellUnion::Contains`.
+   * @param cells - cells
+   * @returns a byte for each cell, 1 or 0
+   * @throws {@link Refusal} `NO_CELL` if a number is no cell; the place is that of the first
+   * @since 1.3
+   * @example
+   * new UnionFile(CellUnion.fromTokens("04").encode()).hasEach([fromToken("0401"), fromToken("14")]).join() // 1,0
+   */
+  hasEach(cells: Cells): Uint8Array;
+  /**
    * Whether it shares a leaf with a cell.
    * S2: `S2CellUnion::Intersects`.
    * @param cell - a cell

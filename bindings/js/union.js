@@ -384,6 +384,10 @@ export class UnionFile {
     return calls().fileContains(this.#bytes, numberOf(cell));
   }
 
+  hasEach(cells) {
+    return calls().fileContainsCells(this.#bytes, numbersOf(cells));
+  }
+
   intersectsCell(cell) {
     return calls().fileIntersects(this.#bytes, numberOf(cell));
   }

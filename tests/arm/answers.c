@@ -175,6 +175,7 @@ static void ask_files(void) {
   status = s2u_file_cell(file, size, level, &cell);
   say((uint64_t)status), say(cell), say((uint64_t)s2u_file_check(file, size));
   say((uint64_t)s2u_file_contains_cell(file, size, id)), say((uint64_t)s2u_file_intersects_cell(file, size, id));
+  entries(s2u_file_contains_cells(file, size, ys, ny, bytes, MOST, &bad), bytes, 1, ny);
   say((uint64_t)s2u_file_contains(file, size, other_file, other_size));
   say((uint64_t)s2u_file_intersects(file, size, other_file, other_size));
 }

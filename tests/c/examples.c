@@ -437,6 +437,15 @@ int main(void) {
     /* [s2u_file_contains_cell] */
   }
   {
+    /* [s2u_file_contains_cells] */
+    uint64_t cells[] = {1, UINT64_C(0x1000000000000000)};
+    uint8_t answers[2];
+    size_t bad;
+    check(s2u_file_contains_cells(file, sizeof file, cells, 2, answers, 2, &bad) == S2U_OK);
+    check(answers[0] == 1 && answers[1] == 0);
+    /* [s2u_file_contains_cells] */
+  }
+  {
     /* [s2u_file_intersects_cell] */
     check(s2u_file_intersects_cell(file, sizeof file, UINT64_C(0x1000000000000000)) == 1);
     /* [s2u_file_intersects_cell] */

@@ -179,6 +179,10 @@ int main(void) {
     (void)s2u_file_cell(bytes, size, draw() % MOST, &many);
     (void)s2u_file_leaf_count(bytes, size, &many);
     (void)s2u_file_contains(bytes, size, bytes, size);
+    uint8_t answer = 9;
+    cell = random_cell(0, 30, 6);
+    CHECK(s2u_file_contains_cells(bytes, size, &cell, 1, &answer, 1, &len) == (is_answer(asked) ? S2U_OK : status));
+    CHECK(is_answer(asked) ? answer <= 1 && len == 1 : answer == 9 && len == 0);
     (void)s2u_file_intersects(bytes, size, bytes, size);
     status = s2u_file_ancestors(bytes, size, out, room, &len);
     CHECK(status == S2U_OK ? len <= room : status == S2U_ROOM ? len > room : len == 0);

@@ -66,13 +66,15 @@ static void each_call(void) {
 
 /* Asks each call about a file that doesn't name each of its cells. */
 static void each_call_about_a_file(void) {
-  uint8_t of_a_cell[17];
+  uint8_t of_a_cell[17], answer;
   uint64_t cells;
+  size_t bad;
   if (s2u_encode(&next_face, 1, of_a_cell, sizeof of_a_cell, &len) != S2U_OK) abort();
   CHECK(s2u_file_count(shut_file(), size, &cells) == S2U_OK && cells == N && pages_read == 1);
   CHECK(s2u_file_cell(shut_file(), size, N - 1, &id) == S2U_OK && id == cell_at(N - 1) && pages_read == 2);
   CHECK(s2u_file_contains_cell(shut_file(), size, cell_at(N / 3)) == 1 && reads_few());
   CHECK(s2u_file_contains_cell(shut_file(), size, next_face) == 0 && reads_few());
+  CHECK(s2u_file_contains_cells(shut_file(), size, &next_face, 1, &answer, 1, &bad) == S2U_OK && reads_few());
   CHECK(s2u_file_intersects_cell(shut_file(), size, face) == 1 && reads_few());
   CHECK(s2u_file_intersects_cell(shut_file(), size, next_face) == 0 && reads_few());
   CHECK(s2u_file_contains(shut_file(), size, of_a_cell, len) == 0 && reads_few());

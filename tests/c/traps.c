@@ -124,6 +124,13 @@ static void damaged_files(void) {
       int32_t answers[] = {s2u_file_contains_cell(file, n, face), s2u_file_intersects_cell(file, n, face),
                            s2u_file_contains(file, n, file, 25), s2u_file_intersects(file, 25, file, n)};
       for (size_t a = 0; a < 4; a++) CHECK(answers[a] >= least && answers[a] <= most);
+      uint8_t bits[] = {9, 9};
+      uint64_t asked[] = {face, face, 2};
+      size_t wanted = cut ? 0 : 2;
+      CHECK(s2u_file_contains_cells(file, n, asked, 3, bits, 2, &len) == (cut ? least : S2U_NO_CELL) && len == wanted);
+      CHECK(s2u_file_contains_cells(file, n, asked, 2, bits, 1, &len) == (cut ? least : S2U_ROOM) && len == wanted);
+      CHECK(bits[0] == 9 && s2u_file_contains_cells(file, n, asked, 2, bits, 2, &len) == least && len == wanted);
+      CHECK(cut ? bits[0] == 9 : bits[0] <= 1 && bits[1] == bits[0]);
     }
   }
 }

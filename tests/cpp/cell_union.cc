@@ -218,6 +218,7 @@ static void unions() {
   REFUSES(S2U_MEMORY, Union::FromTokens("04", status));
   REFUSES(S2U_MEMORY, s2union::UnionFileOf<Id>(bytes.data(), bytes.size()).Union(status));
   REFUSES(S2U_MEMORY, s2union::UnionFileOf<Id>(bytes.data(), bytes.size()).Ancestors(status));
+  REFUSES(S2U_MEMORY, s2union::UnionFileOf<Id>(bytes.data(), bytes.size()).ContainsCells(two.cell_ids(), status));
   REFUSES(S2U_MEMORY, Union::UnionOf(three, status));
   REFUSES(S2U_MEMORY, face.Denormalize(3, 1, &list, status));
   REFUSES(S2U_MEMORY, x.Decode(bytes.data(), bytes.size(), status));

@@ -481,6 +481,12 @@ int main() {
     // [UnionFile.Contains a cell]
   }
   {
+    // [UnionFile.ContainsCells]
+    UnionFile held(bytes.data(), bytes.size());
+    check(held.ContainsCells({1, 0x1000000000000000}) == std::vector<bool>({true, false}));
+    // [UnionFile.ContainsCells]
+  }
+  {
     // [UnionFile.Intersects a cell]
     UnionFile held(bytes.data(), bytes.size());
     check(held.Intersects(0x1000000000000000) && !held.Intersects(0x0c00000000000000));

@@ -166,9 +166,12 @@ final class Refusals {
     check(CellUnion.unionOf(List.of(rest, half, rest)).equals(whole), "a union in three parts");
     check(CellUnion.decode(whole.encode()).equals(whole), "a long file");
     check(CellUnion.fromTokens(whole.toString()).equals(whole), "a long text");
-    boolean[] found = whole.containsEach(cells);
-    check(IntStream.range(0, found.length).allMatch(k -> found[k]), "many questions");
     UnionFile file = new UnionFile(whole.encode());
+    long[] few = Arrays.copyOf(cells, 9);
+    for (boolean[] found : List.of(whole.containsEach(cells), file.containsEach(cells), whole.containsEach(few),
+        file.containsEach(few))) {
+      check(IntStream.range(0, found.length).allMatch(k -> found[k]), "many questions");
+    }
     check(IntStream.range(0, 1000).mapToLong(k -> cells[1200 * k]).allMatch(cell -> whole.contains(cell)
         && file.contains(cell) && !rest.intersects(cell) == half.contains(cell)), "single questions");
     check(whole.contains(half) && !half.contains(whole) && file.contains(file) && whole.compareTo(whole) == 0

@@ -164,7 +164,8 @@ final class Vectors {
     });
     QUESTIONS.put("from_points", g -> shown(CellId.fromPoints(g.numbers(0))));
     QUESTIONS.put("parents", g -> shown(CellId.parents(g.cells(0), g.number(1))));
-    QUESTIONS.put("contains_cells", g -> shown(g.union(0).containsEach(g.cells(1))));
+    QUESTIONS.put("contains_cells",
+        g -> same(shown(g.union(0).containsEach(g.cells(1))), shown(g.file(0).containsEach(g.cells(1)))));
     QUESTIONS.put("intersects_cells", g -> shown(g.union(0).intersectsEach(g.cells(1))));
   }
 

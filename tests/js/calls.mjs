@@ -127,6 +127,7 @@ export const CALLS = {
   "UnionFile.check": {asks: (it) => it.module.UnionFile.check(it.bytes), wanted: () => true},
   "UnionFile.size": {asks: (it) => it.file.size, wanted: (it) => Number(it.count)},
   "UnionFile.at": {asks: (it) => it.file.at(it.cells.length - 1), wanted: (it) => it.cell},
+  "UnionFile.hasEach": of("cells", (it, given) => it.file.hasEach(given), each(1)),
   "UnionFile.leafCount": {asks: (it) => it.file.leafCount(), wanted: (it) => it.count},
   ...ofFile("cell", {has: () => true, intersectsCell: () => true}),
   ...ofFile("file", {isSupersetOf: () => true, intersects: () => true}),

@@ -58,6 +58,7 @@ function copied(action) {
 /** The questions of a union or of a file, of which each is asked of another one or of a leaf. */
 const QUESTIONS = {
   has: (it, other, leaf) => it.has(leaf),
+  hasEach: (it, other, leaf) => it.hasEach([leaf])[0],
   intersectsCell: (it, other, leaf) => it.intersectsCell(leaf),
   isSupersetOf: (it, other) => it.isSupersetOf(other),
   intersects: (it, other) => it.intersects(other),
@@ -65,7 +66,6 @@ const QUESTIONS = {
 };
 const OF_UNIONS = {
   ...QUESTIONS,
-  hasEach: (it, other, leaf) => it.hasEach([leaf])[0],
   intersectsEach: (it, other, leaf) => it.intersectsEach([leaf])[0],
   cellsAt: (it, other, leaf) => it.cellsAt(leaf).length,
   isSubsetOf: (it, other) => other.isSupersetOf(it),

@@ -154,15 +154,16 @@ function standIn() {
   const ofCell = (isSo) => (ids, cell) => (isCell(cell) ? Number(isSo(runsOf(ids), runOf(cell))) : NO_CELL);
   const contains = ofCell(hasAll);
   const intersects = ofCell(sharesOne);
-  const ofEach = (isSo) => (at, n, cells, m, out, _, bad) => {
+  const marks = (isSo, ids, cells, m, out, _, bad) => {
     const asked = cellsAt(cells, m);
     const wrong = asked.findIndex((id) => !isCell(id));
     put(bad, wrong < 0 ? m : wrong);
     if (wrong >= 0) return NO_CELL;
-    const runs = runsOf(cellsAt(at, n));
+    const runs = runsOf(ids);
     bytesAt(out, m).set(asked.map((cell) => Number(isSo(runs, runOf(cell)))));
     return 0;
   };
+  const ofEach = (isSo) => (at, n, ...words) => marks(isSo, cellsAt(at, n), ...words);
   const containsUnion = (xs, ys) => Number(!common(runsOf(ys), rest(xs.map(runOf))).length);
   const intersectsUnion = (xs, ys) => Number(common(runsOf(xs), runsOf(ys)).length > 0);
   const ancestors = (ids) => {
@@ -278,6 +279,7 @@ function standIn() {
     s2u_file_leaf_count: ofFiles(1, (ids, at) => answered(sizeOf(ids.map(runOf)), at)),
     s2u_file_cell: ofFiles(1, (ids, k, at) => answered(ids[k] ?? ARGUMENT, at)),
     s2u_file_contains_cell: ofFiles(1, contains),
+    s2u_file_contains_cells: ofFiles(1, (ids, ...words) => marks(hasAll, ids, ...words)),
     s2u_file_intersects_cell: ofFiles(1, intersects),
     s2u_file_contains: ofFiles(2, containsUnion),
     s2u_file_intersects: ofFiles(2, intersectsUnion),

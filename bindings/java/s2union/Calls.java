@@ -26,7 +26,7 @@ final class Calls {
       INNER_IN = 12, PARENTS = 13, RANGE_MINS = 14, RANGE_MAXES = 15, SYMMETRIC_DIFFERENCE = 16,
       COMPLEMENT = 17, UNION_OF_MANY = 18;
   static final int ENCODE = 0, TOKENS = 1, LEVELS = 2, TOKEN_FIELDS = 3, CONTAINS_CELLS = 4,
-      INTERSECTS_CELLS = 5;
+      INTERSECTS_CELLS = 5, FILE_CONTAINS_CELLS = 6;
   static final int FILE_CHECK = 0, FILE_COUNT = 1, FILE_LEAF_COUNT = 2, FILE_CELL = 3,
       FILE_CONTAINS_CELL = 4, FILE_INTERSECTS_CELL = 5, FILE_CONTAINS = 6, FILE_INTERSECTS = 7;
 
@@ -80,7 +80,7 @@ final class Calls {
 
   static native int fromPoints(int[] points, long[] out, long[] bad);
 
-  static native int write(int call, long[] xs, long[] ys, byte[] out, long[] length);
+  static native int write(int call, Object xs, long[] ys, byte[] out, long[] length);
 
   static native int read(int call, byte[] bytes, long[] out, long[] length);
 
@@ -123,6 +123,17 @@ final class Calls {
     long[] bad = new long[1];
     whole(make(call, cells, NONE, numbers, out, bad), cells, bad[0]);
     return out;
+  }
+
+  /** The answers about many cells of a list, or of the bytes of a file. */
+  static boolean[] asksEach(int call, Object of, long[] cells) {
+    byte[] marks = new byte[cells.length];
+    long[] bad = new long[1];
+    int status = write(call, of, cells, marks, bad);
+    checked(status, bad[0]);
+    boolean[] answers = new boolean[cells.length];
+    for (int k = 0; k < answers.length; k++) answers[k] = marks[k] == 1;
+    return answers;
   }
 
   static byte[] bytesOfEach(int call, long[] cells, int each) {

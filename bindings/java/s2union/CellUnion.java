@@ -377,7 +377,7 @@ public final class CellUnion implements Comparable<CellUnion> {
    * @since 1.1
    */
   public boolean[] containsEach(long... cells) {
-    return each(Calls.CONTAINS_CELLS, cells);
+    return Calls.asksEach(Calls.CONTAINS_CELLS, ids, cells);
   }
 
   /**
@@ -394,17 +394,7 @@ public final class CellUnion implements Comparable<CellUnion> {
    * @since 1.1
    */
   public boolean[] intersectsEach(long... cells) {
-    return each(Calls.INTERSECTS_CELLS, cells);
-  }
-
-  private boolean[] each(int call, long[] cells) {
-    byte[] marks = new byte[cells.length];
-    long[] bad = new long[1];
-    int status = Calls.write(call, ids, cells, marks, bad);
-    Calls.checked(status, bad[0]);
-    boolean[] answers = new boolean[cells.length];
-    for (int k = 0; k < answers.length; k++) answers[k] = marks[k] == 1;
-    return answers;
+    return Calls.asksEach(Calls.INTERSECTS_CELLS, ids, cells);
   }
 
   /**

@@ -122,6 +122,23 @@ public final class UnionFile {
   }
 
   /**
+   * Whether all leaves of each cell are in it, in one call, which is quickest if they ascend.
+   * S2: {@code S2CellUnion::Contains}.
+   *
+   * <pre>{@code
+   * new UnionFile(CellUnion.fromTokens("04").encode()).containsEach(CellId.fromToken("0401"))[0] // true
+   * }</pre>
+   *
+   * @param cells cells
+   * @return as many answers
+   * @throws Refusal {@link Refusal.Kind#NO_CELL} if a number is no cell; the place is that of the first
+   * @since 1.3
+   */
+  public boolean[] containsEach(long... cells) {
+    return Calls.asksEach(Calls.FILE_CONTAINS_CELLS, bytes, cells);
+  }
+
+  /**
    * Whether it shares a leaf with a cell.
    * S2: {@code S2CellUnion::Intersects}.
    *

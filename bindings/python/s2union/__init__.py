@@ -1494,17 +1494,13 @@ class UnionFile:
         """
         return _library.file_intersects_cell(self._bytes, cell)
 
-    def _ask_each(self, call: Callable[..., bool], cells: Any) -> Any:
-        return _answers(cells, bytearray(call(self._bytes, cell) for cell in _cells_in(_read(cells))))
-
     @overload
     def contains_cells(self, cells: Array) -> npt.NDArray[np.bool_]: ...
     @overload
     def contains_cells(self, cells: Iterable[SupportsIndex]) -> list[bool]: ...
 
     def contains_cells(self, cells: Any) -> Any:
-        """Whether the union has all leaves of each cell in turn. Each is asked in a call of its own: `union()` is
-        quicker for many.
+        """Whether the union has all leaves of each cell in turn, in one call, which is quickest if they ascend.
 
         .. versionadded:: 0.1
 
@@ -1535,7 +1531,7 @@ class UnionFile:
         >>> UnionFile(CellUnion.from_tokens("04").to_bytes()).contains_cells([from_token("0401"), from_token("14")])
         [True, False]
         """
-        return self._ask_each(_library.file_contains_cell, cells)
+        return _answers(cells, _found(*_library.file_contains_cells(self._bytes, _given(cells))))
 
     @overload
     def intersects_cells(self, cells: Array) -> npt.NDArray[np.bool_]: ...
@@ -1543,7 +1539,8 @@ class UnionFile:
     def intersects_cells(self, cells: Iterable[SupportsIndex]) -> list[bool]: ...
 
     def intersects_cells(self, cells: Any) -> Any:
-        """Whether the union has a leaf of each cell in turn, as `contains_cells`.
+        """Whether the union has a leaf of each cell in turn. Each is asked in a call of its own: `union()` is quicker
+        for many.
 
         .. versionadded:: 0.1
 
@@ -1574,7 +1571,8 @@ class UnionFile:
         >>> UnionFile(CellUnion.from_tokens("0401").to_bytes()).intersects_cells([from_token("04")])
         [True]
         """
-        return self._ask_each(_library.file_intersects_cell, cells)
+        found = (_library.file_intersects_cell(self._bytes, cell) for cell in _cells_in(_read(cells)))
+        return _answers(cells, bytearray(found))
 
     def leaf_count(self) -> int:
         """How many leaves the union has. It takes n steps.

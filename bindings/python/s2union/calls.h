@@ -3,13 +3,13 @@
   X(ancestors) X(cell_contains) X(cell_intersects) X(cells_at) X(child) X(common_ancestor) X(compare) \
   X(complement) X(contains) X(contains_cell) X(contains_cells) X(debug) X(decode) X(denormalised) \
   X(denormalised_len) X(difference) X(encode) X(face) X(file_ancestors) X(file_cell) X(file_check) \
-  X(file_contains) X(file_contains_cell) X(file_count) X(file_intersects) X(file_intersects_cell) \
-  X(file_leaf_count) X(from_debug) X(from_face_ij) X(from_points) X(from_token) X(from_tokens) X(inner) \
-  X(inner_in) X(inner_of) X(intersection) X(intersects) X(intersects_cell) X(intersects_cells) X(is_cell) \
-  X(is_union) X(leaf_count) X(level) X(levels) X(next) X(normalise) X(outer) X(outer_in) X(outer_of) \
-  X(parent) X(parents) X(prev) X(range) X(range_max) X(range_maxes) X(range_min) X(range_mins) X(size) \
-  X(square_of) X(symmetric_difference) X(token) X(token_fields) X(tokens) X(union) X(union_of_many) \
-  X(version)
+  X(file_contains) X(file_contains_cell) X(file_contains_cells) X(file_count) X(file_intersects) \
+  X(file_intersects_cell) X(file_leaf_count) X(from_debug) X(from_face_ij) X(from_points) X(from_token) \
+  X(from_tokens) X(inner) X(inner_in) X(inner_of) X(intersection) X(intersects) X(intersects_cell) \
+  X(intersects_cells) X(is_cell) X(is_union) X(leaf_count) X(level) X(levels) X(next) X(normalise) \
+  X(outer) X(outer_in) X(outer_of) X(parent) X(parents) X(prev) X(range) X(range_max) X(range_maxes) \
+  X(range_min) X(range_mins) X(size) X(square_of) X(symmetric_difference) X(token) X(token_fields) \
+  X(tokens) X(union) X(union_of_many) X(version)
 
 #define METHODS(X) \
   X(ancestors, METH_VARARGS) X(cell_contains, METH_VARARGS) X(cell_intersects, METH_VARARGS) \
@@ -19,17 +19,18 @@
   X(denormalised, METH_VARARGS) X(denormalised_len, METH_VARARGS) X(difference, METH_VARARGS) \
   X(encode, METH_VARARGS) X(face, METH_O) X(file_ancestors, METH_VARARGS) X(file_cell, METH_VARARGS) \
   X(file_check, METH_O) X(file_contains, METH_VARARGS) X(file_contains_cell, METH_VARARGS) \
-  X(file_count, METH_O) X(file_intersects, METH_VARARGS) X(file_intersects_cell, METH_VARARGS) \
-  X(file_leaf_count, METH_O) X(from_debug, METH_O) X(from_face_ij, METH_VARARGS) X(from_points, METH_O) \
-  X(from_token, METH_O) X(from_tokens, METH_O) X(inner, METH_VARARGS) X(inner_in, METH_VARARGS) \
-  X(inner_of, METH_VARARGS) X(intersection, METH_VARARGS) X(intersects, METH_VARARGS) \
-  X(intersects_cell, METH_VARARGS) X(intersects_cells, METH_VARARGS) X(is_cell, METH_O) \
-  X(is_union, METH_O) X(leaf_count, METH_O) X(level, METH_O) X(levels, METH_O) X(next_cell, METH_O) \
-  X(normalise, METH_O) X(outer, METH_VARARGS) X(outer_in, METH_VARARGS) X(outer_of, METH_VARARGS) \
-  X(parent, METH_VARARGS) X(parents, METH_VARARGS) X(previous_cell, METH_O) X(range_, METH_VARARGS) \
-  X(range_max, METH_O) X(range_maxes, METH_O) X(range_min, METH_O) X(range_mins, METH_O) X(size, METH_O) \
-  X(square_of, METH_O) X(symmetric_difference, METH_VARARGS) X(token, METH_O) X(token_fields, METH_O) \
-  X(tokens, METH_O) X(union, METH_VARARGS) X(union_of_many, METH_VARARGS) X(version, METH_NOARGS)
+  X(file_contains_cells, METH_VARARGS) X(file_count, METH_O) X(file_intersects, METH_VARARGS) \
+  X(file_intersects_cell, METH_VARARGS) X(file_leaf_count, METH_O) X(from_debug, METH_O) \
+  X(from_face_ij, METH_VARARGS) X(from_points, METH_O) X(from_token, METH_O) X(from_tokens, METH_O) \
+  X(inner, METH_VARARGS) X(inner_in, METH_VARARGS) X(inner_of, METH_VARARGS) X(intersection, METH_VARARGS) \
+  X(intersects, METH_VARARGS) X(intersects_cell, METH_VARARGS) X(intersects_cells, METH_VARARGS) \
+  X(is_cell, METH_O) X(is_union, METH_O) X(leaf_count, METH_O) X(level, METH_O) X(levels, METH_O) \
+  X(next_cell, METH_O) X(normalise, METH_O) X(outer, METH_VARARGS) X(outer_in, METH_VARARGS) \
+  X(outer_of, METH_VARARGS) X(parent, METH_VARARGS) X(parents, METH_VARARGS) X(previous_cell, METH_O) \
+  X(range_, METH_VARARGS) X(range_max, METH_O) X(range_maxes, METH_O) X(range_min, METH_O) \
+  X(range_mins, METH_O) X(size, METH_O) X(square_of, METH_O) X(symmetric_difference, METH_VARARGS) \
+  X(token, METH_O) X(token_fields, METH_O) X(tokens, METH_O) X(union, METH_VARARGS) \
+  X(union_of_many, METH_VARARGS) X(version, METH_NOARGS)
 
 #define NUMBERS(X) \
   X(OK) X(ROOM) X(MEMORY) X(NO_CELL) X(NO_UNION) X(ARGUMENT) X(MANY) X(FILE_SHORT) X(FILE_VERSION) \
@@ -271,6 +272,22 @@ static PyObject* py_file_contains_cell(PyObject* module, PyObject* words) {
   int32_t answer;
   UNLOCKED(answer = LIBRARY(file_contains_cell)(bytes.at, bytes.n, cell));
   return asked(module, answer, (uint64_t[]){cell}, 1);
+}
+
+static PyObject* py_file_contains_cells(PyObject* module, PyObject* words) {
+  List bytes;
+  Parts cells;
+  if (!has(words, 2) || !as_list(WORD(0), sizeof(uint8_t), &bytes) ||
+      !as_parts(WORD(1), sizeof(uint64_t), &cells))
+    return NULL;
+  size_t unit = sizeof(uint8_t);
+  int32_t status = S2U_OK;
+  PyObject* entries = entries_of(&cells, unit);
+  if (!entries) return NULL;
+  char* at = PyByteArray_AsString(entries);
+  UNLOCKED(while (has_part(&cells)) status = LIBRARY(file_contains_cells)(bytes.at, bytes.n, (void*)cells.at, cells.n,
+      (void*)(at + cells.done * unit), cells.n, &cells.bad));
+  return entered(status, entries, &cells);
 }
 
 static PyObject* py_file_count(PyObject* module, PyObject* words) {

@@ -14,7 +14,10 @@ s2u_from_tokens <- function(text) {
   new_s2_cell(.Call(C_from_tokens, paste(text, collapse = " ")))
 }
 s2u_encode <- function(x) .Call(C_encode, cells_of(x))
-s2u_decode <- function(bytes) if (is.raw(bytes)) new_s2_cell(.Call(C_decode, bytes)) else stop("not a raw vector")
+s2u_decode <- function(bytes) new_s2_cell(.Call(C_decode, bytes_of(bytes)))
+s2u_file_contains_cells <- function(bytes, cells) .Call(C_file_contains_cells, bytes_of(bytes), cells_of(cells))
+
+bytes_of <- function(bytes) if (is.raw(bytes)) bytes else stop("not a raw vector")
 
 # The vector of cells that an argument is.
 cells_of <- function(x) {

@@ -75,18 +75,23 @@ static SEXP answer_of(question* call, SEXP x, SEXP y) {
 static SEXP r_contains(SEXP x, SEXP y) { return answer_of(s2u_contains, x, y); }
 static SEXP r_intersects(SEXP x, SEXP y) { return answer_of(s2u_intersects, x, y); }
 
-/* NA is the answer for NA, and no NA is a cell. */
-typedef int32_t questions(const uint64_t*, size_t, const uint64_t*, size_t, uint8_t*, size_t, size_t*);
-static SEXP answers_of(questions* call, SEXP x, SEXP y) {
-  list whole = region(x), cells = list_of(y);
+/* Many questions to a list or to the bytes of a file. NA is the answer for NA, and no NA is a cell. */
+#define QUESTIONS(name) int32_t name(const void* of, size_t n, const uint64_t* cells, size_t m, uint8_t* answers, \
+                                     size_t room, size_t* bad)
+#define ASKS(name) static QUESTIONS(ask_##name) { return s2u_##name(of, n, cells, m, answers, room, bad); }
+ASKS(contains_cells)
+ASKS(intersects_cells)
+ASKS(file_contains_cells)
+static SEXP answers_of(QUESTIONS((*call)), const void* of, size_t n, SEXP y) {
+  list cells = list_of(y);
   uint8_t* answers = (uint8_t*)R_alloc(cells.n, 1);
   size_t bad;
-  int32_t status = call(whole.ids, whole.n, cells.ids, cells.n, answers, cells.n, &bad);
+  int32_t status = call(of, n, cells.ids, cells.n, answers, cells.n, &bad);
   int has_missing = status == S2U_NO_CELL && R_IsNA(REAL(y)[bad]);
   if (has_missing) {
     uint64_t* known = room_for(cells.n);
     for (size_t k = 0; k < cells.n; k++) known[k] = R_IsNA(REAL(y)[k]) ? s2u_from_face_ij(0, 0, 0) : cells.ids[k];
-    status = call(whole.ids, whole.n, known, cells.n, answers, cells.n, &bad);
+    status = call(of, n, known, cells.n, answers, cells.n, &bad);
   }
   check(status, bad);
   SEXP out = Rf_allocVector(LGLSXP, (R_xlen_t)cells.n);
@@ -94,8 +99,12 @@ static SEXP answers_of(questions* call, SEXP x, SEXP y) {
     LOGICAL(out)[k] = has_missing && R_IsNA(REAL(y)[k]) ? NA_LOGICAL : answers[k];
   return out;
 }
-static SEXP r_contains_cells(SEXP x, SEXP y) { return answers_of(s2u_contains_cells, x, y); }
-static SEXP r_intersects_cells(SEXP x, SEXP y) { return answers_of(s2u_intersects_cells, x, y); }
+static SEXP of_region(QUESTIONS((*call)), SEXP x, SEXP y) {
+  list whole = region(x);
+  return answers_of(call, whole.ids, whole.n, y);
+}
+static SEXP r_contains_cells(SEXP x, SEXP y) { return of_region(ask_contains_cells, x, y); }
+static SEXP r_intersects_cells(SEXP x, SEXP y) { return of_region(ask_intersects_cells, x, y); }
 
 static SEXP r_tokens(SEXP x) {
   list it = region(x);
@@ -128,10 +137,20 @@ static SEXP r_decode(SEXP bytes) {
   return vector_of(out, len);
 }
 
+static SEXP r_file_contains_cells(SEXP bytes, SEXP y) { /* where the file lies, if it is that of a union */
+  size_t n = (size_t)XLENGTH(bytes);
+  const uint8_t* at = n ? RAW(bytes) : NULL;
+  if (s2u_file_check(at, n) == 1) return answers_of(ask_file_contains_cells, at, n, y);
+  SEXP answers = r_contains_cells(PROTECT(r_decode(bytes)), y);
+  UNPROTECT(1);
+  return answers;
+}
+
 #define CALL(name, arguments) {#name, (DL_FUNC)r_##name, arguments}
 static const R_CallMethodDef calls[] = {CALL(normalise, 1), CALL(union, 2), CALL(intersection, 2), CALL(difference, 2),
   CALL(symmetric_difference, 2), CALL(contains, 2), CALL(intersects, 2), CALL(contains_cells, 2),
-  CALL(intersects_cells, 2), CALL(tokens, 1), CALL(from_tokens, 1), CALL(encode, 1), CALL(decode, 1), {NULL, NULL, 0}};
+  CALL(intersects_cells, 2), CALL(tokens, 1), CALL(from_tokens, 1), CALL(encode, 1), CALL(decode, 1),
+  CALL(file_contains_cells, 2), {NULL, NULL, 0}};
 void R_init_s2union(DllInfo* library) {
   R_registerRoutines(library, NULL, calls, NULL, NULL);
   R_useDynamicSymbols(library, FALSE);

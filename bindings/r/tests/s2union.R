@@ -20,6 +20,7 @@ for (k in 1:300) {
     s2u_contains(a, b) == s2_cell_union_contains(x, y), s2u_intersects(a, b) == s2_cell_union_intersects(x, y),
     identical(s2u_union(s2u_difference(a, b), s2u_difference(b, a)), s2u_symmetric_difference(a, b)),
     identical(s2u_contains_cells(x, b), vapply(seq_along(b), function(k) s2u_contains(a, b[k]), NA)),
+    identical(s2u_file_contains_cells(s2u_encode(a), b), s2u_contains_cells(x, b)),
     identical(s2u_intersects_cells(x, b), vapply(seq_along(b), function(k) s2u_intersects(a, b[k]), NA)),
     identical(s2u_decode(s2u_encode(a)), s2u_normalise(x)),
     identical(s2u_normalise(s2u_from_tokens(s2u_tokens(a))), s2u_normalise(x)))
@@ -33,6 +34,9 @@ none <- new_s2_cell(c(unclass(face), 0, NA))
 file <- s2u_encode(face)
 refused(s2u_union(face, none), "S2U_NO_CELL", 2)
 refused(s2u_contains_cells(face, none[3:1]), "S2U_NO_CELL", 2)
+refused(s2u_file_contains_cells(file, none[3:1]), "S2U_NO_CELL", 2)
+refused(s2u_file_contains_cells(file[-17], face), "S2U_FILE_SHORT")
+refused(s2u_file_contains_cells(replace(file, 10, as.raw(2)), face), "S2U_FILE_CELL")
 refused(s2u_from_tokens(c("1", "x")), "S2U_NO_CELL", 3)
 refused(s2u_decode(replace(file, 1, as.raw(2))), "S2U_FILE_VERSION")
 refused(s2u_decode(file[-17]), "S2U_FILE_SHORT")
@@ -43,6 +47,8 @@ for (x in list(1, "1", NULL, s2_cell_union(list(face, face))))
   stopifnot(inherits(try(s2u_tokens(x), TRUE), "try-error"))
 nothing <- s2u_difference(face, face)
 odd <- s2u_from_tokens("7ff1 7ff9 7fff") # NaN, if they were numbers
-stopifnot(identical(s2u_contains_cells(face, none[c(3, 1)]), c(NA, TRUE)), length(s2u_encode(nothing)) == 9,
+stopifnot(identical(s2u_contains_cells(face, none[c(3, 1)]), c(NA, TRUE)),
+          identical(s2u_file_contains_cells(file, none[c(3, 1)]), c(NA, TRUE)),
+          s2u_file_contains_cells(c(replace(file, 2, as.raw(2)), file[10:17]), face), length(s2u_encode(nothing)) == 9,
           s2u_tokens(nothing) == "", length(s2u_from_tokens("")) == 0,
           identical(s2u_tokens(odd), "7ff1 7ff9 7fff"), all(s2u_contains_cells(odd, odd)))

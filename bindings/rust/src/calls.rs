@@ -87,6 +87,15 @@ extern "C" {
     fn s2u_file_check(bytes: *const u8, n: usize) -> i32;
     fn s2u_file_contains(xs: *const u8, nx: usize, ys: *const u8, ny: usize) -> i32;
     fn s2u_file_contains_cell(bytes: *const u8, n: usize, cell: u64) -> i32;
+    fn s2u_file_contains_cells(
+        bytes: *const u8,
+        n: usize,
+        cells: *const u64,
+        m: usize,
+        answers: *mut u8,
+        room: usize,
+        bad: &mut usize,
+    ) -> i32;
     fn s2u_file_count(bytes: *const u8, n: usize, count: &mut u64) -> i32;
     fn s2u_file_intersects(xs: *const u8, nx: usize, ys: *const u8, ny: usize) -> i32;
     fn s2u_file_intersects_cell(bytes: *const u8, n: usize, cell: u64) -> i32;
@@ -331,6 +340,21 @@ pub fn file_contains(xs: &[u8], ys: &[u8]) -> i32 {
 pub fn file_contains_cell(bytes: &[u8], cell: u64) -> i32 {
     // SAFETY: each list goes with its length, and what is written is borrowed alone.
     unsafe { s2u_file_contains_cell(bytes.as_ptr(), bytes.len(), cell) }
+}
+
+pub fn file_contains_cells(bytes: &[u8], cells: &[u64], answers: &mut [MaybeUninit<u8>], bad: &mut usize) -> i32 {
+    // SAFETY: each list goes with its length, and what is written is borrowed alone.
+    unsafe {
+        s2u_file_contains_cells(
+            bytes.as_ptr(),
+            bytes.len(),
+            cells.as_ptr(),
+            cells.len(),
+            answers.as_mut_ptr().cast(),
+            answers.len(),
+            bad,
+        )
+    }
 }
 
 pub fn file_count(bytes: &[u8], count: &mut u64) -> i32 {

@@ -4,7 +4,7 @@ use crate::calls;
 use crate::cell::CellId;
 use crate::error::Error;
 use crate::lists;
-use crate::union::{cells_of, CellUnion};
+use crate::union::{cells_of, numbers, CellUnion};
 
 /// The bytes of a union file, which answer questions in place, as in a mapped file or a row of a table: nothing is
 /// copied.
@@ -125,6 +125,21 @@ impl<'a> UnionFile<'a> {
     /// ```
     pub fn contains_cell(&self, cell: CellId) -> bool {
         calls::file_contains_cell(self.bytes, cell.id()) == 1
+    }
+
+    /// Whether the union has all leaves of each cell in turn. Cells in ascending order are quickest. Since 1.3.
+    ///
+    /// # Examples
+    ///
+    /// ```
+    /// # use s2union::*;
+    /// let bytes = "04 0c".parse::<CellUnion>()?.encode()?;
+    /// let cells = CellId::from_tokens("0401 1 14")?;
+    /// assert_eq!(UnionFile::new(&bytes)?.contains_cells(&cells), [true, false, false]);
+    /// # Ok::<(), Error>(())
+    /// ```
+    pub fn contains_cells(&self, cells: &[CellId]) -> Vec<bool> {
+        lists::file_contains_cells(self.bytes, numbers(cells))
     }
 
     /// Whether the union has a leaf of a cell. It takes log n steps. Since 0.2.

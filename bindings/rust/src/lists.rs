@@ -125,6 +125,10 @@ pub fn contains_cells(ids: &[u64], cells: &[u64]) -> Vec<bool> {
     bools(each(cells.len(), |out, bad| calls::contains_cells(ids, cells, out, bad)))
 }
 
+pub fn file_contains_cells(bytes: &[u8], cells: &[u64]) -> Vec<bool> {
+    bools(each(cells.len(), |out, bad| calls::file_contains_cells(bytes, cells, out, bad)))
+}
+
 pub fn intersects_cells(ids: &[u64], cells: &[u64]) -> Vec<bool> {
     bools(each(cells.len(), |out, bad| calls::intersects_cells(ids, cells, out, bad)))
 }

@@ -224,7 +224,9 @@ impl Given<'_> {
                 self.twice(|union| union.intersects_cell(self.cell(1)), |file| file.intersects_cell(self.cell(1)))
             }
             "cells_at" => self.union(0).cells_at(self.cell(1)).to_vec().shown(),
-            "contains_cells" => self.union(0).contains_cells(&self.cells(1)).shown(),
+            "contains_cells" => {
+                self.twice(|union| union.contains_cells(&self.cells(1)), |file| file.contains_cells(&self.cells(1)))
+            }
             "intersects_cells" => self.union(0).intersects_cells(&self.cells(1)).shown(),
             "range" => CellUnion::from_range(self.cell(0), self.cell(1)).shown(),
             "leaves" => CellUnion::from_begin_end(self.cell(0), CellId::from_id(self.id(1))).shown(),

@@ -1004,6 +1004,24 @@ int32_t s2u_file_cell(const uint8_t* bytes, size_t n, uint64_t k, uint64_t* id);
  */
 int32_t s2u_file_contains_cell(const uint8_t* bytes, size_t n, uint64_t cell);
 
+/** [pure] Whether all leaves of each cell are in the union in a file, as s2u_contains_cells.
+ * @param bytes,n a file at any address, and how many bytes it has
+ * @param cells,m any numbers, and how many they are
+ * @param answers,room 1 or 0 for each, and how many there is room for
+ * @param bad the first k for which cells[k] is not a cell; else m; 0 after a refusal of the file
+ * @return S2U_OK
+ * @retval S2U_FILE_SHORT bytes are missing; answers is not touched
+ * @retval S2U_FILE_VERSION the first byte is not 1; likewise
+ * @retval S2U_FILE_TRAILING bytes follow the last cell; likewise
+ * @retval S2U_NO_CELL one is not a cell; likewise
+ * @retval S2U_ROOM room is less than m; likewise
+ * @s2{S2CellUnion::Contains}
+ * @since 1.3
+ * @snippet examples.c s2u_file_contains_cells
+ */
+int32_t s2u_file_contains_cells(const uint8_t* bytes, size_t n, const uint64_t* cells, size_t m, uint8_t* answers,
+                                size_t room, size_t* bad);
+
 /** [pure] Whether the union in a file shares a leaf with a cell. Log n steps.
  * @param bytes,n a file at any address, and how many bytes it has
  * @param cell any number

@@ -1,19 +1,23 @@
 //! Union files, which S2's `S2CellUnion::Encode` writes too: the byte 1, the number of cells in eight bytes, and eight
 //! bytes for each cell, the lowest byte first. Questions are answered from a file's bytes where they lie, at any
 //! address.
-ghost use Rattle.std.specs.Prelude.{◌≡◌, ◌+◌, ◌*◌, ◌<◌, ◌≤◌, All, MatchResult, length, slice_index, drop};
+ghost use Rattle.std.specs.Prelude.{◌≡◌, ◌+◌, ◌*◌, ◌<◌, ◌≤◌, ℕ, All, MatchResult, length, slice_index, drop};
 ghost use Rattle.s2cell.specs.Cell.{IsCell, covers};
 ghost use Rattle.s2list.specs.Union.{IsLocal, IsNormalForm, IsWithin, ShareSome, has_leaf};
 ghost use Rattle.s2list.specs.Count.{count_below};
+ghost use Rattle.s2list.specs.Search.{IsFirstWrong};
 ghost use Rattle.s2file.specs.File.{file_text};
 ghost use Rattle.s2room.specs.Ancestors.{AreHolders};
 ghost use Rattle.s2room.specs.Normalising.{IsNormalisedIn};
 ghost use Rattle.s2room.specs.Numbers.{numbers_in};
 ghost use Rattle.s2union_c.specs.Files.{Decoded, IsCellFile, IsFrameFault, IsFramed, file_ids};
 ghost use Rattle.s2union_c.specs.Results.{KeepsRest, Made, MadeInPlace, MadeOne, Refused};
-ghost use Rattle.s2union_c.specs.Status.{IsAnswerTo, IsAnswer, bad_argument, made, no_cell, wrong_cell};
+ghost use Rattle.s2union_c.specs.Status.{
+    IsAnswerTo, IsAnswer, IsBit, bad_argument, made, no_cell, no_room, wrong_cell,
+};
 
 use crate::lists::cells_of;
+use crate::many::answer_cells;
 use crate::results::{bound, put_cells, room_status};
 use crate::status::{
     BAD_ARGUMENT, LONG_FILE, MADE, NO_CELL, NO_MEMORY, NO_ROOM, OTHER_VERSION, SHORT_FILE,
@@ -23,7 +27,7 @@ use crate::unions::LEVELS;
 use byteorder::{ByteOrder, LittleEndian};
 use s2cell::{CellId, LEAVES};
 use s2file::{HEAD_SIZE, VERSION};
-use s2list::{Cells, Listed, NUMBER_SIZE, first_wrong, is_union, number};
+use s2list::{Cells, Listed, NUMBER_SIZE, Question, first_wrong, is_union, number};
 use s2room::{FileIds, ancestors, read_numbers};
 use s2union::normalise;
 use std::alloc::Global;
@@ -223,6 +227,41 @@ pub extern "C" fn s2u_file_contains_cell(bytes: &[u8], cell: u64) -> i32
             Some(part) => answer(s2list::contains_cell(&FileIds { bytes: numbers }, part)),
             None => NO_CELL,
         },
+        Err(status) => status,
+    }
+}
+
+/// Whether the union of a file has all leaves of each cell in turn, as `s2u_contains_cells`. `bad` is 0 if the frame of
+/// the file is wrong.
+#[unsafe(no_mangle)]
+pub extern "C" fn s2u_file_contains_cells(
+    bytes: &[u8],
+    cells: &[u64],
+    answers: &mut [u8],
+    bad: &mut usize,
+) -> i32
+    ensures made { IsFramed bytes.now → All IsCell cells.now → length cells.now ≤ length answers.old
+        → (result ≡ made) × (bad.new ≡ length cells.now) }
+    ensures exact { IsFramed bytes.now → IsLocal (file_ids bytes.now) → All IsCell cells.now
+        → length cells.now ≤ length answers.old → (k : ℕ) → k < length cells.now
+        → IsBit (slice_index answers.new k)
+            (IsWithin (covers (slice_index cells.now k)) (has_leaf (file_ids bytes.now))) }
+    ensures bits { IsFramed bytes.now → All IsCell cells.now → length cells.now ≤ length answers.old
+        → (k : ℕ) → k < length cells.now → slice_index answers.new k ≤ 1 }
+    ensures rest { drop (length cells.now) answers.new ≡ drop (length cells.now) answers.old }
+    ensures no_cell { IsFramed bytes.now → (All IsCell cells.now → ⊥) → (result ≡ no_cell)
+        × IsFirstWrong cells.now bad.new × (answers.new ≡ answers.old) }
+    ensures room { IsFramed bytes.now → All IsCell cells.now → length answers.old < length cells.now
+        → (result ≡ no_room) × (bad.new ≡ length cells.now) × (answers.new ≡ answers.old) }
+    ensures fault { (IsFramed bytes.now → ⊥) → IsFrameFault bytes.now result × (bad.new ≡ 0)
+        × (answers.new ≡ answers.old) }
+{
+    *bad = 0;
+    match bytes_after_head(bytes) {
+        Ok(numbers) => {
+            let ids = FileIds { bytes: numbers };
+            answer_cells(Question::Contains, &ids, cells, answers, bad)
+        }
         Err(status) => status,
     }
 }

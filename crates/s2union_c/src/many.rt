@@ -10,7 +10,7 @@ ghost use Rattle.s2union_c.specs.Status.{IsBit, made, no_cell, no_room};
 use crate::status::{MADE, NO_CELL, NO_ROOM};
 use s2cell::CellId;
 use s2list::{
-    IdList, NEARBY, Question, cell_of, contains_cell_at, first_wrong, intersects_cell_at,
+    Cells, IdList, NEARBY, Question, cell_of, contains_cell_at, first_wrong, intersects_cell_at,
     place_near, places_of_four,
 };
 
@@ -37,7 +37,7 @@ pub extern "C" fn s2u_contains_cells(
     ensures room { All IsCell cells.now → length answers.old < length cells.now
         → (result ≡ no_room) × (bad.new ≡ length cells.now) × (answers.new ≡ answers.old) }
 {
-    answer_cells(Question::Contains, ids, cells, answers, bad)
+    answer_cells(Question::Contains, &IdList { ids }, cells, answers, bad)
 }
 
 /// Whether a union has a leaf of each cell in turn: 1 or 0 for each. `bad` is as in `s2u_contains_cells`.
@@ -61,22 +61,22 @@ pub extern "C" fn s2u_intersects_cells(
     ensures room { All IsCell cells.now → length answers.old < length cells.now
         → (result ≡ no_room) × (bad.new ≡ length cells.now) × (answers.new ≡ answers.old) }
 {
-    answer_cells(Question::Intersects, ids, cells, answers, bad)
+    answer_cells(Question::Intersects, &IdList { ids }, cells, answers, bad)
 }
 
 /// Answers the question about each cell in turn, if all of them are cells and there is room.
-fn answer_cells(
+pub(crate) fn answer_cells<C: Cells>(
     question: Question,
-    ids: &[u64],
+    ids: &C,
     cells: &[u64],
     answers: &mut [u8],
     bad: &mut usize,
 ) -> i32
     ensures made { All IsCell cells.now → length cells.now ≤ length answers.old
         → (result ≡ made) × (bad.new ≡ length cells.now) }
-    ensures exact { IsLocal ids.now → All IsCell cells.now → length cells.now ≤ length answers.old
+    ensures exact { IsLocal (C.ids ids.now) → All IsCell cells.now → length cells.now ≤ length answers.old
         → (k : ℕ) → k < length cells.now
-        → IsBit (slice_index answers.new k) (Holds question ids.now (slice_index cells.now k)) }
+        → IsBit (slice_index answers.new k) (Holds question (C.ids ids.now) (slice_index cells.now k)) }
     ensures bits { All IsCell cells.now → length cells.now ≤ length answers.old
         → (k : ℕ) → k < length cells.now → slice_index answers.new k ≤ 1 }
     ensures rest { drop (length cells.now) answers.new ≡ drop (length cells.now) answers.old }
@@ -99,11 +99,11 @@ fn answer_cells(
 
 /// Answers the question about each cell. If the last two indexes were far apart, the next four cells are
 /// searched at once; else the search for the next cell begins at the last index.
-fn answer_each(question: Question, ids: &[u64], cells: &[u64], answers: &mut [u8])
+fn answer_each<C: Cells>(question: Question, ids: &C, cells: &[u64], answers: &mut [u8])
     requires cells { All IsCell cells.now }
     requires room { length cells.now ≤ length answers.old }
-    ensures exact { IsLocal ids.now → (k : ℕ) → k < length cells.now
-        → IsBit (slice_index answers.new k) (Holds question ids.now (slice_index cells.now k)) }
+    ensures exact { IsLocal (C.ids ids.now) → (k : ℕ) → k < length cells.now
+        → IsBit (slice_index answers.new k) (Holds question (C.ids ids.now) (slice_index cells.now k)) }
     ensures bits { (k : ℕ) → k < length cells.now → slice_index answers.new k ≤ 1 }
     ensures rest { drop (length cells.now) answers.new ≡ drop (length cells.now) answers.old }
 {
@@ -118,7 +118,7 @@ fn answer_each(question: Question, ids: &[u64], cells: &[u64], answers: &mut [u8
             k += 4;
         } else {
             let cell = cell_of(cells[k]);
-            let at = place_near(&IdList { ids }, near, cell);
+            let at = place_near(ids, near, cell);
             answers[k] = bit(question, ids, at, cell);
             apart = near.abs_diff(at) > NEARBY;
             near = at;
@@ -129,9 +129,9 @@ fn answer_each(question: Question, ids: &[u64], cells: &[u64], answers: &mut [u8
 
 /// Answers the question about the four cells from index `k` on, whose indexes in the union are searched at once. The
 /// last two of these indexes.
-fn answer_four(
+fn answer_four<C: Cells>(
     question: Question,
-    ids: &[u64],
+    ids: &C,
     cells: &[u64],
     k: usize,
     answers: &mut [u8],
@@ -140,9 +140,11 @@ fn answer_four(
     requires there { k + 4 ≤ length cells.now }
     requires room { length cells.now ≤ length answers.old }
     ensures length { length answers.new ≡ length answers.old }
-    ensures exact { IsLocal ids.now
-        → ((i : ℕ) → i < k → IsBit (slice_index answers.old i) (Holds question ids.now (slice_index cells.now i)))
-        → (i : ℕ) → i < k + 4 → IsBit (slice_index answers.new i) (Holds question ids.now (slice_index cells.now i)) }
+    ensures exact { IsLocal (C.ids ids.now)
+        → ((i : ℕ) → i < k
+            → IsBit (slice_index answers.old i) (Holds question (C.ids ids.now) (slice_index cells.now i)))
+        → (i : ℕ) → i < k + 4
+        → IsBit (slice_index answers.new i) (Holds question (C.ids ids.now) (slice_index cells.now i)) }
     ensures bits { ((i : ℕ) → i < k → slice_index answers.old i ≤ 1)
         → (i : ℕ) → i < k + 4 → slice_index answers.new i ≤ 1 }
     ensures rest { drop (length cells.now) answers.new ≡ drop (length cells.now) answers.old }
@@ -151,7 +153,7 @@ fn answer_four(
     let second = cell_of(cells[k + 1]);
     let third = cell_of(cells[k + 2]);
     let fourth = cell_of(cells[k + 3]);
-    let places = places_of_four(&IdList { ids }, first, second, third, fourth);
+    let places = places_of_four(ids, first, second, third, fourth);
     answers[k] = bit(question, ids, places.first, first);
     answers[k + 1] = bit(question, ids, places.second, second);
     answers[k + 2] = bit(question, ids, places.third, third);
@@ -160,14 +162,14 @@ fn answer_four(
 }
 
 /// The answer about a cell, once its index in the union is known: 1 or 0.
-fn bit(question: Question, ids: &[u64], at: usize, cell: CellId) -> u8
-    ensures exact { IsLocal ids.now → IsPlace ids.now (first_leaf cell) at
-        → IsBit result (Holds question ids.now cell) }
+fn bit<C: Cells>(question: Question, ids: &C, at: usize, cell: CellId) -> u8
+    ensures exact { IsLocal (C.ids ids.now) → IsPlace (C.ids ids.now) (first_leaf cell) at
+        → IsBit result (Holds question (C.ids ids.now) cell) }
     ensures bit { result ≤ 1 }
 {
     let holds = match question {
-        Question::Contains => contains_cell_at(&IdList { ids }, at, cell),
-        Question::Intersects => intersects_cell_at(&IdList { ids }, at, cell),
+        Question::Contains => contains_cell_at(ids, at, cell),
+        Question::Intersects => intersects_cell_at(ids, at, cell),
     };
     if holds { 1 } else { 0 }
 }

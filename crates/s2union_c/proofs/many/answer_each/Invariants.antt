@@ -6,9 +6,9 @@ use Rattle.s2union_c.specs.Status.{IsBit}
 use Rattle.s2union_c.proofs.many.answer_each.Given as goal
 
 abbrev pub invariant-loop-k : goal.invariant-loop-k
-invariant-loop-k l = record {
-  so_far : IsLocal l.ids → (i : ℕ) → i < l.k →
-      IsBit (slice_index l.answers i) (Holds l.question l.ids (slice_index l.cells i));
+invariant-loop-k g l = record {
+  so_far : IsLocal (g.C.Listed.ids l.ids) → (i : ℕ) → i < l.k →
+      IsBit (slice_index l.answers i) (Holds l.question (g.C.Listed.ids l.ids) (slice_index l.cells i));
   bits : (i : ℕ) → i < l.k → slice_index l.answers i ≤ 1;
   rest : drop (length l.cells) l.answers ≡ drop (length l.cells) l.fn.answers;
   room : length l.cells ≤ length l.answers;
@@ -16,4 +16,4 @@ invariant-loop-k l = record {
 }
 
 abbrev pub decreases-loop-k : goal.decreases-loop-k
-decreases-loop-k l = length l.cells - l.k
+decreases-loop-k g l = length l.cells - l.k

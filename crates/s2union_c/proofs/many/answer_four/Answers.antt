@@ -7,8 +7,9 @@ use Rattle.s2union_c.proofs.Asking.{each_more}
 use Rattle.s2union_c.proofs.many.answer_four.Goals as goal
 
 pub returns-clause-exact : goal.returns-clause-exact
-returns-clause-exact c local before i h =
-    let P = λ (n bit : ℕ). IsBit bit (Holds c.args.question c.args.ids.now (slice_index c.args.cells.now n)) in
+returns-clause-exact g c local before i h =
+    let u = g.C.Listed.ids c.args.ids.now in
+    let P = λ (n bit : ℕ). IsBit bit (Holds c.args.question u (slice_index c.args.cells.now n)) in
     let k = c.args.k in
     let room = c.requires.room in
     let there = c.requires.there in
@@ -27,7 +28,7 @@ returns-clause-exact c local before i h =
     (omega arith)
 
 pub returns-clause-bits : goal.returns-clause-bits
-returns-clause-bits c before i h =
+returns-clause-bits g c before i h =
     let P = λ (n bit : ℕ). bit ≤ 1 in
     let k = c.args.k in
     let room = c.requires.room in
@@ -44,7 +45,7 @@ returns-clause-bits c before i h =
     i (omega arith)
 
 pub returns-clause-rest : goal.returns-clause-rest
-returns-clause-rest c =
+returns-clause-rest g c =
     let k = c.args.k in
     let there = c.requires.there in
     let n = length c.args.cells.now in
