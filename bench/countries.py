@@ -1,4 +1,4 @@
-"""The countries of the earth in PostgreSQL beside PostGIS, and in SQLite: countries.py FOLDER, for bench/databases.
+"""The countries of the earth in PostgreSQL beside PostGIS, and in SQLite: countries.py FOLDER, for bench/databases.sh.
 
 FOLDER has the world of docs/examples/, covered; in now/, both extensions; in before/, if it is there, both over another
 library. A number is the processor time of the session that answers, the least of five rounds, or of two if one takes

@@ -91,7 +91,7 @@ MISTAKES = [
             ended_by(f"\n`tests/run {'docks'}`\n")),
     Mistake("a command that doesn't know --help", pages.without_usage, "tools/java",
             swapped('. "$(dirname "$0")/usage.sh"\n', "")),
-    Mistake("a command that can't be run", pages.wrong_modes, "bench/build", None),
+    Mistake("a command that can't be run", pages.wrong_modes, "bench/run", None),
     Mistake("a definition that says another thing", statement, "crates/s2process/specs/Process.antt",
             swapped("pub record RunsListed {V S : Type 0}", "pub record RunsListed {S V : Type 0}")),
     Mistake("checksums that aren't current", statement, "docs/statement.sums", ended_by("more\n")),

@@ -9,14 +9,14 @@ need_packages
 looked_at() { # SOURCE FLAG..: what is said of a library that is made of this
   rm -rf "$work/planted" && mkdir "$work/planted" &&
     gcc -O2 -g0 -fPIC -shared -Wl,-z,relro,-z,now -x c - "${@:2}" -o "$work/planted/mod_s2union.so" <<<"$1" &&
-    "$top/tools/packaging/hostile" "$work/planted" /where/it/was/made
+    bash "$top/tools/packaging/hostile.sh" "$work/planted" /where/it/was/made
 }
 refused() { # FAULT SOURCE FLAG..
   local said
   said=$(looked_at "${@:2}") && return 1
   echo "$said" && [[ $said == "FAILED mod_s2union.so"*"$1"* ]]
 }
-nothing() { mkdir "$work/empty" && ! "$top/tools/packaging/hostile" "$work/empty" >/dev/null; }
+nothing() { mkdir "$work/empty" && ! bash "$top/tools/packaging/hostile.sh" "$work/empty" >/dev/null; }
 entry='int sqlite3_extension_init(void) { return 0; }'
 step "a library without fault" looked_at "$entry"
 step "refused: no file" nothing

@@ -14,7 +14,7 @@ need mmdebstrap mmdebstrap
 
 unpacked() { # PACKAGE..
   local sources
-  mapfile -t sources < <("$top/tools/packaging/sources")
+  mapfile -t sources < <(bash "$top/tools/packaging/sources.sh")
   mmdebstrap --quiet --variant=extract --architectures=arm64 --include="$(IFS=, && echo "$*")" "${sources[0]}" \
     "$system" "${sources[@]:1}"
 }

@@ -294,7 +294,8 @@ by_pip() { # the module where pip puts it, with the library elsewhere
 }
 step "Python: installed by pip" by_pip
 by_sdist() ( # the archive of its sources builds where nothing else is
-  cp -r "$top/bindings/python" "$work/described" && "$top/tools/packaging/described" "$work/described" docs/PYTHON.md &&
+  cp -r "$top/bindings/python" "$work/described" &&
+    python3 "$top/tools/packaging/described.py" "$work/described" docs/PYTHON.md &&
     cd "$work/described" && /usr/bin/python3 -c 'from setuptools import build_meta
 build_meta.build_sdist("'"$work"'")' >sdist 2>&1 && ! grep -i '^warning' sdist && mkdir "$work/from-sdist" &&
     tar -C "$work/from-sdist" --strip-components=1 -xf "$work"/s2union-*.tar.gz && cd "$work/from-sdist" &&
@@ -362,7 +363,7 @@ step "Rust: docs/RUST.md" by_rust
 step "Rust: with serde" with_serde
 packed_crate() ( # cargo package finds nothing missing
   cp -r "$top/bindings/rust" "$work/packed-crate" && rm -r "$work/packed-crate/serde" &&
-    "$top/tools/packaging/described" "$work/packed-crate" docs/RUST.md && cd "$work/packed-crate" &&
+    python3 "$top/tools/packaging/described.py" "$work/packed-crate" docs/RUST.md && cd "$work/packed-crate" &&
     CARGO_TARGET_DIR=$work/target cargo package --offline --allow-dirty --no-verify >packed 2>&1 &&
     ! grep -i warning packed
 )

@@ -20,7 +20,7 @@ if [ -z "$system" ]; then
 fi
 set -e
 mkdir -p "$out"
-"$top/bench/s2_sources" "$sources"
+bash "$top/bench/s2_sources.sh" "$sources"
 "$top/tools/library" "$out/usr" --target "$processor" "$@"
 source=$sources/source/src
 compiler="${cross}g++ -std=c++17 -w"

@@ -1,5 +1,5 @@
 # The countries of the earth as files of their outer and inner coverings, by docs/examples: for the tests of joins, and
-# for bench/databases. The caller has read tests/steps.sh.
+# for bench/databases.sh. The caller has read tests/steps.sh.
 
 need_countries() { # PACKAGE..: installs what is missing of these too
   need_installed g++ libs2-dev nlohmann-json3-dev gmt-gshhg-low python3-{numpy,netcdf4,shapely,geopandas,pywraps2} "$@"

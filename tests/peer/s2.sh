@@ -2,5 +2,5 @@
 # The proved library and S2 asked the same random questions: tests/run s2 -- [CASES [SEED]].
 set -euo pipefail
 cd "$(dirname "$0")"
-../../bench/build ../tests/peer/peer.cc
+bash ../../bench/build.sh ../tests/peer/peer.cc
 ../../bench/out/peer "${1:-100000}" "${2:-1}"

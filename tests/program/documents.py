@@ -57,7 +57,7 @@ class Launcher(unittest.TestCase):
     def make_repository(self):
         """Makes a repository of one source in the folder, with a kit, and answers how its commands are run."""
         self.copy("s2calc", "tools/prove", "tools/usage.sh", "tools/sources.sh", "tools/sources.py",
-                  "tools/launcher/launcher", "tools/launcher/unbuilt",
+                  "tools/launcher/launcher", "tools/launcher/unbuilt.sh",
                   "VERSION", "KIT", "crates.txt", "crates/s2cell/src/lib.rt")
         with open(os.path.join(TOP, "crates.txt"), encoding="utf-8") as it:
             for line in it:

@@ -221,7 +221,7 @@ class Pictures(unittest.TestCase):
 
     def test_the_pictures_of_the_pages_are_current(self):
         made = os.path.join(TOP, "docs", "pictures")
-        subprocess.run([os.path.join(made, "make"), self.folder, PROGRAM], check=True, timeout=60)
+        subprocess.run(["bash", os.path.join(made, "make.sh"), self.folder, PROGRAM], check=True, timeout=60)
         names = [name for name in os.listdir(made) if name.endswith(".svg")]
         self.assertEqual(sorted(names), sorted(os.listdir(self.folder)))
         for name in names:

@@ -70,7 +70,7 @@ mkdir -p "$work/library" "$work/src/contrib" && : >"$work/src/contrib/PACKAGES" 
 echo "options(repos = c(CRAN = 'file://$work'))" >"$work/profile"
 export PKG_CONFIG_PATH=$work/usr/lib/pkgconfig R_LIBS=$work/library R_PROFILE=$work/profile
 for_r() (
-  cp -r "$top/bindings/r" "$work/r" && "$top/tools/packaging/described" "$work/r" docs/R.md && cd "$work" &&
+  cp -r "$top/bindings/r" "$work/r" && python3 "$top/tools/packaging/described.py" "$work/r" docs/R.md && cd "$work" &&
     R CMD build r && R CMD check --no-manual s2union_*.tar.gz && grep -qx 'Status: OK' s2union.Rcheck/00check.log &&
     R CMD INSTALL s2union_*.tar.gz
 )

@@ -2,7 +2,7 @@
 # Fetches Debian's source package of S2 from the package sources that this machine has, and unpacks it:
 # s2_sources FOLDER makes FOLDER/source, if it isn't there.
 . "$(dirname "$0")/../tools/usage.sh"
-[ -n "${1:-}" ] || { echo "the folder is missing: bench/s2_sources FOLDER" >&2; exit 2; }
+[ -n "${1:-}" ] || { echo "the folder is missing: bench/s2_sources.sh FOLDER" >&2; exit 2; }
 folder=$(realpath -m "$1")
 [ ! -d "$folder/source" ] || exit 0
 . "$(dirname "$0")/../tests/steps.sh"

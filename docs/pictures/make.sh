@@ -1,5 +1,5 @@
 #!/usr/bin/env bash
-# Makes the pictures of the pages: docs/pictures/make [FOLDER [PROGRAM]]. They are made by the calculator,
+# Makes the pictures of the pages: docs/pictures/make.sh [FOLDER [PROGRAM]]. They are made by the calculator,
 # s2calc, and go to this folder unless another one is given. tests/program checks that those here are current.
 set -euo pipefail
 here="$(dirname "$(readlink -f "${BASH_SOURCE[0]}")")"

@@ -113,7 +113,7 @@ def main():
     usage.print_if_asked(__doc__)
     word, rounds = (sys.argv[1:] + ["", "3"][len(sys.argv[1:]):])[:2]
     if not wanted(ROWS + ALONE, word):
-        sys.exit(f"bench/calculator: no row's name contains {word}")
+        sys.exit(f"bench/run calculator: no row's name contains {word}")
     prepare()
     all_equal = True
     print(f"{'':18} {'s2calc':>12} {'S2':>12} {'by hand':>12} {'S2/ours':>8} {'ours/hand':>9}")

@@ -49,7 +49,8 @@ def main(folder, page):
     for name in MANIFESTS.keys() & {path.name for path in folder.iterdir()}:
         manifest = folder / name
         manifest.write_text(MANIFESTS[name](manifest.read_text()))
-    subprocess.run([TOP / "tools" / "packaging" / "documents", "--beside", folder, page], cwd=TOP, check=True)
+    documents = TOP / "tools" / "packaging" / "documents.py"
+    subprocess.run([sys.executable, documents, "--beside", folder, page], cwd=TOP, check=True)
     (folder / page.name).rename(folder / "README.md")
     shutil.copyfile(TOP / "LICENSE", folder / "LICENSE")
 

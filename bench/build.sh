@@ -17,7 +17,7 @@ logged() { # COMMAND..: says what it said only if it fails
 }
 libraries=()
 if [ -n "${S2_RELEASE:-}" ]; then
-  ./s2_sources out/s2
+  bash s2_sources.sh out/s2
   for part in s2cell_id s2cell_union s2cell s2region_coverer util/coding/coder; do
     object=out/$(basename "$part").o
     [ -e "$object" ] || logged "${compile[@]}" -Iout/s2/source/src -c "out/s2/source/src/s2/$part.cc" -o "$object"

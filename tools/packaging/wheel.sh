@@ -14,7 +14,7 @@ wanted() { objdump -p "$@" | sed -n 's/.*0x.* GLIBC_\([0-9.]*\)$/\1/p' | sort -V
 newest=$(wanted "$module"/_library.abi3.so "$library")
 tag=manylinux_${newest//./_}_$processor
 cp "$top"/bindings/python/{pyproject.toml,setup.py} "$work/"
-"$top/tools/packaging/described" "$work" docs/PYTHON.md
+python3 "$top/tools/packaging/described.py" "$work" docs/PYTHON.md
 cp -r "$module" "$work/s2union"
 cp -r "$(dirname "$module")/s2union_geo" "$work/s2union_geo"
 install -m 644 "$library" "$work/s2union/"

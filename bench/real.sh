@@ -10,8 +10,8 @@ need_modules netCDF4 python3-netcdf4
 need_packages
 set -e
 cd "$top/bench"
-S2_RELEASE=1 ./build coverings.cc
-S2_RELEASE=1 ./build real.cc
+S2_RELEASE=1 bash build.sh coverings.cc
+S2_RELEASE=1 bash build.sh real.cc
 
 mkdir -p out/coasts
 make_file() { # FILE COMMAND..: unless it is there

@@ -3,5 +3,5 @@
 . "$(dirname "$0")/../tools/usage.sh"
 set -euo pipefail
 cd "$(dirname "$0")"
-./build library.cc
+bash build.sh library.cc
 out/library "${1:-}" "${2:-5}"
