@@ -14,7 +14,7 @@ need_countries libsqlite3-dev postgresql-15-postgis-3
 
 both() { # FOLDER PREFIX: both extensions over the library there
   local folder=$work/$1
-  mkdir "$folder" && cp "$top/bindings/c/s2union_geo.h" "$2/include/" &&
+  mkdir "$folder" && cp "$top"/bindings/c/s2union_{geo,host}.h "$2/include/" &&
     cp "$top"/bindings/postgres/{Makefile,*.c,*.h,*.control,*.sql} "$folder" &&
     make -C "$folder" PREFIX="$2" PG_CONFIG="$config" && mkdir "$folder/sqlite" &&
     cp "$top"/bindings/sqlite/{Makefile,*.[ch]} "$folder/sqlite" && make -C "$folder/sqlite" PREFIX="$2"

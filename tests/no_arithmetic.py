@@ -11,7 +11,7 @@ ARITHMETIC = re.compile(
     r"<<|>>|~|\^|[&|%]=|__builtin|\b0[xX][0-9a-fA-F]{3,}|[\w)\]](?:(?:&(?!&)|\|(?!\|)|%)[\w(]|\s+[&|%]\s)"
 )
 FLAGS = re.compile(r"\b[A-Z][A-Z0-9_]+(?:\s*\|\s*[A-Z][A-Z0-9_]+)+\b")
-ALIGNED = re.compile(r"% (?:ALIGNMENT|BUCKETS|sizeof\(uint64_t\))|^#define Py_LIMITED_API .*$", re.M)
+ALIGNED = re.compile(r"% (?:\w*ALIGNMENT|BUCKETS|sizeof\(uint64_t\))|^#define Py_LIMITED_API .*$", re.M)
 
 
 def main(path):

@@ -75,10 +75,6 @@ Datum s2_leaf(PG_FUNCTION_ARGS) {
 PG_FUNCTION_INFO_V1(s2_version);
 Datum s2_version(PG_FUNCTION_ARGS) { PG_RETURN_TEXT_P(cstring_to_text(S2U_VERSION_TEXT)); }
 
-static int32_t cell_of_text(const char* text, size_t n, uint64_t* cell) {
-  return memchr(text, '/', n) ? s2u_from_debug(text, n, cell) : s2u_from_token(text, n, cell);
-}
-
 uint64_t cell_argument(FunctionCallInfo fcinfo, int k) {
   uint64_t cell = (uint64_t)PG_GETARG_INT64(k);
   if (!s2u_is_cell(cell)) refuse_number((int64)cell);
@@ -87,7 +83,7 @@ uint64_t cell_argument(FunctionCallInfo fcinfo, int k) {
 
 uint64_t cell_named(const text* word) {
   uint64_t cell = 0;
-  int32_t status = cell_of_text(VARDATA_ANY(word), VARSIZE_ANY_EXHDR(word), &cell);
+  int32_t status = s2u_host_cell_of_text(VARDATA_ANY(word), VARSIZE_ANY_EXHDR(word), &cell);
   if (status == S2U_NO_CELL) refuse_text(VARDATA_ANY(word), VARSIZE_ANY_EXHDR(word));
   must_be_ok(status);
   return cell;
@@ -98,7 +94,7 @@ uint64_t cell_named(const text* word) {
 /* Whether a text names a cell. */
 static bool names_cell(const text* word) {
   uint64_t cell;
-  return cell_of_text(VARDATA_ANY(word), VARSIZE_ANY_EXHDR(word), &cell) == S2U_OK;
+  return s2u_host_cell_of_text(VARDATA_ANY(word), VARSIZE_ANY_EXHDR(word), &cell) == S2U_OK;
 }
 
 FUNCTION(s2_is_cell, BoolGetDatum(s2u_is_cell((uint64_t)PG_GETARG_INT64(0)) == 1))

@@ -14,31 +14,14 @@ PG_MODULE_MAGIC;
 
 /* ---- memory: the library takes it from the current context, and no longjmp leaves a call of the library ---- */
 
-enum { ALIGNMENT = 16 };
-
-/* The library needs multiples of 16; palloc gives multiples of 8. The byte before a block says how much was skipped. */
-s2u_block s2u_heap_take(size_t size, size_t align) {
-  static uint64_t nowhere[2];
-  uint8_t* raw = NULL;
-  if (size <= MaxAllocHugeSize - ALIGNMENT)
-    raw = MemoryContextAllocExtended(CurrentMemoryContext, size + ALIGNMENT, MCXT_ALLOC_HUGE | MCXT_ALLOC_NO_OOM);
-  if (raw == NULL) return (s2u_block){0, nowhere};
-  size_t skip = ALIGNMENT - (uintptr_t)raw % ALIGNMENT;
-  raw[skip - 1] = (uint8_t)skip;
-  return (s2u_block){1, raw + skip};
+static void* of_context(size_t size) {
+  if (size > MaxAllocHugeSize) return NULL;
+  return MemoryContextAllocExtended(CurrentMemoryContext, size, MCXT_ALLOC_HUGE | MCXT_ALLOC_NO_OOM);
 }
 
-void s2u_heap_give_back(void* at) {
-  pfree((uint8_t*)at - ((uint8_t*)at)[-1]);
-}
-
-s2u_block s2u_heap_grow(void* at, size_t old_size, size_t size, size_t align) {
-  s2u_block grown = s2u_heap_take(size, align);
-  if (!grown.ok) return grown;
-  memcpy(grown.at, at, Min(old_size, size));
-  s2u_heap_give_back(at);
-  return grown;
-}
+#define S2U_HOST_TAKE(size) of_context(size)
+#define S2U_HOST_GIVE_BACK(at) pfree(at)
+#include <s2union_host.h>
 
 /* ---- errors: they name what was refused, at most its first 40 bytes ---- */
 

@@ -8,22 +8,13 @@
 
 #include "value.h"
 
-enum { PIECE = 65536, TEXT_WORTH_KEEPING = 100 };
-#define BLANKS " ,\t\r\n"
+enum { PIECE = S2U_HOST_PIECE, TEXT_WORTH_KEEPING = 100 };
 #define MOST_TEXT (MaxAllocSize - 1) /* without the NUL that ends it */
-
-/* How much of a text is read at once: whole words, or the start of one that is too long for a cell. */
-static size_t piece_of(const char* text, size_t n) {
-  if (n <= PIECE) return n;
-  size_t end = PIECE;
-  while (end > 0 && !strchr(BLANKS, text[end])) end--;
-  return end > 0 ? end : PIECE;
-}
 
 static void refuse_word(const char* word) {
   ereport(ERROR, errcode(ERRCODE_INVALID_TEXT_REPRESENTATION),
           errmsg("invalid input syntax for type %s: \"%s\" names no cell", "s2union",
-                 start_of(word, strcspn(word, BLANKS))));
+                 start_of(word, strcspn(word, S2U_HOST_BLANKS))));
 }
 
 static S2Union* value_of_text(const char* text) {
@@ -32,7 +23,7 @@ static S2Union* value_of_text(const char* text) {
   Gathered* g = new_gathered(CurrentMemoryContext, room);
   for (size_t at = 0, piece; at < length; at += piece) {
     CHECK_FOR_INTERRUPTS();
-    piece = piece_of(text + at, length - at);
+    piece = s2u_host_piece_of(text + at, length - at);
     int32_t status = s2u_from_tokens(text + at, piece, cells, room, &n);
     if (status == S2U_NO_CELL) refuse_word(text + at + n);
     must_be_ok(status);

@@ -39,8 +39,6 @@ S2Union* s2union_value(Datum datum) {
 
 /* ---- cells that are gathered: normalized when they have doubled ---- */
 
-enum { GATHERED = 100000 };
-
 Gathered* new_gathered(MemoryContext context, size_t room) {
   Gathered* g = MemoryContextAllocZero(context, sizeof *g);
   g->room = Max(room, 1);
@@ -61,7 +59,7 @@ void gather(Gathered* g, const uint64_t* cells, size_t n) {
   }
   memcpy(g->cells + g->n, cells, n * sizeof(uint64_t));
   g->n += n;
-  if (g->n > GATHERED && g->n > 2 * g->settled) settle(g);
+  if (s2u_host_has_doubled(g->n, g->settled)) settle(g);
 }
 
 S2Union* value_of_gathered(Gathered* g) {

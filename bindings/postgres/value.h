@@ -8,7 +8,7 @@
 #include "utils/memutils.h"
 
 #pragma GCC visibility push(hidden)
-#include <s2union.h>
+#include <s2union_host.h>
 
 typedef struct S2Union {
   int32 length; /* a varlena's: SET_VARSIZE, VARSIZE */

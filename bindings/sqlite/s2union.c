@@ -2,7 +2,6 @@
  *
  * A union is a BLOB, the bytes of its file. Only the library knows about cells. This file has SQLite's types, NULL,
  * errors and memory. */
-#include <s2union.h>
 #include <sqlite3ext.h>
 #include <string.h>
 #include "functions.h"
@@ -10,27 +9,9 @@ SQLITE_EXTENSION_INIT1
 
 /* ---- memory: the library takes it from SQLite's heap, so SQLite's limits hold for both ---- */
 
-enum { ALIGNMENT = 16 };
-
-/* The library needs multiples of 16; SQLite gives multiples of 8. The byte before a block says how much was skipped. */
-s2u_block s2u_heap_take(size_t size, size_t align) {
-  static uint64_t nowhere[2];
-  uint8_t* raw = size > SIZE_MAX - ALIGNMENT ? NULL : sqlite3_malloc64(size + ALIGNMENT);
-  if (!raw) return (s2u_block){0, nowhere};
-  size_t skip = ALIGNMENT - (uintptr_t)raw % ALIGNMENT;
-  raw[skip - 1] = (uint8_t)skip;
-  return (s2u_block){1, raw + skip};
-}
-
-void s2u_heap_give_back(void* at) { sqlite3_free((uint8_t*)at - ((uint8_t*)at)[-1]); }
-
-s2u_block s2u_heap_grow(void* at, size_t old_size, size_t size, size_t align) {
-  s2u_block grown = s2u_heap_take(size, align);
-  if (!grown.ok) return grown;
-  memcpy(grown.at, at, old_size < size ? old_size : size);
-  s2u_heap_give_back(at);
-  return grown;
-}
+#define S2U_HOST_TAKE(size) sqlite3_malloc64(size)
+#define S2U_HOST_GIVE_BACK(at) sqlite3_free(at)
+#include <s2union_host.h>
 
 /* A list of n cells, or a file of n bytes. The last user that drops it frees it. */
 typedef struct block {
@@ -99,7 +80,7 @@ static int32_t cell_of(sqlite3_value* v, uint64_t* cell) {
   size_t n;
   int type = sqlite3_value_type(v);
   if (type == SQLITE_TEXT && text_of(v, &text, &n) != S2U_OK) return S2U_MEMORY;
-  if (type == SQLITE_TEXT) return memchr(text, '/', n) ? s2u_from_debug(text, n, cell) : s2u_from_token(text, n, cell);
+  if (type == SQLITE_TEXT) return s2u_host_cell_of_text(text, n, cell);
   *cell = (uint64_t)sqlite3_value_int64(v);
   return type != SQLITE_INTEGER ? NOT_A_CELL : s2u_is_cell(*cell) ? S2U_OK : S2U_NO_CELL;
 }
@@ -113,7 +94,7 @@ static int32_t number_of(sqlite3_value* v, uint32_t* number) {
 
 /* Cells that are gathered, and normalized when they have doubled. */
 typedef struct gathered { block* list; size_t settled; } gathered;
-enum { GATHERED = 100000, PIECE = 65536 };
+enum { PIECE = S2U_HOST_PIECE };
 
 static int32_t settle(gathered* g) {
   int32_t status = s2u_normalise(g->list->cells, g->list->n, &g->list->n);
@@ -132,15 +113,7 @@ static int32_t gather(gathered* g, block* more) {
   }
   memcpy(g->list->cells + n, more->cells, more->n * sizeof(uint64_t));
   g->list->n = n + more->n;
-  return g->list->n > GATHERED && g->list->n > 2 * g->settled ? settle(g) : S2U_OK;
-}
-
-/* How much of a text is read at once: whole words, or the start of one that is too long for a cell. */
-static size_t piece_of(const char* text, size_t n) {
-  size_t end = PIECE;
-  if (n <= PIECE) return n;
-  while (end > 0 && !memchr(" ,\t\r\n", text[end], 5)) end--;
-  return end > 0 ? end : PIECE;
+  return s2u_host_has_doubled(g->list->n, g->settled) ? settle(g) : S2U_OK;
 }
 
 static int32_t list_of_text(const char* text, size_t n, block** list) {
@@ -148,7 +121,7 @@ static int32_t list_of_text(const char* text, size_t n, block** list) {
   block* piece = new_block(S2U_MOST_NAMED(n < PIECE ? n : PIECE), sizeof(uint64_t));
   int32_t status = piece ? gather(&g, piece) : S2U_MEMORY;
   for (size_t taken; n > 0 && status == S2U_OK; text += taken, n -= taken) {
-    taken = piece_of(text, n);
+    taken = s2u_host_piece_of(text, n);
     status = s2u_from_tokens(text, taken, piece->cells, piece->room, &piece->n);
     if (status == S2U_OK) status = gather(&g, piece);
   }

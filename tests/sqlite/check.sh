@@ -14,6 +14,7 @@ sqlite=(sqlite3 -batch -init /dev/null :memory:) # without its user's settings
 
 source=$top/bindings/sqlite
 step "no arithmetic on cells" no_arithmetic "$source/s2union.c"
+step "no arithmetic on cells: s2union_host.h" no_arithmetic "$top/bindings/c/s2union_host.h"
 # What is not proved stays short. Of these lines 110 are for listings that make a cell or a tile when it is asked for,
 # texts that are read in pieces, and windows, which the library, whose calls answer all at once, can't have. 5 are for
 # the list of the functions, whose texts tools/calls makes of the page.
@@ -21,9 +22,9 @@ short() { # lines of code
   local lines
   lines=$(grep -cvE '^[[:space:]]*(/?\*.*)?$' "$source/s2union.c")
   echo "$lines lines of code"
-  [ "$lines" -le 515 ]
+  [ "$lines" -le 494 ]
 }
-step "at most 515 lines of C" short
+step "at most 494 lines of C" short
 
 build() { # FOLDER FLAGS..
   local folder=$work/$1
@@ -94,7 +95,8 @@ covered() {
     "$work/memory" "$work/covered/"mod_s2union{,_geo} && documented covered &&
     "${sqlite[@]}" ".load $work/covered/mod_s2union sqlite3_sunion_init" &&
     /usr/bin/python3 "$top/tests/coverage.py" "$work/covered" s2union.c=bindings/sqlite/s2union.c \
-      s2union_geo.c=bindings/sqlite/s2union_geo.c s2union_geo.h=bindings/c/s2union_geo.h
+      s2union_geo.c=bindings/sqlite/s2union_geo.c s2union_geo.h=bindings/c/s2union_geo.h \
+      s2union_host.h=bindings/c/s2union_host.h
 }
 step "what these tests execute" covered
 valgrind_run() { # the page shows errors, so sqlite3 ends with 1; all its calls have to be there

@@ -8,7 +8,7 @@
 build() { # FOLDER FLAGS..
   local folder=$1
   shift
-  mkdir -p "$folder" && cp "$work"/mutant/* "$folder" &&
+  mkdir -p "$folder" && cp "$work"/mutant/* "$work/c/s2union_host.h" "$folder" &&
     make -C "$folder" -B PREFIX="$work/usr" "$@"
 }
 
@@ -25,7 +25,8 @@ tests() { # FOLDER PRELOAD
 }
 
 survives() { # NAME
-  mutant "$1" "$top"/bindings/sqlite/{Makefile,*.[ch]} && build "$work/plain" CFLAGS="-O1 -Wno-error" || return 2
+  mkdir -p "$work/c" && cp "$top/bindings/c/s2union_host.h" "$work/c/" &&
+    mutant "$1" "$top"/bindings/sqlite/{Makefile,*.[ch]} && build "$work/plain" CFLAGS="-O1 -Wno-error" || return 2
   refuse "$work/plain" "" || return
   build "$work/sanitized" CFLAGS="-O1 -g -Wno-error -fsanitize=address,undefined -fno-sanitize-recover" || return 2
   refuse "$work/sanitized" "$(gcc -print-file-name=libasan.so) $(gcc -print-file-name=libubsan.so)"
