@@ -1,0 +1,40 @@
+#!/usr/bin/env bash
+# The tests of the package for Go, most of which are in bindings/go: tests/run go. It installs the Debian packages that
+# it needs. Its last line is 'N passed, M failed'; the status is 1 if any failed.
+. "$(dirname "$0")/../steps.sh"
+
+need gcc gcc libc6-dev
+need go golang-go
+. "$top/tests/library.sh"
+
+step "questions and edges" questions
+export GOPATH=$work/go GOCACHE=$work/go-cache GOFLAGS=-mod=mod GOPROXY=off GOTOOLCHAIN=local
+path=$(sed -n 's/^module //p' "$top/bindings/go/go.mod")
+for_go() (
+  cd "$top/bindings/go" && [ -z "$(gofmt -l .)" ] && go vet . && timeout 300 go test -count=1 .
+)
+by_go() ( # the page's program, in a module of its own
+  mkdir -p "$work/by-go" && cd "$work/by-go" && program_of GO.md go main.go && [ -z "$(gofmt -l .)" ] &&
+    go mod init program && go mod edit -require "$path@v0.0.0" -replace "$path=$top/bindings/go" &&
+    go build -o program && says GO.md go ./program
+)
+step "against the model, the edges, what is refused, and the examples" for_go
+step "docs/GO.md" by_go
+got_by_go() ( # the program with the module as a proxy of Go's hands it out
+  local at=$work/proxy/$path/@v
+  mkdir -p "$at" "$work/got-by-go" && cd "$top/bindings/go" && cp go.mod "$at/v1.0.0.mod" &&
+    echo '{"Version":"v1.0.0"}' >"$at/v1.0.0.info" && /usr/bin/python3 -c 'import sys, zipfile
+with zipfile.ZipFile(sys.argv[1], "w") as made:
+    for name in sys.argv[3:]:
+        made.write(name, f"{sys.argv[2]}@v1.0.0/{name}")' "$at/v1.0.0.zip" "$path" * &&
+    cd "$work/got-by-go" && cp "$work/by-go/main.go" . && go mod init program &&
+    GOPROXY=file://$work/proxy GONOSUMDB=* go get "$path@v1.0.0" && go vet . && go build -o program &&
+    says GO.md go ./program
+)
+step "docs/GO.md, by go get" got_by_go
+static_go() (
+  cd "$work/by-go" && CGO_LDFLAGS=-static go build -o alone && ! ldd alone && says GO.md go env -i ./alone
+)
+step "docs/GO.md, without a shared library" static_go
+
+finish

@@ -1,0 +1,107 @@
+#!/usr/bin/env bash
+# The tests of the modules for Python: tests/run python. It installs the Debian packages that it needs, except mypy and
+# pandas (python3-pandas): what is for these is tested if they are there, and else a line says that it isn't. Its last
+# line is 'N passed, M failed'; the status is 1 if any failed.
+. "$(dirname "$0")/../steps.sh"
+
+need gcc gcc libc6-dev
+need clang clang
+need_modules numpy python3-numpy
+need_modules hypothesis python3-hypothesis
+need_modules pip,setuptools,wheel python3-{pip,setuptools,wheel}
+need_headers
+. "$top/tests/library.sh"
+
+for compiler in gcc clang; do
+  step "its module in C, by $compiler" "$compiler" -std=gnu11 -O2 -Wall -Wextra -Werror -fPIC -shared \
+    -I"$(python_headers)" -I"$include" "$top/bindings/python/s2union/_library.c" -o "$work/module-$compiler.so"
+done
+for file in _library.c calls.h; do
+  step "no arithmetic on cells: $file" no_arithmetic "$top/bindings/python/s2union/$file"
+done
+of_module() { # what the module wants and offers: what each Python from 3.8 on has
+  local module=$work/usr/lib/python/s2union/_library.abi3.so
+  [ "$(nm -D --defined-only "$module" | awk '{ print $3 }')" = PyInit__library ] &&
+    ! nm -D --undefined-only "$module" | awk '$1 != "w" { print $2 }' |
+      grep -vE '^_?Py[A-Z_][A-Za-z_]+$|@GLIBC_2\.(2\.5|4|14)$'
+}
+step "what its module wants of the system" of_module
+python() {
+  (
+    cd "$top/tests/python" && export PYTHONPATH=$work/usr/lib/python:$top/tests PYTHONDONTWRITEBYTECODE=1
+    timeout 600 /usr/bin/python3 -X dev "$@"
+  )
+}
+step "against the model, and the module" python -m unittest -q test_library
+step "the functions of its module in C" python -m unittest -q test_calls
+step "the edges" python -m unittest -q test_edges
+without_memory() { # Python's memory is the C library's own
+  gcc -std=c11 -O2 "${strict[@]}" -fPIC -shared "$top/tests/refuse.c" -o "$work/refuse.so" &&
+    PYTHONMALLOC=malloc LD_PRELOAD=$work/refuse.so S2UNION_REFUSE=$work/refuse.so python -m unittest -q \
+      test_calls.WithoutMemory
+}
+step "each allocation refused in turn" without_memory
+sanitized() ( # the module in C with the sanitizers, and what C itself gives for memory
+  mkdir "$work/sanitized" && cp -r "$work/usr/lib/python/s2union" "$work/sanitized" &&
+    gcc -std=gnu11 -O1 -g -fsanitize=address,undefined -fno-sanitize-recover -fPIC -shared -I"$(python_headers)" \
+      -I"$include" "$top/bindings/python/s2union/_library.c" -o "$work/sanitized/s2union/_library.abi3.so" || return
+  cd "$top/tests/python" && export PYTHONPATH=$work/sanitized:$top/tests PYTHONDONTWRITEBYTECODE=1
+  export PYTHONMALLOC=malloc ASAN_OPTIONS=detect_leaks=0
+  LD_PRELOAD="$(gcc -print-file-name=libasan.so) $(gcc -print-file-name=libubsan.so)" \
+    S2UNION_LIBRARY=$work/usr/lib/libs2union.so.1 timeout 600 /usr/bin/python3 -m unittest -q test_calls test_edges
+)
+step "the same, and the edges, under the sanitizers" sanitized
+step "laws of sets, by hypothesis" python -m unittest -q test_laws
+/usr/bin/python3 -c 'import pandas' 2>/dev/null || echo "       pandas is not there: columns of it are not tested"
+typed() (
+  mkdir "$work/typed" && cp -r "$top/bindings/python/s2union" "$work/typed" && cd "$work/typed" &&
+    mypy --strict -p s2union
+)
+if command -v mypy >/dev/null; then
+  step "types" typed
+else
+  echo "       mypy is not there: the types are not tested"
+fi
+step "docs/PYTHON.md" python -m doctest "$top/docs/PYTHON.md"
+for page in README.md docs/COOKBOOK.md; do
+  step "$page" python "$top/tests/docs/documented.py" --python "$top/$page"
+done
+tutorial() { # its first part, which needs no other package
+  python "$top/tests/docs/documented.py" --shell "$top/docs/TUTORIAL.md" "## Part 2: an hour"
+}
+export S2CALC=${S2CALC:-$top/s2calc} S2CALC_QUIET=1
+step "with s2calc: docs/TUTORIAL.md, Part 1" tutorial
+step "s2union_geo, points, polygons and maps" python -m unittest -q test_geo
+without_numpy() {
+  python -c 'import sys, unittest
+sys.modules["numpy"] = None
+unittest.main("test_library", argv=["x", "-q", "TheModule"])'
+}
+step "without numpy" without_numpy
+by_pip() { # the module where pip puts it, with the library elsewhere
+  cp -r "$top/bindings/python" "$work/source" && /usr/bin/python3 -m pip install -q --no-index --no-build-isolation \
+    --no-deps --disable-pip-version-check --root-user-action=ignore --target "$work/site" "$work/source" \
+    && (cd "$work" && env -u LD_LIBRARY_PATH PYTHONPATH="$work/site" S2UNION_LIBRARY="$work/usr/lib/libs2union.so.1" \
+      /usr/bin/python3 -m doctest "$top/docs/PYTHON.md") && [ -e "$work/site/s2union/py.typed" ]
+}
+step "installed by pip" by_pip
+by_sdist() ( # the archive of its sources builds where nothing else is
+  cp -r "$top/bindings/python" "$work/described" &&
+    python3 "$top/tools/packaging/described.py" "$work/described" docs/PYTHON.md &&
+    cd "$work/described" && /usr/bin/python3 -c 'from setuptools import build_meta
+build_meta.build_sdist("'"$work"'")' >sdist 2>&1 && ! grep -i '^warning' sdist && mkdir "$work/from-sdist" &&
+    tar -C "$work/from-sdist" --strip-components=1 -xf "$work"/s2union-*.tar.gz && cd "$work/from-sdist" &&
+    [ -s README.md ] && grep '^Project-URL: Repository' PKG-INFO &&
+    S2UNION_INCLUDE=$include /usr/bin/python3 -c 'from setuptools import build_meta
+build_meta.build_wheel(".")' && [ -s s2union-*.whl ]
+)
+step "an archive of its sources, and a wheel from that" by_sdist
+# The same module in each other Python that is there.
+for minor in 8 9 10 11 12 13 14; do
+  other=$(command -v "python3.$minor") && "$other" -c '' 2>/dev/null || continue
+  [ "$(realpath "$other")" != "$(realpath /usr/bin/python3)" ] || continue
+  step "docs/PYTHON.md by Python 3.$minor" env PYTHONPATH="$work/usr/lib/python" PYTHONDONTWRITEBYTECODE=1 \
+    "$other" -m doctest "$top/docs/PYTHON.md"
+done
+
+finish

@@ -1,0 +1,39 @@
+#!/usr/bin/env bash
+# The tests of the crate for Rust, most of which are in bindings/rust: tests/run rust. It installs the Debian packages
+# that it needs. Its last line is 'N passed, M failed'; the status is 1 if any failed.
+. "$(dirname "$0")/../steps.sh"
+
+need gcc gcc libc6-dev
+need cargo cargo
+for crate in serde serde_derive serde_json bincode; do
+  compgen -G "/usr/share/cargo/registry/$crate-1*" >/dev/null || packages+=("librust-${crate/_/-}-dev")
+done
+. "$top/tests/library.sh"
+
+step "questions and edges" questions
+for_rust() ( # in a copy, since cargo writes beside the sources
+  cp -r "$top/bindings/rust" "$work/for-rust" && cd "$work/for-rust" &&
+    RUSTFLAGS=-Dwarnings CARGO_TARGET_DIR=$work/target timeout 300 cargo test -q --offline
+)
+by_rust() (
+  mkdir -p "$work/by-rust/src" && cd "$work/by-rust" && program_of RUST.md rust src/main.rs &&
+    printf '%s\n' "[package]" 'name = "program"' 'version = "0.0.0"' 'edition = "2021"' "[dependencies]" \
+      "s2union = { path = \"$work/for-rust\" }" >Cargo.toml &&
+    CARGO_TARGET_DIR=$work/target cargo build -q --offline && says RUST.md rust "$work/target/debug/program"
+)
+with_serde() ( # by Debian's sources of serde, in place of a registry
+  cd "$work/for-rust/serde" && RUSTFLAGS=-Dwarnings CARGO_TARGET_DIR=$work/target timeout 300 cargo \
+    --config 'source.crates-io.replace-with="debian"' \
+    --config 'source.debian.directory="/usr/share/cargo/registry"' test -q --offline
+)
+step "against the model, the edges, what is refused, and the examples" for_rust
+step "docs/RUST.md" by_rust
+step "with serde" with_serde
+packed_crate() ( # cargo package finds nothing missing
+  cp -r "$top/bindings/rust" "$work/packed-crate" && rm -r "$work/packed-crate/serde" &&
+    python3 "$top/tools/packaging/described.py" "$work/packed-crate" docs/RUST.md && cd "$work/packed-crate" &&
+    CARGO_TARGET_DIR=$work/target cargo package --offline --allow-dirty --no-verify >packed 2>&1 &&
+    ! grep -i warning packed
+)
+step "cargo package" packed_crate
+finish

@@ -1,0 +1,39 @@
+#!/usr/bin/env bash
+# What the commands of tools/ say of words that they don't know, of other sources, and without the kit: tests/run tools.
+# It needs the archive of `tests/run archive`. The last line is 'N passed, M failed'; the status is 1 if any failed.
+. "$(dirname "$0")/../steps.sh"
+
+own_sources() ( # in a copy, where no kit is, the archive stays as long as its sources do
+  cd "$top" && mkdir "$work/copy" &&
+    cp -r --parents tools crates.txt crates/*/{src,specs,proofs} \
+      crates/s2union_c/out/{libs2union_c.a,heap.o,archive.json} "$work/copy" && cd "$work/copy" &&
+    export PATH=/usr/bin:/bin XDG_CACHE_HOME=$work/cache &&
+    tools/archive && echo >>crates/s2cell/src/lib.rt && ! tools/archive
+)
+step "tools/archive: no archive of other sources" own_sources
+without_kit() ( # in that copy, which has no archive and no program: what needs the kit says so, and installs nothing
+  local command
+  cd "$top" && cp -r --parents .ci VERSION tests "$work/copy" && mkdir "$work/installers" || return
+  for command in apt-get sudo; do
+    printf '#!/bin/sh\necho "$0 $*" >>%q\n' "$work/installed" >"$work/installers/$command"
+    chmod +x "$work/installers/$command"
+  done
+  export PATH=$work/installers:/usr/bin:/bin XDG_CACHE_HOME=$work/cache SOURCE_DATE_EPOCH=0
+  for command in ".ci/run" "tests/run --tier full" "tests/run docs mutants" "tools/package $work/none"; do
+    ! timeout 60 "$work/copy/"$command >"$work/refused" 2>&1 && grep -q "Rattle's kit is missing" "$work/refused" &&
+      [ "$(tail -1 "$work/refused")" = "0 passed, 1 failed" ] || { echo "$command" && cat "$work/refused" && return 1; }
+  done
+  [ ! -e "$work/installed" ] || { cat "$work/installed" && return 1; }
+)
+step ".ci/run, tests/run, tools/package: nothing is installed without the kit" without_kit
+unknown_words() { # and nothing is written for them
+  local words
+  for words in "calls --chek" "statement --chek" "prove --chek" "library $work/none --chek" \
+    "java $work/none --chek" "package $work/none --chek"; do
+    ! "$top/tools/"$words >"$work/refused" 2>&1 && grep -q "tools/.* has no option --chek" "$work/refused" ||
+      { echo "$words" && cat "$work/refused" && return 1; }
+  done
+  [ ! -e "$work/none" ]
+}
+step "tools/: words that they don't know" unknown_words
+finish
