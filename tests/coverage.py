@@ -1,9 +1,9 @@
 """How much of a source in C its tests have executed, by gcovr: coverage.py FOLDER NAME=SOURCE..
 
 FOLDER is where gcc has compiled the source with --coverage and where the tests have left their counts; NAME is the name
-that the source has there, and SOURCE its path in the repository, or the folder of it with / at its end. Each line has to be executed, and no more branches may
-be left than tests/uncovered.txt says. Of a source that isn't in that file only the figure is printed, which is the
-last line.
+that the source has there, and SOURCE its path in the repository, or the folder of it with / at its end. Each line has
+to be executed, and no more branches may be left than tests/uncovered.txt says. Of a source that isn't in that file only
+the figure is printed, which is the last line.
 """
 import json
 import re

@@ -32,7 +32,8 @@ built() { # FOLDER FLAGS..: the extension as it is
     make -C "$folder" PREFIX="$work/usr" PG_CONFIG="$config" "$@"
 }
 
-guarded() { # FOLDER SOURCES FLAGS..: the extension over the allocator of guarded.c, but its files for planner and degrees
+# FOLDER SOURCES FLAGS..: the extension over the allocator of guarded.c; planner.c and geo.c are of SOURCES.
+guarded() {
   local folder=$work/$1 sources=$2 file name
   shift 2
   mkdir -p "$folder/rewritten" && : >"$folder/rewritten.c" &&
