@@ -1,1 +1,1 @@
--- s2union 1.2: no function came after 1.1, which was s2union--1.2.sql with another first line.
+-- s2union 1.2: no function came after 1.1.

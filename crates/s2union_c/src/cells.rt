@@ -29,7 +29,7 @@ pub struct Square {
 pub extern "C" fn s2u_version() -> u32
     ensures { result ≡ 10200 }
 {
-    10200
+    10300
 }
 
 /// Whether the number is the identifier of a cell.

@@ -1,4 +1,4 @@
--- s2union_postgis 1.2. docs/GEO.md says what each function does, in the words of its comment. The server's Python needs
+-- s2union_postgis 1.3. docs/GEO.md says what each function does, in the words of its comment. The server's Python needs
 -- the module s2union_geo (Debian: python3-s2union, python3-numpy).
 
 \echo Use "CREATE EXTENSION s2union_postgis" to load this file. \quit

@@ -1,0 +1,1 @@
+-- s2union_postgis 1.3: no function came after 1.2.
