@@ -1,2 +1,2 @@
-"""What the tests of all languages ask, and plain models that share nothing with the library: unions.py has sets of
-leaves, calculator.py the program. vectors.py and edges.py print questions with their answers."""
+"""Plain models that share nothing with the library, and the questions to all languages: unions.py has sets of leaves,
+calculator.py the program. vectors.py and edges.py print questions with their answers."""
