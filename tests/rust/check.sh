@@ -5,9 +5,11 @@
 
 need gcc gcc libc6-dev
 need cargo cargo
-for crate in serde serde_derive serde_json bincode; do
-  compgen -G "/usr/share/cargo/registry/$crate-1*" >/dev/null || packages+=("librust-${crate/_/-}-dev")
-done
+registry=/usr/share/cargo/registry
+need_file "$(compgen -G "$registry/serde-1*")" librust-serde-dev
+need_file "$(compgen -G "$registry/serde_derive-1*")" librust-serde-derive-dev
+need_file "$(compgen -G "$registry/serde_json-1*")" librust-serde-json-dev
+need_file "$(compgen -G "$registry/bincode-1*")" librust-bincode-dev
 . "$top/tests/library.sh"
 
 step "questions and edges" questions
