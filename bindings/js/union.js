@@ -13,7 +13,7 @@ function calls() {
   return core;
 }
 
-const MOST_CELLS = 10_000_000;
+const MOST_LISTED = 10_000_000;
 const MOST_SIDE = 2 ** 30 - 1;
 
 // ---- what comes in
@@ -316,7 +316,7 @@ export class CellUnion {
   }
 
   /** Its cells cut to the least level that is at least `min`, and `min` plus a multiple of the modulus. */
-  denormalized(min, modulus = 1, most = MOST_CELLS) {
+  denormalized(min, modulus = 1, most = MOST_LISTED) {
     if (this.denormalizedSize(min, modulus) > BigInt(within(most, Number.MAX_SAFE_INTEGER))) throw new Refusal(MANY, 0);
     return calls().denormalised(this.#ids, min, modulus);
   }

@@ -66,12 +66,12 @@ static const S2Union* stored_argument(FunctionCallInfo fcinfo, int k) {
 
 static Datum of_two_unions(FunctionCallInfo fcinfo, maker* make) {
   Job j = {.x = stored_argument(fcinfo, 0), .y = stored_argument(fcinfo, 1)};
-  return made(make, &j, Min(count_of(j.x) + count_of(j.y), MOST_CELLS));
+  return made(make, &j, Min(count_of(j.x) + count_of(j.y), MOST_IN_VALUE));
 }
 
 static Datum of_one_union(FunctionCallInfo fcinfo, maker* make) {
   Job j = {.x = stored_argument(fcinfo, 0)};
-  return made(make, &j, Min(count_of(j.x) + S2U_MOST_COMPLEMENT(0), MOST_CELLS));
+  return made(make, &j, Min(count_of(j.x) + S2U_MOST_COMPLEMENT(0), MOST_IN_VALUE));
 }
 
 /* The covering of a rectangle at a level, whose six numbers are the arguments from `first` on; before it there may be a
@@ -161,13 +161,13 @@ S2Union* s2union_covering(const S2Union* u, size_t most) {
   S2Union* covering = new_value(most);
   size_t n = 0;
   must_be_ok(s2u_outer_of(LIST(u), 0, most, covering->cells, most, &n));
-  for (uint32_t fits = 0, exceeds = 30; fits + 1 < exceeds;) {
-    uint32_t level = (fits + exceeds) / 2;
+  for (uint32_t least = 0, exceeds = 30; least + 1 < exceeds;) {
+    uint32_t level = (least + exceeds) / 2;
     size_t finer = 0;
     CHECK_FOR_INTERRUPTS();
     int32_t status = s2u_outer_of(LIST(u), level, most, covering->cells, most, &finer);
     if (status != S2U_MANY) must_be_ok(status);
-    *(status == S2U_MANY ? &exceeds : &fits) = level;
+    *(status == S2U_MANY ? &exceeds : &least) = level;
     if (status != S2U_MANY) n = finer;
   }
   finished(covering, n);
@@ -191,7 +191,7 @@ static Tiles* new_tiles(FunctionCallInfo fcinfo, uint64_t* count) {
   Job j = {fcinfo, 1, t->whole, .level = (uint32_t)PG_GETARG_INT32(1)};
   S2Union* outer = (S2Union*)DatumGetPointer(made(make_outer_of, &j, count_of(j.x)));
   must_be_ok(s2u_denormalised_len(LIST(outer), j.level, 1, count));
-  if (*count > MOST_CELLS) must_take_numbers(S2U_MANY, fcinfo, 1);
+  if (*count > MOST_IN_VALUE) must_take_numbers(S2U_MANY, fcinfo, 1);
   t->tile = palloc_extended(Max(*count, 1) * sizeof *t->tile, MCXT_ALLOC_HUGE);
   if (*count > 0) must_be_ok(s2u_denormalised(LIST(outer), j.level, 1, t->tile, *count, &n));
   pfree(outer);

@@ -10,8 +10,8 @@
 enum { FORM = 1 };
 
 S2Union* new_value(size_t room) {
-  if (room > MOST_CELLS)
-    ereport(ERROR, errcode(ERRCODE_PROGRAM_LIMIT_EXCEEDED), errmsg("s2union: more than %zu cells", (size_t)MOST_CELLS));
+  if (room > MOST_IN_VALUE)
+    ereport(ERROR, errcode(ERRCODE_PROGRAM_LIMIT_EXCEEDED), errmsg("s2union: more than %zu cells", (size_t)MOST_IN_VALUE));
   S2Union* u = palloc(HEAD + room * sizeof(uint64_t));
   u->form = FORM;
   SET_VARSIZE(u, HEAD);
@@ -64,7 +64,7 @@ void gather(Gathered* g, const uint64_t* cells, size_t n) {
 
 S2Union* value_of_gathered(Gathered* g) {
   settle(g);
-  if (g->n > MOST_CELLS) must_be_ok(S2U_MANY);
+  if (g->n > MOST_IN_VALUE) must_be_ok(S2U_MANY);
   return value_with(g->cells, g->n);
 }
 

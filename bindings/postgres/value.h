@@ -18,7 +18,7 @@ typedef struct S2Union {
 
 #define HEAD offsetof(S2Union, cells)
 #define LIST(u) (u)->cells, count_of(u)
-#define MOST_CELLS ((MaxAllocSize - HEAD) / sizeof(uint64_t))
+#define MOST_IN_VALUE ((MaxAllocSize - HEAD) / sizeof(uint64_t))
 
 static inline size_t count_of(const S2Union* u) {
   return (VARSIZE(u) - HEAD) / sizeof(uint64_t);
