@@ -9,7 +9,8 @@ SCRIPT = re.compile(r"(?:\$top/|\.\./)((?:tests/|tools/|bench/)?[\w/-]+(?:\.sh)?
 NEED = re.compile(r"\b(need(?:_\w+)?)(?: ([^;&|#}]*(?:\}[^;&|#}]*)*))?(?=[;&|#}]|$)")
 WORD = re.compile(r'"[^"]*"|[^\s"]+')  # a word, or what stands in quotes
 # What the functions of steps.sh need that name no package.
-OWN = {"need_headers": ["libpython3-dev"], "need_linker": ["gcc", "libc6-dev", "libpython3-dev"],
+OWN = {"need_headers": ["libpython3-dev"], "need_pytest": ["python3-pytest"],
+       "need_linker": ["gcc", "libc6-dev", "libpython3-dev"],
        "need_library": ["gcc", "libc6-dev", "libpython3-dev"]}
 NAMED_FIRST = {"need", "need_file", "need_modules"}  # before the packages stands what shows that they are there
 

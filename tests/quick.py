@@ -39,7 +39,7 @@ def rows(crate, room):
 
 def counted(command, program):
     """How many checks a command counts that passed and failed, of this program."""
-    done = subprocess.run([sys.executable, *command], cwd=TOP, env={**os.environ, "S2CALC": program},
+    done = subprocess.run(command, cwd=TOP, env={**os.environ, "S2CALC": program},
                           stdin=subprocess.DEVNULL, capture_output=True, text=True, errors="replace", check=False)
     last = done.stdout.rstrip().rpartition("\n")[2]
     found = re.fullmatch(r"(\d+) passed, (\d+) failed", last)
@@ -54,8 +54,9 @@ def main():
         counts = {crate: pool.submit(rows, crate, room) for crate in ROWS}
         try:
             program = built("calculator", room)
-            counts["the program"] = pool.submit(counted, ["tests/program/__main__.py", program], program)
-            counts["random scripts"] = pool.submit(counted, ["tests/peer/scripts.py", *sys.argv[1:2]], program)
+            counts["the program"] = pool.submit(counted, ["bash", "tests/pytest.sh", "program"], program)
+            counts["random scripts"] = pool.submit(
+                counted, [sys.executable, "tests/peer/scripts.py", *sys.argv[1:2]], program)
             counts = {name: it.result() for name, it in counts.items()}
         except subprocess.CalledProcessError as error:
             print(f"{' '.join(error.cmd)}: not built")

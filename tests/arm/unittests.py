@@ -1,7 +1,8 @@
 #!/usr/bin/env python3
-"""Runs tests of Python but for those that qemu can't do: unittests.py FOLDER [MODULE..], all of FOLDER if no MODULE is
-named. What is left out stands in tests/arm/left_out.txt: a line for each, as MODULE.CLASS.TEST: REASON. A line of
-a module that is run has to name a test of it. The last line is 'N passed, M failed'.
+"""Runs tests of Python without pytest, which the Python for ARM lacks, and without those that qemu can't do:
+unittests.py FOLDER [MODULE..], all of FOLDER if no MODULE is named. What is left out stands in tests/arm/left_out.txt:
+a line for each, as MODULE.CLASS.TEST: REASON. A line of a module that is run has to name a test of it. The last line is
+'N passed, M failed'.
 """
 import os
 import sys
@@ -9,8 +10,22 @@ import unittest
 
 HERE = os.path.dirname(os.path.realpath(__file__))
 LEFT_OUT = os.path.join(HERE, "left_out.txt")
-sys.path.append(os.path.dirname(HERE))
-from counting import has_failed  # noqa: E402
+
+
+class Result(unittest.TextTestResult):
+    passed = 0
+
+    def addSuccess(self, test):
+        super().addSuccess(test)
+        self.passed += 1
+
+
+def has_failed(tests, lost=0):
+    """Whether one of these tests fails, or none is run. The line that it prints counts `lost` failures more."""
+    result = unittest.TextTestRunner(stream=sys.stdout, resultclass=Result).run(tests)
+    failed = len(result.failures) + len(result.errors) + len(result.unexpectedSuccesses) + lost
+    print(f"{result.passed} passed, {failed} failed", flush=True)
+    return failed > 0 or not result.passed
 
 
 def left_out():
@@ -31,7 +46,7 @@ def tests_in(suite):
 def main(folder, *names):
     sys.path.insert(0, folder)
     loader = unittest.TestLoader()
-    found = loader.loadTestsFromNames(names) if names else loader.discover(folder, "[a-z]*.py")
+    found = loader.loadTestsFromNames(names) if names else loader.discover(folder)
     tests = {test.id(): test for test in tests_in(found)}
     modules = {name.split(".")[0] for name in tests}
     reasons = {name: why for name, why in left_out().items() if name.split(".")[0] in modules}

@@ -44,9 +44,9 @@ def built(copy):
     return program if build_unproved(crate_of("calculator", copy), program) else None
 
 
-def said_by(command, folder):
-    done = subprocess.run(command, cwd=folder, stdin=subprocess.DEVNULL, capture_output=True, encoding="utf-8",
-                          errors="replace")
+def said_by(command, folder, **environment):
+    done = subprocess.run(command, cwd=folder, env={**os.environ, **environment}, stdin=subprocess.DEVNULL,
+                          capture_output=True, encoding="utf-8", errors="replace")
     return done.stdout + done.stderr
 
 
@@ -75,7 +75,7 @@ class Mutant:
     def is_refused(self, said):
         """Whether the mutant's test ran and failed."""
         test = re.escape(self.test)  # whose name may be the beginning of another's
-        failure = rf"other answers: {test}$" if self.crate else rf"(?:FAIL|ERROR): {test} "
+        failure = rf"other answers: {test}$" if self.crate else rf"(?:FAILED|ERROR) \S*::{test}(?: |$)"
         found = re.search(rf"^{failure}", said, re.M)
         other = "NOT TRIED: not built" if said == "not built" else "NOT REFUSED"
         print(f"{self.name}: {f'refused by {self.test}' if found else other}", flush=True)
@@ -91,7 +91,8 @@ def said_of(copy, mutants):
     tests = dict.fromkeys(mutant.test for mutant in mutants)
     if not mutants[0].crate:
         program = built(copy)
-        return said_by([sys.executable, "tests/program", program, *tests], TOP) if program else "not built"
+        words = ["bash", "tests/pytest.sh", "program", "-k", " or ".join(tests)]
+        return said_by(words, TOP, S2CALC=program) if program else "not built"
     crate, rows = crate_of(mutants[0].crate, copy), os.path.join(copy, "rows")
     with open(rows, "w", encoding="utf-8") as it:
         it.writelines(row_of(crate.folder, test) for test in tests)

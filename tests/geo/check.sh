@@ -40,7 +40,7 @@ if [ "${1:-}" = --costs ]; then
   mkdir "$work/costs" && /usr/bin/python3 "$top/tests/geo/costs.py" "$work/costs" "${@:2}"
   finish
 fi
-pages() { (cd "$top/tests/geo" && timeout 1800 /usr/bin/python3 -m unittest -q "$@"); }
-step "docs/GEO.md" pages geo
-step "docs/TUTORIAL.md" pages tutorial
+pages() { (cd "$top/tests/geo" && timeout 1800 /usr/bin/python3 -m pytest "$@"); }
+step "docs/GEO.md" pages test_geo.py
+step "docs/TUTORIAL.md" pages test_tutorial.py
 finish

@@ -37,7 +37,7 @@ if [ "${1:-}" = --costs ]; then
   mkdir "$work/costs" && /usr/bin/python3 "$top/tests/geo/costs.py" "$work/costs" "${@:2}"
   finish
 fi
-pages() { (cd "$top/tests/geo" && timeout 1800 /usr/bin/python3 -m unittest -q "$@"); }
+pages() { (cd "$top/tests/geo" && timeout 1800 /usr/bin/python3 -m pytest "$@"); }
 
-step "docs/TUTORIAL.md" pages tutorial
+step "docs/TUTORIAL.md" pages test_tutorial.py
 finish

@@ -2,7 +2,8 @@
 # for bench/databases.sh. The caller has read tests/steps.sh.
 
 need_countries() { # PACKAGE..: installs what is missing of these too
-  need_installed g++ libs2-dev nlohmann-json3-dev gmt-gshhg-low python3-{numpy,netcdf4,shapely,geopandas,pywraps2} "$@"
+  need_installed g++ libs2-dev nlohmann-json3-dev gmt-gshhg-low \
+    python3-{pytest,numpy,netcdf4,shapely,geopandas,pywraps2} "$@"
   need_packages
 }
 

@@ -51,14 +51,14 @@ step "s2union_geo: points, and what is refused" tests Points
 step "plans: the index where values are large and where few rows are found" tests Planner
 step "large questions end within twice their timeout" tests LargeQuestions
 step "the aggregate, in parallel" tests Aggregates
-step "arrays of the caller, windows, values that come again" tests test_kept.AroundACall
-step "one script, and an update from each earlier version" tests test_catalogue.Catalogue test_catalogue.Updates
+step "arrays of the caller, windows, values that come again" tests test_kept.py::AroundACall
+step "one script, and an update from each earlier version" tests test_catalogue.py::Catalogue test_catalogue.py::Updates
 installcheck() { make -C "$work/build" PREFIX="$work/usr" PG_CONFIG="$config" installcheck; }
 step "make installcheck" installcheck
 step "dump and restore" tests DumpAndRestore
 step "a session's memory limited in steps" tests MemoryLimits
-step "a large question is kept once for sixty parts of a table" tests test_kept.Memory
-step "indexes and ANALYZE are cancelled" tests test_kept.Cancels
+step "a large question is kept once for sixty parts of a table" tests test_kept.py::Memory
+step "indexes and ANALYZE are cancelled" tests test_kept.py::Cancels
 page() { # PAGE DATABASE: its examples, in a database of their own, without notices
   createdb "$2" && S2UNION_FIRST=$work/data S2UNION_SHARD=$work/shard PGOPTIONS="-c client_min_messages=warning" \
     /usr/bin/python3 "$top/tests/docs/documented.py" "$top/docs/$1" psql -XAqt -d "$2"
@@ -73,8 +73,8 @@ step "200 questions over two servers" tests Servers
 
 export S2UNION_ROUNDS=150
 again() {
-  tests Guarded AgainstTheModel WhatIsRefused Indexes Points Exclusion Aggregates test_kept.AroundACall \
-    test_catalogue.Catalogue "$@"
+  tests Guarded AgainstTheModel WhatIsRefused Indexes Points Exclusion Aggregates test_kept.py::AroundACall \
+    test_catalogue.py::Catalogue "$@"
 }
 put_in counted
 step "guarded: each allocation refused in turn, nothing written over, nothing left" again Planner

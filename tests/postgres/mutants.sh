@@ -12,8 +12,8 @@ survives() { # NAME
     cp "$work"/mutant/*.{sql,control} "$work/build" && put_in build && is_up && : >"$work/data/log" &&
     dropdb --if-exists --force mutant && createdb mutant &&
     psql -qXd mutant -c "LOAD 's2union'" || return 2 # all that it calls is there
-  PGDATABASE=mutant refuse AgainstTheModel WhatIsRefused Aggregates Guarded test_kept.AroundACall \
-    test_catalogue.Catalogue test_catalogue.Updates Indexes Exclusion Planner || return
+  PGDATABASE=mutant refuse AgainstTheModel WhatIsRefused Aggregates Guarded test_kept.py::AroundACall \
+    test_catalogue.py::Catalogue test_catalogue.py::Updates Indexes Exclusion Planner || return
   whole || return 1
 }
 

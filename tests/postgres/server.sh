@@ -7,7 +7,7 @@ need_file "$(pg_config --includedir-server 2>/dev/null)/postgres.h" postgresql-s
 need pg_ctlcluster postgresql
 need_file /usr/include/valgrind/memcheck.h valgrind
 need gcovr gcovr
-need /usr/bin/python3 python3
+need_pytest
 need_packages
 need_library
 
@@ -102,12 +102,12 @@ stopped() { # FOLDER
 tests() { # TEST..: those of test_postgres.py, or of TESTS, or with the name of their file before them
   local names=() name
   for name; do
-    case $name in test_*) names+=("$name") ;; *) names+=("${TESTS:-test_postgres}.$name") ;; esac
+    case $name in *.py*) names+=("$name") ;; *) names+=("${TESTS:-test_postgres.py}::$name") ;; esac
   done
   (
     cd "$top/tests/postgres" && export PYTHONPATH=$top/tests:${PYTHONPATH:-} PYTHONDONTWRITEBYTECODE=1
     export EXTENSIONS=$copy/usr/share/postgresql/$server/extension
-    timeout "${SECONDS_OF_TESTS:-1800}" /usr/bin/python3 -m unittest -q -f "${names[@]}"
+    timeout "${SECONDS_OF_TESTS:-1800}" /usr/bin/python3 -m pytest -x "${names[@]}"
   )
 }
 

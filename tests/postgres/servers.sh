@@ -60,17 +60,17 @@ page() {
     psql -XAqt -h 192.0.2.1 -U postgres -d postgres
 }
 step "docs/SERVERS.md" page
-TESTS=test_servers
-step "its joins, beside loops over all pairs" tests AfterThePage.test_all_pairs
-step "a part moves back while rows come in and are counted" tests AfterThePage.test_a_part_moves
-step "questions over three servers; fetch_size" tests AfterThePage.test_questions AfterThePage.test_fetch_size
+TESTS=test_servers.py
+step "its joins, beside loops over all pairs" tests AfterThePage::test_all_pairs
+step "a part moves back while rows come in and are counted" tests AfterThePage::test_a_part_moves
+step "questions over three servers; fetch_size" tests AfterThePage::test_questions AfterThePage::test_fetch_size
 step "the countries of the earth, covered" countries 200
 over_the_countries() {
   PYTHONPATH=$top/tests/geo:$top/docs/examples:$work/usr/lib/python tests OverTheCountries
 }
 step "100,000 points joined with the countries, beside a loop over all pairs" over_the_countries
-step "a cable is cut" tests AfterThePage.test_a_cable_is_cut
-step "the replica is down: rows for its server wait" tests AfterThePage.test_the_replica_is_down
-step "a server is down: its replica answers, and takes its place" tests AfterThePage.test_a_server_is_down
+step "a cable is cut" tests AfterThePage::test_a_cable_is_cut
+step "the replica is down: rows for its server wait" tests AfterThePage::test_the_replica_is_down
+step "a server is down: its replica answers, and takes its place" tests AfterThePage::test_a_server_is_down
 step "no server has fallen" whole
 finish

@@ -375,7 +375,3 @@ class Updates(unittest.TestCase):
         self.assertGreater(int(said[0]), 0)
         self.assertTrue(any("regions_region_idx" in line for line in said[9:]), said)
         psql("DROP DATABASE moved;")
-
-
-if __name__ == "__main__":
-    unittest.main()

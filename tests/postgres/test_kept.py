@@ -236,7 +236,3 @@ class Cancels(Tests):
             self.assertIn("due to statement timeout", run.stderr, command)
             self.assertLess(time.monotonic() - begun, 2, command)
         psql("DROP TABLE placed;")
-
-
-if __name__ == "__main__":
-    unittest.main()

@@ -1645,7 +1645,3 @@ class Servers(unittest.TestCase):
             SELECT (SELECT s2_union_agg(region) FROM regions) = (SELECT s2_union_agg(region) FROM whole);
         """, "scale")
         self.assertEqual(said, ["200|0|t", "t"])
-
-
-if __name__ == "__main__":
-    unittest.main()

@@ -286,7 +286,3 @@ class OverTheCountries(unittest.TestCase):
     def test_three_servers(self):
         self.join("three servers, by tile", "inside", "SET enable_partitionwise_join = on;")
         self.join("three servers, by tile, not partitionwise", "inside")
-
-
-if __name__ == "__main__":
-    unittest.main()

@@ -1,4 +1,4 @@
-"""A run of the program, which is the one that the gate or tools/prove has built unless tests/program names another."""
+"""A run of the program, which is the one that the gate or tools/prove has built unless S2CALC names another."""
 import os
 import socket
 import subprocess

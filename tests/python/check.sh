@@ -6,6 +6,7 @@
 
 need gcc gcc libc6-dev
 need clang clang
+need_pytest
 need_modules numpy python3-numpy
 need_modules hypothesis python3-hypothesis
 need_modules pip,setuptools,wheel python3-{pip,setuptools,wheel}
@@ -32,13 +33,13 @@ python() {
     timeout 600 /usr/bin/python3 -X dev "$@"
   )
 }
-step "against the model, and the module" python -m unittest -q test_library
-step "the functions of its module in C" python -m unittest -q test_calls
-step "the edges" python -m unittest -q test_edges
+step "against the model, and the module" python -m pytest test_library.py
+step "the functions of its module in C" python -m pytest test_calls.py
+step "the edges" python -m pytest test_edges.py
 without_memory() { # Python's memory is the C library's own
   gcc -std=c11 -O2 "${strict[@]}" -fPIC -shared "$top/tests/refuse.c" -o "$work/refuse.so" &&
-    PYTHONMALLOC=malloc LD_PRELOAD=$work/refuse.so S2UNION_REFUSE=$work/refuse.so python -m unittest -q \
-      test_calls.WithoutMemory
+    PYTHONMALLOC=malloc LD_PRELOAD=$work/refuse.so S2UNION_REFUSE=$work/refuse.so python -m pytest \
+      test_calls.py::WithoutMemory
 }
 step "each allocation refused in turn" without_memory
 sanitized() ( # the module in C with the sanitizers, and what C itself gives for memory
@@ -48,10 +49,10 @@ sanitized() ( # the module in C with the sanitizers, and what C itself gives for
   cd "$top/tests/python" && export PYTHONPATH=$work/sanitized:$top/tests PYTHONDONTWRITEBYTECODE=1
   export PYTHONMALLOC=malloc ASAN_OPTIONS=detect_leaks=0
   LD_PRELOAD="$(gcc -print-file-name=libasan.so) $(gcc -print-file-name=libubsan.so)" \
-    S2UNION_LIBRARY=$work/usr/lib/libs2union.so.1 timeout 600 /usr/bin/python3 -m unittest -q test_calls test_edges
+    S2UNION_LIBRARY=$work/usr/lib/libs2union.so.1 timeout 600 /usr/bin/python3 -m pytest test_calls.py test_edges.py
 )
 step "the same, and the edges, under the sanitizers" sanitized
-step "laws of sets, by hypothesis" python -m unittest -q test_laws
+step "laws of sets, by hypothesis" python -m pytest test_laws.py
 /usr/bin/python3 -c 'import pandas' 2>/dev/null || echo "       pandas is not there: columns of it are not tested"
 typed() (
   mkdir "$work/typed" && cp -r "$top/bindings/python/s2union" "$work/typed" && cd "$work/typed" &&
@@ -71,11 +72,11 @@ tutorial() { # its first part, which needs no other package
 }
 export S2CALC=${S2CALC:-$top/s2calc} S2CALC_QUIET=1
 step "with s2calc: docs/TUTORIAL.md, Part 1" tutorial
-step "s2union_geo, points, polygons and maps" python -m unittest -q test_geo
+step "s2union_geo, points, polygons and maps" python -m pytest test_geo.py
 without_numpy() {
-  python -c 'import sys, unittest
+  python -c 'import sys, pytest
 sys.modules["numpy"] = None
-unittest.main("test_library", argv=["x", "-q", "TheModule"])'
+sys.exit(pytest.main(["test_library.py::TheModule"]))'
 }
 step "without numpy" without_numpy
 by_pip() { # the module where pip puts it, with the library elsewhere

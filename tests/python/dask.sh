@@ -6,6 +6,7 @@
 [ -z "${1:-}" ] || export S2UNION_CELLS=$1
 
 need_modules dask.dataframe,distributed python3-{dask,distributed,pandas}
+need_pytest
 need /usr/sbin/mariadbd mariadb-server
 need /usr/sbin/clickhouse-server clickhouse-server clickhouse-client
 need mcs mono-mcs
@@ -25,8 +26,8 @@ page() {
   block DASK.md text >"$work/wanted" && [ -s "$work/wanted" ] &&
     (cd "$work" && timeout 300 /usr/bin/python3 dask_page.py) >"$work/said" && diff "$work/wanted" "$work/said"
 }
-tests() { # TEST..
-  (cd "$work" && timeout 900 /usr/bin/python3 -m unittest -q "$@")
+tests() { # FILE::CLASS
+  (cd "$work" && timeout 900 /usr/bin/python3 -m pytest "$top/tests/python/$1")
 }
 blocks() {
   block DASK.md python >"$work/dask_page.py" && block ENGINES.md python >"$work/engines.py" &&
@@ -34,15 +35,18 @@ blocks() {
 }
 step "the Python of docs/DASK.md and docs/ENGINES.md" blocks
 step "docs/DASK.md" page
-step "its join, beside a loop over all pairs: points in any order, parts without any" tests test_dask.TheJoinOfThePage
+step "its join, beside a loop over all pairs: points in any order, parts without any" \
+  tests test_dask.py::TheJoinOfThePage
 step "the countries of the earth, covered" countries 200
-step "100,000 points joined with the countries, beside a loop over all pairs" tests test_dask.OverTheCountries
+step "100,000 points joined with the countries, beside a loop over all pairs" tests test_dask.py::OverTheCountries
 for_mariadb() {
   cp -r "$top/bindings/mariadb" "$work/mariadb_functions" && make -C "$work/mariadb_functions" PREFIX="$work/usr"
 }
 step "the user functions of MariaDB" for_mariadb
-step "the same by terms, as search engines have them" tests test_engines.Terms
-for engine in Sqlite Mariadb Clickhouse; do step "the same by plain SQL in $engine" tests "test_engines.$engine"; done
+step "the same by terms, as search engines have them" tests test_engines.py::Terms
+for engine in Sqlite Mariadb Clickhouse; do
+  step "the same by plain SQL in $engine" tests "test_engines.py::$engine"
+done
 
 # ---- other languages: each prints how many pairs there are
 
@@ -82,6 +86,6 @@ step "the package for R: R CMD check, with its tests beside S2's own operations"
 step "docs/R.md" page_of_r
 step "docs/R.md: all pairs" pairs_by R.md "r pairs" R Rscript pairs.R
 
-step "ten million cells on 1, 2 and 4 workers, and with one that is killed" tests test_dask.OnACluster
+step "ten million cells on 1, 2 and 4 workers, and with one that is killed" tests test_dask.py::OnACluster
 grep -E '^one process|^[0-9] worker|^a worker' "$work/log" | sed 's/^/       /'
 finish

@@ -4,6 +4,7 @@
 # 'N passed, M failed'.
 . "$(dirname "$0")/../steps.sh"
 need /usr/bin/python3 python3
+need_pytest
 need_modules numpy python3-numpy
 need_modules setuptools python3-setuptools
 need_packages
@@ -11,8 +12,8 @@ need_library
 
 tests() (
   cd "$top/tests/python" && export PYTHONPATH=$work/mutant:$top/tests PYTHONDONTWRITEBYTECODE=1
-  S2UNION_LIBRARY=$work/usr/lib/libs2union.so timeout 600 /usr/bin/python3 -m unittest -q -f test_library test_calls \
-    test_edges
+  S2UNION_LIBRARY=$work/usr/lib/libs2union.so timeout 600 /usr/bin/python3 -m pytest -x test_library.py \
+    test_calls.py test_edges.py
 )
 
 compiled() (

@@ -375,7 +375,3 @@ print(s2union.level(1))
         file._bytes.release()
         for question in (lambda: CELL in file, file.union, file.leaf_count, lambda: file[0]):
             self.assertRaises(ValueError, question)
-
-
-if __name__ == "__main__":
-    unittest.main()

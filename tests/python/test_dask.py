@@ -245,7 +245,3 @@ def one(unions):
 
 def since(began):
     return f"{time.perf_counter() - began:.2f} s"
-
-
-if __name__ == "__main__":
-    unittest.main()

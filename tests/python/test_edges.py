@@ -1,10 +1,10 @@
 """The edges of edges.py, asked of the module for Python, and of files by UnionFile."""
 
 import re
-import unittest
 
 from model import edges
 import numpy
+import pytest
 import s2union
 from s2union import Union, UnionFile
 
@@ -134,24 +134,21 @@ def refusal(call, error):
     return "none" if call in NO_ANSWER and name == "argument" else f"!{name} {place[1]}" if place else f"!{name}"
 
 
-class Edges(unittest.TestCase):
-    def test_each(self):
-        asked = set()
-        for call, *arguments, wanted in edges.rows():
-            if call in LACKING:
-                continue
-            asked.add(call)
-            with self.subTest(call=call, arguments=arguments):
-                try:
-                    found = ASK[call](*arguments)
-                    found = edges.shown(list(found) if isinstance(found, Union) else found)
-                except ValueError as error:
-                    found = refusal(call, error)
-                if call == "intersection_with_cell":  # by the union of the cell, which is made from a list
-                    found = found.replace("!no_cell 0", "!no_cell")
-                self.assertEqual(found, wanted)
-        self.assertEqual(asked, set(ASK))
+ROWS = [row for row in edges.rows() if row[0] not in LACKING]
 
 
-if __name__ == "__main__":
-    unittest.main()
+@pytest.mark.parametrize("row", ROWS, ids=lambda row: row[0])
+def test_each(row):
+    call, *arguments, wanted = row
+    try:
+        found = ASK[call](*arguments)
+        found = edges.shown(list(found) if isinstance(found, Union) else found)
+    except ValueError as error:
+        found = refusal(call, error)
+    if call == "intersection_with_cell":  # by the union of the cell, which is made from a list
+        found = found.replace("!no_cell 0", "!no_cell")
+    assert found == wanted
+
+
+def test_all_are_asked():
+    assert {row[0] for row in ROWS} == set(ASK)

@@ -215,7 +215,3 @@ class Clickhouse(Engine):
                                check=True)
         found = [self.ask(statement) for statement in plain_sql.statements("sql clickhouse")]
         self.assertEqual(pairs(found[-1]), PAIRS)
-
-
-if __name__ == "__main__":
-    unittest.main()

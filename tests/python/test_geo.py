@@ -2,7 +2,6 @@
 tests/geo asks S2 about more."""
 
 import contextlib
-import doctest
 import io
 import itertools
 import json
@@ -27,6 +26,7 @@ from s2union_geo import outlines
 from s2union_geo.geojson import rings
 from s2union_geo.sphere import geographic, on_cube
 
+import docstrings
 from model.places import MIDDLES, POINTS
 
 SIDE = 2**24  # of a cell of level 6, in leaves
@@ -442,12 +442,4 @@ class Cover(unittest.TestCase):
         self.assertRegex(done.stdout, "^2 features, .*; left: none\n$")
 
 
-def load_tests(loader, tests, pattern):
-    """With the examples of each docstring, of which each public function has one."""
-    for module in (s2union_geo, geojson, outlines, polygons, sphere):
-        tests.addTests(doctest.DocTestSuite(module))
-    return tests
-
-
-if __name__ == "__main__":
-    unittest.main()
+Examples = docstrings.tests_of(s2union_geo, geojson, outlines, polygons, sphere)

@@ -2,10 +2,12 @@
 
 import unittest
 
+import pytest
 from model import unions as model
-from hypothesis import given, settings
-from hypothesis import strategies as made
 from s2union import Union
+
+hypothesis = pytest.importorskip("hypothesis")
+given, settings, made = hypothesis.given, hypothesis.settings, hypothesis.strategies
 
 LEAVES = 6 * 4**30
 EVERY = settings(max_examples=300, deadline=None, database=None, derandomize=True)
@@ -62,7 +64,3 @@ class Laws(unittest.TestCase):
     @given(unions)
     def test_files_and_texts(self, a):
         self.assertEqual((Union.from_bytes(a.to_bytes()), Union.from_tokens(a.tokens())), (a, a))
-
-
-if __name__ == "__main__":
-    unittest.main()

@@ -4,7 +4,6 @@ import ast
 import contextlib
 import copy
 import ctypes
-import doctest
 import gc
 import inspect
 import mmap
@@ -26,6 +25,7 @@ from pathlib import Path
 from types import SimpleNamespace
 from unittest import mock
 
+import docstrings
 from model import unions as model
 import s2union
 from model.random_cells import FACE, Random
@@ -1147,10 +1147,4 @@ class TheModule(unittest.TestCase):
                 os.remove(there)
 
 
-def load_tests(loader, tests, pattern):
-    tests.addTests(doctest.DocTestSuite(s2union))
-    return tests
-
-
-if __name__ == "__main__":
-    unittest.main()
+Examples = docstrings.tests_of(s2union)

@@ -47,7 +47,7 @@ tests() { # FOLDER TEST..
   (
     cd "$top/tests/sqlite" && export PYTHONPATH=$top/tests PYTHONDONTWRITEBYTECODE=1
     S2UNION_SQLITE=$work/$folder/mod_s2union.so S2UNION_ROUNDS=${S2UNION_ROUNDS:-$rounds} timeout 1800 \
-      /usr/bin/python3 -m unittest -q "$@"
+      /usr/bin/python3 -m pytest "$@"
   )
 }
 if [ "${1:-}" = --costs ]; then
@@ -71,11 +71,11 @@ any_name() { # and none that Python's import of the library's module would find
   PYTHONPATH=$work/usr/lib/python LD_LIBRARY_PATH=$work/usr/lib /usr/bin/python3 -c 'import s2union'
 }
 step "the file loads under any name, and is not taken for the Python module" any_name
-step "against the model" tests plain test_sqlite.AgainstTheModel
-step "what is refused" tests plain test_sqlite.WhatIsRefused
-step "mod_s2union_geo: points, and what is refused" tests plain test_geo
-step "a union that is asked for each row is looked at once" tests counted test_sqlite.Steps
-step "under the sanitizers" sanitized test_sqlite.AgainstTheModel test_sqlite.WhatIsRefused test_geo
+step "against the model" tests plain test_sqlite.py::AgainstTheModel
+step "what is refused" tests plain test_sqlite.py::WhatIsRefused
+step "mod_s2union_geo: points, and what is refused" tests plain test_geo.py
+step "a union that is asked for each row is looked at once" tests counted test_sqlite.py::Steps
+step "under the sanitizers" sanitized test_sqlite.py::{AgainstTheModel,WhatIsRefused} test_geo.py
 
 refused() {
   gcc -std=c11 -D_DEFAULT_SOURCE -Wall -Wextra -Werror "$top"/tests/{sqlite/memory,refuse}.c -lsqlite3 \
@@ -91,7 +91,7 @@ step "docs/SQLITE.md" documented plain
 step "docs/ENGINES.md, without the extension" /usr/bin/python3 "$top/tests/docs/documented.py" "$top/docs/ENGINES.md"
 covered() {
   build covered CFLAGS="-O0 -g --coverage" && export S2UNION_ROUNDS=300 &&
-    tests covered test_sqlite.AgainstTheModel test_sqlite.WhatIsRefused test_geo &&
+    tests covered test_sqlite.py::{AgainstTheModel,WhatIsRefused} test_geo.py &&
     "$work/memory" "$work/covered/"mod_s2union{,_geo} && documented covered &&
     "${sqlite[@]}" ".load $work/covered/mod_s2union sqlite3_sunion_init" &&
     /usr/bin/python3 "$top/tests/coverage.py" "$work/covered" s2union.c=bindings/sqlite/s2union.c \

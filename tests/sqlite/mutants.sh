@@ -20,7 +20,7 @@ tests() { # FOLDER PRELOAD
     cd "$top/tests/sqlite" && export PYTHONPATH=$top/tests PYTHONDONTWRITEBYTECODE=1
     export ASAN_OPTIONS=detect_leaks=0
     LD_PRELOAD=$2 S2UNION_ROUNDS=300 S2UNION_SQLITE=$1/mod_s2union.so timeout 300 \
-      /usr/bin/python3 -m unittest -q -f test_sqlite.WhatIsRefused test_sqlite.AgainstTheModel test_geo
+      /usr/bin/python3 -m pytest -x test_sqlite.py::{WhatIsRefused,AgainstTheModel} test_geo.py
   )
 }
 

@@ -6,6 +6,6 @@ need sqlite3 sqlite3
 need_file /usr/include/sqlite3ext.h libsqlite3-dev
 need valgrind valgrind
 need gcovr gcovr
-need /usr/bin/python3 python3
+need_pytest
 need_packages
 need_library

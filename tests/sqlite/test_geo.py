@@ -84,7 +84,3 @@ class Points(unittest.TestCase):
         self.db.execute("PRAGMA trusted_schema = OFF")
         self.db.execute("CREATE VIEW places AS SELECT s2_longitude(s2_leaf_at(0, 90)), s2_latitude('5')")
         self.assertEqual(self.said("* FROM places"), (-135, 90))
-
-
-if __name__ == "__main__":
-    unittest.main()

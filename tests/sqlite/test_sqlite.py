@@ -910,7 +910,3 @@ class Steps(Tests):
             self.assertEqual(self.db.execute(query, values).fetchone(), (500,), name)
             self.assertLessEqual((steps.value - before[0] - 500 * 9) / len(cells), 5, name)
             self.assertEqual(compared.value > before[1], name in COMPARED_FOR_EACH_ROW, name)
-
-
-if __name__ == "__main__":
-    unittest.main()

@@ -1,5 +1,4 @@
 """What docs/GEO.md shows, and that it is S2's: leaves, coverings and corners beside S2's own and plain polygons."""
-import doctest
 import json
 import os
 import runpy
@@ -10,6 +9,7 @@ from math import atan, cos, degrees, radians, sin
 from pathlib import Path
 from random import Random
 
+import docstrings
 import geopandas
 import numpy
 import page
@@ -313,11 +313,4 @@ def corners_of(positions):
     return frozenset(map(tuple, (numpy.round(sphere(*positions.T), 9) + 0.0).T.tolist()))
 
 
-def load_tests(loader, tests, pattern):
-    """With the examples of the accessor, which needs geopandas."""
-    tests.addTests(doctest.DocTestSuite(s2union_geo.frames))
-    return tests
-
-
-if __name__ == "__main__":
-    unittest.main()
+Examples = docstrings.tests_of(s2union_geo.frames)

@@ -341,7 +341,3 @@ class Identifiers(unittest.TestCase):
             done = subprocess.run([LAUNCHER, "cells"], input=b"1", stdout=full, stderr=subprocess.PIPE, check=False,
                                   timeout=60)
         self.assertEqual((done.returncode, first_line(done.stderr)), (2, b"s2calc: output"))
-
-
-if __name__ == "__main__":
-    unittest.main()

@@ -5,10 +5,10 @@ import subprocess
 import tempfile
 import unittest
 
-from long_registers import SECONDS, SQUARE, THIRDS, file_of, line
 from model.calculator import Calculator
+from test_long_registers import SECONDS, SQUARE, THIRDS, file_of, line
 from process import PROGRAM
-from sessions import size_after
+from test_sessions import size_after
 
 FILES = {"thirds": file_of(THIRDS), "seconds": file_of(SECONDS), "cut": file_of(THIRDS)[:-1]}
 DEPTH = 10

@@ -7,7 +7,7 @@ import tempfile
 import unittest
 
 from process import FACE, PROGRAM, ran, ran_in_pieces
-from sessions import change, session
+from test_sessions import change, session
 
 
 class Explanations(unittest.TestCase):

@@ -7,7 +7,7 @@ import tempfile
 import unittest
 
 from process import FACE, PROGRAM, answered, ran
-from sessions import most_resident_after, number
+from test_sessions import most_resident_after, number
 
 NOBODY = 65534
 

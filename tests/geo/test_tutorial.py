@@ -154,7 +154,3 @@ def border(polygon):
             point = line.interpolate(k / 20)
             if 25 < point.x < 35:
                 yield point.x, point.y
-
-
-if __name__ == "__main__":
-    unittest.main()

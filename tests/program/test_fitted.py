@@ -136,7 +136,3 @@ class Paths(unittest.TestCase):
         self.assertEqual(ran("draw", "a/b", "c", "d/e")[2].count(b"\n"), 2)
         self.assertEqual(ran("draw", *["a/b"] * 1000, "x" * 100_000)[2].count(b"\n"), 1001)
         self.assertEqual(ran("check", "absent"), (1, b"error missing\n", b""))
-
-
-if __name__ == "__main__":
-    unittest.main()

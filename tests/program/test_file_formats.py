@@ -8,7 +8,7 @@ import unittest
 
 from model.calculator import MOST_CHANGES, MOST_IN_A_FILE, file_text, read_file, read_session, session_text
 from process import ran
-from sessions import cells, change, number, session
+from test_sessions import cells, change, number, session
 
 BATCH = 4_000
 THREE = ["0c", "14", "1c"]

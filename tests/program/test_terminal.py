@@ -105,7 +105,3 @@ class Terminal(unittest.TestCase):
             done = subprocess.run([PROGRAM, "run", "--prompt"], input=script, stdout=subprocess.PIPE, stderr=full,
                                   timeout=60)
         self.assertEqual((done.returncode, done.stdout), (0, ran("run", script=script)[1]))
-
-
-if __name__ == "__main__":
-    unittest.main()

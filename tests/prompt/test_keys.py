@@ -1,4 +1,4 @@
-"""The prompt of `s2calc run` at a terminal, key by key, beside bc and sqlite3: keys.py [PROGRAM [TEST..]]."""
+"""The prompt of `s2calc run` at a terminal, key by key, beside bc and sqlite3."""
 import os
 import re
 import signal
@@ -10,10 +10,7 @@ import unittest
 import pexpect
 
 TESTS = os.path.dirname(os.path.dirname(os.path.realpath(__file__)))
-if len(sys.argv) > 1:
-    os.environ["S2CALC"] = os.path.realpath(sys.argv[1])
-sys.path += [TESTS, os.path.join(TESTS, "program")]
-from counting import has_failed  # noqa: E402
+sys.path.append(os.path.join(TESTS, "program"))
 from process import LAUNCHER, PROGRAM, TOP, ran  # noqa: E402
 
 PROMPT = "s2calc> "
@@ -318,9 +315,3 @@ class Keys(unittest.TestCase):
                     break
             self.assertLess(time.monotonic(), until)
             time.sleep(0.05)
-
-
-if __name__ == "__main__":
-    loader = unittest.TestLoader()
-    loader.testNamePatterns = [f"*{name}*" for name in sys.argv[2:]] or None
-    sys.exit(has_failed(loader.loadTestsFromTestCase(Keys)))

@@ -1,0 +1,19 @@
+"""What all runs of pytest here share. The last line is 'N passed, M failed', as a part of the tests ends. Files of
+tests that need what a part makes first are left out where the variable isn't set that names it."""
+import os
+
+import pytest
+
+MADE = {"test_dask.py": "WORLD", "test_engines.py": "WORLD", "test_servers.py": "NET"}
+
+
+def pytest_ignore_collect(collection_path):
+    return True if MADE.get(collection_path.name, "PATH") not in os.environ else None
+
+
+@pytest.hookimpl(trylast=True)
+def pytest_unconfigure(config):
+    reporter = config.pluginmanager.get_plugin("terminalreporter")
+    if reporter and not config.option.collectonly:
+        passed, *failed = (len(reporter.stats.get(kind, ())) for kind in ("passed", "failed", "error"))
+        print(f"{passed} passed, {sum(failed)} failed", flush=True)
