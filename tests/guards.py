@@ -3,23 +3,20 @@
 
 Each end of a part that is no good one has to count as a failure in tests/run, each step in tests/steps.sh that fails or
 checks nothing, each mutant there that isn't found, each check of texts that finds something or looks at nothing, each
-page of SQL with an answer that isn't said, and each line of C that computes. The full tier has to have each test of the
-page. Then each mistake below is made in a copy of the repository, and the check beside it, of tests/docs, tests/mutants
-or tools/statement, has to find more than it does without it. tests/tools/table.py does the same for tools/calls. The
-last line is 'N passed, M failed'.
+page of SQL with an answer that isn't said, and each line of C that computes. Then each mistake below is made in a copy
+of the repository, and the check beside it, of tests/docs, tests/mutants or tools/statement, has to find more than it
+does without it. tests/tools/table.py does the same for tools/calls. The last line is 'N passed, M failed'.
 """
 import contextlib
 import importlib.machinery
 import importlib.util
 import io
 import re
-import runpy
 import subprocess
 import sys
 import tempfile
 from pathlib import Path
 from typing import Callable, NamedTuple
-from unittest.mock import MagicMock, patch
 
 TOP = Path(__file__).resolve().parents[1]
 sys.path += [str(TOP / "tests" / "docs"), str(TOP / "tests" / "mutants")]
@@ -262,20 +259,6 @@ def ends_of_pages(counts, room):
         counts.tell(f"the line {line}", (done.returncode == 0) == is_right, done.stdout + done.stderr)
 
 
-def tests_of_the_page(counts):
-    """The full tier has each test of tests/page/browser.py, and the gate each but those that are marked as slow."""
-    path = TOP / "tests" / "page" / "browser.py"
-    text = path.read_text(encoding="utf-8")
-    away = re.findall(r"^(?:from|import) ((?:s2union|selenium)[\w.]*)", text, re.M)  # the guards need no browser
-    with patch.dict(sys.modules, {name: MagicMock() for name in away}):
-        page = runpy.run_path(str(path))
-    written = set(re.findall(r"^    def (test_\w+)\(", text, re.M))
-    slow = set(re.findall(r"^    @slow\n    def (test_\w+)\(", text, re.M))
-    for name, is_short, wanted in ("the full tier", False, written), ("the gate", True, written - slow):
-        found = set(page["tests_of"](page["Trial"], is_short))
-        counts.tell(f"the tests of the page in {name}", slow and found == wanted, f"{found ^ wanted}")
-
-
 def make(mistake, file):
     """Makes a mistake in a file; one of no text takes its mode."""
     if mistake.made:
@@ -313,7 +296,6 @@ def main():
         ends_of_pages(counts, Path(room))
     ends_of_steps(counts)
     ends_of_checks(counts)
-    tests_of_the_page(counts)
     with tempfile.TemporaryDirectory() as room:
         mistakes(counts, Path(room).resolve())
     print(f"{counts.passed} passed, {counts.failed} failed")

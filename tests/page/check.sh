@@ -7,6 +7,7 @@
 # Its last line is 'N passed, M failed'; the status is 1 if any failed.
 . "$(dirname "$0")/../steps.sh"
 
+need_pytest
 need chromium chromium
 need chromedriver chromium-driver
 need_modules selenium python3-selenium
@@ -30,13 +31,13 @@ nothing_lost() { [ -s "$work/copy/crates.txt" ] && ! lost_crates; }
 step "each crate that the module needs" nothing_lost
 in_browser() { # the library's module for Python answers beside the page
   PYTHONPATH=$work/usr/lib/python PYTHONDONTWRITEBYTECODE=1 \
-    timeout 1200 /usr/bin/python3 "$top/tests/page/browser.py" "$@"
+    timeout 1200 /usr/bin/python3 -m pytest -s "$top/tests/page" "$@"
 }
 
 if [ "${1:-}" = --short ]; then
   if [ ${#packages[@]} -eq 0 ]; then
     need_library
-    step "the page in Chromium, over a stand-in for its module" in_browser "$@"
+    step "the page in Chromium, over a stand-in for its module" in_browser -m "not slow" "${@:2}"
   else
     echo "       the page is not tested: ${packages[*]} are not there"
   fi
@@ -46,6 +47,6 @@ need_packages
 need_library
 step "tools/page" "$top/tools/page" "$work/page" --jobs 1
 [ "$failed" -eq 0 ] || finish
-step "the page in Chromium" in_browser "$work/page" "$@"
+step "the page in Chromium" in_browser --page "$work/page" "$@"
 grep -E '^figure:' "$work/log" | sed 's/^figure:/       /'
 finish

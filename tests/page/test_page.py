@@ -1,24 +1,17 @@
-"""Drives the page in Chromium and compares what it answers with the library, by its module for Python:
-
-    browser.py FOLDER [--figures] [--pictures] [--screenshot]
-    browser.py --short [--screenshot]
-
-FOLDER has the page that tools/page made. With --short it is a page over standin.js, a plain stand-in for the proved
-module, and the tests that are slow there are left out. With --screenshot it makes docs/pictures/page.png anew. The last
-line is 'N passed, M failed'.
-"""
+"""Drives the page in Chromium and compares what it answers with the library, by its module for Python: the page of
+--page, or one over standin.js, for which the tests that are slow there may be left out (-m "not slow")."""
 import base64
 import json
 import math
 import random
 import struct
-import sys
-import tempfile
 import time
-import traceback
 from pathlib import Path
 from runpy import run_path
 
+import pytest
+from model.edges import REFUSALS
+from model.edges import rows as edge_rows
 from s2union import Union, debug, from_face_ij, from_token, level, parent, size, square, to_signed, token
 from s2union_geo import interior, leaves, to_geojson
 from selenium import webdriver
@@ -29,9 +22,6 @@ from selenium.webdriver.support.ui import Select
 
 HERE = Path(__file__).resolve().parent
 TOP = HERE.parents[1]
-sys.path.append(str(TOP / "tests"))
-from model import edges  # noqa: E402
-
 SIDE = 2**30
 FAULTS = {
     "short": (b"\1\3\0\0", "bytes are missing"),
@@ -68,12 +58,6 @@ def page_over_a_stand_in(folder):
     """Makes the page in a folder as tools/page does, but with a stand-in for the module."""
     sample, stand_in = (TOP / "page/land.cells").read_bytes(), (HERE / "standin.js").read_text()
     (folder / "index.html").write_text(run_path(str(TOP / "tools/page"))["page_of"](b"", sample, stand_in))
-
-
-def slow(test):
-    """Marks a test that the short form leaves out."""
-    test.is_slow = True
-    return test
 
 
 def middle(face, i, j, side):
@@ -130,13 +114,25 @@ def leaf_in(choice, cell):
     return choice.randrange(cell - low + 1, cell + low, 2)
 
 
-class Trial:
+class TestPage:
     """The page in a browser, and what it has to answer."""
 
-    def __init__(self, folder, driver, downloads):
-        self.folder, self.driver, self.downloads = folder, driver, downloads
-        self.choice = random.Random(52)
-        self.a, self.b = random_union(self.choice, 300, 20), random_union(self.choice, 300, 24)
+    choice = random.Random(52)
+    a, b = random_union(choice, 300, 20), random_union(choice, 300, 24)
+
+    @pytest.fixture(scope="class", autouse=True)
+    def in_browser(self, request, tmp_path_factory):
+        asked, here = request.config.option, request.cls
+        here.downloads = tmp_path_factory.mktemp("page")
+        if not asked.page:
+            page_over_a_stand_in(here.downloads)
+        here.folder, here.driver = Path(asked.page or here.downloads).resolve(), browser(here.downloads, not asked.page)
+        yield
+        if asked.figures:
+            here().figures()
+        if asked.screenshot:
+            here().screenshot()
+        here.driver.quit()
 
     def open(self):
         self.driver.get((self.folder / "index.html").as_uri())
@@ -519,7 +515,7 @@ class Trial:
         self.click_of("tokens b")
         assert self.status() == "tokens b: refused: Array buffer allocation failed", self.status()
 
-    @slow
+    @pytest.mark.slow
     def test_names_of_results(self):
         """The name of a result of results of results is short."""
         self.begin()
@@ -531,7 +527,7 @@ class Trial:
         assert names[2] == "a or b" and max(map(len, names)) < 90, [len(name) for name in names]
         assert self.last() == (self.a | self.b).to_bytes()
 
-    @slow
+    @pytest.mark.slow
     def test_order_of_keys(self):
         """Tab goes from top to bottom, also where the picture stands over the panel."""
         size = self.driver.get_window_size()
@@ -574,9 +570,9 @@ class Trial:
         """What edges.py asks, of the calls that the page makes, but for numbers that are no cells in questions about a
         cell: the page asks these of its own cells alone."""
         self.open()
-        rows = [row for row in edges.rows()
+        rows = [row for row in edge_rows()
                 if not (row[0] in ("contains_cell", "intersects_cell") and row[-1] == "!no_cell")]
-        names = {text: name for name, (_, text) in edges.REFUSALS.items()}
+        names = {text: name for name, (_, text) in REFUSALS.items()}
         calls, answers = self.run((HERE / "edges.js").read_text(), [row[:-1] for row in rows], names)
         asked = [row for row in rows if row[0] in calls]
         wrong = [(row, answer) for row, answer in zip(asked, answers) if answer != row[-1]]
@@ -718,7 +714,7 @@ class Trial:
         assert all(union.contains_cells(leaves(*zip(*sum(lines, []))).tolist()))
         assert union.leaf_count() < 6 * 4**30 / 10**4, (union.leaf_count() / 6 / 4**30, self.status())
 
-    @slow
+    @pytest.mark.slow
     def test_a_great_many_small_polygons(self):
         self.many_small_polygons(20_000)
 
@@ -778,7 +774,7 @@ class Trial:
         self.drop("point", b'{"type": "Point", "coordinates": [2.35, 48.86]}')
         assert self.last() == Union(leaves([2.35], [48.86]).tolist()).to_bytes()
 
-    @slow
+    @pytest.mark.slow
     def test_geojson_that_is_none(self):
         self.open()
         for text, said in (('{"type": "Circle"}', "it is no GeoJSON"), ('{"a": {}}', "it is no GeoJSON"),
@@ -885,7 +881,7 @@ class Trial:
             self.click("go")
             assert self.status().startswith("place: refused: "), (text, self.status())
 
-    @slow
+    @pytest.mark.slow
     def test_going_to_places(self):
         """The picture's middle is at the latitude and longitude, and the leaf there is said."""
         self.open()
@@ -1023,12 +1019,12 @@ class Trial:
             assert abs(latitude - float(row[4])) < 1e-9, row
             assert abs(turn) < 1e-9 or abs(latitude) > 89.999999, row
 
-    def test_pictures(self):
+    def test_pictures(self, pytestconfig):
         """The pixels of the cells of the sample are those of the stored pictures."""
         for kind in ("faces", "map"):
             stored = HERE / f"{kind}.png"
             self.picture(kind)
-            if "--pictures" in sys.argv:
+            if pytestconfig.option.pictures:
                 stored.write_bytes(base64.b64decode(self.run("return s2page.view.hidden.toDataURL()").split(",")[1]))
             wrong = self.driver.execute_async_script("""const [url, done] = arguments;
                 const stored = new Image();
@@ -1122,7 +1118,7 @@ class Trial:
         self.driver.execute_cdp_cmd("Input.dispatchTouchEvent", {
             "type": kind, "touchPoints": [{"x": x, "y": y, "id": k} for k, (x, y) in enumerate(points)]})
 
-    @slow
+    @pytest.mark.slow
     def test_leaves(self):
         """A leaf is seen alone in the closest picture, and still as a dot in one of all."""
         self.open()
@@ -1207,41 +1203,3 @@ def timed(operation, other):
     begun = time.perf_counter()
     operation(other)
     return 1000 * (time.perf_counter() - begun)
-
-
-def tests_of(trial, is_short):
-    """The tests by name, and last that nothing went wrong in any of them."""
-    names = [name for name in dir(trial) if name.startswith("test_") and name != "test_no_error"]
-    names = [name for name in names if not (is_short and hasattr(getattr(trial, name), "is_slow"))]
-    return {name: getattr(trial, name) for name in [*names, "test_no_error"]}
-
-
-def main(folder):
-    passed = failed = 0
-    with tempfile.TemporaryDirectory() as room:
-        is_short = folder == "--short"
-        if is_short:
-            page_over_a_stand_in(Path(room))
-        driver = browser(Path(room), is_short)
-        try:
-            trial = Trial(Path(room if is_short else folder).resolve(), driver, Path(room))
-            for name, test in tests_of(trial, is_short).items():
-                try:
-                    test()
-                    passed += 1
-                except Exception:
-                    failed += 1
-                    print(f"FAILED {name}")
-                    traceback.print_exc(file=sys.stdout)
-            if "--figures" in sys.argv:
-                trial.figures()
-            if "--screenshot" in sys.argv:
-                trial.screenshot()
-        finally:
-            driver.quit()
-    print(f"{passed} passed, {failed} failed")
-    return failed > 0
-
-
-if __name__ == "__main__":
-    sys.exit(main(sys.argv[1]))
