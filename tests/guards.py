@@ -255,7 +255,7 @@ def ends_of_pages(counts, room):
         counts.tell(f"the page {text}", (done.returncode == 0) == is_right, done.stdout + done.stderr)
     for line, is_right in LINES:
         (room / "line.c").write_text(line + "\n")
-        done = said_by("c/no_arithmetic.py", room / "line.c")
+        done = said_by("no_arithmetic.py", room / "line.c")
         counts.tell(f"the line {line}", (done.returncode == 0) == is_right, done.stdout + done.stderr)
 
 

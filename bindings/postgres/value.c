@@ -11,7 +11,8 @@ enum { FORM = 1 };
 
 S2Union* new_value(size_t room) {
   if (room > MOST_IN_VALUE)
-    ereport(ERROR, errcode(ERRCODE_PROGRAM_LIMIT_EXCEEDED), errmsg("s2union: more than %zu cells", (size_t)MOST_IN_VALUE));
+    ereport(ERROR, errcode(ERRCODE_PROGRAM_LIMIT_EXCEEDED),
+            errmsg("s2union: more than %zu cells", (size_t)MOST_IN_VALUE));
   S2Union* u = palloc(HEAD + room * sizeof(uint64_t));
   u->form = FORM;
   SET_VARSIZE(u, HEAD);
