@@ -5,9 +5,9 @@ use Rattle.std.specs.Int.Bits.{xor_self, xor_zero_l}
 use Rattle.std.proofs.lemmas.Nat.{pow_pos, xor_block}
 use Rattle.std.proofs.lemmas.Option.{gets}
 use Rattle.std.proofs.lemmas.List.{take_more, get_or-take, length-take-le}
-use Rattle.s2cell.specs.Cell.{IsCell, level_of, place_of, child_of}
+use Rattle.s2cell.specs.Cell.{IsCell, level_of, place_of, child_of, size_of}
 use Rattle.s2cell.proofs.Calls.{IsCell-child_of, IsCellAt-child_of}
-use Rattle.s2cell.proofs.CellLemmas.{cell_leaves}
+use Rattle.s2cell.proofs.CellLemmas.{cell_leaves, size_of_cell}
 use Rattle.s2cell.proofs.Lowest.{four_pow}
 use Rattle.s2list.specs.Packed.{EndsBefore, IsFamily, IsPacked}
 use Rattle.s2list.proofs.Checking.{fits}
@@ -109,6 +109,29 @@ family_xor {a} {b} {c} {d} {p} f =
     ∙ ap (λ x. x * s + 0) two) in
     rw (ab, ec, ed) (xor_block (2 * z) (0 * 2 ^ 3 + 2) (m * 2 ^ 3 + 5) 0 0 (pow_pos (2 * z)) (pow_pos (2 * z))
     ∙ ap (λ x. x * s + 0) three)
+
+-- and the first and the fourth differ in the two bits of the child
+pub family_ends : {a b c d p : ℕ} → IsFamily a b c d p → bit_xor a d ≡ 6 * size_of d
+family_ends {a} {b} {c} {d} {p} f =
+    let m = place_of p in
+    let z = 30 - (level_of p + 1) in
+    let s = 2 ^ (2 * z) in
+    let w : 4 ^ z ≡ s = four_pow z in
+    let eight : 2 ^ 3 ≡ 8 = refl in
+    let first = IsCellAt-child_of p 0 f.cell f.inner (omega arith) in
+    let last = IsCellAt-child_of p 3 f.cell f.inner (omega arith) in
+    let ia : child_of p 0 ≡ (2 * (4 * m + 0) + 1) * s = rw w at first.id in
+    let id : child_of p 3 ≡ (2 * (4 * m + 3) + 1) * s = rw w at last.id in
+    let size : size_of (child_of p 3) ≡ s = size_of_cell (level_of p + 1) (4 * m + 3) (child_of p 3) last ∙ w in
+    let za = f.zero in
+    let zd = f.three in
+    let ea : a ≡ (m * 2 ^ 3 + 1) * s + 0 = omega arith in
+    let ed : d ≡ (m * 2 ^ 3 + 7) * s + 0 = omega arith in
+    let six : bit_xor (m * 2 ^ 3 + 1) (m * 2 ^ 3 + 7) ≡ 0 * 2 ^ 3 + 6 =
+    xor_block 3 m m 1 7 (omega arith) (omega arith) ∙ ap (λ x. x * 2 ^ 3 + 6) (xor_self m) in
+    let own : size_of d ≡ s = ap size_of zd ∙ size in
+    rw own (rw (ea, ed) (xor_block (2 * z) (m * 2 ^ 3 + 1) (m * 2 ^ 3 + 7) 0 0 (pow_pos (2 * z)) (pow_pos (2 * z))
+    ∙ ap (λ x. x * s + 0) six ∙ omega arith))
 
 -- and no four in a row are the children of a cell
 pub no_family : (u : List ℕ) (k : ℕ) {p : ℕ} → k < length u → IsPacked (take (k + 1) u) →

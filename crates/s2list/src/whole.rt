@@ -1,8 +1,9 @@
 //! Questions about all numbers: whether they are a union, and how many leaves they have.
-ghost use Rattle.std.specs.Prelude.{◌≡◌, ◌<◌, ◌≤◌, ◌↔◌, ℕ, IsTrue, All, MatchOption};
+ghost use Rattle.std.specs.Prelude.{◌≡◌, ◌+◌, ◌-◌, ◌<◌, ◌≤◌, ◌↔◌, ℕ, IsTrue, All, MatchOption};
+ghost use Rattle.std.specs.Prelude.{length, slice_index, take};
 ghost use Rattle.s2cell.specs.Cell.{IsCell, first_leaf, level_of, size_of};
 ghost use Rattle.s2list.specs.Union.{IsLocal, has_leaf};
-ghost use Rattle.s2list.specs.Packed.{IsFamily};
+ghost use Rattle.s2list.specs.Packed.{IsFamily, IsPacked};
 ghost use Rattle.s2list.specs.Count.{count_below};
 ghost use Rattle.s2list.specs.Search.{IsFirstWrong};
 
@@ -16,17 +17,81 @@ const FACES_END: u64 = 0xC000_0000_0000_0000;
 /// The bits at which the lowest bit of a cell can stand.
 const MARKERS: u64 = 0x1555_5555_5555_5555;
 
+/// How many numbers are tested together.
+const BLOCK: usize = 64;
+
 /// Whether the numbers are the cells of a union: they ascend, no two share a leaf, and no four are the children of one
-/// cell. Linear; reads each number once.
+/// cell. Linear.
 pub fn is_union<C: Cells>(cells: &C) -> bool
     ensures { IsTrue result ↔ IsLocal (C.ids cells.now) }
 {
+    let len = cells.len();
+    let mut k = 0;
+    while k < len {
+        let stop = k + (len - k).min(BLOCK);
+        if !continues_to(cells, k, stop) {
+            return false;
+        }
+        k = stop;
+    }
+    true
+}
+
+/// Whether the numbers from index `start` to before `stop` surely continue a union that the numbers before them are.
+/// False is no answer. Has no branch on a number: each must be a cell that begins after the one before it ends. The
+/// fourth child of a cell is the exclusive-or of the three before it, and differs from the first of them in the two
+/// bits of the child; of cells that are no family hardly any do both, and many do one.
+fn surely_continues<C: Cells>(cells: &C, start: usize, stop: usize) -> bool
+    requires within { stop ≤ length (C.ids cells.now) }
+    ensures { IsTrue result → start ≤ stop → IsPacked (take start (C.ids cells.now))
+        → IsPacked (take stop (C.ids cells.now)) }
+{
+    if start < 3 {
+        return false;
+    }
+    let mut all = true;
+    for k in start..stop {
+        let c = cells.id(k - 1);
+        let d = cells.id(k);
+        let is_next = end_of(c) <= first_of(d);
+        all = all & is_cell(d) & is_next & is_no_family(cells.id(k - 3), cells.id(k - 2), c, d);
+    }
+    all
+}
+
+/// Whether the cell `d` and the three numbers before it are surely not the children of one cell.
+#[inline(always)]
+fn is_no_family(a: u64, b: u64, c: u64, d: u64) -> bool
+    ensures { IsTrue result → IsCell d → (p : ℕ) → IsFamily a b c d p → ⊥ }
+{
+    let is_other = differ(a ^ b ^ c, d);
+    let is_far = differ(a ^ d, leaves_of(d).wrapping_mul(6));
+    is_other | is_far
+}
+
+/// Whether two numbers differ.
+#[inline(always)]
+fn differ(a: u64, b: u64) -> bool
+    ensures { IsTrue result ↔ (a ≡ b → ⊥) }
+{
+    a != b
+}
+
+/// Whether the numbers from index `start` to before `stop` continue a union that the numbers before them are.
+fn continues_to<C: Cells>(cells: &C, start: usize, stop: usize) -> bool
+    requires order { start ≤ stop }
+    requires within { stop ≤ length (C.ids cells.now) }
+    ensures { IsPacked (take start (C.ids cells.now)) → (IsTrue result ↔ IsPacked (take stop (C.ids cells.now))) }
+{
+    if surely_continues(cells, start, stop) {
+        return true;
+    }
     // The last three cells, and where they end. 0 is the identifier of no cell.
-    let mut a = 0;
-    let mut b = 0;
-    let mut c = 0;
-    let mut end = 0;
-    for k in 0..cells.len() {
+    let mut a = before(cells, start, 3);
+    let mut b = before(cells, start, 2);
+    let mut c = before(cells, start, 1);
+    let mut end = end_before(cells, start);
+    for k in start..stop {
         let d = cells.id(k);
         if !continues(a, b, c, d, end) {
             return false;
@@ -37,6 +102,34 @@ pub fn is_union<C: Cells>(cells: &C) -> bool
         end = end_of(d);
     }
     true
+}
+
+/// The number `back` places before index `k`, or 0 if there is none.
+#[inline(always)]
+fn before<C: Cells>(cells: &C, k: usize, back: usize) -> u64
+    requires within { k ≤ length (C.ids cells.now) }
+    requires back { 0 < back }
+    ensures there { back ≤ k → result ≡ slice_index (C.ids cells.now) (k - back) }
+    ensures none { k < back → result ≡ 0 }
+{
+    if k < back {
+        return 0;
+    }
+    cells.id(k - back)
+}
+
+/// The leaf by which the cell before index `k` ends, or 0 if there is none.
+#[inline(always)]
+fn end_before<C: Cells>(cells: &C, k: usize) -> u64
+    requires { k ≤ length (C.ids cells.now) }
+    ensures there { 0 < k → IsCell (slice_index (C.ids cells.now) (k - 1)) → result
+        ≡ first_leaf (slice_index (C.ids cells.now) (k - 1)) + size_of (slice_index (C.ids cells.now) (k - 1)) }
+    ensures none { k ≡ 0 → result ≡ 0 }
+{
+    if k == 0 {
+        return 0;
+    }
+    end_of(cells.id(k - 1))
 }
 
 /// Whether the number `d` continues a union whose last three cells are `a`, `b` and `c`, and which ends by the leaf
@@ -58,19 +151,13 @@ fn continues(a: u64, b: u64, c: u64, d: u64, end: u64) -> bool
 }
 
 /// Whether a number is the identifier of a cell. `CellId::from_id` is the same test; this one counts no bits, which
-/// takes longer.
+/// takes longer, and has no branch.
 #[inline(always)]
 fn is_cell(id: u64) -> bool
     ensures { IsTrue result ↔ IsCell id }
 {
-    if id >= FACES_END {
-        return false;
-    }
-    let lowest = id & id.wrapping_neg();
-    if lowest & MARKERS == 0 {
-        return false;
-    }
-    true
+    let is_marked = id & id.wrapping_neg() & MARKERS > 0;
+    (id < FACES_END) & is_marked
 }
 
 /// How many of the `6 * 4^30` leaves a union has. Linear.
@@ -164,10 +251,24 @@ fn are_children(parent: CellId, a: u64, b: u64, c: u64, d: CellId) -> bool
 pub fn first_wrong<C: Cells>(cells: &C) -> Option<usize>
     ensures { MatchOption result (All IsCell (C.ids cells.now)) (λ k. IsFirstWrong (C.ids cells.now) k) }
 {
+    if are_cells(cells) {
+        return None;
+    }
     for k in 0..cells.len() {
         if !is_cell(cells.id(k)) {
             return Some(k);
         }
     }
     None
+}
+
+/// Whether each number is the identifier of a cell. Has no branch on a number.
+fn are_cells<C: Cells>(cells: &C) -> bool
+    ensures { IsTrue result → All IsCell (C.ids cells.now) }
+{
+    let mut all = true;
+    for k in 0..cells.len() {
+        all = all & is_cell(cells.id(k));
+    }
+    all
 }
