@@ -12,8 +12,24 @@ use crate::cells::Cells;
 use crate::find::{end_of, first_of};
 use crate::looks::{Count, LookedAt, Uncounted};
 
-/// Whether a union has all leaves of another. Its work follows how the two interleave, as `holds_all` says.
+/// Whether a union has all leaves of another. Its work follows how the two interleave, as `holds_all` says. The ends of
+/// both are compared first: they decide most questions about regions that lie apart.
 pub fn contains<X: Cells, Y: Cells>(whole: &X, part: &Y) -> bool
+    ensures { IsLocal (X.ids whole.now) → IsLocal (Y.ids part.now)
+        → (IsTrue result ↔ IsWithin (has_leaf (Y.ids part.now)) (has_leaf (X.ids whole.now))) }
+{
+    if ends_later(part, whole, &mut Uncounted) {
+        return false;
+    }
+    if begins_earlier(part, whole) {
+        return false;
+    }
+    contains_by_walk(whole, part)
+}
+
+/// The same, by a walk. Its code is not where the ends are compared, since it saves registers.
+#[inline(never)]
+fn contains_by_walk<X: Cells, Y: Cells>(whole: &X, part: &Y) -> bool
     ensures { IsLocal (X.ids whole.now) → IsLocal (Y.ids part.now)
         → (IsTrue result ↔ IsWithin (has_leaf (Y.ids part.now)) (has_leaf (X.ids whole.now))) }
 {
@@ -94,6 +110,18 @@ fn ends_later<X: LookedAt<K>, Y: LookedAt<K>, K: Count>(ys: &Y, xs: &X, count: &
         return false;
     }
     end_of(xs.look(m - 1, count)) < end_of(ys.look(n - 1, count))
+}
+
+/// Whether both have cells, and the first of `ys` begins before the first of `xs`.
+#[inline(always)]
+fn begins_earlier<X: Cells, Y: Cells>(ys: &Y, xs: &X) -> bool
+    ensures { IsLocal (X.ids xs.now) → IsLocal (Y.ids ys.now) → IsTrue result
+        → IsWithin (has_leaf (Y.ids ys.now)) (has_leaf (X.ids xs.now)) → ⊥ }
+{
+    if xs.len() == 0 || ys.len() == 0 {
+        return false;
+    }
+    first_of(ys.id(0)) < first_of(xs.id(0))
 }
 
 /// Whether a cell of `ys` decides the question. Each turn passes the cells of `xs` before the next of `ys`, and then
