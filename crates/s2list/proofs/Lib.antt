@@ -29,6 +29,7 @@ pub mod Numbers
 pub mod Items
 -- Of this crate alone.
 mod Alone
+mod Gapping
 mod Laying
 mod Leaving
 mod Sharing

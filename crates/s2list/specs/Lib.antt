@@ -9,3 +9,4 @@ pub mod Output
 pub mod Room
 pub mod Numbers
 pub mod Working
+pub mod Gaps

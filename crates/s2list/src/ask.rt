@@ -6,7 +6,7 @@ ghost use Rattle.s2list.specs.Packed.{IsPlace};
 ghost use Rattle.s2list.specs.Looks.{FewForCell};
 
 use crate::cells::Cells;
-use crate::find::{find_counted, find_near, first_of};
+use crate::find::{find_counted, first_of};
 use crate::looks::{Count, LookedAt, Uncounted};
 use crate::walk::lies_in;
 use s2cell::CellId;
@@ -57,14 +57,6 @@ pub fn intersects_cell_counted<C: LookedAt<K>, K: Count>(
 {
     let at = find_counted(cells, cell.first_leaf(), count);
     intersects_cell_at_counted(cells, at, cell, count)
-}
-
-/// How many cells of a union end by the first leaf of the cell: its index. It is found quickly if it is `near`, or at
-/// most `NEARBY` more. Any `near` will do. Logarithmic.
-pub fn place_near<C: Cells>(cells: &C, near: usize, cell: CellId) -> usize
-    ensures { IsLocal (C.ids cells.now) → IsPlace (C.ids cells.now) (first_leaf cell) result }
-{
-    find_near(cells, near, cell.first_leaf())
 }
 
 /// Whether a union has all leaves of the cell, once its index is known.

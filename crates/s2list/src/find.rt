@@ -10,8 +10,7 @@ ghost use Rattle.s2list.specs.Working.Search.{IsFrom};
 use crate::cells::Cells;
 use crate::looks::{Count, LookedAt, Uncounted};
 
-/// How far after an index that is thought to be near a search goes on from there. One farther away is looked for among
-/// all cells.
+/// How far apart the indexes of two cells are at most that are called near: few looks lead from one to the other.
 pub const NEARBY: usize = 15;
 
 /// A search among all cells goes on without branches once this many places are left: 256 bytes.
@@ -104,7 +103,19 @@ pub fn find_id<C: Cells>(cells: &C, mark: u64) -> usize
     if !is_below_at(cells, 0, mark) {
         return 0;
     }
-    let at = find_from(cells, 0, mark / 2);
+    find_id_from(cells, 0, mark)
+}
+
+/// The same, if the first `start` cells are known to end by the leaf in the middle of the mark. Logarithmic in how many
+/// more numbers there are.
+#[inline(always)]
+pub(crate) fn find_id_from<C: Cells>(cells: &C, start: usize, mark: u64) -> usize
+    requires { start ≤ length (C.ids cells.now) }
+    ensures within { result ≤ length (C.ids cells.now) }
+    ensures place { IsPacked (C.ids cells.now) → FirstEndBy (C.ids cells.now) start (mark / 2)
+        → Brackets (C.ids cells.now) mark result result }
+{
+    let at = find_from(cells, start, mark / 2);
     if is_below_at(cells, at, mark) {
         return at + 1;
     }
@@ -323,24 +334,6 @@ fn is_below(id: u64, mark: u64) -> usize
     ensures below { ((result ≡ 1) × (id < mark)) ⊎ ((result ≡ 0) × (mark ≤ id)) }
 {
     (id < mark) as usize
-}
-
-/// How many cells end by the leaf `lo`. Quick if they are `near` or a few more. If they aren't, all cells are searched:
-/// that search begins with the same middles as the one before, which are in the cache.
-pub(crate) fn find_near<C: Cells>(cells: &C, near: usize, lo: u64) -> usize
-    ensures within { result ≤ length (C.ids cells.now) }
-    ensures ended { IsPacked (C.ids cells.now) → FirstEndBy (C.ids cells.now) result lo }
-    ensures next { IsPacked (C.ids cells.now) → EndsAfter (C.ids cells.now) result lo }
-{
-    let len = cells.len();
-    let at = near.min(len);
-    if first_place(cells, at, lo) < at {
-        return find(cells, lo);
-    }
-    if len - at > NEARBY && ends_by(cells.id(at + NEARBY), lo) {
-        return find(cells, lo);
-    }
-    find_from(cells, at, lo)
 }
 
 /// The index `near` if the cells before it end by the leaf `lo`, and otherwise 0. Any `near` will do.

@@ -22,6 +22,7 @@ mod differing;
 mod eight_bytes;
 mod find;
 mod four;
+mod gap;
 mod join;
 pub mod laws;
 mod looks;
@@ -42,7 +43,6 @@ pub use appending::new_end;
 pub use ask::{
     begins_at, contains_cell, contains_cell_at, contains_cell_at_counted, contains_cell_counted,
     intersects_cell, intersects_cell_at, intersects_cell_at_counted, intersects_cell_counted,
-    place_near,
 };
 pub use cells::{CellList, Cells, IdList, Listed, cell_of};
 pub use differing::write_symmetric_difference;
@@ -51,6 +51,7 @@ pub use find::{
     NEARBY, end_of, find_counted, find_from, find_from_counted, find_id, first_of, first_place,
 };
 pub use four::{Places, places_of_four, places_of_four_counted};
+pub use gap::{Gap, contains_in_gap, gap_at, gap_of, intersects_in_gap, lies_in_gap};
 pub use join::write_union;
 pub use looks::{Count, LookedAt, Looks, Uncounted};
 pub use output::{Copies, Output};

@@ -1,17 +1,18 @@
 //! Many questions about one union, where it lies, as in `questions`.
-ghost use Rattle.std.specs.Prelude.{◌≡◌, ◌+◌, ◌<◌, ◌≤◌, ℕ, All, length, drop, slice_index};
+ghost use Rattle.std.specs.Prelude.{◌≡◌, ◌+◌, ◌<◌, ◌≤◌, ℕ, IsTrue, All, List, length, drop, slice_index};
 ghost use Rattle.s2cell.specs.Cell.{IsCell, covers, first_leaf};
 ghost use Rattle.s2list.specs.Union.{IsLocal, IsWithin, ShareSome, has_leaf};
 ghost use Rattle.s2list.specs.Packed.{IsPlace};
-ghost use Rattle.s2list.specs.Search.{IsFirstWrong};
+ghost use Rattle.s2list.specs.Search.{Brackets, IsFirstWrong};
+ghost use Rattle.s2list.specs.Gaps.{IsGap};
 ghost use Rattle.s2list.specs.Working.Walk.{Holds};
 ghost use Rattle.s2union_c.specs.Status.{IsBit, made, no_cell, no_room};
 
 use crate::status::{MADE, NO_CELL, NO_ROOM};
 use s2cell::CellId;
 use s2list::{
-    Cells, IdList, NEARBY, Question, cell_of, contains_cell_at, first_wrong, intersects_cell_at,
-    place_near, places_of_four,
+    Cells, Gap, IdList, NEARBY, Question, cell_of, contains_cell_at, contains_in_gap, first_wrong,
+    gap_at, gap_of, intersects_cell_at, intersects_in_gap, lies_in_gap, places_of_four,
 };
 
 /// Whether a union has all leaves of each cell in turn: 1 or 0 for each. `bad` is the index of the first number that is
@@ -97,8 +98,9 @@ pub(crate) fn answer_cells<C: Cells>(
     MADE
 }
 
-/// Answers the question about each cell. If the last two indexes were far apart, the next four cells are
-/// searched at once; else the search for the next cell begins at the last index.
+/// Answers the question about each cell. Eight cells whose numbers lie in one gap of the list are answered together.
+/// The search for another cell begins at the last index; but if the last two were far apart, the next four cells are
+/// searched at once.
 fn answer_each<C: Cells>(question: Question, ids: &C, cells: &[u64], answers: &mut [u8])
     requires cells { All IsCell cells.now }
     requires room { length cells.now ≤ length answers.old }
@@ -107,24 +109,93 @@ fn answer_each<C: Cells>(question: Question, ids: &C, cells: &[u64], answers: &m
     ensures bits { (k : ℕ) → k < length cells.now → slice_index answers.new k ≤ 1 }
     ensures rest { drop (length cells.now) answers.new ≡ drop (length cells.now) answers.old }
 {
-    let mut near = 0;
+    let mut gap = gap_at(ids, 0);
     let mut apart = false;
     let mut k = 0;
     while k < cells.len() {
         if apart && cells.len() - k >= 4 {
             let (third, fourth) = answer_four(question, ids, cells, k, answers);
             apart = third.abs_diff(fourth) > NEARBY;
-            near = fourth;
+            gap = gap_at(ids, fourth);
             k += 4;
+        } else if eight_lie_in(gap, cells, k) {
+            answer_eight(question, ids, gap, cells, k, answers);
+            k += 8;
         } else {
-            let cell = cell_of(cells[k]);
-            let at = place_near(ids, near, cell);
-            answers[k] = bit(question, ids, at, cell);
-            apart = near.abs_diff(at) > NEARBY;
-            near = at;
+            let id = cells[k];
+            let next = gap_of(ids, gap, id);
+            answers[k] = bit_in(question, next, id);
+            apart = gap.at.abs_diff(next.at) > NEARBY;
+            gap = next;
             k += 1;
         }
     }
+}
+
+/// Whether there are eight numbers from index `k` on, and all of them lie in the gap. The last is looked at first.
+#[inline(always)]
+fn eight_lie_in(gap: Gap, cells: &[u64], k: usize) -> bool
+    requires { k ≤ length cells.now }
+    ensures room { IsTrue result → k + 8 ≤ length cells.now }
+    ensures there { IsTrue result → (u : List ℕ) → IsGap u gap → IsLocal u → (i : ℕ) → k ≤ i → i < k + 8
+        → Brackets u (slice_index cells.now i) gap.at gap.at }
+{
+    if cells.len() - k < 8 {
+        return false;
+    }
+    if cells[k + 7] > gap.ahead {
+        return false;
+    }
+    let mut all = true;
+    for i in k..k + 8 {
+        all = all & lies_in_gap(gap, cells[i]);
+    }
+    all
+}
+
+/// Answers the question about the eight cells from index `k` on, whose numbers lie in the gap.
+#[inline(always)]
+fn answer_eight<C: Cells>(
+    question: Question,
+    ids: &C,
+    gap: Gap,
+    cells: &[u64],
+    k: usize,
+    answers: &mut [u8],
+)
+    requires cells { All IsCell cells.now }
+    requires there { k + 8 ≤ length cells.now }
+    requires room { length cells.now ≤ length answers.old }
+    requires gap { IsGap (C.ids ids.now) gap }
+    requires within { IsLocal (C.ids ids.now) → (i : ℕ) → k ≤ i → i < k + 8
+        → Brackets (C.ids ids.now) (slice_index cells.now i) gap.at gap.at }
+    ensures length { length answers.new ≡ length answers.old }
+    ensures exact { IsLocal (C.ids ids.now)
+        → ((i : ℕ) → i < k
+            → IsBit (slice_index answers.old i) (Holds question (C.ids ids.now) (slice_index cells.now i)))
+        → (i : ℕ) → i < k + 8
+        → IsBit (slice_index answers.new i) (Holds question (C.ids ids.now) (slice_index cells.now i)) }
+    ensures bits { ((i : ℕ) → i < k → slice_index answers.old i ≤ 1)
+        → (i : ℕ) → i < k + 8 → slice_index answers.new i ≤ 1 }
+    ensures rest { drop (length cells.now) answers.new ≡ drop (length cells.now) answers.old }
+{
+    for i in k..k + 8 {
+        answers[i] = bit_in(question, gap, cells[i]);
+    }
+}
+
+/// The answer about a cell, once the gap is known in which its number lies: 1 or 0.
+#[inline(always)]
+fn bit_in(question: Question, gap: Gap, id: u64) -> u8
+    ensures exact { (u : List ℕ) → IsGap u gap → IsLocal u → IsCell id → Brackets u id gap.at gap.at
+        → IsBit result (Holds question u id) }
+    ensures bit { result ≤ 1 }
+{
+    let holds = match question {
+        Question::Contains => contains_in_gap(gap, id),
+        Question::Intersects => intersects_in_gap(gap, id),
+    };
+    if holds { 1 } else { 0 }
 }
 
 /// Answers the question about the four cells from index `k` on, whose indexes in the union are searched at once. The

@@ -1,6 +1,7 @@
 use Rattle.std.proofs.Common.{◌≡◌, ◌-◌, ◌<◌, ◌≤◌, ℕ, length, drop}
 use Rattle.std.specs.Prelude.{slice_index}
 use Rattle.s2list.specs.Union.{IsLocal}
+use Rattle.s2list.specs.Gaps.{IsGap}
 use Rattle.s2list.specs.Working.Walk.{Holds}
 use Rattle.s2union_c.specs.Status.{IsBit}
 use Rattle.s2union_c.proofs.many.answer_each.Given as goal
@@ -13,6 +14,7 @@ invariant-loop-k g l = record {
   rest : drop (length l.cells) l.answers ≡ drop (length l.cells) l.fn.answers;
   room : length l.cells ≤ length l.answers;
   within : l.k ≤ length l.cells;
+  gap : IsGap (g.C.Listed.ids l.ids) l.gap;
 }
 
 abbrev pub decreases-loop-k : goal.decreases-loop-k
