@@ -20,5 +20,5 @@ returns c =
     (c.in_ok-rest.ensures.leaves x) (leaf_inside u p x c.in_ok-part.ensures.is_part.inside)
     (leaf_near u p w x (rw c.cells.ensures.value at c.in_ok-part.ensures)))
 
-pub change_of_part-2-requires : goal.change_of_part-2-requires
-change_of_part-2-requires c k h n = c.in_ok-part.ensures.is_part.inside k h
+pub change_of_part-requires-2 : goal.change_of_part-requires-2
+change_of_part-requires-2 c k h n = c.in_ok-part.ensures.is_part.inside k h
