@@ -39,7 +39,7 @@ guarded() {
   mkdir -p "$folder/rewritten" && : >"$folder/rewritten.c" &&
     cp "$top"/bindings/postgres/{Makefile,*.control,*.sql} "$top/tests/postgres/guarded.c" "$folder" &&
     cp "$sources"/{planner.c,geo.c,value.h} "$folder" || return
-  for file in "$sources"/*.c; do
+  for file in "$sources"/{*.c,value.h}; do
     name=$(basename "$file")
     case $name in planner.c | geo.c) continue ;; esac
     sed -E 's/Datum ([a-z0-9_]+)\(PG_FUNCTION_ARGS\)/GUARDED(\1)/' "$file" >"$folder/rewritten/$name" &&
