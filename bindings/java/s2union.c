@@ -1,9 +1,10 @@
-/* The calls of s2union.h for Java: Calls.java has the natives, and the numbers of the calls, which tools/calls makes of
- * the cases here. A list is a long[], whose signs mean nothing. Lists of up to SHORT elements are passed where they
- * lie, which holds the collector up meanwhile. So are lists of any length to questions that end soon. To other calls
- * longer ones are copied. There is no arithmetic on cells here. */
+/* The calls of s2union.h for Java: Calls.java has the natives. The numbers of the calls are there and in calls.h,
+ * which tools/calls makes of the cases here. A list is a long[], whose signs mean nothing. Lists of up to SHORT
+ * elements are passed where they lie, which holds the collector up meanwhile. So are lists of any length to questions
+ * that end soon. To other calls longer ones are copied. There is no arithmetic on cells here. */
 #include <jni.h>
 #include <s2union.h>
+#include "calls.h"
 
 #ifndef SHORT
 #define SHORT 1000000
@@ -84,20 +85,20 @@ CALL(jlong, number)(JNIEnv* env, jclass of, jint call, jlong a, jlong b) {
   (void)env, (void)of;
   uint64_t id = (uint64_t)a, other = (uint64_t)b;
   switch (call) {
-    case 0: return s2u_version();
-    case 1: return s2u_is_cell(id);
-    case 2: return s2u_level(id);
-    case 3: return s2u_face(id);
-    case 4: return (jlong)s2u_parent(id, (uint32_t)other);
-    case 5: return (jlong)s2u_child(id, (uint32_t)other);
-    case 6: return (jlong)s2u_range_min(id);
-    case 7: return (jlong)s2u_range_max(id);
-    case 8: return (jlong)s2u_size(id);
-    case 9: return (jlong)s2u_next(id);
-    case 10: return (jlong)s2u_prev(id);
-    case 11: return (jlong)s2u_common_ancestor(id, other);
-    case 12: return s2u_cell_contains(id, other);
-    case 13: return s2u_cell_intersects(id, other);
+    case VERSION: return s2u_version();
+    case IS_CELL: return s2u_is_cell(id);
+    case LEVEL: return s2u_level(id);
+    case FACE: return s2u_face(id);
+    case PARENT: return (jlong)s2u_parent(id, (uint32_t)other);
+    case CHILD: return (jlong)s2u_child(id, (uint32_t)other);
+    case RANGE_MIN: return (jlong)s2u_range_min(id);
+    case RANGE_MAX: return (jlong)s2u_range_max(id);
+    case SIZE: return (jlong)s2u_size(id);
+    case NEXT: return (jlong)s2u_next(id);
+    case PREV: return (jlong)s2u_prev(id);
+    case COMMON_ANCESTOR: return (jlong)s2u_common_ancestor(id, other);
+    case CELL_CONTAINS: return s2u_cell_contains(id, other);
+    case CELL_INTERSECTS: return s2u_cell_intersects(id, other);
     default: return S2U_ARGUMENT;
   }
 }
@@ -143,13 +144,13 @@ CALL(jint, named)(JNIEnv* env, jclass of, jint call, jbyteArray text, jlongArray
 static jlong asked(jint call, const passed* given, uint64_t cell) {
   passed lists = *given;
   switch (call) {
-    case 0: return s2u_is_union(LIST(0));
-    case 1: return (jlong)s2u_leaf_count(LIST(0));
-    case 2: return s2u_contains_cell(LIST(0), cell);
-    case 3: return s2u_intersects_cell(LIST(0), cell);
-    case 4: return s2u_contains(LIST(0), LIST(1));
-    case 5: return s2u_intersects(LIST(0), LIST(1));
-    case 6: return s2u_compare(LIST(0), LIST(1));
+    case IS_UNION: return s2u_is_union(LIST(0));
+    case LEAF_COUNT: return (jlong)s2u_leaf_count(LIST(0));
+    case CONTAINS_CELL: return s2u_contains_cell(LIST(0), cell);
+    case INTERSECTS_CELL: return s2u_intersects_cell(LIST(0), cell);
+    case CONTAINS: return s2u_contains(LIST(0), LIST(1));
+    case INTERSECTS: return s2u_intersects(LIST(0), LIST(1));
+    case COMPARE: return s2u_compare(LIST(0), LIST(1));
     default: return S2U_ARGUMENT;
   }
 }
@@ -157,7 +158,7 @@ static jlong asked(jint call, const passed* given, uint64_t cell) {
 /* All but the first two are questions that end soon: of one cell, or of two lists up to where they decide it. */
 CALL(jlong, ask)(JNIEnv* env, jclass of, jint call, jlongArray xs, jlongArray ys, jlong cell) {
   (void)of;
-  passed lists = {.env = env, .ends_soon = call > 1};
+  passed lists = {.env = env, .ends_soon = call != IS_UNION && call != LEAF_COUNT};
   add(&lists, xs, 0, 0), add(&lists, ys, 0, 0);
   jlong answer = begin(&lists) ? asked(call, &lists, (uint64_t)cell) : S2U_MEMORY;
   end(&lists);
@@ -186,25 +187,25 @@ static int32_t made(jint call, const passed* given, const uint32_t* n, size_t* l
   const s2u_rect rect = {n[2], n[3], n[4], n[5], n[6]};
   const uint64_t *first = lists.at[0], *last = lists.at[1];
   switch (call) {
-    case 0: return s2u_union(LIST(0), LIST(1), LIST(2), len);
-    case 1: return s2u_intersection(LIST(0), LIST(1), LIST(2), len);
-    case 2: return s2u_difference(LIST(0), LIST(1), LIST(2), len);
-    case 3: return normalise(given, len);
-    case 4: return s2u_range(*first, *last, LIST(2), len);
-    case 5: return s2u_denormalised(LIST(0), n[0], n[1], LIST(2), len);
-    case 6: return s2u_ancestors(LIST(0), LIST(2), len);
-    case 7: return s2u_outer(&rect, n[0], n[1], LIST(2), len);
-    case 8: return s2u_inner(&rect, n[0], n[1], LIST(2), len);
-    case 9: return s2u_outer_of(LIST(0), n[0], n[1], LIST(2), len);
-    case 10: return s2u_inner_of(LIST(0), n[0], n[1], LIST(2), len);
-    case 11: return s2u_outer_in(LIST(0), &rect, n[0], n[1], LIST(2), len);
-    case 12: return s2u_inner_in(LIST(0), &rect, n[0], n[1], LIST(2), len);
-    case 13: return s2u_parents(LIST(0), n[0], LIST(2), len);
-    case 14: return s2u_range_mins(LIST(0), LIST(2), len);
-    case 15: return s2u_range_maxes(LIST(0), LIST(2), len);
-    case 16: return s2u_symmetric_difference(LIST(0), LIST(1), LIST(2), len);
-    case 17: return s2u_complement(LIST(0), LIST(2), len);
-    case 18: return union_of_many(given, len);
+    case UNION: return s2u_union(LIST(0), LIST(1), LIST(2), len);
+    case INTERSECTION: return s2u_intersection(LIST(0), LIST(1), LIST(2), len);
+    case DIFFERENCE: return s2u_difference(LIST(0), LIST(1), LIST(2), len);
+    case NORMALISE: return normalise(given, len);
+    case RANGE: return s2u_range(*first, *last, LIST(2), len);
+    case DENORMALISED: return s2u_denormalised(LIST(0), n[0], n[1], LIST(2), len);
+    case ANCESTORS: return s2u_ancestors(LIST(0), LIST(2), len);
+    case OUTER: return s2u_outer(&rect, n[0], n[1], LIST(2), len);
+    case INNER: return s2u_inner(&rect, n[0], n[1], LIST(2), len);
+    case OUTER_OF: return s2u_outer_of(LIST(0), n[0], n[1], LIST(2), len);
+    case INNER_OF: return s2u_inner_of(LIST(0), n[0], n[1], LIST(2), len);
+    case OUTER_IN: return s2u_outer_in(LIST(0), &rect, n[0], n[1], LIST(2), len);
+    case INNER_IN: return s2u_inner_in(LIST(0), &rect, n[0], n[1], LIST(2), len);
+    case PARENTS: return s2u_parents(LIST(0), n[0], LIST(2), len);
+    case RANGE_MINS: return s2u_range_mins(LIST(0), LIST(2), len);
+    case RANGE_MAXES: return s2u_range_maxes(LIST(0), LIST(2), len);
+    case SYMMETRIC_DIFFERENCE: return s2u_symmetric_difference(LIST(0), LIST(1), LIST(2), len);
+    case COMPLEMENT: return s2u_complement(LIST(0), LIST(2), len);
+    case UNION_OF_MANY: return union_of_many(given, len);
     default: return S2U_ARGUMENT;
   }
 }
@@ -263,13 +264,13 @@ CALL(jint, fromPoints)(JNIEnv* env, jclass of, jintArray points, jlongArray out,
 static int32_t written(jint call, const passed* given, size_t* len) {
   passed lists = *given;
   switch (call) {
-    case 0: return s2u_encode(LIST(0), BYTES(2), len);
-    case 1: return s2u_tokens(LIST(0), TEXT(2), len);
-    case 2: return s2u_levels(LIST(0), BYTES(2), len);
-    case 3: return s2u_token_fields(LIST(0), TEXT(2), len);
-    case 4: return s2u_contains_cells(LIST(0), LIST(1), BYTES(2), len);
-    case 5: return s2u_intersects_cells(LIST(0), LIST(1), BYTES(2), len);
-    case 6: return s2u_file_contains_cells(BYTES(0), LIST(1), BYTES(2), len);
+    case ENCODE: return s2u_encode(LIST(0), BYTES(2), len);
+    case TOKENS: return s2u_tokens(LIST(0), TEXT(2), len);
+    case LEVELS: return s2u_levels(LIST(0), BYTES(2), len);
+    case TOKEN_FIELDS: return s2u_token_fields(LIST(0), TEXT(2), len);
+    case CONTAINS_CELLS: return s2u_contains_cells(LIST(0), LIST(1), BYTES(2), len);
+    case INTERSECTS_CELLS: return s2u_intersects_cells(LIST(0), LIST(1), BYTES(2), len);
+    case FILE_CONTAINS_CELLS: return s2u_file_contains_cells(BYTES(0), LIST(1), BYTES(2), len);
     default: return S2U_ARGUMENT;
   }
 }
@@ -277,9 +278,9 @@ static int32_t written(jint call, const passed* given, size_t* len) {
 /* `xs` is the bytes of a file for the last of them, else a list. Questions of few cells end soon. */
 CALL(jint, write)(JNIEnv* env, jclass of, jint call, jarray xs, jlongArray ys, jbyteArray out, jlongArray length) {
   (void)of;
-  passed lists = {.env = env, .ends_soon = call >= 4 && (*env)->GetArrayLength(env, ys) <= SHORT};
+  passed lists = {.env = env, .ends_soon = call >= CONTAINS_CELLS && (*env)->GetArrayLength(env, ys) <= SHORT};
   size_t len = 0;
-  add(&lists, xs, call == 6, 0), add(&lists, ys, 0, 0), add(&lists, out, 1, 1);
+  add(&lists, xs, call == FILE_CONTAINS_CELLS, 0), add(&lists, ys, 0, 0), add(&lists, out, 1, 1);
   int32_t status = begin(&lists) ? written(call, &lists, &len) : S2U_MEMORY;
   return ended(&lists, status, length, len);
 }
@@ -299,14 +300,14 @@ CALL(jint, read)(JNIEnv* env, jclass of, jint call, jbyteArray bytes, jlongArray
 static int32_t asked_of_file(jint call, const passed* given, uint64_t a, uint64_t* out) {
   passed lists = *given;
   switch (call) {
-    case 0: return s2u_file_check(BYTES(0));
-    case 1: return s2u_file_count(BYTES(0), out);
-    case 2: return s2u_file_leaf_count(BYTES(0), out);
-    case 3: return s2u_file_cell(BYTES(0), a, out);
-    case 4: return s2u_file_contains_cell(BYTES(0), a);
-    case 5: return s2u_file_intersects_cell(BYTES(0), a);
-    case 6: return s2u_file_contains(BYTES(0), BYTES(1));
-    case 7: return s2u_file_intersects(BYTES(0), BYTES(1));
+    case FILE_CHECK: return s2u_file_check(BYTES(0));
+    case FILE_COUNT: return s2u_file_count(BYTES(0), out);
+    case FILE_LEAF_COUNT: return s2u_file_leaf_count(BYTES(0), out);
+    case FILE_CELL: return s2u_file_cell(BYTES(0), a, out);
+    case FILE_CONTAINS_CELL: return s2u_file_contains_cell(BYTES(0), a);
+    case FILE_INTERSECTS_CELL: return s2u_file_intersects_cell(BYTES(0), a);
+    case FILE_CONTAINS: return s2u_file_contains(BYTES(0), BYTES(1));
+    case FILE_INTERSECTS: return s2u_file_intersects(BYTES(0), BYTES(1));
     default: return S2U_ARGUMENT;
   }
 }
@@ -314,7 +315,7 @@ static int32_t asked_of_file(jint call, const passed* given, uint64_t a, uint64_
 /* The check and the count of leaves go through the whole file; the others end soon. `out` may be null. */
 CALL(jint, askFile)(JNIEnv* env, jclass of, jint call, jbyteArray xs, jbyteArray ys, jlong a, jlongArray out) {
   (void)of;
-  passed lists = {.env = env, .ends_soon = call != 0 && call != 2};
+  passed lists = {.env = env, .ends_soon = call != FILE_CHECK && call != FILE_LEAF_COUNT};
   uint64_t found = 0;
   add(&lists, xs, 1, 0), add(&lists, ys, 1, 0);
   int32_t status = begin(&lists) ? asked_of_file(call, &lists, (uint64_t)a, &found) : S2U_MEMORY;

@@ -13,7 +13,8 @@ from typing import NamedTuple
 TOP = Path(__file__).resolve().parents[2]
 READ = ["tools/calls", "crates/s2union_c/src", "crates/s2union_c/include", "crates/s2cover/src/lib.rt",
         "bindings/rust/src", "bindings/python/s2union", "bindings/java/s2union", "bindings/java/s2union.c",
-        "bindings/js/core.js", "bindings/js/s2union.d.ts", "bindings/go", "bindings/c/s2union.ffi.h",
+        "bindings/java/calls.h", "bindings/js/core.js", "bindings/js/s2union.d.ts", "bindings/go",
+        "bindings/c/s2union.ffi.h",
         "bindings/cpp", "tests/cpp/examples.cc", "tests/c/calls.h", "docs/SQLITE.md", "bindings/sqlite/functions.h",
         "bindings/sqlite/s2union_geo.c", "docs/GO.md", "VERSION", "README.md", "CITATION.cff", "docs/C.md",
         "crates/s2calc/src/command_line.rt", "bindings/rust/Cargo.toml", "bindings/rust/serde/Cargo.toml",
