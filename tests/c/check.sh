@@ -10,10 +10,6 @@ need clang clang
 need_file "$(clang --print-runtime-dir 2>/dev/null)/libclang_rt.fuzzer-x86_64.a" libclang-rt-dev
 . "$top/tests/library.sh"
 
-below() ( # a folder that isn't named from the root
-  cd "$work" && DESTDIR=below "$top/tools/library" /usr --no-build && [ -e below/usr/lib/libs2union.so.1 ]
-)
-step "tools/library: below a DESTDIR" below
 symbols() { # what the shared library offers and wants
   local shared=$work/usr/lib/libs2union.so.1 given wanted
   given=$(nm -D --defined-only "$shared" | awk '$2 == "T" { print $3 }' | grep -v '^s2u_.*@@S2UNION_1$')

@@ -36,4 +36,8 @@ unknown_words() { # and nothing is written for them
   [ ! -e "$work/none" ]
 }
 step "tools/: words that they don't know" unknown_words
+below() ( # a folder that isn't named from the root
+  cd "$work" && DESTDIR=below "$top/tools/library" /usr --no-build && [ -e below/usr/lib/libs2union.so.1 ]
+)
+step "tools/library: below a DESTDIR" below
 finish
