@@ -143,6 +143,7 @@ final class Calls {
       row("contains_" + count, asked, each(union::contains), each(plain::contains));
       row("file_contains_" + count, asked, each(file::contains), each(plain::contains));
       row("containsEach_" + count, asked, union::containsEach, each(plain::contains));
+      row("file_containsEach_" + count, asked, file::containsEach, each(plain::contains));
       row("containsEach_ascending_" + count, ascending, union::containsEach, each(plain::contains));
       row("contains_union_" + count, () -> larger.contains(union), () -> plainLarger.contains(plain));
       row("not_contains_union_" + count, () -> union.contains(larger), () -> plain.contains(plainLarger));

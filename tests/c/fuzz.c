@@ -391,22 +391,6 @@ static size_t file_before(uint8_t* end, uint64_t* ids_end) {
   return n;
 }
 
-static void cells_and_file(const uint8_t* file, size_t n, int32_t checked) {
-  size_t m = list_before(xs_end, MOST), space = byte() % (MOST + 1), bad = 77;
-  const uint64_t* cells = xs_end - m;
-  memset(answers_end - MOST, 7, MOST);
-  int32_t status = s2u_file_contains_cells(file, n, cells, m, answers_end - space, space, &bad);
-  seen(23, status, bad);
-  MUST(is_frame(checked)       ? status == checked && bad == 0
-       : status == S2U_NO_CELL ? bad < m && !s2u_is_cell(cells[bad])
-                               : bad == m && status == (m <= space ? S2U_OK : S2U_ROOM));
-  for (size_t k = 0; k < space; k++) {
-    const uint8_t answer = answers_end[(ptrdiff_t)k - (ptrdiff_t)space];
-    if (status != S2U_OK || k >= m) MUST(answer == 7);
-    else MUST(checked == 1 ? answer == s2u_file_contains_cell(file, n, cells[k]) : answer <= 1);
-  }
-}
-
 static void files(void) {
   uint8_t* ys_bytes = answers_end;
   size_t nx = file_before(bytes_end, xs_end), ny = file_before(ys_bytes, ys_end), len = 77;
@@ -437,7 +421,15 @@ static void files(void) {
   status = s2u_file_ancestors(xs, nx, fresh(), room, &len);
   MUST(status == S2U_OK || status == S2U_ROOM || status == frame);
   made(22, status, len, S2U_MOST_ANCESTORS(frame == S2U_OK ? count : 0));
-  cells_and_file(xs, nx, checked);
+  size_t m = list_before(xs_end, MOST), bad = 77;
+  memset(answers_end - MOST, 7, MOST);
+  status = s2u_file_contains_cells(xs, nx, xs_end - m, m, answers_end - m, m, &bad);
+  seen(23, status, bad);
+  MUST(is_frame(checked)       ? status == checked && bad == 0
+       : status == S2U_NO_CELL ? bad < m && !s2u_is_cell((xs_end - m)[bad])
+                               : status == S2U_OK && bad == m);
+  for (ptrdiff_t k = 1; k <= MOST; k++)
+    MUST(status == S2U_OK && k <= (ptrdiff_t)m ? answers_end[-k] <= 1 : answers_end[-k] == 7);
 }
 
 static void start(void) {

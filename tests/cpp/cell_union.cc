@@ -424,7 +424,9 @@ static void ancestors() {
   const std::vector<Id> found = far.Ancestors();
   CHECK(far.size() == 60 && found.size() == wanted.size() && found.size() > 2 * far.size() + 30);
   CHECK(std::equal(found.begin(), found.end(), wanted.begin(), [](Id x, uint64_t y) { return x == Id(y); }));
-  CHECK((s2union::UnionFileOf<Id>(bytes.data(), bytes.size()).Ancestors() == found));
+  const s2union::UnionFileOf<Id> file(bytes.data(), bytes.size());
+  CHECK(file.Ancestors() == found && file.ContainsCells(found) == far.ContainsCells(found));
+  REFUSES(S2U_NO_CELL, file.ContainsCells({Id(1), Id(2)}, status));
 }
 
 int main() {

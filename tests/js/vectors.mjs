@@ -112,7 +112,7 @@ const QUESTIONS = {
   intersects_cell: (given, c) => both("intersectsCell", given, cell(c)),
   intersection_with_cell: (given, c) => union(given).intersectionWithCell(cell(c)),
   cells_at: (given, c) => union(given).cellsAt(cell(c)),
-  contains_cells: (given, asked) => marked(both("hasEach", given, cells(asked))),
+  contains_cells: (given, asked) => same(...[union, file].map((of) => marked(of(given).hasEach(cells(asked))))),
   intersects_cells: (given, asked) => marked(union(given).intersectsEach(cells(asked))),
   denormalised: cut,
   outer: (given, level) => union(given).outer(Number(level)),
