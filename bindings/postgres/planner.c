@@ -8,7 +8,6 @@
 #include "catalog/pg_statistic.h"
 #include "catalog/pg_type.h"
 #include "commands/vacuum.h"
-#include "common/pg_prng.h"
 #include "miscadmin.h"
 #include "nodes/makefuncs.h"
 #include "nodes/nodeFuncs.h"
@@ -20,9 +19,18 @@
 #include "utils/datum.h"
 #include "utils/fmgroids.h"
 #include "utils/lsyscache.h"
+#include "utils/sampling.h"
 #include "utils/selfuncs.h"
 
 #include "value.h"
+
+/* What some versions of PostgreSQL declare in another way. */
+#if PG_VERSION_NUM >= 180000
+#define vacuum_delay_point() vacuum_delay_point(true)
+#endif
+#if PG_VERSION_NUM < 170000
+#define attstattarget attr->attstattarget
+#endif
 
 /* ---- what ANALYZE keeps ---- */
 
@@ -66,7 +74,7 @@ static int sampled(VacAttrStats* stats, AnalyzeAttrFetchFunc fetch, int rows, in
     bool null = false;
     Datum value = fetch(stats, k, &null);
     vacuum_delay_point();
-    if (null || pg_prng_double(&pg_global_prng_state) * left-- >= most - n) continue;
+    if (null || anl_random_fract() * left-- >= most - n) continue;
     S2Union* u = s2union_value(value);
     MemoryContext context = MemoryContextSwitchTo(stats->anl_context);
     sample[n++] = PointerGetDatum(s2union_covering(u, MOST_CELLS_OF_SAMPLE));
@@ -78,7 +86,7 @@ static int sampled(VacAttrStats* stats, AnalyzeAttrFetchFunc fetch, int rows, in
 
 static void compute(VacAttrStats* stats, AnalyzeAttrFetchFunc fetch, int rows, double total) {
   Standard* standard = stats->extra_data;
-  int slot = 0, most = Max(stats->attr->attstattarget, 1);
+  int slot = 0, most = Max(stats->attstattarget, 1);
   stats->extra_data = standard->extra;
   standard->compute(stats, fetch, rows, total);
   stats->extra_data = standard;

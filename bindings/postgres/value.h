@@ -41,7 +41,7 @@ void must_be_ok(int32_t status);
 void must_take_numbers(int32_t status, FunctionCallInfo fcinfo, int first);
 
 /* The error of a status, with the value that was refused. */
-pg_attribute_noreturn() void refuse(int32_t status, const char* value, bool is_text);
+_Noreturn void refuse(int32_t status, const char* value, bool is_text);
 void refuse_number(int64 number);
 void refuse_text(const char* text, size_t n);
 
