@@ -1,10 +1,13 @@
 """What docs/GEO.md shows, and that it is S2's: leaves, coverings and corners beside S2's own and plain polygons."""
 import json
 import os
+import re
 import runpy
+import sqlite3
 import subprocess
 import sys
 import unittest
+from contextlib import closing
 from math import atan, cos, degrees, radians, sin
 from pathlib import Path
 from random import Random
@@ -270,6 +273,32 @@ SQL
                  (line.split("\t") for line in Path(self.file("pairs.tsv")).read_text().splitlines())}
         self.assertEqual(found, all_pairs(cells, {name: list(union) for name, union in regions.items()}))
         print(f"{len(found)} pairs of a region and a point", file=sys.stderr)
+
+    def test_sqlite_both_ways(self):
+        """The same by the functions of texts that the page has for SQLite, with its tiles."""
+        rows = [(it["properties"]["file"], json.dumps(it["geometry"]))
+                for it in features_of(self.file("countries.geojson"))]
+        cells = leaves(*points_of_the_sphere(100000))
+        with closing(sqlite3.connect(":memory:")) as db:
+            db.enable_load_extension(True)
+            db.load_extension(os.path.join(os.environ["PREFIX"], "lib", "sqlite3", "mod_s2union"))
+            for line in re.findall(r"^    (db\.create_function\(.*)$", self.text, re.M):
+                exec(line, {**vars(s2union_geo), "db": db, "json": json, "Union": Union})
+            db.executescript("CREATE TABLE given (name text, shape text); CREATE TABLE places (place int, leaf int)")
+            db.executemany("INSERT INTO given VALUES (?, ?)", rows)
+            db.executemany("INSERT INTO places VALUES (?, ?)", enumerate(cells.view("int64").tolist()))
+            db.execute("CREATE TABLE made AS SELECT name, s2_covering(shape, 20, 12) AS region FROM given")
+            db.execute("CREATE TABLE tiles AS SELECT name, tile, part FROM made, s2_tiles(region, 5)")
+            regions = {}
+            for name, region, drawn in db.execute("SELECT name, region, s2_geojson(region) FROM made"):
+                regions[name] = union = Union.from_bytes(region)
+                self.assertEqual((union, json.loads(drawn)), (self.union(f"python/{name}.outer"), to_geojson(union)))
+            found = db.execute("SELECT place, name FROM places JOIN tiles ON tile = s2_parent(leaf, 5)"
+                               " AND s2_contains(part, leaf)").fetchall()
+            self.assertEqual(sorted(found), sorted(all_pairs(cells, {name: list(it) for name, it in regions.items()})))
+            self.assertEqual(len(regions), 177)
+            for wrong in ("'{'", """'{"type": "Circle"}'""", "NULL"):
+                self.assertRaises(sqlite3.OperationalError, db.execute, f"SELECT s2_covering({wrong})")
 
     def test_frames_join_as_polygons_do(self):
         """100,000 points and the countries, in degrees and in meters: the pairs that shapely finds, all of them."""
