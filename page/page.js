@@ -33,6 +33,7 @@ class Page {
   constructor(core) {
     this.core = core;
     this.view = new View(at("picture"));
+    this.land = new Drawn(core, core.decode(unpacked(SAMPLE)));
     this.regions = [];
     this.past = [];
     this.future = [];
@@ -46,6 +47,7 @@ class Page {
     this.coarse = LEAST_COARSE;
     this.resize();
     this.listen();
+    this.showLand();
     this.show();
     this.say("Drop union files on the page, or add the sample.");
   }
@@ -180,7 +182,8 @@ class Page {
     const [added, refusals] = [[], []];
     for (const file of [...files]) { // a copy: the browser's own list is emptied when the next files are chosen
       try {
-        added.push(this.regionOf(file.name, ...await this.readFrom(file)));
+        const read = await this.readFrom(file);
+        added.push(...read.map(([name, ...more]) => this.regionOf(name || file.name, ...more)));
       } catch (error) {
         if (error instanceof Stopped) return this.say(refusal(file.name, error));
         refusals.push(refusal(file.name, error));
@@ -193,25 +196,31 @@ class Page {
     });
   }
 
-  /** The union of a file, and what is said of it: a text with cells or GeoJSON, or else a union file. */
+  /** The unions of a file, as readText answers them: of a text with cells or GeoJSON, or else of a union file. */
   async readFrom(file) {
     const bytes = await bytesIn(file);
-    return isText(bytes) ? this.readText(file.name, new TextDecoder().decode(bytes)) : [this.core.decode(bytes)];
+    return isText(bytes) ? this.readText(file.name, new TextDecoder().decode(bytes)) : [["", this.core.decode(bytes)]];
   }
 
-  /** The union of the cells that a text names, or the covering of its GeoJSON; and what is said of it. */
+  /**
+   * The union of the cells that a text names, or the coverings of its GeoJSON: each with the name of its feature, or
+   * without one, and what is said of it.
+   */
   async readText(name, marked) {
     const text = marked.replace(/^\uFEFF/, ""); // a byte order mark, which Windows puts before texts
     const isNamed = /^\s*\{\s*"[^"]*"\s*(:|$)/.test(text); // a list of PostgreSQL begins with a brace and a quote too
     if (isNamed) this.say(`${name}: GeoJSON is being covered.`);
-    const {ids, ...how} = isNamed ? await this.coverer.cover(text) : {ids: this.core.read(inTokens(text))};
-    if (!ids.length) throw new Error("there is no cell");
-    return [ids, isNamed ? {note: noteOf(how)} : {}];
+    const read = isNamed
+      ? (await this.coverer.cover(text)).map(({name: own, ids, ...how}) => [own, ids, {note: noteOf(how)}])
+      : [["", this.core.read(inTokens(text))]];
+    const found = read.filter(([, ids]) => ids.length);
+    if (!found.length) throw new Error("there is no cell");
+    return found;
   }
 
   async addText(what, text) {
     const read = await this.readText(what, text);
-    this.add(`cells ${this.made + 1}`, ...read);
+    this.addAll(read.map(([name, ...more]) => this.regionOf(name || `cells ${this.made + 1}`, ...more)));
   }
 
   addTexts() {
@@ -322,8 +331,15 @@ class Page {
   paint() {
     const isDark = getComputedStyle(document.documentElement).getPropertyValue("--ground").trim() !== "#fff";
     this.view.colors = isDark
-      ? {ground: [13, 17, 23], face: [38, 44, 54], line: "#6e7681", text: "#e6edf3", mark: "#fff"}
-      : {ground: [255, 255, 255], face: [234, 238, 242], line: "#8c959f", text: "#1f2328", mark: "#000"};
+      ? {ground: [13, 17, 23], face: [38, 44, 54], land: [58, 62, 56], line: "#6e7681", text: "#e6edf3", mark: "#fff",
+        goal: "#000"}
+      : {ground: [255, 255, 255], face: [234, 238, 242], land: [214, 219, 205], line: "#8c959f", text: "#1f2328",
+        mark: "#000", goal: "#fff"};
+    this.draw();
+  }
+
+  showLand() {
+    this.view.land = at("land").checked ? this.land : null;
     this.draw();
   }
 
@@ -344,24 +360,34 @@ class Page {
     this.say(`${name}: shown.`);
   }
 
-  /** Shows the place that is written in its field, and says which leaf is there, and which cell in the picture. */
+  /**
+   * Shows and marks the place that is written in its field. Says which leaf is there, and its cell of the level that is
+   * chosen by a word, else the one in the picture.
+   */
   goToPlace() {
     this.attempt("place", () => {
       const place = placeIn(at("place").value);
       if (!place) throw new Error("it is no latitude and longitude, such as 48.86, 2.35");
-      const leaf = leafOf(this.core, ...place);
+      const [leaf, word] = [leafOf(this.core, ...place), at("size").value];
       const {face, i, j} = this.core.square(leaf);
-      this.view.center(face, (i + 0.5) / SIDE, (j + 0.5) / SIDE, 24 * 2 ** LEVEL_OF_PLACES);
-      this.readMiddle();
-      this.say(`leaf ${this.core.token(leaf)}. The cell of it that the picture shows: ${at("status").textContent}`);
+      const level = word ? Number(word) : LEVEL_OF_PLACES;
+      const goal = [face, (i + 0.5) / SIDE, (j + 0.5) / SIDE];
+      this.view.goal = goal;
+      this.view.center(...goal, 24 * 2 ** level, !word);
+      const facts = this.mark(word ? this.core.parent(leaf, level) : this.cellInMiddle());
+      const which = word ? "of this size" : "that the picture shows";
+      this.say(`leaf ${this.core.token(leaf)}. The cell of it ${which}: ${inWords(facts)}`);
       this.moved();
     });
   }
 
+  cellInMiddle() {
+    return this.cellAt(this.view.canvas.width / 2, this.view.canvas.height / 2);
+  }
+
   /** Says what is known of the cell in the middle. */
   readMiddle() {
-    const facts = this.point(this.view.canvas.width / 2, this.view.canvas.height / 2);
-    this.say(facts.map((pair) => pair.join(" ")).join("; ") || "There is no cell in the middle.");
+    this.say(inWords(this.mark(this.cellInMiddle())) || "There is no cell in the middle.");
   }
 
   // ---- the cell under the pointer
@@ -394,7 +420,11 @@ class Page {
   }
 
   point(px, py) {
-    const id = this.cellAt(px, py);
+    return this.mark(this.cellAt(px, py));
+  }
+
+  /** Marks a cell and lists what is known of it, which is the answer too; 0n marks none. */
+  mark(id) {
     this.view.marked = id ? this.core.square(id) : null;
     const facts = id ? this.facts(id) : [];
     at("cell").replaceChildren(...facts.flatMap(([word, text]) => [element("dt", word), element("dd", text)]));
@@ -416,6 +446,7 @@ class Page {
     };
     for (const [id, action] of Object.entries(buttons)) at(id).onclick = action;
     for (const id of ["first", "second"]) at(id).onchange = () => this.chosen(id);
+    at("land").onchange = () => this.showLand();
     at("files").onchange = () => {
       this.open(at("files").files);
       at("files").value = "";
@@ -528,6 +559,8 @@ class Page {
     this.moved();
   }
 }
+
+const inWords = (facts) => facts.map((pair) => pair.join(" ")).join("; ");
 
 function describe({ids, leaves, note}) {
   return `${ids.length} ${ids.length === 1 ? "cell" : "cells"}, ${leaves} leaves${note}`;

@@ -100,8 +100,13 @@ class View {
     this.kind = "faces";
     this.at = {faces: {x: 2, y: 1.5, scale: 100}, map: {x: 0, y: 0, scale: 2}};
     this.layers = [];
-    this.colors = {ground: [255, 255, 255], face: [240, 242, 245], line: "#888", text: "#333", mark: "#000"};
+    /** What is drawn pale below all layers, or null. */
+    this.land = null;
+    this.colors = {ground: [255, 255, 255], face: [240, 242, 245], land: [222, 226, 214], line: "#888", text: "#333",
+      mark: "#000"};
     this.marked = null;
+    /** The face, s and t of the place that was gone to last, or null. */
+    this.goal = null;
     this.step = 1;
   }
 
@@ -152,12 +157,12 @@ class View {
     });
   }
 
-  /** Shows a place of a face in the middle of both pictures, a face at least this many pixels wide. */
-  center(face, s, t, pixels) {
+  /** Shows a place of a face in the middle of both pictures, a face this many pixels wide, or at least. */
+  center(face, s, t, pixels, isLeast = true) {
     this.inBoth(() => {
       const [x, y] = this.planeAt(face, s, t);
-      const scale = this.within(Math.max(this.place.scale, pixels / (this.kind === "faces" ? 1 : 90)));
-      Object.assign(this.place, {x, y, scale});
+      const wanted = pixels / (this.kind === "faces" ? 1 : 90);
+      Object.assign(this.place, {x, y, scale: this.within(isLeast ? Math.max(this.place.scale, wanted) : wanted)});
     });
   }
 
@@ -234,6 +239,7 @@ class View {
       layer.drawn.row = new Int32Array(width).fill(-1);
       layer.drawn.forget();
     }
+    this.land?.forget();
     this.begin(step);
     if (this.kind === "faces") this.paintFaces(step, width, height);
     else this.paintMap(step, width, height);
@@ -248,6 +254,7 @@ class View {
     this.context.drawImage(this.hidden, 0, 0, this.hidden.width * this.step, this.hidden.height * this.step);
     this.drawLines();
     this.drawMark();
+    this.drawGoal();
   }
 
   begin(step) {
@@ -294,14 +301,11 @@ class View {
   }
 
   /**
-   * Paints one pixel, below which the leaf at a place of a face is; there is none on face -1. Over the ground come all
-   * layers that have a cell there.
+   * Paints one pixel, below which the leaf at a place of a face is; there is none on face -1. Over the ground come the
+   * land, and all layers that have a cell there.
    */
   paint(at, px, face, i, j) {
-    const ground = face < 0 ? this.colors.ground : this.colors.face;
-    let red = ground[0];
-    let green = ground[1];
-    let blue = ground[2];
+    let [red, green, blue] = face < 0 ? this.colors.ground : this.colors.face;
     if (face >= 0) {
       leafHalves(face, i, j, this.half);
       const bits = this.lastBits;
@@ -309,6 +313,7 @@ class View {
       const lower = bits >= 32 ? 0 : (this.half[0] >>> bits << bits) >>> 0;
       const endUpper = bits >= 32 ? upper + 2 ** (bits - 32) - 1 : upper;
       const endLower = bits >= 32 ? 2 ** 32 - 1 : lower + 2 ** bits - 1;
+      if (this.land && this.land.find(upper, lower, endUpper, endLower) >= 0) [red, green, blue] = this.colors.land;
       for (let k = 0; k < this.layersShown.length; k++) {
         const drawn = this.layersShown[k].drawn;
         const cell = drawn.find(upper, lower, endUpper, endLower);
@@ -352,6 +357,20 @@ class View {
       last = x;
     }
     this.context.stroke();
+  }
+
+  /** Draws a ring around the place that was gone to, with a dot in it. */
+  drawGoal() {
+    if (!this.goal) return;
+    const [x, y] = this.pixelAt(...this.planeAt(...this.goal));
+    const ratio = window.devicePixelRatio || 1;
+    this.context.lineWidth = 2 * ratio;
+    for (const [radius, color] of [[9, this.colors.mark], [7, this.colors.goal], [1, this.colors.mark]]) {
+      this.context.strokeStyle = color;
+      this.context.beginPath();
+      this.context.arc(x, y, radius * ratio, 0, 2 * Math.PI);
+      this.context.stroke();
+    }
   }
 
   /** Draws the outline of the marked square: its face, least coordinates and side, in leaves. */

@@ -15,7 +15,7 @@ class Coverer {
     this.waiting = [];
   }
 
-  /** What coveringOf makes of a text. */
+  /** What coveringsOf makes of a text. */
   cover(text) {
     this.worker ??= this.begun();
     this.worker.postMessage(text);
@@ -57,12 +57,12 @@ if (typeof document === "undefined") {
     try {
       core.made ??= await Core.from(unpacked(MODULE));
       let said = performance.now();
-      const made = coveringOf(core.made, JSON.parse(data), (part) => {
+      const made = coveringsOf(core.made, JSON.parse(data), (part) => {
         if (performance.now() - said < BETWEEN_WORDS) return;
         said = performance.now();
         postMessage({part});
       });
-      postMessage({made}, [made.ids.buffer]);
+      postMessage({made}, made.map(({ids}) => ids.buffer));
     } catch ({message, status, place}) {
       postMessage({error: {message, status, place}});
     }

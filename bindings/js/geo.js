@@ -37,5 +37,7 @@ export function fromGeoJSON(geojson, atBorder = AT_BORDERS) {
     throw new RangeError(`the cells at the border are from 1 to ${MOST_AT_BORDER}`);
   }
   const read = typeof geojson === "string" ? JSON.parse(geojson) : geojson;
-  return coveringOf(library, read, () => {}, atBorder).ids;
+  const shapes = shapesOf(read);
+  checkShapes(shapes);
+  return coveringOf(library, shapes, () => {}, atBorder).ids;
 }

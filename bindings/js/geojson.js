@@ -6,6 +6,8 @@ const AT_BORDERS = 10_000;
 /** How many any shape may have at its border, and so the most shapes. */
 const LEAST_AT_BORDER = 50;
 const MOST_SHAPES = 100_000;
+/** The most features that are covered one by one. */
+const MOST_FEATURES = 500;
 /** The most cells that are written as polygons. */
 const MOST_POLYGONS = 200_000;
 /** The degrees between two points of a border. What is straight on the map bends less than 10 m between them. */
@@ -70,6 +72,16 @@ function checked(position) {
   const [longitude, latitude] = listed(position);
   if (!isWithin(longitude, 540) || !isWithin(latitude, 90)) throw new Error("a position is out of range");
 }
+
+/** Refuses shapes that are too many, or that have a position out of range. */
+function checkShapes(all) {
+  all.forEach(({lines}) => lines.forEach((line) => listed(line).forEach(checked)));
+  if (all.filter(hasEdges).length > MOST_SHAPES) {
+    throw new Error(`there are more than ${MOST_SHAPES} polygons and lines`);
+  }
+}
+
+const hasEdges = ({lines}) => lines.some((line) => line.length > 1);
 
 /** How long the lines of a shape are, in degrees, about. */
 function lengthOf({lines}) {
@@ -185,18 +197,43 @@ function squaresOf(shape, most, tell) {
   return {inside, border, half: border.filter(isIn)};
 }
 
+/** What GeoJSON is covered as: its features by their names, if each has one and they are few, or else all of it. */
+function partsOf(geojson) {
+  const parts = new Map();
+  for (const it of geojson?.type === "FeatureCollection" ? listed(geojson.features) : []) {
+    if (it?.type === "Feature" && !it.geometry) continue;
+    const name = String(it?.properties?.name ?? it?.properties?.NAME ?? it?.id ?? "").trim();
+    if (parts.get(name)?.push(it) === undefined) parts.set(name, [it]);
+  }
+  const isByName = parts.size > 1 && parts.size <= MOST_FEATURES && !parts.has("");
+  return isByName ? [...parts] : [["", [geojson]]];
+}
+
+/** The coverings of GeoJSON, each with the name of its features; all of them share AT_BORDERS. */
+function coveringsOf(core, geojson, tell) {
+  const parts = partsOf(geojson).map(([name, features]) => ({name, shapes: features.flatMap(shapesOf)}));
+  checkShapes(parts.flatMap(({shapes}) => shapes));
+  const lengths = parts.map(({shapes}) => shapes.reduce((sum, shape) => sum + lengthOf(shape), 0));
+  const length = lengths.reduce((sum, it) => sum + it, 0) || 1;
+  let done = 0;
+  return parts.map(({name, shapes}, k) => {
+    const share = lengths[k] / length;
+    const most = Math.max(LEAST_AT_BORDER, AT_BORDERS * share);
+    const made = coveringOf(core, shapes, (part) => tell(done + share * part), most);
+    done += share;
+    return {name, ...made};
+  });
+}
+
 /**
- * The union of cells that contains the shapes of GeoJSON, edges being straight on the map: a point's leaf, and the
- * cells that lie in a polygon or near a border. Each shape has its share of AT_BORDERS at its border, and no less than
- * LEAST_AT_BORDER or `atBorders`. With it come the levels at borders, and about how many times as many leaves the cells
- * of polygons have as the polygons. `tell` takes how much is done, up to 1.
+ * The union of cells that contains shapes, edges being straight on the map: a point's leaf, and the cells that lie in a
+ * polygon or near a border. Each shape has its share of `atBorders` at its border, and no less than LEAST_AT_BORDER or
+ * `atBorders`. With it come the levels at borders, and about how many times as many leaves the cells of polygons have
+ * as the polygons. `tell` takes how much is done, up to 1.
  */
-function coveringOf(core, geojson, tell = () => {}, atBorders = AT_BORDERS) {
-  const all = shapesOf(geojson);
-  all.forEach(({lines}) => lines.forEach((line) => listed(line).forEach(checked)));
+function coveringOf(core, all, tell, atBorders) {
   const points = all.flatMap(({lines}) => lines.filter((line) => line.length === 1).flat());
-  const shapes = all.filter(({lines}) => lines.some((line) => line.length > 1));
-  if (shapes.length > MOST_SHAPES) throw new Error(`there are more than ${MOST_SHAPES} polygons and lines`);
+  const shapes = all.filter(hasEdges);
   const lists = [BigUint64Array.from(points, ([longitude, latitude]) => leafOf(core, longitude, latitude)).sort()];
   const idOf = ({face, level, i, j}) =>
     core.parent(core.leafAt(face, i * 2 ** (30 - level), j * 2 ** (30 - level)), level);

@@ -199,7 +199,7 @@ class TestPage:
         field.send_keys(str(value))
 
     def choose(self, **names):
-        """Chooses A and B, as first and second, by their names."""
+        """Chooses A and B, as first and second, and the size of a cell, by their names."""
         for name, chosen in names.items():
             Select(self.driver.find_element(By.ID, name)).select_by_visible_text(chosen)
 
@@ -344,6 +344,7 @@ class TestPage:
     def test_cut_lists(self):
         """A list that was cut is shown and saved as it was cut; operations take its union."""
         self.open()
+        self.click("land")
         self.set("texts", "1")
         self.click("add")
         self.set("level", 1)
@@ -775,6 +776,50 @@ class TestPage:
         assert self.last() == Union(leaves([2.35], [48.86]).tolist()).to_bytes()
 
     @pytest.mark.slow
+    def test_features(self):
+        """Each name of a collection's features has its own union, in one step of the history; if a feature has no name,
+        or there are too many, all are one union."""
+        def feature(k, **more):
+            x, y = 7 * (k % 50) - 170, 8 * (k // 50) - 50
+            ring = [[x, y], [x + 3, y], [x + 3, y + 2], [x, y]]
+            return {"type": "Feature", "geometry": {"type": "Polygon", "coordinates": [ring]}, **more}
+        def dropped(features):
+            self.open()
+            self.drop("world", json.dumps({"type": "FeatureCollection", "features": features}).encode())
+            return self.names()
+        features = [feature(0, properties={"name": "Oz"}), feature(1, properties={"NAME": " Id "}),
+                    feature(2, properties=None, id=7), feature(3, properties={"name": "Oz"}),
+                    {"type": "Feature", "geometry": None, "properties": {}}]
+        assert dropped(features) == ["Oz", "Id", "7"] and self.status() == "3 unions added.", self.status()
+        found = Union.from_tokens(self.run("return s2page.core.tokens(s2page.regions[0].ids)"))
+        self.has_shape(found, {"type": "FeatureCollection", "features": [features[0], features[3]]})
+        self.press(Keys.CONTROL, "z")
+        assert self.count() == 0
+        for whole in ([*features, feature(4)], [feature(k, id=k + 1) for k in range(501)], features[:1]):
+            assert dropped(whole) == ["world"]
+        assert dropped([*features, {"type": "Circle", "id": 9}]) == [] and "it is no GeoJSON" in self.status()
+
+    def test_land(self):
+        """The land of the sample is pale below all unions, unless it is hidden."""
+        self.open()
+        look = """const view = s2page.view;
+            view.kind = arguments[0];
+            view.fit();
+            view.draw();
+            return [[20, 0], [-100, 40], [130, -25], [-150, 0], [-30, 30]].map(([x, y]) => {
+              const {face, i, j} = s2page.core.square(leafOf(s2page.core, x, y));
+              const [px, py] = view.pixelAt(...view.planeAt(face, i / SIDE, j / SIDE)).map(Math.floor);
+              return view.pixels[py * view.image.width + px] === wordOf(...view.colors.land);
+            });"""
+        assert [self.run(look, kind) for kind in ("faces", "map")] == 2 * [[True, True, True, False, False]]
+        self.click("land")
+        assert self.run(look, "map") == 5 * [False]
+        self.click("land")
+        self.set("texts", "1 3 5 7 9 b")
+        self.click("add")
+        assert self.run(look, "map") == 5 * [False]
+
+    @pytest.mark.slow
     def test_geojson_that_is_none(self):
         self.open()
         for text, said in (('{"type": "Circle"}', "it is no GeoJSON"), ('{"a": {}}', "it is no GeoJSON"),
@@ -876,6 +921,19 @@ class TestPage:
         self.run("s2page.view.zoom(64, 9, 9)")
         self.click("go")
         assert self.run("return s2page.view.pixelsOf(9)") > 1000, "a picture that is closer stays as close"
+        self.set("place", "48.86, 2.35")
+        leaf = leaves([2.35], [48.86]).tolist()[0]
+        for words, deep in (("city, 8 km", 10), ("leaf, 8 mm", 30), ("country, 250 km", 5)):
+            self.choose(size=words)
+            self.click("go")
+            said = f"leaf {token(leaf)}. The cell of it of this size: token {token(parent(leaf, deep))}; "
+            assert self.status().startswith(said), self.status()
+            marked, width, goal = self.run("""const {view} = s2page, {canvas, context} = view;
+                view.draw();
+                const color = (x) => String(context.getImageData(canvas.width / 2 + x, canvas.height / 2, 1, 1).data);
+                return [view.marked.size, view.pixelsOf(arguments[0]), color(9) !== color(7)];""", deep)
+            assert marked == 2 ** (30 - deep) and 23.9 < width < 24.1 and goal, (words, marked, width, goal)
+        self.choose(size="as in the picture")
         for text in ("+-1, 2", "1,, 2", ".,.", "1e1, 2", "--1, 2", "91, 0"):
             self.set("place", text)
             self.click("go")
@@ -1041,6 +1099,7 @@ class TestPage:
 
     def picture(self, kind):
         self.open()
+        self.click("land")
         self.click("sample")
         self.run("""const view = s2page.view;
             s2page.observer.disconnect();
@@ -1053,6 +1112,7 @@ class TestPage:
     def test_coarse_pictures(self):
         """A coarse picture shows the same as a fine one: the cells and the ground are in the same places."""
         self.open()
+        self.click("land")
         self.set("texts", "1 5 9")
         self.click("add")
         coarse, fine = self.run("""const {view} = s2page;
@@ -1070,6 +1130,7 @@ class TestPage:
     def test_many_unions(self):
         """Each of many unions is drawn, and over those before it: of forty, each face has six or seven."""
         self.open()
+        self.click("land")
         found, wanted = self.run("""const view = s2page.view;
             for (let k = 0; k < 40; k++) s2page.add(`${k}`, s2page.core.read('13579b'[k % 6]));
             view.kind = 'faces';
@@ -1126,6 +1187,7 @@ class TestPage:
             for _ in range(10):
                 place = [self.choice.randrange(6), self.choice.randrange(SIDE), self.choice.randrange(SIDE)]
                 self.open()
+                self.click("land")
                 self.drop("leaf", Union([from_face_ij(*place)]).to_bytes())
                 near, far, dots = self.run("""const [kind, face, i, j] = arguments;
                     const view = s2page.view;
