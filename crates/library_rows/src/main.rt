@@ -3,7 +3,7 @@
 //!
 //! Modules, by what is called: `cells` (of `s2cell`), `unions` (`s2union`), `counted` (`s2union`, `s2list` and
 //! `s2room`), `coverings` (`s2cover`), `files` (`s2file`), `shelves` (`s2shelf`), `edits`, `changes` and `sessions`
-//! (`s2edit` and `s2file`). `even` is a region of its own. `curve`, `rectangles` and `differing` compare calls with
+//! (`s2edit` and `s2session`). `even` is a region of its own. `curve`, `rectangles` and `differing` compare calls with
 //! other calls, or with plain readings that stand here as test code. `table` has a row answered, and `texts` reads and
 //! writes the words of calls.
 #![tactic(auto)]
