@@ -21,7 +21,7 @@ use Rattle.s2calc.specs.World.{World}
 use Rattle.s2calc.specs.Replies.{Reply, Refuses}
 use Rattle.s2calc.specs.Questions.{AnswersYesIf, ListsSome, Answers}
 use Rattle.s2calc.specs.Edits.{Gets, Moves}
-use Rattle.s2calc.specs.Fetch.{FetchesUnion}
+use Rattle.s2calc.specs.Fetch.{Reads, FetchesUnion}
 use Rattle.s2calc.specs.Sessions.{refusal_of, FetchesNoState}
 use Rattle.s2calc.specs.Step.{Loads, WritesFile, Restores, Acts, StepBy}
 use Rattle.s2calc.specs.Run.{Steps}
@@ -71,6 +71,10 @@ rises : (a c : World) (x : Reply) → is_failure x ≡ true → c.files.failures
     IsCounted a c x
 rises a c x n e = inr (n, e)
 
+read_no_failure : (bytes : List ℕ) (refusal : Refusal) → Reads bytes (Err refusal) → is_of_shelf refusal ≡ false
+read_no_failure bytes refusal (inl l) = ap is_of_shelf l.3
+read_no_failure bytes refusal (inr l) = ap is_of_shelf l
+
 count_refused : (name : List ℕ) (a c : World) (refusal : Refusal) (x : Reply) →
     FetchesUnion name a.files (Err refusal) c.files → x ≡ Refuses refusal → IsCounted a c x
 count_refused name a c refusal x (inl (inl l)) e = stays a c x (ap is_failure e ∙ ap is_of_shelf l.0) l.1.same.1
@@ -78,10 +82,8 @@ count_refused name a c refusal x (inl (inr (inl l))) e =
     rises a c x (ap is_failure e ∙ ap is_of_shelf l.0) (get_fails_for_device a.files c.files name l.1).1
 count_refused name a c refusal x (inl (inr (inr l))) e =
     stays a c x (ap is_failure e ∙ ap is_of_shelf l.0) (get_fails_for_memory a.files c.files name l.1).1
-count_refused name a c refusal x (inr (bytes, fetched, inl l)) e =
-    stays a c x (ap is_failure e ∙ ap is_of_shelf l.3) fetched.same.1
-count_refused name a c refusal x (inr (bytes, fetched, inr l)) e =
-    stays a c x (ap is_failure e ∙ ap is_of_shelf l) fetched.same.1
+count_refused name a c refusal x (inr (bytes, found, refuses)) e =
+    stays a c x (ap is_failure e ∙ read_no_failure bytes refusal (refuses bytes found.allows)) found.asks.same.1
 
 count_load : (r : ℕ) (name : List ℕ) (a c : World) (x : Reply) → Loads r name a x c → IsCounted a c x
 count_load r name a c x (inl l) = stays a c x (get_no_failure l.0 r a.state c.state x l.2) l.1.1.same.1
@@ -91,7 +93,8 @@ count_write : (P : List ℕ → Type 0) (name : List ℕ) (a c : World) (x : Rep
     IsCounted a c x
 count_write P name a c x (inl l) = stays a c x (ap is_failure l.0) l.2.2.failures
 count_write P name a c x (inr (inl l)) = rises a c x (ap is_failure l.0) l.2.failed
-count_write P name a c x (inr (inr l)) = stays a c x (ap is_failure l.0) l.2.0.1
+count_write P name a c x (inr (inr (answer, kept, inl l))) = stays a c x (ap is_failure answer) l.0.1
+count_write P name a c x (inr (inr (answer, kept, inr l))) = stays a c x (ap is_failure answer) l.counted
 
 -- what the editor refuses is no failure of the shelf
 not_of_shelf : (fault : RestoreFault) → is_of_shelf (refusal_of fault) ≡ false

@@ -4,7 +4,8 @@ use Rattle.std.proofs.Common.{◌∙◌, subst, append_assoc}
 use Rattle.std.specs.Prelude.{option_map}
 use Rattle.std.proofs.lemmas.List.{length-map, map-append}
 use Rattle.std.proofs.lemmas.Option.{same_Some}
-use Rattle.s2shelf.specs.Shelf.{Files, Finding, NoFile, Holding, Beginning, Written, Found, Allows, MayFind}
+use Rattle.s2shelf.specs.Shelf.{Files, Finding, NoFile, Opened, Holding, Beginning, Written, Failed, Found, Allows}
+use Rattle.s2shelf.specs.Shelf.{MayFind}
 use Rattle.s2script.specs.declared.command.Parsed.{Parsed}
 use Rattle.s2calc.specs.World.{World}
 use Rattle.s2calc.specs.Replies.{Reply}
@@ -90,9 +91,11 @@ turned a b k = record {
 
 not_stored : (f : Finding) (x : Option (List ℕ)) → Allows f x → stored_by f ≡ None
 not_stored NoFile x p = refl
+not_stored Opened x p = refl
 not_stored (Holding bytes) x p = refl
 not_stored (Beginning bytes) x p = refl
 not_stored (Written bytes) x p = absurd p
+not_stored (Failed fault) x p = refl
 
 alike_found : (a b c d : World) → Alike a b → c.state ≡ d.state → (f g : Found) →
     c.files.found ≡ option_map (λ (fs : List Found). f ∷ fs) a.files.found
@@ -127,9 +130,11 @@ later_in held (one ∷ newer) found h = later_in held newer found h.1
 
 allowed : (f : Finding) (x content : Option (List ℕ)) → Allows f x → MayComeOf f content → Allows f content
 allowed NoFile x content p q = q
+allowed Opened x content p q = absurd p
 allowed (Holding bytes) x content p q = q
 allowed (Beginning bytes) x content p q = q
 allowed (Written bytes) x content p q = absurd p
+allowed (Failed fault) x content p q = absurd p
 
 -- what was found comes of what the shelf had to hand over
 comes_of : (held : Held) (final : List Found) → FoundIn held final → (a c : Files) (name : List ℕ)

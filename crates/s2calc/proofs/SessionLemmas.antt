@@ -6,7 +6,7 @@ use Rattle.std.specs.Prelude.{IfOk, OnOk, MatchResult}
 use Rattle.s2shelf.specs.OpenedFile.{given, has_ended}
 use Rattle.s2shelf.specs.Shelf.{Files, Allows, Finds, Opens, Closes, Fails}
 use Rattle.s2shelf.specs.declared.opened_file.OpenedFile.{OpenedFile}
-use Rattle.s2shelf.specs.declared.shelf.ShelfFault.TheVariants.{Device, Memory as NotEnough}
+use Rattle.s2shelf.specs.declared.shelf.ShelfFault.TheVariants.{Device}
 use Rattle.s2shelf.proofs.Opened.{ReadsOf, found_whole, found_some}
 use Rattle.s2file.specs.declared.session.Session.{Session as FileSession}
 use Rattle.s2file.specs.Session.{IsContent, Spells, content_of}
@@ -49,7 +49,7 @@ module _ {F : Type 0} (remaining : F → Option (List ℕ)) (old opened new : Fi
   where
     -- no state is taken over, since whatever bytes the file has are refused
     refused : (P : List ℕ → Type 0) (state : History (List ℕ)) (refusal : Refusal) →
-        ReadsOf remaining old opened new name start end opens closes P
+        ReadsOf remaining start end P
         → ((bytes : List ℕ) → P bytes → RefusesBytes bytes state refusal) → FetchesNoState name old state refusal new
     refused P state refusal reads refuses =
         let (bytes, found, all) = found_some remaining old opened new name start end opens closes P reads in
@@ -57,7 +57,7 @@ module _ {F : Type 0} (remaining : F → Option (List ℕ)) (old opened new : Fi
 
     pub read_and_closed : (read : Result FileSession ReadFault) (result : Result FileSession Refusal) →
         ReadAs read result → OnOk read (has_ended end ≡ true)
-        → ReadsOf remaining old opened new name start end opens closes
+        → ReadsOf remaining start end
         (λ bytes. MatchResult read (λ session. Spells bytes (content_of session)) (λ fault. RefusesToRead fault bytes))
         → HasRead old new name result
     read_and_closed (Ok session) result is ended reads =
@@ -74,14 +74,10 @@ module _ {F : Type 0} (remaining : F → Option (List ℕ)) (old opened new : Fi
         subst (HasRead old new name) (sym is)
         (λ state. refused (λ bytes. Unit {0}) state Memory reads (λ bytes _. (NoRoom, refl, tt)))
 
--- no session was read, since the file could not be closed
-pub none_closed : (old new : Files) (name : List ℕ) (state : History (List ℕ)) → Fails old new Device →
+-- no session was read, since a read of the file failed
+pub none_closed : (old new : Files) (name : List ℕ) (state : History (List ℕ)) → Fails old name new Device →
     FetchesNoState name old state FileFailed new
 none_closed old new name state fails = inl (inr (inl (refl, inl fails)))
-
-pub none_closed_for_memory : (old new : Files) (name : List ℕ) (state : History (List ℕ)) →
-    Fails old new NotEnough → FetchesNoState name old state Memory new
-none_closed_for_memory old new name state fails = inl (inr (inr (refl, inl fails)))
 
 -- bytes that were found are refused
 found_no_state : (a c : Files) (name bytes : List ℕ) (old : History (List ℕ)) (refusal : Refusal) →

@@ -12,9 +12,9 @@ use Rattle.s2edit.specs.Session.{Text, Stored, Restored}
 use Rattle.s2edit.proofs.Spelling.{text_is_stored}
 use Rattle.s2file.specs.declared.union_file.TheConstants.{MOST_CELLS}
 use Rattle.s2file.specs.File.{Bytes, File, file_text}
-use Rattle.s2file.proofs.Files.{same_leaves, no_fault}
+use Rattle.s2file.proofs.Files.{same_leaves}
 use Rattle.s2file.proofs.Texts.{file_of_text}
-use Rattle.s2shelf.specs.Shelf.{Files, Finding, NoFile, Holding, Beginning, Written, Found, Allows}
+use Rattle.s2shelf.specs.Shelf.{Files, Finding, NoFile, Opened, Holding, Beginning, Written, Failed, Found, Allows}
 use Rattle.s2script.specs.declared.command.Command.TheVariants.{Load, Save, Dump, Restore}
 use Rattle.s2script.specs.declared.command.Parsed.TheVariants.{Does}
 use Rattle.s2calc.specs.World.{World}
@@ -24,6 +24,7 @@ use Rattle.s2calc.specs.Edits.{leaves_of, Gets}
 use Rattle.s2calc.specs.Step.{WritesFile, Loads, Restores, StepBy}
 use Rattle.s2calc.specs.Laws.{IsPlain}
 use Rattle.s2calc.specs.LawsStored.{FoundLast, GetsList, StoredComesBack}
+use Rattle.s2calc.proofs.FetchLemmas.{read_or_none}
 use Rattle.s2calc.proofs.OneRun.{same_heads, settled}
 use Rattle.s2calc.proofs.SessionLemmas.{one_taken, taken_or_refused}
 
@@ -44,9 +45,11 @@ found_so old name other f g now last e =
 
 abbrev bytes_in : Finding → List ℕ
 bytes_in NoFile = []
+bytes_in Opened = []
 bytes_in (Holding bytes) = bytes
 bytes_in (Beginning bytes) = []
 bytes_in (Written bytes) = bytes
+bytes_in (Failed fault) = []
 
 -- ---- what was stored
 
@@ -97,13 +100,11 @@ loaded u name bytes r c d reply w file (inr (refusal, inl (inr (inl (failed, _))
     absurd (p.1 (answer ∙ ap (λ x. Refuses x) failed))
 loaded u name bytes r c d reply w file (inr (refusal, inl (inr (inr (failed, _))), answer, same)) p last =
     absurd (p.0 (answer ∙ ap (λ x. Refuses x) failed))
-loaded u name bytes r c d reply w file
-    (inr (refusal, inr (others, found, inl (fault, has, room, format)), answer, same)) p last =
-    let one : others ≡ bytes =
-    ap bytes_in (found_so c.files name name (Holding others) (Holding bytes) d last found.asked) in
-    absurd (room (no_fault others (has_leaf u) fault (subst (λ (b : List ℕ). File b (has_leaf u)) (sym one) file) has))
-loaded u name bytes r c d reply w file (inr (refusal, inr (others, found, inr memory), answer, same)) p last =
-    absurd (p.0 (answer ∙ ap (λ x. Refuses x) memory))
+loaded u name bytes r c d reply w file (inr (refusal, inr (others, found, refuses), answer, same)) p last =
+    let one : found.finding ≡ Holding bytes =
+    found_so c.files name name found.finding (Holding bytes) d last found.asks.asked in
+    absurd (read_or_none bytes (has_leaf u) refusal file
+    (refuses bytes (subst (λ (f : Finding). Allows f (Some bytes)) (sym one) refl)) (settled refusal reply answer p))
 
 -- ---- a state
 

@@ -1,7 +1,7 @@
 -- What runs find in files, and how far two of them are one, for laws about that.
 use Rattle.std.specs.Prelude.{◌≡◌, ℕ, List, [], ◌∷◌, ◌++◌, length, map, Option, Some, None}
 use Rattle.s2edit.specs.History.{History}
-use Rattle.s2shelf.specs.Shelf.{Finding, NoFile, Holding, Beginning, Written, Found, Allows}
+use Rattle.s2shelf.specs.Shelf.{Finding, NoFile, Opened, Holding, Beginning, Written, Failed, Found, Allows}
 use Rattle.s2calc.specs.Replies.{Reply}
 
 -- What a shelf has to hand over under each name, if there is a file of that name, at each time: the number says how
@@ -9,12 +9,15 @@ use Rattle.s2calc.specs.Replies.{Reply}
 abbrev pub Held : Type 0
 Held = ℕ → List ℕ → Option (List ℕ)
 
--- this may come of asking for a file with this content, or for none; storing bytes finds nothing
+-- this may come of asking for a file with this content, or for none; storing bytes finds nothing, nor does a call that
+-- failed
 abbrev pub MayComeOf : Finding → Option (List ℕ) → Type 0
 MayComeOf NoFile content = Allows NoFile content
+MayComeOf Opened content = (bytes : List ℕ) × (content ≡ Some bytes)
 MayComeOf (Holding bytes) content = Allows (Holding bytes) content
 MayComeOf (Beginning bytes) content = Allows (Beginning bytes) content
 MayComeOf (Written bytes) content = Unit {0}
+MayComeOf (Failed fault) content = Unit {0}
 
 -- all that was found, newest first, may come of what the shelf has to hand over at each time
 abbrev pub FoundIn : Held → List Found → Type 0
@@ -29,9 +32,11 @@ pub record Asked : Type 0 where
 -- the bytes that were stored, if any were
 abbrev pub stored_by : Finding → Option (List ℕ)
 stored_by NoFile = None
+stored_by Opened = None
 stored_by (Holding bytes) = None
 stored_by (Beginning bytes) = None
 stored_by (Written bytes) = Some bytes
+stored_by (Failed fault) = None
 
 -- what was asked, where this was found
 abbrev pub asked_of : Found → Asked

@@ -1,22 +1,22 @@
 -- Laws about whole scripts: they have one run, and undo leads back through the past.
-use Rattle.std.specs.Prelude.{◌≡◌, ℕ, ◌+◌, ◌≤◌, ◌⊎◌, Bool, true, List, [], ◌∷◌, length, Some, count_by}
+use Rattle.std.specs.Prelude.{◌≡◌, ℕ, ◌+◌, ◌≤◌, ◌⊎◌, Bool, true, false, List, [], ◌∷◌, length, Some, count_by}
 use Rattle.s2edit.specs.History.{changed}
 use Rattle.s2edit.specs.Leads.{table_at}
 use Rattle.s2edit.specs.Session.{IsKept}
 use Rattle.s2file.specs.File.{Bytes, File, HasFault}
 use Rattle.s2file.specs.declared.fault.FileFault.{FileFault}
-use Rattle.s2shelf.specs.Shelf.{Finding, NoFile, Holding, Beginning, Written, Found}
+use Rattle.s2shelf.specs.Shelf.{Files, Finding, NoFile, Opened, Holding, Beginning, Written, Failed, Found, is_opening}
 use Rattle.s2script.specs.Line.{line_of}
 use Rattle.s2script.specs.declared.command.Command.{Command}
 use Rattle.s2script.specs.declared.command.Command.TheVariants.{Edit, Load, Save, Dump, Restore, Undo, Redo, Ask}
 use Rattle.s2script.specs.declared.command.Parsed.TheVariants.{Does}
 use Rattle.s2calc.specs.World.{World}
 use Rattle.s2calc.specs.declared.engine.Tally.{Tally}
-use Rattle.s2calc.specs.declared.refusal.Refusal.TheVariants.{Missing, Format}
+use Rattle.s2calc.specs.declared.refusal.Refusal.TheVariants.{Missing, Format, Memory}
 use Rattle.s2calc.specs.Replies.{Reply, Says, Refuses, is_refusal, tally_of}
 use Rattle.s2calc.specs.Texts.{done_line}
 use Rattle.s2calc.specs.Edits.{leaves_of, Gets}
-use Rattle.s2calc.specs.Step.{Step}
+use Rattle.s2calc.specs.Step.{Step, file_in}
 use Rattle.s2calc.specs.Run.{Known, Ran, AllLines, WholeLines, InsideAnswer, Steps}
 use Rattle.s2calc.specs.Laws.{SameWorld, IsPlain, AllPlain}
 
@@ -67,13 +67,17 @@ OneEndOfOutput =
     → SameEnd new new' run.replies other.replies × (run.done ≡ other.done)
 
 -- What a `load` does with what was found in its line: with bytes, the register gets the leaves of the file that they
--- are, or they are no file; and with none, the answer says so. A `load` asks for bytes, and opens nothing.
+-- are, or they are no file; with the first bytes of a file, which are more than a file of a union can have, they are
+-- none; and with no file, the answer says so. A `load` asks for bytes, and opens nothing.
 abbrev pub LoadsFinding : Finding → ℕ → World → Reply → World → Type 0
 LoadsFinding NoFile r old reply new = (reply ≡ Refuses Missing) × (new.state ≡ old.state)
+LoadsFinding Opened r old reply new = ⊥
 LoadsFinding (Holding bytes) r old reply new = ((S : ℕ → Bool) × File bytes S × Gets S r old.state reply new.state)
     ⊎ ((fault : FileFault) × HasFault bytes fault × (reply ≡ Refuses Format) × (new.state ≡ old.state))
-LoadsFinding (Beginning bytes) r old reply new = ⊥
+LoadsFinding (Beginning bytes) r old reply new =
+    (fault : FileFault) × HasFault bytes fault × (reply ≡ Refuses Format) × (new.state ≡ old.state)
 LoadsFinding (Written bytes) r old reply new = ⊥
+LoadsFinding (Failed fault) r old reply new = ⊥
 
 -- A line that loads a file, over a shelf that lists what was found, finds one thing more, under the name that the line
 -- says, and does what it does by that alone, unless it is answered `error memory` or `error file`.
@@ -83,6 +87,20 @@ LoadsWhatWasFound =
     line_of line ≡ Does (Load r name) → Step old line reply new → IsPlain reply → old.files.found ≡ Some before
     → (finding : Finding) × (new.files.found ≡ Some (record { name = name; finding = finding } ∷ before))
     × LoadsFinding finding r old reply new
+
+-- one thing more than these was found, under this name, and it is no opening of a file that isn't closed
+abbrev pub FoundOneMore : List ℕ → List Found → Files → Type 0
+FoundOneMore name before files = (finding : Finding) × (is_opening finding ≡ false)
+    × (files.found ≡ Some (record { name = name; finding = finding } ∷ before))
+
+-- A line with a file, over a shelf that lists what came of its calls, adds one thing to the list, under the name that
+-- the line says: it makes one call of the shelf, or opens a file and closes it again. Or there was no memory for the
+-- bytes that it was to store; then it makes no call.
+abbrev pub AsksOnce : Type 0
+AsksOnce =
+    (old new : World) (line name : List ℕ) (reply : Reply) (command : Command) (before : List Found) →
+    line_of line ≡ Does command → file_in command ≡ Some name → Step old line reply new → old.files.found ≡ Some before
+    → FoundOneMore name before new.files ⊎ ((reply ≡ Refuses Memory) × (new.files.found ≡ Some before))
 
 -- each line says `undo`
 abbrev pub AllUndo : List (List ℕ) → Type 0

@@ -1,6 +1,7 @@
 -- What a line may do.
-use Rattle.std.specs.Prelude.{◌≡◌, ℕ, ◌⊎◌, Bool, true, false, List, Some, Ok, Err}
-use Rattle.s2shelf.specs.Shelf.{SameShelf, Finds, PutsFile, LosesFile}
+use Rattle.std.specs.Prelude.{◌≡◌, ℕ, ◌⊎◌, Bool, true, false, List, Option, None, Some, Ok, Err}
+use Rattle.s2shelf.specs.Shelf.{SameShelf, Finds, PutsFile, LosesFile, FailsToPut}
+use Rattle.s2shelf.specs.declared.shelf.ShelfFault.TheVariants.{Memory as NoRoom}
 use Rattle.s2file.specs.File.{Bytes}
 use Rattle.s2script.specs.declared.command.Command.{Command}
 use Rattle.s2script.specs.declared.command.Command.TheVariants.{Edit, Load, Save, Dump, Restore, Undo, Redo, Ask}
@@ -27,13 +28,15 @@ Loads r name old reply new =
     × (new.state ≡ old.state))
 
 -- the file becomes bytes of this kind, which says more than that there are such bytes only of a shelf that exposes its
--- contents; or the shelf fails, and the content of that one file is not known; or there is no memory
+-- contents; or the shelf fails, and the content of that one file is not known; or there is no memory for the bytes, and
+-- the shelf isn't asked, or none to store them
 abbrev pub WritesFile : (List ℕ → Type 0) → List ℕ → World → Reply → World → Type 0
 WritesFile AreThose name old reply new =
     ((reply ≡ Says done_line) × (new.state ≡ old.state)
     × ((bytes : List ℕ) × AreThose bytes × PutsFile old.files new.files name bytes))
     ⊎ ((reply ≡ Refuses FileFailed) × (new.state ≡ old.state) × LosesFile old.files new.files name)
-    ⊎ ((reply ≡ Refuses Memory) × (new.state ≡ old.state) × SameShelf old.files new.files)
+    ⊎ ((reply ≡ Refuses Memory) × (new.state ≡ old.state)
+    × (SameShelf old.files new.files ⊎ FailsToPut old.files name new.files NoRoom))
 
 -- if nothing fails, the file becomes the text of the register's leaves
 abbrev pub Saves : ℕ → List ℕ → World → Reply → World → Type 0
@@ -75,6 +78,17 @@ uses_file (Restore name) = true
 uses_file Undo = false
 uses_file Redo = false
 uses_file (Ask question) = false
+
+-- the name of the file that a command reads or writes
+abbrev pub file_in : Command → Option (List ℕ)
+file_in (Edit r edit) = None
+file_in (Load r name) = Some name
+file_in (Save r name) = Some name
+file_in (Dump name) = Some name
+file_in (Restore name) = Some name
+file_in Undo = None
+file_in Redo = None
+file_in (Ask question) = None
 
 -- whether a line that says this asks for a command with a file
 abbrev pub asks_for_file : Parsed → Bool

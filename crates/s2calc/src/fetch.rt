@@ -1,6 +1,7 @@
 //! What the shelf has under a name: the bytes of a file, and the union in it.
-ghost use Rattle.std.specs.Prelude.{◌≡◌, ℕ, List, take, MatchResult, Ok, Err};
+ghost use Rattle.std.specs.Prelude.{Some, MatchResult, Ok, Err};
 ghost use Rattle.s2list.specs.Union.{has_leaf, IsNormalForm};
+ghost use Rattle.s2shelf.specs.Shelf.{FindsBeginning};
 ghost use Rattle.s2calc.specs.Fetch.{Fetches, FetchesUnion, Reads};
 
 use crate::refusal::Refusal;
@@ -11,11 +12,10 @@ use std::alloc::Global;
 
 /// The first `most` bytes of the file under a name, the whole file if it has no more, or why there is none. Asks the
 /// shelf once.
-#[tactic(auto, using(crate::proofs::FetchLemmas::begun, s2shelf::proofs::Begun::begun_none))]
+#[tactic(auto, using(s2shelf::proofs::Begun::begun_none))]
 pub(crate) fn fetch<S: Shelf>(shelf: &mut S, name: &str, most: usize) -> Result<Vec<u8>, Refusal>
     ensures { MatchResult result
-        (λ bytes. (content : List ℕ) × Fetches name.now (S.files shelf.old) (Ok content) (S.files shelf.new)
-        × (bytes.items ≡ take most content))
+        (λ bytes. FindsBeginning (S.files shelf.old) name.now most (Some bytes.items) (S.files shelf.new))
         (λ refusal. Fetches name.now (S.files shelf.old) (Err refusal) (S.files shelf.new)) }
 {
     match shelf.get_beginning(name, most) {

@@ -1,7 +1,7 @@
 //! Laws about the definitions.
 ghost use Rattle.s2calc.specs.Laws.{TellsWhole, NothingHeld, OneRun, CountsFailures, FilesStay};
 ghost use Rattle.s2calc.specs.LawsScripts.{OneEnd, OneEndOfInput, OneEndOfOutput, LawOfUndo, RestoreGivesBack};
-ghost use Rattle.s2calc.specs.LawsScripts.{LoadsWhatWasFound};
+ghost use Rattle.s2calc.specs.LawsScripts.{LoadsWhatWasFound, AsksOnce};
 ghost use Rattle.s2calc.specs.LawsStored.{KeepsOrdinary, StoredComesBack};
 
 /// If the reader exposes its bytes, a run that finishes has carried out the lines of exactly these bytes.
@@ -56,6 +56,12 @@ pub fn undo_goes_back()
 /// A `load` is right for the bytes that the shelf handed over in its line, whatever was found before.
 pub fn loads_what_was_found()
     ensures { LoadsWhatWasFound }
+{}
+
+/// A line with a file makes one call of the shelf, or opens a file and closes it again, all under the name that it
+/// says.
+pub fn asks_once()
+    ensures { AsksOnce }
 {}
 
 /// `restore` gives back what `dump` wrote, in the same editor or another one with its limit and depth.

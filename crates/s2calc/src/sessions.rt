@@ -98,13 +98,12 @@ fn fetch_session<S: Shelf>(alloc: Global, shelf: &mut S, name: &str) -> Result<S
     let read = read_session(alloc, &mut file);
     match shelf.close(file) {
         Ok(()) => session_of(read),
-        Err(ShelfFault::Device) => Err(Refusal::File),
-        Err(ShelfFault::Memory) => Err(Refusal::Memory),
+        Err(_) => Err(Refusal::File),
     }
 }
 
-/// The session that was read, or why there is none. If a read failed, and not because memory ran out, the closing of
-/// the file has said so before.
+/// The session that was read, or why there is none. The closing of the file has said before that no read of it failed,
+/// but by running out of memory or by an interruption. So `Device` says that 2^64 - 1 reads were interrupted.
 fn session_of(read: Result<Session, ReadFault>) -> Result<Session, Refusal>
     ensures { ReadAs read result }
 {

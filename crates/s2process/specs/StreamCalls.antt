@@ -1,6 +1,6 @@
 -- The calls of a reader, of a writer and of a shelf, with what they gave and took.
-use Rattle.std.specs.Prelude.{ℕ, ◌-◌, List, [], ◌∷◌, length, take, reverse, flat_map, Option, Some, None}
-use Rattle.std.specs.Prelude.{Result, Ok, Err}
+use Rattle.std.specs.Prelude.{ℕ, ◌-◌, List, [], ◌∷◌, length, take, flat_map, Option, Some, None, Result, Ok, Err}
+use Rattle.std.specs.List.{fold}
 use Rattle.s2shelf.specs.Shelf.{Found}
 use Rattle.s2process.specs.ShelfCalls as shelf
 use Rattle.s2process.specs.ShelfCalls.{ShelfCall}
@@ -75,15 +75,15 @@ given_by Flushed = []
 given_by FlushedNot = []
 given_by (OfShelf call) = []
 
--- what was found by a call of a shelf
-abbrev pub found_by : StreamCall → List Found
-found_by (Gave others bytes) = []
-found_by GaveNot = []
-found_by (Took bytes) = []
-found_by TookNot = []
-found_by Flushed = []
-found_by FlushedNot = []
-found_by (OfShelf call) = shelf.found_by call
+-- what is found, newest first, after this was found and then a call made
+abbrev pub found_after : List Found → StreamCall → List Found
+found_after before (Gave others bytes) = before
+found_after before GaveNot = before
+found_after before (Took bytes) = before
+found_after before TookNot = before
+found_after before Flushed = before
+found_after before FlushedNot = before
+found_after before (OfShelf call) = shelf.found_after before call
 
 -- all bytes that the reads gave
 abbrev pub given_in : List StreamCall → List ℕ
@@ -103,4 +103,4 @@ reads_in list = flat_map read_by list
 
 -- what was found by the calls, newest first
 abbrev pub found_in : List StreamCall → List Found
-found_in list = reverse (flat_map found_by list)
+found_in list = fold found_after [] list

@@ -42,8 +42,8 @@ pub(crate) enum OneCall<'a> {
 /// One call of a shelf, as it is given to the list.
 #[derive(Clone, Copy, Drop)]
 pub(crate) enum OneShelfCall<'a> {
-    /// These bytes of the file of this name were handed over.
-    HandedOver(&'a str, &'a [u8]),
+    /// Of the file of this name the first bytes were asked for, this many, and these were handed over.
+    HandedOver(&'a str, usize, &'a [u8]),
     /// There is no file of this name.
     HadNone(&'a str),
     /// The file of this name was opened.

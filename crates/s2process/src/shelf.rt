@@ -1,6 +1,7 @@
 //! A shelf whose calls stand in a list.
 ghost use Rattle.std.specs.Prelude.{◌≡◌, [], ◌∷◌, ◌++◌, option_map, MatchResult};
-ghost use Rattle.s2shelf.specs.Shelf.{FindsBeginning, Opens, Closes, PutsFile, Fails, FailsToGet, FailsToPut};
+ghost use Rattle.s2shelf.specs.Shelf.{FindsBeginning, Opens, Closes, PutsFile, Fails, FailsToClose, FailsToGet};
+ghost use Rattle.s2shelf.specs.Shelf.{FailsToPut};
 ghost use Rattle.s2process.specs.ShelfCalls.{get_call, open_call, close_call, put_call};
 ghost use Rattle.s2process.specs.StreamCalls.{OfShelf};
 ghost use Rattle.s2process.specs.Listed.{calls_of_shelf, listed_files, shelf_below};
@@ -49,12 +50,12 @@ impl<S: Shelf> Shelf for ListedShelf<S> {
     fn open(&mut self, name: &str) -> Result<Option<OpenedFile<S::File>>, ShelfFault>
         ensures below { MatchResult result
             (λ opened. Opens S.File.remaining (S.files self.old.shelf) name.now opened (S.files self.new.shelf))
-            (λ fault. Fails (S.files self.old.shelf) (S.files self.new.shelf) fault) }
+            (λ fault. Fails (S.files self.old.shelf) name.now (S.files self.new.shelf) fault) }
         ensures listed { calls_of_shelf self.new ≡ calls_of_shelf self.old ++ OfShelf (open_call name.now result) ∷ [] }
         ensures answer { MatchResult result
             (λ opened. Opens S.File.remaining (listed_files S.files self.old) name.now opened
             (listed_files S.files self.new))
-            (λ fault. Fails (listed_files S.files self.old) (listed_files S.files self.new) fault) }
+            (λ fault. Fails (listed_files S.files self.old) name.now (listed_files S.files self.new) fault) }
     {
         match self.shelf.open(name) {
             Ok(Some(file)) => {
@@ -74,11 +75,11 @@ impl<S: Shelf> Shelf for ListedShelf<S> {
 
     fn close(&mut self, file: OpenedFile<S::File>) -> Result<(), ShelfFault>
         ensures below { MatchResult result (λ _. Closes (S.files self.old.shelf) file (S.files self.new.shelf))
-            (λ fault. Fails (S.files self.old.shelf) (S.files self.new.shelf) fault) }
+            (λ fault. FailsToClose (S.files self.old.shelf) file (S.files self.new.shelf) fault) }
         ensures listed { calls_of_shelf self.new ≡ calls_of_shelf self.old ++ OfShelf (close_call file result) ∷ [] }
         ensures answer { MatchResult result
             (λ _. Closes (listed_files S.files self.old) file (listed_files S.files self.new))
-            (λ fault. Fails (listed_files S.files self.old) (listed_files S.files self.new) fault) }
+            (λ fault. FailsToClose (listed_files S.files self.old) file (listed_files S.files self.new) fault) }
     {
         let name = file.name();
         let given = file.given();
@@ -101,7 +102,7 @@ impl<S: Shelf> Shelf for ListedShelf<S> {
             (S.files self.new.shelf))
             (λ fault. FailsToGet (S.files self.old.shelf) name.now (S.files self.new.shelf) fault) }
         ensures listed { calls_of_shelf self.new
-            ≡ calls_of_shelf self.old ++ OfShelf (get_call (λ v. v.items) name.now result) ∷ [] }
+            ≡ calls_of_shelf self.old ++ OfShelf (get_call (λ v. v.items) name.now most result) ∷ [] }
         ensures answer { MatchResult result
             (λ beginning. FindsBeginning (listed_files S.files self.old) name.now most
             (option_map (λ v. v.items) beginning) (listed_files S.files self.new))
@@ -109,7 +110,7 @@ impl<S: Shelf> Shelf for ListedShelf<S> {
     {
         match self.shelf.get_beginning(name, most) {
             Ok(Some(bytes)) => {
-                self.list(OneShelfCall::HandedOver(name, bytes.as_slice()));
+                self.list(OneShelfCall::HandedOver(name, most, bytes.as_slice()));
                 Ok(Some(bytes))
             }
             Ok(None) => {

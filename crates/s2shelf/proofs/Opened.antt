@@ -3,10 +3,12 @@ use Rattle.std.proofs.Common.{◌≡◌, ℕ, Bool, true, false, List, [], ◌�
 use Rattle.std.proofs.Common.{ap, ◌∙◌, subst}
 use Rattle.std.proofs.lemmas.List.{append-nil}
 use Rattle.std.proofs.lemmas.Option.{same_Some}
-use Rattle.std.specs.Prelude.{option_map}
+use Rattle.std.proofs.lemmas.Slice.Eq.{bytes_eq-Decides}
+use Rattle.std.specs.Prelude.{option_map, if◌then◌else◌}
 use Rattle.s2shelf.specs.OpenedFile.{name_of, given, has_ended, below, Claim, known_left, MayCome, Left, MayBe}
-use Rattle.s2shelf.specs.Shelf.{Files, one_more, KeepsFiles, SameFiles, Allows, finding_read, finding_of_file}
-use Rattle.s2shelf.specs.Shelf.{Holding, Finds, MayFind, Asks, Opens, Closes, Fails, FailsToGet}
+use Rattle.s2shelf.specs.Shelf.{Files, Found, Finding, one_more, KeepsFiles, SameFiles, Allows, finding_read}
+use Rattle.s2shelf.specs.Shelf.{finding_of_file, Opened, Holding, Failed, closed, without_opening, Finds, MayFind, Asks}
+use Rattle.s2shelf.specs.Shelf.{FindsMore, FindsAtClosing, Opens, Closes, Fails, FailsToClose, FailsToGet}
 use Rattle.s2shelf.specs.declared.opened_file.OpenedFile.{OpenedFile}
 use Rattle.s2shelf.specs.declared.shelf.ShelfFault.{ShelfFault}
 use Rattle.s2shelf.specs.declared.shelf.ShelfFault.TheVariants.{Device, Memory}
@@ -75,14 +77,40 @@ module _ {F : Type 0} (remaining : F → Option (List ℕ)) (file : OpenedFile F
 
 -- ---- a file that was opened, as `start`, and closed, as `end`
 
+module _ {F : Type 0} (remaining : F → Option (List ℕ)) (start end : OpenedFile F) where
+  -- whatever may be left at the end, is the end of what was left at the start, of which this holds
+  abbrev pub ReadsOf : (List ℕ → Type 0) → Type 0
+  ReadsOf P = (claim : Claim) (rest : List ℕ) → Left remaining end claim rest
+      → (bytes : List ℕ) × Left remaining start claim bytes × P bytes
+
+  -- it has one name
+  one_name : (P : List ℕ → Type 0) → ReadsOf P → name_of end ≡ name_of start
+  one_name P reads =
+      let (content, (rest, may)) = some_content remaining end in
+      let (bytes, left, holds) = reads _ rest may in
+      sym left.named
+
+-- what is found at a closing stands where the opening stood
+takes_the_place : (known : Option (List Found)) (name : List ℕ) (f : Finding) →
+    option_map (closed (record { name = name; finding = f }))
+    (option_map (λ (before : List Found). record { name = name; finding = Opened } ∷ before) known)
+    ≡ option_map (λ (before : List Found). record { name = name; finding = f } ∷ before) known
+takes_the_place None name f = refl
+takes_the_place (Some found) name f =
+    ap (λ (same : Bool). Some (record { name = name; finding = f } ∷ (if same then found
+    else record { name = name; finding = Opened } ∷ without_opening name found))) ((bytes_eq-Decides name name).1 refl)
+
+opened_and_closed : {F : Type 0} (old opened new : Files) (name : List ℕ) (end : OpenedFile F) (f : Finding) →
+    name_of end ≡ name → FindsMore old name Opened opened → FindsAtClosing opened end f new → FindsMore old name f new
+opened_and_closed old opened new name end f is opens closes =
+    closes ∙ ap (option_map (closed (record { name = name_of end; finding = f }))) opens
+    ∙ ap (λ (n : List ℕ). option_map (closed (record { name = n; finding = f }))
+    (option_map (λ (before : List Found). record { name = name; finding = Opened } ∷ before) old.found)) is
+    ∙ takes_the_place old.found name f
+
 module _ {F : Type 0} (remaining : F → Option (List ℕ)) (old opened new : Files) (name : List ℕ)
     (start end : OpenedFile F) (opens : Opens remaining old name (Some start) opened) (closes : Closes opened end new)
   where
-    -- whatever may be left at the end, is the end of what was left at the start, of which this holds
-    abbrev pub ReadsOf : (List ℕ → Type 0) → Type 0
-    ReadsOf P = (claim : Claim) (rest : List ℕ) → Left remaining end claim rest
-        → (bytes : List ℕ) × Left remaining start claim bytes × P bytes
-
     -- at the start all of the content is left
     all_left : (claim : Claim) (bytes : List ℕ) → Left remaining start claim bytes → bytes ≡ claim.content
     all_left claim bytes left = sym (left.whole ∙ ap (λ (b : List ℕ). b ++ bytes) opens.unread)
@@ -99,22 +127,17 @@ module _ {F : Type 0} (remaining : F → Option (List ℕ)) (old opened new : Fi
         record {
           same = (
             record {
-              tells = closes.same.0.tells ∙ opens.same.0.0.tells;
-              at = λ t other. closes.same.0.at (opens.same.0.0.tells ∙ t) other ∙ opens.same.0.0.at t other;
+              tells = closes.same.0.tells ∙ opens.same.0.tells;
+              at = λ t other. closes.same.0.at (opens.same.0.tells ∙ t) other ∙ opens.same.0.at t other;
             },
-            closes.same.1 ∙ opens.same.0.1,
+            closes.same.1 ∙ opens.same.1,
           );
           holds = opens.holds content may;
-          asked = closes.asked ∙ ap (option_map (λ before. record {
-            name = name_of end;
-            finding = finding_of_file end;
-          } ∷ before)) opens.same.1
-              ∙ ap (λ (n : List ℕ). option_map (λ before. record { name = n; finding = finding_of_file end } ∷ before)
-              old.found) is;
+          asked = opened_and_closed old opened new name end (finding_of_file end) is opens.asked closes.asked;
         }
 
     -- a file that was read to its end was found
-    pub found_whole : (P : List ℕ → Type 0) → has_ended end ≡ true → ReadsOf P →
+    pub found_whole : (P : List ℕ → Type 0) → has_ended end ≡ true → ReadsOf remaining start end P →
         Finds old name (Some (given end)) new × P (given end)
     found_whole P ended reads =
         let (rest, whole) = whole_content remaining end ended in
@@ -125,7 +148,8 @@ module _ {F : Type 0} (remaining : F → Option (List ℕ)) (old opened new : Fi
         )
 
     -- some content may have been found, and this holds of each that may
-    pub found_some : (P : List ℕ → Type 0) → ReadsOf P → (bytes : List ℕ) × (found : MayFind old name (Some bytes) new)
+    pub found_some : (P : List ℕ → Type 0) → ReadsOf remaining start end P →
+        (bytes : List ℕ) × (found : MayFind old name (Some bytes) new)
         × ((all : List ℕ) → Allows found.finding (Some all) → P all)
     found_some P reads =
         let (content, (rest, may)) = some_content remaining end in
@@ -144,46 +168,25 @@ module _ {F : Type 0} (remaining : F → Option (List ℕ)) (old opened new : Fi
 
 -- a file was opened, and its closing failed
 pub opened_fails : {F : Type 0} (remaining : F → Option (List ℕ)) (old opened new : Files) (name : List ℕ)
-    (file : OpenedFile F) (fault : ShelfFault) → Opens remaining old name (Some file) opened → Fails opened new fault
-    → Fails old new fault
-opened_fails remaining old opened new name file Device opens fails = (
-  record {
-    tells = fails.0.tells ∙ opens.same.0.0.tells;
-    at = λ t other. fails.0.at (opens.same.0.0.tells ∙ t) other ∙ opens.same.0.0.at t other;
-  },
-  fails.1 ∙ ap one_more opens.same.0.1,
-  fails.2 ∙ opens.same.1,
-)
-opened_fails remaining old opened new name file Memory opens same = (
-  (
-    record {
-      tells = same.0.0.tells ∙ opens.same.0.0.tells;
-      at = λ t other. same.0.0.at (opens.same.0.0.tells ∙ t) other ∙ opens.same.0.0.at t other;
-    },
-    same.0.1 ∙ opens.same.0.1,
-  ),
-  same.1 ∙ opens.same.1,
-)
+    (start end : OpenedFile F) (fault : ShelfFault) (P : List ℕ → Type 0) → Opens remaining old name (Some start) opened
+    → ReadsOf remaining start end P → FailsToClose opened end new fault → Fails old name new Device
+opened_fails remaining old opened new name start end fault P opens reads fails = record {
+  keeps = record {
+    tells = fails.keeps.tells ∙ opens.same.0.tells;
+    at = λ t other. fails.keeps.at (opens.same.0.tells ∙ t) other ∙ opens.same.0.at t other;
+  };
+  counted = fails.counted ∙ ap one_more opens.same.1;
+  found = opened_and_closed old opened new name end (Failed Device) (one_name remaining start end P reads ∙ opens.named)
+      opens.asked fails.found;
+}
 
 -- each file stays after a failed read, and the count rises if the device failed
 pub get_fails_for_device : (old new : Files) (name : List ℕ) → FailsToGet old name new Device →
     KeepsFiles old new × (new.failures ≡ one_more old.failures)
-get_fails_for_device old new name (inl f) = (f.0, f.1)
-get_fails_for_device old new name (inr f) = (
-  record {
-    tells = f.3.0.tells ∙ f.2.asks.same.0.tells;
-    at = λ t other. f.3.0.at (f.2.asks.same.0.tells ∙ t) other ∙ f.2.asks.same.0.at t other;
-  },
-  f.3.1 ∙ ap one_more f.2.asks.same.1,
-)
+get_fails_for_device old new name (inl f) = (f.keeps, f.counted)
+get_fails_for_device old new name (inr (memory, found)) = absurd cc
 
 -- nothing changes but what was found, if there is no memory
 pub get_fails_for_memory : (old new : Files) (name : List ℕ) → FailsToGet old name new Memory → SameFiles old new
-get_fails_for_memory old new name (inl f) = f.0
-get_fails_for_memory old new name (inr f) = (
-  record {
-    tells = f.3.0.0.tells ∙ f.2.asks.same.0.tells;
-    at = λ t other. f.3.0.0.at (f.2.asks.same.0.tells ∙ t) other ∙ f.2.asks.same.0.at t other;
-  },
-  f.3.0.1 ∙ f.2.asks.same.1,
-)
+get_fails_for_memory old new name (inl f) = (f.keeps, f.counted)
+get_fails_for_memory old new name (inr (memory, found)) = found.1.asks.same

@@ -5,8 +5,8 @@ ghost use Rattle.std.specs.Fs.{IsFile, file_type};
 ghost use Rattle.std.specs.IoError.{error_kind};
 ghost use Rattle.std.specs.String.{string_bytes};
 ghost use Rattle.s2shelf.specs.OpenedFile.{name_of, given, has_failed};
-ghost use Rattle.s2shelf.specs.Shelf.{Opens, Closes, Fails, FailsToGet, FailsToPut, FindsBeginning, PutsFile};
-ghost use Rattle.s2shelf.specs.Shelf.{one_more};
+ghost use Rattle.s2shelf.specs.Shelf.{Opens, Closes, Fails, FailsToClose, FailsToGet, FailsToPut, FindsBeginning};
+ghost use Rattle.s2shelf.specs.Shelf.{PutsFile, one_more};
 ghost use Rattle.s2shelf.specs.FileCalls as file;
 ghost use Rattle.s2shelf.specs.FileCalls.{Makes, path_to, reading};
 ghost use Rattle.s2shelf.specs.DirShelf.{calls_of_folder, folder_files, folder_path, IsRead, IsWritten};
@@ -14,7 +14,7 @@ ghost use Rattle.s2shelf.specs.Working.Files.{calls_so_far, OpensFile, ReadsFile
 
 use crate::files::ListedFiles;
 use crate::opened_file::OpenedFile;
-use crate::shelf::{Shelf, ShelfFault, beginning_of};
+use crate::shelf::{Shelf, ShelfFault, beginning_of, count_failure};
 use std::alloc::AllocError;
 use std::fs::Metadata;
 use std::io;
@@ -62,15 +62,6 @@ impl<R: Files + AllocGlobal> DirShelf<R> {
         let path = self.path.as_str();
         format!(in self.files.alloc(); "{path}/{name}")
     }
-}
-
-/// Counts a failure of the device.
-fn count_failure(failures: &mut u64) -> ShelfFault
-    ensures count { failures.new ≡ one_more failures.old }
-    ensures fault { result ≡ ShelfFault.Device }
-{
-    *failures = failures.wrapping_add(1);
-    ShelfFault::Device
 }
 
 /// What the answer of the system to a call that reads means.
@@ -194,7 +185,7 @@ impl<R: Files + AllocGlobal> Shelf for DirShelf<R> {
     fn open(&mut self, name: &str) -> Result<Option<OpenedFile<R::File>>, ShelfFault>
         ensures answer { MatchResult result
             (λ opened. Opens R.File.remaining (folder_files self.old) name.now opened (folder_files self.new))
-            (λ fault. Fails (folder_files self.old) (folder_files self.new) fault) }
+            (λ fault. Fails (folder_files self.old) name.now (folder_files self.new) fault) }
         ensures path { folder_path self.new ≡ folder_path self.old }
         ensures calls { Makes (calls_of_folder self.old) (calls_of_folder self.new)
             (file.Opens (path_to (folder_path self.old) name.now) result) }
@@ -210,7 +201,7 @@ impl<R: Files + AllocGlobal> Shelf for DirShelf<R> {
     /// Closes the file, whatever it answers.
     fn close(&mut self, file: OpenedFile<R::File>) -> Result<(), ShelfFault>
         ensures answer { MatchResult result (λ _. Closes (folder_files self.old) file (folder_files self.new))
-            (λ fault. Fails (folder_files self.old) (folder_files self.new) fault) }
+            (λ fault. FailsToClose (folder_files self.old) file (folder_files self.new) fault) }
         ensures device { IsErrOf result ShelfFault.Device ↔ (has_failed file ≡ true) }
         ensures path { folder_path self.new ≡ folder_path self.old }
         ensures calls { calls_of_folder self.new ≡ calls_of_folder self.old

@@ -1,12 +1,13 @@
 //! A shelf in memory.
-ghost use Rattle.std.specs.Prelude.{◌≡◌, ◌≤◌, ◌-◌, ◌≢◌, ◌↔◌, ℕ, List, None, IsErrOf, IsOk, OnErr, MatchResult};
-ghost use Rattle.std.specs.Prelude.{is_ok, option_map, if◌then◌else◌};
+ghost use Rattle.std.specs.Prelude.{◌≡◌, ◌≤◌, ◌-◌, ◌≢◌, ◌↔◌, ℕ, List, None, false, IsErrOf, IsOk, OnErr};
+ghost use Rattle.std.specs.Prelude.{MatchResult, is_ok, option_map, if◌then◌else◌};
+ghost use Rattle.s2shelf.specs.OpenedFile.{has_failed};
 ghost use Rattle.s2shelf.specs.Shelf.{one_more, KeepsFiles, SameFiles, Finds, FindsBeginning, Opens, Closes, PutsFile};
-ghost use Rattle.s2shelf.specs.Shelf.{Fails, FailsToGet, FailsToPut};
+ghost use Rattle.s2shelf.specs.Shelf.{Fails, FailsToClose, FailsToGet, FailsToPut};
 ghost use Rattle.s2shelf.specs.MemoryShelf.{files_of, failing_of};
 
 use crate::opened_file::OpenedFile;
-use crate::shelf::{Shelf, ShelfFault, beginning_of};
+use crate::shelf::{Shelf, ShelfFault, beginning_of, count_failure};
 use std::alloc::Global;
 use std::collections::BTreeMap;
 use std::io::{Cursor, Read};
@@ -57,8 +58,7 @@ fn take_turn(failing: &mut u64, failures: &mut u64) -> Result<(), ShelfFault>
     let fails = *failing == 1;
     *failing = failing.saturating_sub(1);
     if fails {
-        *failures = failures.wrapping_add(1);
-        return Err(ShelfFault::Device);
+        return Err(count_failure(failures));
     }
     Ok(())
 }
@@ -69,7 +69,7 @@ impl MemoryShelf {
     fn copy_of(&mut self, name: &str) -> Result<Option<Vec<u8>>, ShelfFault>
         ensures answer { MatchResult result
             (λ content. Finds (files_of self.old) name.now (option_map (λ v. v.items) content) (files_of self.new))
-            (λ fault. Fails (files_of self.old) (files_of self.new) fault) }
+            (λ fault. Fails (files_of self.old) name.now (files_of self.new) fault) }
         ensures turn { IsErrOf result ShelfFault.Device ↔ (failing_of self.old ≡ 1) }
         ensures failing { failing_of self.new ≡ failing_of self.old - 1 }
     {
@@ -91,7 +91,7 @@ impl Shelf for MemoryShelf {
         ensures answer { MatchResult result
             (λ opened. Opens ⟦<Cursor<Vec<u8>> as Read>⟧.remaining (files_of self.old) name.now opened
             (files_of self.new))
-            (λ fault. Fails (files_of self.old) (files_of self.new) fault) }
+            (λ fault. Fails (files_of self.old) name.now (files_of self.new) fault) }
         ensures turn { IsErrOf result ShelfFault.Device ↔ (failing_of self.old ≡ 1) }
         ensures failing { failing_of self.new ≡ failing_of self.old - 1 }
     {
@@ -101,12 +101,16 @@ impl Shelf for MemoryShelf {
         Ok(Some(OpenedFile::of(name, Cursor::new(bytes))))
     }
 
-    /// Never fails, as no read of a copy does. Does not count as a call.
+    /// Answers `Ok` for a file of which no read failed, as none of a copy does. Does not count as a call.
     fn close(&mut self, file: OpenedFile<Cursor<Vec<u8>>>) -> Result<(), ShelfFault>
-        ensures answer { IsOk result × Closes (files_of self.old) file (files_of self.new) }
-        ensures shelf { self.new ≡ self.old }
+        ensures answer { MatchResult result (λ _. Closes (files_of self.old) file (files_of self.new))
+            (λ fault. FailsToClose (files_of self.old) file (files_of self.new) fault) }
+        ensures well { has_failed file ≡ false → IsOk result × (self.new ≡ self.old) }
+        ensures failing { failing_of self.new ≡ failing_of self.old }
     {
-        drop(file);
+        if file.has_failed() {
+            return Err(count_failure(&mut self.failures));
+        }
         Ok(())
     }
 

@@ -1,6 +1,6 @@
 //! A writer and a shelf that log their calls in one text, in the order in which they come.
 ghost use Rattle.std.specs.Prelude.{◌≡◌, IfErr, MatchResult};
-ghost use Rattle.s2shelf.specs.Shelf.{Closes, Fails};
+ghost use Rattle.s2shelf.specs.Shelf.{Closes, FailsToClose};
 ghost use Rattle.script_rows.specs.Working.Logged.{unknown_files};
 
 use s2calc::Sink;
@@ -33,11 +33,13 @@ impl Sink for LoggedWriter<'_> {
     }
 }
 
-/// A shelf that logs its calls. It has no files, keeps none, and no call of it fails unless memory runs out.
+/// A shelf that logs its calls. It has no files, keeps none, and no call of it fails unless memory runs out, or it is
+/// to close a file of which a read failed.
 #[derive(Clone, Copy)]
 pub struct LoggedShelf<'a> {
     pub alloc: Global,
     pub log: &'a RefCell<Vec<u8>>,
+    pub failures: u64,
 }
 
 impl LoggedShelf<'_> {
@@ -58,7 +60,7 @@ impl LoggedShelf<'_> {
 }
 
 impl Shelf for LoggedShelf<'_> {
-    ghost files = { λ _. unknown_files };
+    ghost files = { λ shelf. unknown_files shelf.failures };
 
     type File = Empty;
 
@@ -67,10 +69,15 @@ impl Shelf for LoggedShelf<'_> {
         Ok(None)
     }
 
-    fn close(&mut self, _file: OpenedFile<Empty>) -> Result<(), ShelfFault>
-        ensures { MatchResult result (λ _. Closes unknown_files _file unknown_files)
-            (λ fault. Fails unknown_files unknown_files fault) }
+    fn close(&mut self, file: OpenedFile<Empty>) -> Result<(), ShelfFault>
+        ensures { MatchResult result
+            (λ _. Closes (unknown_files self.old.failures) file (unknown_files self.new.failures))
+            (λ fault. FailsToClose (unknown_files self.old.failures) file (unknown_files self.new.failures) fault) }
     {
+        if file.has_failed() {
+            self.failures = self.failures.wrapping_add(1);
+            return Err(ShelfFault::Device);
+        }
         Ok(())
     }
 

@@ -66,7 +66,11 @@ fn add_sight(alloc: Global, sight: &Sight, found: &mut Vec<u8>) -> Result<(), Al
 
 /// A shelf without files that logs its calls.
 fn shelf_with(alloc: Global, log: &RefCell<Vec<u8>>) -> LoggedShelf<'_> {
-    LoggedShelf { alloc, log }
+    LoggedShelf {
+        alloc,
+        log,
+        failures: 0,
+    }
 }
 
 /// Runs the script over a writer and a shelf that log their calls.

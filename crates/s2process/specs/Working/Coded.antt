@@ -27,11 +27,11 @@ abbrev fault_coded : Coded ShelfFault
 fault_coded = code_by (Unit {0} ⊎ Unit {0}) (coded⊎ coded_unit coded_unit) fault_parts fault_from fault_from_parts
 
 abbrev ShelfCallParts : Type 0
-ShelfCallParts = (List ℕ × List ℕ) ⊎ (List ℕ ⊎ (List ℕ ⊎ ((List ℕ × List ℕ) ⊎ ((List ℕ × ShelfFault) ⊎ ((List ℕ ×
+ShelfCallParts = (List ℕ × (ℕ × List ℕ)) ⊎ (List ℕ ⊎ (List ℕ ⊎ ((List ℕ × List ℕ) ⊎ ((List ℕ × ShelfFault) ⊎ ((List ℕ ×
     (List ℕ × Bool)) ⊎ (List ℕ × (List ℕ × ShelfFault)))))))
 
 abbrev shelf_call_parts : ShelfCall → ShelfCallParts
-shelf_call_parts (HandedOver name bytes) = inl (name, bytes)
+shelf_call_parts (HandedOver name most bytes) = inl (name, (most, bytes))
 shelf_call_parts (HadNone name) = inr (inl name)
 shelf_call_parts (OpenedFile name) = inr (inr (inl name))
 shelf_call_parts (Stored name bytes) = inr (inr (inr (inl (name, bytes))))
@@ -40,7 +40,7 @@ shelf_call_parts (ClosedFile name bytes ended) = inr (inr (inr (inr (inr (inl (n
 shelf_call_parts (ClosedNot name bytes fault) = inr (inr (inr (inr (inr (inr (name, (bytes, fault)))))))
 
 abbrev shelf_call_from : ShelfCallParts → ShelfCall
-shelf_call_from (inl p) = HandedOver p.0 p.1
+shelf_call_from (inl p) = HandedOver p.0 p.1.0 p.1.1
 shelf_call_from (inr (inl name)) = HadNone name
 shelf_call_from (inr (inr (inl name))) = OpenedFile name
 shelf_call_from (inr (inr (inr (inl p)))) = Stored p.0 p.1
@@ -50,7 +50,7 @@ shelf_call_from (inr (inr (inr (inr (inr (inr p)))))) = ClosedNot p.0 p.1.0 p.1.
 
 -- the parts of a call of a shelf are those of no other
 pub shelf_call_from_parts : (c : ShelfCall) → shelf_call_from (shelf_call_parts c) ≡ c
-shelf_call_from_parts (HandedOver name bytes) = refl
+shelf_call_from_parts (HandedOver name most bytes) = refl
 shelf_call_from_parts (HadNone name) = refl
 shelf_call_from_parts (OpenedFile name) = refl
 shelf_call_from_parts (Stored name bytes) = refl
@@ -64,10 +64,10 @@ bytes_coded = coded_list coded_ℕ
 -- the code of a call of a shelf
 abbrev shelf_call_coded : Coded ShelfCall
 shelf_call_coded =
-    code_by ShelfCallParts (coded⊎ (coded× bytes_coded bytes_coded) (coded⊎ bytes_coded (coded⊎ bytes_coded (coded⊎
-    (coded× bytes_coded bytes_coded) (coded⊎ (coded× bytes_coded fault_coded) (coded⊎ (coded× bytes_coded (coded×
-    bytes_coded coded_bool)) (coded× bytes_coded (coded× bytes_coded fault_coded)))))))) shelf_call_parts
-    shelf_call_from shelf_call_from_parts
+    code_by ShelfCallParts (coded⊎ (coded× bytes_coded (coded× coded_ℕ bytes_coded)) (coded⊎ bytes_coded (coded⊎
+    bytes_coded (coded⊎ (coded× bytes_coded bytes_coded) (coded⊎ (coded× bytes_coded fault_coded) (coded⊎ (coded×
+    bytes_coded (coded× bytes_coded coded_bool)) (coded× bytes_coded (coded× bytes_coded fault_coded))))))))
+    shelf_call_parts shelf_call_from shelf_call_from_parts
 
 abbrev CallParts : Type 0
 CallParts = (ℕ × List ℕ) ⊎ (Unit {0} ⊎ (List ℕ ⊎ (Unit {0} ⊎ (Unit {0} ⊎ (Unit {0} ⊎ ShelfCall)))))

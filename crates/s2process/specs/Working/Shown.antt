@@ -14,7 +14,7 @@ use Rattle.s2calc.specs.Moments.{Event, Came, NotCame, LineBegins, LineEnds}
 
 -- the call of a shelf that is shown
 abbrev pub shown_by_shelf : OneShelfCall → ShelfCall
-shown_by_shelf (shelf.HandedOver name bytes) = HandedOver name.now bytes.now
+shown_by_shelf (shelf.HandedOver name most bytes) = HandedOver name.now most bytes.now
 shown_by_shelf (shelf.HadNone name) = HadNone name.now
 shown_by_shelf (shelf.OpenedFile name) = OpenedFile name.now
 shown_by_shelf (shelf.Stored name bytes) = Stored name.now bytes.now

@@ -22,4 +22,9 @@ returns-in-Err-Device g c =
     inr (inl (refl, refl, rw (← c.as_str.ensures) (rw c.in-Err-Device.field-0-is at c.in-Err-Device.ensures)))
 
 pub returns : goal.returns
-returns g c = inr (inr (refl, refl, rw c.in-Err-Memory.field-0-is at c.in-Err-Memory.ensures))
+returns g c =
+    inr (inr (
+      refl,
+      refl,
+      inr (rw (← c.as_str.ensures) (rw c.in-Err-Memory.field-0-is at c.in-Err-Memory.ensures)),
+    ))

@@ -1,8 +1,5 @@
-use Rattle.std.proofs.Common.{subst}
-use Rattle.s2shelf.specs.Shelf.{Fails}
-use Rattle.s2shelf.specs.declared.shelf.ShelfFault.TheVariants.{Device, Memory}
 use Rattle.s2shelf.proofs.Opened.{opened_fails}
-use Rattle.s2calc.proofs.SessionLemmas.{kept_content, read_and_closed, none_closed_for_memory, none_closed}
+use Rattle.s2calc.proofs.SessionLemmas.{kept_content, read_and_closed, none_closed}
 use Rattle.s2calc.proofs.sessions.fetch_session.Goals as goal
 
 pub returns-in-Ok-clause-content : goal.returns-in-Ok-clause-content
@@ -16,22 +13,11 @@ returns-in-Ok-clause-answer g c =
     c.in_ok-file.ensures c.in-Ok.ensures c.read_session-read.result c.session_of.result c.session_of.ensures
     c.read_session-read.ensures.ended c.read_session-read.ensures.answer.back
 
-pub returns-in-Err-Device-clause-answer : goal.returns-in-Err-Device-clause-answer
-returns-in-Err-Device-clause-answer g c =
+pub returns-in-Err-clause-answer : goal.returns-in-Err-clause-answer
+returns-in-Err-clause-answer g c =
     let old = g.S.Shelf.files c.args.shelf.now in
     let opened = g.S.Shelf.files c.open_file.new.shelf in
     let new = g.S.Shelf.files c.close.new.self in
-    let fails = subst (λ fault. Fails opened new fault) c.in-Err-Device.field-0-is c.in-Err-Device.ensures in
     λ state. none_closed old new c.args.name.now state
-    (opened_fails g.S.File.Read.remaining old opened new c.args.name.now c.in_ok-file.file Device
-    c.in_ok-file.ensures fails)
-
-pub returns-clause-answer : goal.returns-clause-answer
-returns-clause-answer g c =
-    let old = g.S.Shelf.files c.args.shelf.now in
-    let opened = g.S.Shelf.files c.open_file.new.shelf in
-    let new = g.S.Shelf.files c.close.new.self in
-    let fails = subst (λ fault. Fails opened new fault) c.in-Err-Memory.field-0-is c.in-Err-Memory.ensures in
-    λ state. none_closed_for_memory old new c.args.name.now state
-    (opened_fails g.S.File.Read.remaining old opened new c.args.name.now c.in_ok-file.file Memory
-    c.in_ok-file.ensures fails)
+    (opened_fails g.S.File.Read.remaining old opened new c.args.name.now c.in_ok-file.file c.read_session-read.new.file
+    _ _ c.in_ok-file.ensures c.read_session-read.ensures.answer.back c.in-Err.ensures)

@@ -1,0 +1,85 @@
+use Rattle.std.proofs.Common.{◌≡◌, ◌∙◌, ℕ, ◌⊎◌, inl, inr, List, ◌∷◌, false, Option, None, Some, Err, refl, ap}
+use Rattle.std.proofs.Common.{subst}
+use Rattle.std.specs.Prelude.{option_map}
+use Rattle.std.proofs.lemmas.Option.{same_Some, none-some}
+use Rattle.s2shelf.specs.Shelf.{Finding, NoFile, Opened, Holding, Beginning, Written, Failed, Found, Allows}
+use Rattle.s2shelf.specs.Shelf.{is_opening, finding_of, FindsMore, Finds, MayFind, FailsToGet}
+use Rattle.s2shelf.specs.declared.shelf.ShelfFault.{ShelfFault}
+use Rattle.s2shelf.specs.declared.shelf.ShelfFault.TheVariants.{Device, Memory as NoRoom}
+use Rattle.s2script.specs.declared.command.Command.{Command}
+use Rattle.s2script.specs.declared.command.Command.TheVariants.{Edit, Load, Save, Dump, Restore, Undo, Redo, Ask}
+use Rattle.s2script.specs.declared.command.Parsed.{Parsed}
+use Rattle.s2calc.specs.declared.refusal.Refusal.{Refusal}
+use Rattle.s2calc.specs.declared.refusal.Refusal.TheVariants.{Memory}
+use Rattle.s2calc.specs.World.{World}
+use Rattle.s2calc.specs.Replies.{Reply, Refuses}
+use Rattle.s2calc.specs.Fetch.{Fetches}
+use Rattle.s2calc.specs.LawsScripts.{FoundOneMore}
+use Rattle.s2calc.specs.Step.{Loads, WritesFile, Restores, Acts, StepBy, file_in}
+use Rattle.s2calc.proofs.laws.asks_once.Goals as goal
+
+-- what is known of a content is no opening
+no_opening : (f : Finding) (content : Option (List ℕ)) → Allows f content → is_opening f ≡ false
+no_opening NoFile content allows = refl
+no_opening Opened content allows = absurd allows
+no_opening (Holding bytes) content allows = refl
+no_opening (Beginning bytes) content allows = refl
+no_opening (Written bytes) content allows = absurd allows
+no_opening (Failed fault) content allows = absurd allows
+
+known_is_none : (content : Option (List ℕ)) → is_opening (finding_of content) ≡ false
+known_is_none None = refl
+known_is_none (Some bytes) = refl
+
+module _ (old new : World) (reply : Reply) (before : List Found) (e : old.files.found ≡ Some before) where
+  abbrev Once : List ℕ → Type 0
+  Once name = FoundOneMore name before new.files ⊎ ((reply ≡ Refuses Memory) × (new.files.found ≡ Some before))
+
+  once : (name : List ℕ) (f : Finding) → is_opening f ≡ false → FindsMore old.files name f new.files → Once name
+  once name f none more =
+      inl (f, none, more ∙ ap (option_map (λ (fs : List Found). record { name = name; finding = f } ∷ fs)) e)
+
+  finds : (name : List ℕ) (content : Option (List ℕ)) → Finds old.files name content new.files → Once name
+  finds name content f = once name (finding_of content) (known_is_none content) f.asked
+
+  may_find : (name : List ℕ) (content : Option (List ℕ)) → MayFind old.files name content new.files → Once name
+  may_find name content f = once name f.finding (no_opening f.finding content f.allows) f.asks.asked
+
+  fails_to_get : (name : List ℕ) (fault : ShelfFault) → FailsToGet old.files name new.files fault → Once name
+  fails_to_get name fault (inl f) = once name (Failed fault) refl f.found
+  fails_to_get name fault (inr (memory, found)) = may_find name found.0 found.1
+
+  fetches : (name : List ℕ) (refusal : Refusal) → Fetches name old.files (Err refusal) new.files → Once name
+  fetches name refusal (inl f) = finds name None f.1
+  fetches name refusal (inr (inl f)) = fails_to_get name Device f.1
+  fetches name refusal (inr (inr f)) = fails_to_get name NoRoom f.1
+
+  loads : (r : ℕ) (name : List ℕ) → Loads r name old reply new → Once name
+  loads r name (inl (S, (bytes, found, file), gets)) = finds name (Some bytes) found
+  loads r name (inr (refusal, inl f, answer, same)) = fetches name refusal f
+  loads r name (inr (refusal, inr (bytes, found, refuses), answer, same)) = may_find name (Some bytes) found
+
+  writes : (AreThose : List ℕ → Type 0) (name : List ℕ) → WritesFile AreThose name old reply new → Once name
+  writes AreThose name (inl (answer, same, (bytes, those, puts))) = once name (Written bytes) refl puts.found
+  writes AreThose name (inr (inl (answer, same, loses))) = once name (Failed Device) refl loses.found
+  writes AreThose name (inr (inr (answer, same, inl keeps))) = inr (answer, keeps.1 ∙ e)
+  writes AreThose name (inr (inr (answer, same, inr fails))) = once name (Failed NoRoom) refl fails.found
+
+  restores : (name : List ℕ) → Restores name old reply new → Once name
+  restores name (inl (bytes, found, restored, answer)) = finds name (Some bytes) found
+  restores name (inr (refusal, inl f, answer, same)) = fetches name refusal f
+  restores name (inr (refusal, inr (bytes, found, refuses), answer, same)) = may_find name (Some bytes) found
+
+  acts : (name : List ℕ) (command : Command) → file_in command ≡ Some name → Acts command old reply new → Once name
+  acts name (Edit r edit) is a = absurd (none-some name is)
+  acts name (Load r other) is a = subst Once (same_Some other name is) (loads r other a)
+  acts name (Save r other) is a = subst Once (same_Some other name is) (writes _ other a)
+  acts name (Dump other) is a = subst Once (same_Some other name is) (writes _ other a)
+  acts name (Restore other) is a = subst Once (same_Some other name is) (restores other a)
+  acts name Undo is a = absurd (none-some name is)
+  acts name Redo is a = absurd (none-some name is)
+  acts name (Ask question) is a = absurd (none-some name is)
+
+pub returns : goal.returns
+returns c = λ old new line name reply command before says is step e. acts old new reply before e name command is
+    (subst (λ (h : Parsed). StepBy h old reply new) says step.by)
