@@ -28,7 +28,7 @@ def packages_of(line):
     if "()" in line or line.lstrip().startswith("local "):
         return packages, True
     for name, rest in NEED.findall(line):
-        words = WORD.findall(rest)
+        words = [] if name == "need_arm" else WORD.findall(rest)  # those of another processor are unpacked
         packages += OWN.get(name) or words[1 if name in NAMED_FIRST else 0:]
     is_plain = bool(re.match(r"need|  need_installed", line))
     return [package for package in packages if not re.search(r"[$\"]", package)], is_plain
