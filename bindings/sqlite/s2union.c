@@ -11,7 +11,7 @@ SQLITE_EXTENSION_INIT1
 
 #define S2U_HOST_TAKE(size) sqlite3_malloc64(size)
 #define S2U_HOST_GIVE_BACK(at) sqlite3_free(at)
-#include <s2union_host.h>
+#include "s2union_host.h"
 
 /* A list of n cells, or a file of n bytes. The last user that drops it frees it. */
 typedef struct block {
