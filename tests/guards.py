@@ -224,6 +224,8 @@ def ends_of_parts(counts, room):
     counts.tell("what was looked at in texts, as tests that passed", lines[-1] == "3 passed, 2 failed", str(lines))
     again = module.of_table(list(runs), "\n".join(lines))
     counts.tell("a row of texts in the table of a lane", again == runs, str(again))
+    done = subprocess.run([TOP / "tests" / "run", "--list"], capture_output=True, text=True, check=False)
+    counts.tell("--list, which doesn't say what each folder has", "\ntests/tools " in done.stdout, done.stderr)
     done = subprocess.run([TOP / "tests" / "run", "no-such-part"], capture_output=True, text=True, check=False)
     counts.tell("a part that isn't there", done.returncode == 1 and "no part has the name" in done.stderr, done.stderr)
 

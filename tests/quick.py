@@ -54,7 +54,7 @@ def main():
         counts = {crate: pool.submit(rows, crate, room) for crate in ROWS}
         try:
             program = built("calculator", room)
-            counts["the program"] = pool.submit(counted, ["bash", "tests/pytest.sh", "program"], program)
+            counts["the program"] = pool.submit(counted, ["bash", "tests/pytest.sh", "tests/program"], program)
             counts["random scripts"] = pool.submit(
                 counted, [sys.executable, "tests/peer/scripts.py", *sys.argv[1:2]], program)
             counts = {name: it.result() for name, it in counts.items()}

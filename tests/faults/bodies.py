@@ -91,7 +91,7 @@ def said_of(copy, mutants):
     tests = dict.fromkeys(mutant.test for mutant in mutants)
     if not mutants[0].crate:
         program = built(copy)
-        words = ["bash", "tests/pytest.sh", "program", "-k", " or ".join(tests)]
+        words = ["bash", "tests/pytest.sh", "tests/program", "-k", " or ".join(tests)]
         return said_by(words, TOP, S2CALC=program) if program else "not built"
     crate, rows = crate_of(mutants[0].crate, copy), os.path.join(copy, "rows")
     with open(rows, "w", encoding="utf-8") as it:
