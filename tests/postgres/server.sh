@@ -107,7 +107,7 @@ tests() { # TEST..: those of test_postgres.py, or of TESTS, or with the name of 
   (
     cd "$top/tests/postgres" && export PYTHONPATH=$top/tests:${PYTHONPATH:-} PYTHONDONTWRITEBYTECODE=1
     export EXTENSIONS=$copy/usr/share/postgresql/$server/extension
-    timeout "${SECONDS_OF_TESTS:-1800}" /usr/bin/python3 -m pytest -x "${names[@]}"
+    timeout "${SECONDS_OF_TESTS:-1800}" /usr/bin/python3 -m pytest -s -x "${names[@]}"
   )
 }
 

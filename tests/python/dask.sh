@@ -27,7 +27,7 @@ page() {
     (cd "$work" && timeout 300 /usr/bin/python3 dask_page.py) >"$work/said" && diff "$work/wanted" "$work/said"
 }
 tests() { # FILE::CLASS
-  (cd "$work" && timeout 900 /usr/bin/python3 -m pytest "$top/tests/python/$1")
+  (cd "$work" && timeout 900 /usr/bin/python3 -m pytest -s "$top/tests/python/$1")
 }
 blocks() {
   block DASK.md python >"$work/dask_page.py" && block ENGINES.md python >"$work/engines.py" &&
