@@ -1,5 +1,5 @@
 //! Answering all rows of a table.
-use crate::lines::wanted_of;
+use crate::lines::{option, wanted_of};
 use std::alloc::{AllocError, Global};
 use std::io;
 
@@ -11,22 +11,28 @@ pub trait Table {
 }
 
 /// Has each row of standard input answered. Prints the title of each row with other answers than those that stand in
-/// it, and what was found; and at the end how many rows have theirs. Fails if a read, a write or an allocation fails.
+/// it, and what was found; and at the end that all rows have theirs, if they are as many as the table says, or how many
+/// do. Fails if a read, a write or an allocation fails.
 pub fn answer_rows(
     rt: &(impl Input + Print + AllocGlobal),
     table: &mut impl Table,
 ) -> io::Result<()> {
     let text = io::read_to_string(rt.alloc(), rt.reader())?;
     let mut lines = Vec::new(rt.alloc());
+    let mut wanted = u64::MAX;
     let mut met = 0u64;
     for line in text.lines() {
         if line.starts_with("## ") {
+            wanted = option(&lines, "rows", wanted);
             met = met.saturating_add(answer_row(rt, table, &lines)?);
             lines.clear();
         }
         lines.push(line)?;
     }
     met = met.saturating_add(answer_row(rt, table, &lines)?);
+    if met == wanted {
+        return println!(rt; "all rows have their answers");
+    }
     println!(rt; "{met} rows have their answers")
 }
 

@@ -1,6 +1,7 @@
 //! Tables of worked rows, as text that programs read and answer.
 //!
-//! A table is a list of rows. A row begins with its title, `## TITLE`. The lines after it are, by their beginnings:
+//! A table is a list of rows, below a line `$ rows N` that says how many there are. A row begins with its title,
+//! `## TITLE`. The lines after it are, by their beginnings:
 //!
 //! | Line | What it is |
 //! |---|---|
