@@ -12,9 +12,8 @@ ghost use Rattle.s2room.specs.Normalising.{IsNormalisedIn};
 ghost use Rattle.s2room.specs.Numbers.{numbers_in};
 ghost use Rattle.s2union_c.specs.Files.{Decoded, IsCellFile, IsFrameFault, IsFramed, file_ids};
 ghost use Rattle.s2union_c.specs.Results.{KeepsRest, Made, MadeInPlace, MadeOne, Refused};
-ghost use Rattle.s2union_c.specs.Status.{
-    IsAnswerTo, IsAnswer, IsBit, bad_argument, made, no_cell, no_room, wrong_cell,
-};
+ghost use Rattle.s2union_c.specs.Status.{IsAnswerTo, IsAnswer, IsBit, bad_argument, made, no_cell};
+ghost use Rattle.s2union_c.specs.Status.{no_room, wrong_cell};
 
 use crate::lists::cells_of;
 use crate::many::answer_cells;
@@ -245,7 +244,7 @@ pub extern "C" fn s2u_file_contains_cells(
     ensures exact { IsFramed bytes.now → IsLocal (file_ids bytes.now) → All IsCell cells.now
         → length cells.now ≤ length answers.old → (k : ℕ) → k < length cells.now
         → IsBit (slice_index answers.new k)
-            (IsWithin (covers (slice_index cells.now k)) (has_leaf (file_ids bytes.now))) }
+        (IsWithin (covers (slice_index cells.now k)) (has_leaf (file_ids bytes.now))) }
     ensures bits { IsFramed bytes.now → All IsCell cells.now → length cells.now ≤ length answers.old
         → (k : ℕ) → k < length cells.now → slice_index answers.new k ≤ 1 }
     ensures rest { drop (length cells.now) answers.new ≡ drop (length cells.now) answers.old }

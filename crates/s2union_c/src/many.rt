@@ -172,7 +172,7 @@ fn answer_eight<C: Cells>(
     ensures length { length answers.new ≡ length answers.old }
     ensures exact { IsLocal (C.ids ids.now)
         → ((i : ℕ) → i < k
-            → IsBit (slice_index answers.old i) (Holds question (C.ids ids.now) (slice_index cells.now i)))
+        → IsBit (slice_index answers.old i) (Holds question (C.ids ids.now) (slice_index cells.now i)))
         → (i : ℕ) → i < k + 8
         → IsBit (slice_index answers.new i) (Holds question (C.ids ids.now) (slice_index cells.now i)) }
     ensures bits { ((i : ℕ) → i < k → slice_index answers.old i ≤ 1)
@@ -213,7 +213,7 @@ fn answer_four<C: Cells>(
     ensures length { length answers.new ≡ length answers.old }
     ensures exact { IsLocal (C.ids ids.now)
         → ((i : ℕ) → i < k
-            → IsBit (slice_index answers.old i) (Holds question (C.ids ids.now) (slice_index cells.now i)))
+        → IsBit (slice_index answers.old i) (Holds question (C.ids ids.now) (slice_index cells.now i)))
         → (i : ℕ) → i < k + 4
         → IsBit (slice_index answers.new i) (Holds question (C.ids ids.now) (slice_index cells.now i)) }
     ensures bits { ((i : ℕ) → i < k → slice_index answers.old i ≤ 1)
