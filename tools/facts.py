@@ -59,6 +59,7 @@ def versions(text):
         (control.format("s2union"), control_form, short),
         (control.format("s2union_geo"), control_form, short),
         (control.format("s2union_postgis"), control_form, short),
+        ("bindings/postgres/expected/s2union.out", r"^ (?P<value>\d+\.\d+)$", short),
     ]
     return [Place(file, pattern, {"": {"value": value}}) for file, pattern, value in found]
 

@@ -19,7 +19,8 @@ READ = ["tools/calls", "crates/s2union_c/src", "crates/s2union_c/include", "crat
         "bindings/sqlite/s2union_geo.c", "docs/GO.md", "VERSION", "README.md", "CITATION.cff", "docs/C.md",
         "crates/s2calc/src/command_line.rt", "bindings/rust/Cargo.toml", "bindings/rust/serde/Cargo.toml",
         "bindings/r/DESCRIPTION", "bindings/js/package.json", "bindings/postgres/s2union.control",
-        "bindings/postgres/s2union_geo.control", "bindings/postgres/s2union_postgis.control"]
+        "bindings/postgres/s2union_geo.control", "bindings/postgres/s2union_postgis.control",
+        "bindings/postgres/expected"]
 HEADER = "crates/s2union_c/include/s2union.h"
 
 
