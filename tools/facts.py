@@ -39,14 +39,15 @@ def versions(text):
     """The places of the version, whose file has this text."""
     major, minor, patch = map(int, text.split("."))
     whole, short = text.strip(), f"{major}.{minor}"
+    number, cells = 10000 * major + 100 * minor + patch, "crates/s2union_c/src/cells.rt"
     header, control = "crates/s2union_c/include/s2union.h", "bindings/postgres/{}.control"
     control_form = r"default_version = '(?P<value>.*)'"
     found = [
         ("README.md", r"^Version (?P<value>[\d.]+);", whole),
         ("CITATION.cff", r"^version: (?P<value>.*)$", whole),
         ("crates/s2calc/src/command_line.rt", r'\.version\("(?P<value>.*)"\)', whole),
-        ("crates/s2union_c/src/cells.rt", r"fn s2u_version\(\) -> u32\n.*\n\{\n +(?P<value>.*)$",
-         10000 * major + 100 * minor + patch),
+        (cells, r"fn s2u_version\(\) -> u32\n    ensures \{ result ≡ (?P<value>\d+) \}", number),
+        (cells, r"fn s2u_version\(\) -> u32\n.*\n\{\n +(?P<value>.*)$", number),
         (header, r'#define S2U_VERSION_TEXT "(?P<value>.*)"', whole),
         (header, r"#define S2U_VERSION_MAJOR (?P<value>.*)$", major),
         (header, r"#define S2U_VERSION_MINOR (?P<value>.*)$", minor),

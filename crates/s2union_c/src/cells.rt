@@ -27,7 +27,7 @@ pub struct Square {
 /// The version of the library: 10,000 times the major number, 100 times the minor one and the patch.
 #[unsafe(no_mangle)]
 pub extern "C" fn s2u_version() -> u32
-    ensures { result ≡ 10200 }
+    ensures { result ≡ 10300 }
 {
     10300
 }
