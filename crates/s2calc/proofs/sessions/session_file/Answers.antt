@@ -2,4 +2,4 @@ use Rattle.s2edit.proofs.Saving.{text_told}
 use Rattle.s2calc.proofs.sessions.session_file.Goals as goal
 
 pub returns : goal.returns
-returns c = text_told c.encode_parts.result _ c.args.editor.now c.sides.ensures c.encode_parts.ensures
+returns c = text_told c.encode_parts.result _ c.args.editor.now c.sides-sides.ensures c.encode_parts.ensures
