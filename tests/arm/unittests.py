@@ -1,6 +1,6 @@
 #!/usr/bin/env python3
 """Runs tests of Python without pytest, which the Python for ARM lacks, and without those that qemu can't do:
-unittests.py FOLDER [MODULE..], all of FOLDER if no MODULE is named. What is left out stands in tests/arm/left_out.txt:
+unittests.py FOLDER [MODULE..], all of FOLDER if no MODULE is named. tests/arm/left_out.txt has those:
 a line for each, as MODULE.CLASS.TEST: REASON. A line of a module that is run has to name a test of it. The last line is
 'N passed, M failed'.
 """

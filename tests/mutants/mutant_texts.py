@@ -4,7 +4,7 @@ mutant_texts.py FILE NAME FOLDER makes one in a copy of the sources.
 The mutants of a crate, a binding or a database are in its file mutants.txt, and those that only a test can refuse in
 tests/faults/mutants.txt. One begins with a line '## NAME'. Below it are lines 'file: PATH', and after each such line
 pairs of one or more lines 'old: TEXT' and one or more lines 'new: TEXT'. The old text stands in that file once; the
-path begins at the folder of mutants.txt, but for tests/faults at the top of the repository. It may also have:
+path begins at the folder of mutants.txt, and in tests/faults at the top of the repository. It may also have:
 
     function: PATH    the function that the prover has to refuse, if it isn't the one in which the old text stands
     gate: always      `.ci/run` tries it

@@ -568,7 +568,7 @@ class TestPage:
         assert copied == [[c], [c], [c, a, b]] and not wrong, (lists, copied, wrong)
 
     def test_edges(self):
-        """What edges.py asks, of the calls that the page makes, but for numbers that are no cells in questions about a
+        """What edges.py asks, of the calls that the page makes, without numbers that are no cells in questions about a
         cell: the page asks these of its own cells alone."""
         self.open()
         rows = [row for row in edge_rows()
