@@ -5,8 +5,8 @@
 //! unmerged siblings, and answers the union of their leaves; it refuses all other bytes, and says which check failed
 //! first.
 //!
-//! A session is the lists of 26 registers and both sides of their history as changes. What bytes spell one is defined
-//! here, of bytes alone, and bytes spell at most one. `s2session` writes and reads them.
+//! A session is the lists of 26 registers and both sides of their history as changes. The definition of which bytes
+//! spell one stands here; it speaks of bytes alone, and bytes spell at most one. `s2session` writes and reads them.
 #![tactic(auto)]
 
 mod changes;
