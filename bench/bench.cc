@@ -208,16 +208,14 @@ static void cell_questions(Table& table, const Unions& u) {
   using Asked = bool (S2CellUnion::*)(S2CellId) const;
   S2CellUnion x = peer_union(u.x);
   std::vector<uint8_t> a(N), b(N);
-  auto row = [&](Row it, const List& questions, Asked peer, std::function<void()> ours) {
-    table.row(it,
-              {[&] {
-                 for (size_t k = 0; k < N; k++) a[k] = (x.*peer)(S2CellId(questions[k]));
-               },
-               [&] { return Sum().add_all(a).value(); }},
-              {ours, [&] { return Sum().add_all(b).value(); }});
+  auto row = [&](Row it, std::function<void()> theirs, std::function<void()> ours) {
+    table.row(it, {theirs, [&] { return Sum().add_all(a).value(); }}, {ours, [&] { return Sum().add_all(b).value(); }});
   };
   auto each = [&](Row it, const List& questions, Asked peer, CellCall call) {
-    row(it, questions, peer, [&] {
+    auto theirs = [&] {
+      for (size_t k = 0; k < N; k++) a[k] = (x.*peer)(S2CellId(questions[k]));
+    };
+    row(it, theirs, [&] {
       for (size_t k = 0; k < N; k++) b[k] = call(u.x.data(), u.x.size(), questions[k]) == 1;
     });
   };
@@ -226,7 +224,11 @@ static void cell_questions(Table& table, const Unions& u) {
   each({"contains_cell", N, 0xc716de7ca9f82722}, questions, &S2CellUnion::Contains, s2u_contains_cell);
   each({"intersects_cell", N, 0x1c9f361b4a86b9c3}, questions, &S2CellUnion::Intersects, s2u_intersects_cell);
   each({"contains_cell_sorted", N, 0xb36ffb8917552917}, sorted, &S2CellUnion::Contains, s2u_contains_cell);
-  row({"contains_cells_sorted", N, 0xb36ffb8917552917}, sorted, &S2CellUnion::Contains, [&] {
+  auto walk = [&] {
+    size_t k = 0;
+    peer_walk(x, sorted, [&](bool held) { a[k++] = held; });
+  };
+  row({"contains_cells_sorted", N, 0xb36ffb8917552917}, walk, [&] {
     size_t bad = 0;
     made(s2u_contains_cells(u.x.data(), u.x.size(), sorted.data(), N, b.data(), N, &bad), "contains_cells");
   });
@@ -252,11 +254,7 @@ static void denormalising(Table& table, const Unions& u) {
   std::vector<S2CellId> cells;
   auto row = [&](Row it, int min, int modulus) {
     table.row(it,
-              {[&] {
-                 cells = std::vector<S2CellId>();
-                 x.Denormalize(min, modulus, &cells);
-               },
-               [&] { return sum_of(ids_of(cells)); }},
+              {[&] { x.Denormalize(min, modulus, &cells); }, [&] { return sum_of(ids_of(cells)); }},
               {[&] {
                  made(s2u_denormalised(u.x.data(), u.x.size(), min, modulus, room.at(), room.size(), room.len()),
                       it.name);
@@ -272,33 +270,25 @@ static void files(Table& table) {
   List ids = ids_of(normalised(Random(10).cells(N, 14, 20)));
   S2CellUnion cells = peer_union(ids), decoded;
   std::vector<uint8_t> bytes(S2U_FILE_SIZE(ids.size()));
-  std::string peer_bytes;
+  Encoder encoder;
   auto encode = [&] {
     size_t len = 0;
     made(s2u_encode(ids.data(), ids.size(), bytes.data(), bytes.size(), &len), "encode");
   };
   table.row({"encode", ids.size(), 0x8fa81b1fd1049144},
             {[&] {
-               Encoder encoder;
+               encoder.clear();
                cells.Encode(&encoder);
-               peer_bytes.assign(encoder.base(), encoder.length());
              },
              [&] {
-               Sum sum;
-               for (unsigned char byte : peer_bytes) sum.add(byte);
-               return sum.value();
+               const char* first = encoder.base();
+               return Sum().add_all(std::vector<uint8_t>(first, first + encoder.length())).value();
              }},
             {encode, [&] { return Sum().add_all(bytes).value(); }});
   encode();
   Room room(ids.size());
   table.row({"decode_and_normalise", ids.size(), 0x2a71494719421e09},
-            {[&] {
-               Decoder decoder(bytes.data(), bytes.size());
-               must(decoded.Decode(&decoder), "Decode");
-               for (S2CellId cell : decoded) must(cell.is_valid(), "Decode");
-               decoded.Normalize();
-             },
-             [&] { return sum_of(decoded); }},
+            {[&] { peer_decode(bytes, &decoded); }, [&] { return sum_of(decoded); }},
             {[&] { made(s2u_decode(bytes.data(), bytes.size(), room.at(), room.size(), room.len()), "decode"); },
              [&] { return sum_of(room.made()); }});
 }

@@ -43,7 +43,7 @@ ROWS = [
     Row("keep", 10_000, 10_000),
     *(Row(kind, 40_000_000 // (cells + 1000), cells) for cells in (1000, 100_000)
       for kind in ("copy", "union", "intersect", "subtract", "half_copy", "half_union", "half_intersect",
-                   "half_subtract", "covers", "meets", "count", "outerof")),
+                   "half_subtract", "covers", "within", "meets", "count", "outerof")),
     Row("show", 10_000, 1000), Row("show", 100, 100_000), Row("denorm", 1000, 1000),
 ]
 ALONE = [Row("large_covers", 300_000), Row("large_meets", 300_000), Row("large_undo", 300), Row("large_outerof", 5)]

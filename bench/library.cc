@@ -7,18 +7,24 @@ const size_t N = 1000000;
 static u64 sum_of(const List& list) { return Sum().add_all(list).value(); }
 static u64 sum_of(const S2CellUnion& cells) { return sum_of(ids_of(cells)); }
 
-static void sets(Table& table, const List& xs, const List& ys) {
-  S2CellUnion x = peer_union(xs), y = peer_union(ys), peer_made;
-  Room room(2 * (xs.size() + ys.size()));
-  auto row = [&](const char* name, PeerOperation peer, SetCall call) {
-    table.row({name, xs.size() + ys.size(), 0},
-              {[&] { peer_made = (x.*peer)(y); }, [&] { return sum_of(peer_made); }},
-              {[&] { put(call, xs, ys, room, name); }, [&] { return sum_of(room.made()); }});
+// S2 has no call for the last two, so its side makes them by its others.
+static void sets(Table& table, const std::string& size, const List& xs, const List& ys) {
+  S2CellUnion x = peer_union(xs), y = peer_union(ys), whole = S2CellUnion::WholeSphere(), peer_made;
+  Room room(24 * xs.size());
+  auto row = [&](const char* call, size_t units, auto peer, auto ours) {
+    table.row({(call + size).c_str(), units, 0}, {[&] { peer_made = peer(); }, [&] { return sum_of(peer_made); }},
+              {ours, [&] { return sum_of(room.made()); }});
   };
-  PeerOperation intersection = &S2CellUnion::Intersection;
-  row("union", &S2CellUnion::Union, s2u_union);
-  row("intersection", intersection, s2u_intersection);
-  row("difference", &S2CellUnion::Difference, s2u_difference);
+  auto pair = [&](const char* name, auto peer, SetCall call) {
+    row(name, xs.size() + ys.size(), peer, [&] { put(call, xs, ys, room, name); });
+  };
+  pair("union", [&] { return x.Union(y); }, s2u_union);
+  pair("intersection", [&] { return x.Intersection(y); }, s2u_intersection);
+  pair("difference", [&] { return x.Difference(y); }, s2u_difference);
+  pair("symmetric_difference", [&] { return x.Difference(y).Union(y.Difference(x)); }, s2u_symmetric_difference);
+  row("complement", xs.size(), [&] { return whole.Difference(x); }, [&] {
+    made(s2u_complement(xs.data(), xs.size(), room.at(), room.size(), room.len()), "complement");
+  });
 }
 
 static void normalising(Table& table, const char* name, const List& cells) {
@@ -38,42 +44,43 @@ static void normalising(Table& table, const char* name, const List& cells) {
              [&] { return sum_of(List(list.begin(), list.begin() + len)); }});
 }
 
-// One call for each question, of the whole union, and one call for all of them.
-static void questions(Table& table, const List& xs) {
+// One call for each question, if they are a million, and one call for all of them.
+static void questions(Table& table, const std::string& size, const List& xs, List asked) {
   S2CellUnion x = peer_union(xs);
-  List asked = Random(9).cells(N, 8, 30);
+  size_t bad = 0, n = asked.size();
   std::vector<S2CellId> cells = peer_cells(asked);
-  std::vector<uint8_t> answers(N);
-  size_t bad = 0;
+  std::vector<uint8_t> answers(n);
   u64 peer_yes = 0, yes = 0;
   using Asked = bool (S2CellUnion::*)(S2CellId) const;
-  auto row = [&](const char* name, Asked peer, auto ours, auto sum) {
-    table.row({name, N, 0},
-              {[&] {
-                 peer_yes = 0;
-                 for (S2CellId cell : cells) peer_yes += (x.*peer)(cell);
-               },
-               [&] { return peer_yes; }},
-              {ours, sum});
+  auto search = [&](Asked peer) {
+    return [&, peer] {
+      peer_yes = 0;
+      for (S2CellId cell : cells) peer_yes += (x.*peer)(cell);
+    };
+  };
+  auto row = [&](const char* name, auto theirs, auto ours, auto sum) {
+    table.row({(name + size).c_str(), n, 0}, {theirs, [&] { return peer_yes; }}, {ours, sum});
   };
   auto each = [&](const char* name, Asked peer, CellCall call) {
-    auto ask = [&] {
+    auto ask = [&, call] {
       yes = 0;
       for (u64 cell : asked) yes += static_cast<u64>(call(xs.data(), xs.size(), cell));
     };
-    row(name, peer, ask, [&] { return yes; });
+    row(name, search(peer), ask, [&] { return yes; });
   };
-  each("contains_cell", &S2CellUnion::Contains, s2u_contains_cell);
-  each("intersects_cell", &S2CellUnion::Intersects, s2u_intersects_cell);
-  auto all = [&](const char* name, Asked peer, CellsCall call) {
-    auto ask = [&] { made(call(xs.data(), xs.size(), asked.data(), N, answers.data(), N, &bad), name); };
-    row(name, peer, ask, [&] { return static_cast<u64>(std::count(answers.begin(), answers.end(), 1)); });
+  auto all = [&](const char* name, auto theirs, CellsCall call) {
+    auto ask = [&] { made(call(xs.data(), xs.size(), asked.data(), n, answers.data(), n, &bad), name); };
+    row(name, theirs, ask, [&] { return static_cast<u64>(std::count(answers.begin(), answers.end(), 1)); });
   };
-  all("contains_cells", &S2CellUnion::Contains, s2u_contains_cells);
-  all("intersects_cells", &S2CellUnion::Intersects, s2u_intersects_cells);
+  if (n <= N) {
+    each("contains_cell", &S2CellUnion::Contains, s2u_contains_cell);
+    each("intersects_cell", &S2CellUnion::Intersects, s2u_intersects_cell);
+  }
+  all("contains_cells", search(&S2CellUnion::Contains), s2u_contains_cells);
+  all("intersects_cells", search(&S2CellUnion::Intersects), s2u_intersects_cells);
   std::sort(asked.begin(), asked.end());
-  cells = peer_cells(asked);
-  all("contains_cells_in_order", &S2CellUnion::Contains, s2u_contains_cells);
+  auto walk = [&] { peer_yes = peer_walk(x, asked, [](bool) {}); };
+  all("contains_cells_in_order", walk, s2u_contains_cells);
 }
 
 // S2 has no call for these, so its side does the same one cell at a time.
@@ -124,16 +131,22 @@ static void texts(Table& table, const List& xs) {
              [&] { return sum_of(back); }});
 }
 
+// Two unions of that many random cells, and as many questions.
+static List rows(Table& table, const std::string& size, size_t count) {
+  List x = ids_of(S2CellUnion(peer_cells(Random(4).cells(count, 14, 20))));
+  sets(table, size, x, ids_of(S2CellUnion(peer_cells(Random(5).cells(count, 14, 20)))));
+  questions(table, size, x, Random(9).cells(count, 8, 30));
+  return x;
+}
+
 int main(int argc, char** argv) {
   Table table(argc > 1 ? argv[1] : "", argc > 2 ? atoi(argv[2]) : 5);
-  List drawn = Random(4).cells(N, 14, 20), sorted = drawn;
-  std::sort(sorted.begin(), sorted.end());
-  List x = ids_of(S2CellUnion(peer_cells(drawn))), y = ids_of(S2CellUnion(peer_cells(Random(5).cells(N, 14, 20))));
-  sets(table, x, y);
+  List x = rows(table, "", N), drawn = Random(4).cells(N, 14, 20);
   normalising(table, "normalise_shuffled", drawn);
-  normalising(table, "normalise_sorted", sorted);
-  questions(table, x);
+  std::sort(drawn.begin(), drawn.end());
+  normalising(table, "normalise_sorted", drawn);
   ancestors(table, x);
   texts(table, x);
+  if (table.wants("_10000000")) rows(table, "_10000000", 10 * N);
   return table.status();
 }

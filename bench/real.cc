@@ -82,8 +82,6 @@ struct Pairs {
 
 using SetLimit = size_t (*)(const u64*, size_t, const u64*, size_t, u64*);
 
-using PeerCells = std::vector<S2CellId>;
-
 // S2's operations into a vector that is used again, where it has such a call or its own steps can be taken so.
 static void peer_unite(const S2CellUnion& x, const S2CellUnion& y, PeerCells* out) {
   out->assign(x.begin(), x.end());
@@ -298,10 +296,8 @@ static void files(Lanes& lanes, const std::string& of, const List& list) {
   limit::encode(list.data(), n, bytes.data());
   list_row(lanes, "decode_" + of, n, n,
            {[&](PeerCells& out) {
-              Decoder decoder(bytes.data(), bytes.size());
-              peer_back.Decode(&decoder);
+              peer_decode(bytes, &peer_back);
               out = peer_back.Release();
-              S2CellUnion::Normalize(&out);
             },
             [&](Room& room) { made(s2u_decode(bytes.data(), bytes.size(), room.at(), n, room.len()), "decode"); },
             [&](Room& room) { *room.len() = limit::decode(bytes.data(), bytes.size(), room.at()); }});
@@ -318,22 +314,6 @@ static void is_union(Lanes& lanes, const std::string& of, const List& list) {
             {side(PEER, [&] { return u64{peer.IsNormalized()}; }),
              side(CALL, [&] { return u64{s2u_is_union(list.data(), list.size()) == 1}; }),
              side(LIMIT, [&] { return u64{limit::is_union(list.data(), list.size())}; })});
-}
-
-// How many of the cells, which are in order, S2's union contains: a walk over it, by steps of one, and by a search from
-// there where the next cell is far.
-static u64 peer_walk(const S2CellUnion& peer, const List& asked) {
-  const PeerCells& ids = peer.cell_ids();
-  auto is_before = [](S2CellId x, S2CellId y) { return x.range_max() < y.range_min(); };
-  u64 held = 0;
-  auto at = ids.begin();
-  for (u64 id : asked) {
-    S2CellId cell(id);
-    for (int steps = 0; at != ids.end() && is_before(*at, cell); steps++)
-      at = steps < 8 ? at + 1 : std::lower_bound(at, ids.end(), cell, is_before);
-    held += at != ids.end() && at->contains(cell);
-  }
-  return held;
 }
 
 static void cell_questions(Lanes& lanes, const std::string& of, const List& list) {
@@ -368,7 +348,7 @@ static void cell_questions(Lanes& lanes, const std::string& of, const List& list
   row("contains_cells_" + of, each, all, searched);
   std::sort(asked.begin(), asked.end());
   auto walked = [&] { return limit::count_held_in_order(list.data(), list.size(), asked); };
-  row("contains_cells_in_order_" + of, [&] { return peer_walk(peer, asked); }, all, walked);
+  row("contains_cells_in_order_" + of, [&] { return peer_walk(peer, asked, [](bool) {}); }, all, walked);
 }
 
 // A question to one of many unions.

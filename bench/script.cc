@@ -96,6 +96,10 @@ class Loaded {
     if (is_half) kind_ = kind.substr(5);
     std::string size = std::to_string(cells);
     printf("load a first_%s\nload c %s_%s\n", size.c_str(), is_half ? "half" : "second", size.c_str());
+    if (kind_ == "within") {
+      puts("copy b a");
+      line("remove b", leaf_inside());
+    }
   }
 
   bool line_of(long k) {
@@ -109,6 +113,7 @@ class Loaded {
     else if (kind_ == "union" || kind_ == "intersect" || kind_ == "subtract")
       puts(is_first ? "copy b a" : (kind_ + " b c").c_str());
     else if (kind_ == "covers") puts("covers a c");
+    else if (kind_ == "within") puts("covers a b");
     else if (kind_ == "meets") puts("meets a c");
     else if (kind_ == "show") puts("show a");
     else if (kind_ == "denorm") puts("denorm a 16 2");

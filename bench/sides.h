@@ -36,6 +36,35 @@ inline std::vector<S2CellId> peer_cells(const List& ids) {
 
 inline S2CellUnion peer_union(const List& ids) { return S2CellUnion::FromVerbatim(peer_cells(ids)); }
 
+using PeerCells = std::vector<S2CellId>;
+
+// S2's best way to take the bytes of a union file that a stranger hands over: it sorts only what isn't normalized.
+inline void peer_decode(const std::vector<uint8_t>& bytes, S2CellUnion* cells) {
+  Decoder decoder(bytes.data(), bytes.size());
+  must(cells->Decode(&decoder), "Decode");
+  for (S2CellId cell : *cells) must(cell.is_valid(), "Decode");
+  if (!cells->IsNormalized()) cells->Normalize();
+}
+
+// How many of the cells, which are in order, S2's union contains: a walk over it, by steps of one, and by a search from
+// there where the next cell is far. Each answer is handed to `take`.
+template <typename Take>
+u64 peer_walk(const S2CellUnion& peer, const List& asked, Take take) {
+  const PeerCells& ids = peer.cell_ids();
+  auto is_before = [](S2CellId x, S2CellId y) { return x.range_max() < y.range_min(); };
+  u64 count = 0;
+  auto at = ids.begin();
+  for (u64 id : asked) {
+    S2CellId cell(id);
+    for (int steps = 0; at != ids.end() && is_before(*at, cell); steps++)
+      at = steps < 8 ? at + 1 : std::lower_bound(at, ids.end(), cell, is_before);
+    bool held = at != ids.end() && at->contains(cell);
+    take(held);
+    count += held;
+  }
+  return count;
+}
+
 inline List ids_of(const std::vector<S2CellId>& cells) {
   List ids;
   ids.reserve(cells.size());
