@@ -33,9 +33,9 @@ class TheProgram(unittest.TestCase):
     def test_same_bytes(self):
         for line in ("run", "run --explain", "run --prompt", "run --limit=1 --dir . --depth 2 --explain",
                      "run --limit 0", "run --limit", "run --dir", "run --dir=", "run --colour", "run --prompt --prompt",
-                     "run --limit -5", "run --lim 5", "cell 64c", "cell X", "cell", "cell -h", "check parks", "check",
+                     "run --limit -5", "run --lim 5", "cell 64c", "cell X", "cell", "check parks", "check",
                      "check --dir . parks", "draw --cells 1 3/021", "draw --curve --cells 1 -- f", "draw --help",
-                     "--version", "-V", "ru", "-- run", "help cell", "help draw", "help help", "--x"):
+                     "--version", "-V", "ru", "-- run", "help draw", "help help", "--x", "adds", ".*"):
             with self.subTest(line=line):
                 wanted, found = self.both(*line.split(), input=SCRIPT)
                 self.assertEqual(found, wanted)
@@ -141,6 +141,9 @@ class Scripts(unittest.TestCase):
         with open(os.path.join(self.room, "script"), "wb"):
             pass
         self.assertIn(b"s2calc run script", launched("script", **self.how)[2])
+        status, out, error = launched("add", "a", "1", **self.how)
+        self.assertEqual((status, out, first_line(error)), (2, b"", b"s2calc: usage"))
+        self.assertIn(b"'add' is a command of scripts: s2calc run -c 'add a 1'\n", error)
 
     def test_explained_cells(self):
         """The answer is the program's; the identifier, or the reason, is on standard error."""
@@ -193,12 +196,17 @@ class Scripts(unittest.TestCase):
 
 class Help(unittest.TestCase):
     def test_what_is_added(self):
-        """Each line of the program's help stays, but its usage and what it says of a prompt."""
-        for words in (["--help"], ["run", "--help"]):
+        """Each line of the program's help stays, but its usage, what it says of a prompt, and one that is indented."""
+        for words, changed in ((["--help"], []), (["run", "--help"], ["Usage:", "--prompt"]),
+                               (["cell", "-h"], ["Usage:", "-h,"])):
             own, whole = (said(*words)[1].decode().splitlines() for said in (ran, launched))
             gone = [line for line in own if line not in whole]
-            self.assertEqual([line.split()[0] for line in gone], ["Usage:", "--prompt"] if words[0] == "run" else [])
+            self.assertEqual([line.split()[0] for line in gone], changed)
         self.assertEqual(launched("help", "run"), launched("run", "--limit", "5", "-h"))
+        self.assertEqual(launched("help", "cell"), launched("cell", "--help"))
+        self.assertIn(b"      --explain  Says", launched("help", "cell")[1])
+        self.assertIn(b"\n  quit    ", launched("help", "quit")[1])
+        self.assertIn(b"did you mean 'count'?", launched("help", "COUNT")[2])
         self.assertEqual(launched("help"), launched("-h"))
         self.assertEqual(launched("help", "cells"), launched("cells", "--help"))
         self.assertEqual(launched("help", "nothing")[0], 2)

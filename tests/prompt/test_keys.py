@@ -97,6 +97,9 @@ class Keys(unittest.TestCase):
         session = self.started("run", "--prompt", "--limit", "1", "-")
         self.assertTrue(session.banner.startswith("s2calc "))
         self.assertIn("error too-many", self.answered(session, "add a 1 3"))
+        session = self.spawned(LAUNCHER)  # without a word
+        self.assertTrue(self.shown(session).startswith("s2calc "))
+        self.assertEqual(self.status(session), 0)
         for words in ["run", "--no-prompt"], ["run", "-c", "count a"]:
             session = self.spawned(LAUNCHER, *words)
             session.send("count a\r" if words[1] == "--no-prompt" else "")
@@ -127,17 +130,20 @@ class Keys(unittest.TestCase):
                          "example: add a 04 0c 14\n")
         self.assertEqual(self.answered(session, "? add"), self.answered(session, "help add"))
         self.assertEqual(self.answered(session, "help ad"), "'ad' is not a command; did you mean 'add'?\n")
+        self.assertEqual(self.answered(session, "help quit"), whole)
         self.assertEqual(self.status(session), 0)
 
     def test_hints(self):
         session = self.started()
         for line, hint in (("hlep", "; did you mean 'help'?"), (".help", "; did you mean 'help'?"),
                            ("quti", "; did you mean 'quit'?"), (".quit", "; did you mean 'quit'?"),
-                           ("q", "; did you mean 'quit'?"), ("exit()", "; did you mean 'exit'?"), ("walk", ""),
+                           ("q", "; did you mean 'quit'?"), ("exit()", "; did you mean 'exit'?"),
+                           (".tables", "; 'help' lists the commands"), ("ADD A 04", "; did you mean 'add'?"),
                            ("cuont a", "; did you mean 'count'?"), ("un", "; did you mean 'union', 'undo'?"),
                            ("h", "; did you mean 'has', 'history', 'help'?")):
             self.assertEqual(self.answered(session, line),
                              f"error syntax\n  '{line.split()[0]}' is not a command{hint}\n")
+        self.assertEqual(self.answered(session, "quit now"), "error syntax\n  'quit' takes no word\n")
 
     # ---- keys
 

@@ -23,7 +23,7 @@ OWN = {
     "help [COMMAND]": "this list, or a command with its errors and an example; also '?'",
     "quit": "leaves, as 'exit' and Ctrl-D do",
 }
-WORDS = ("help", "quit", "exit")
+WORDS = ("help", "quit", "exit")  # of the prompt, beside the commands of a script
 # The errors of each kind of word in a command's form.
 OF_WORDS = {"r": "register", "s": "register", "CELL": "cell", "LEVEL": "level", "MIN": "level", "MOD": "level",
             "FACE": "face", "I": "rectangle", "I0": "rectangle", "NAME": "name"}
@@ -98,7 +98,7 @@ def near(word, names):
 
 
 def show_help(program, words):
-    if not words:
+    if not words or words[0] in WORDS:
         print(whole_help(program))
         return 0
     if words[0] in COMMANDS:
@@ -292,12 +292,21 @@ def folder_of(options):
     return folder
 
 
-def answer(program, path, line):
+def hinted(reason, word):
+    """The reason why a word is not a command, with a hint at a word of the prompt, or at an upper-case command."""
+    if word in WORDS:
+        return f"'{word}' takes no word"
+    if reason[-1] == "?":
+        hint = near(word, WORDS)
+        return reason[:-1] + hint.replace("; did you mean", ",") if hint else reason
+    return reason + (near(word, [*COMMANDS, *WORDS]) or "; 'help' lists the commands")
+
+
+def answer(program, line):
     """Has the program carry out a line, and shows why if it refuses it."""
     reason = program.carry_out(os.fsencode(line)).rstrip("\n")
     if re.search(r"is not a command(; did|$)", reason):
-        hint = near(line.split()[0], WORDS)
-        reason = reason[:-1] + hint.replace("; did you mean", ",") if reason[-1] == "?" and hint else reason + hint
+        reason = hinted(reason, line.split()[0])
     if reason:
         print(f"  {reason}", flush=True)
 
@@ -323,7 +332,7 @@ def main(path, *options):
         if words[:1] in (["help"], ["?"]):
             show_help(path, words[1:])
         else:
-            answer(program, path, line)
+            answer(program, line)
     return program.close()
 
 
