@@ -13,9 +13,10 @@ need_modules sphinx,numpydoc,markdown python3-{sphinx,numpydoc,markdown}
 need_packages
 step "tools/reference, each warning an error" "/usr/bin/python3" "$top/tools/reference" "$work/made" "${parts[@]}"
 [ "$failed" -eq 0 ] || finish
-by_man() { # each call has a page, which names its errors
+by_man() { # each call has a page, which names its errors; the header's name is that of the include
   local call
-  man -l "$work/made/man/man3/s2union.h.3" >"$work/said" && for call in $(grep -oE '\bs2u_[a-z_]+\(' \
+  man -l "$work/made/man/man3/s2union.h.3" >"$work/said" && grep -q '^ *s2union.h - ' "$work/said" || return 1
+  for call in $(grep -oE '\bs2u_[a-z_]+\(' \
     "$top/crates/s2union_c/include/s2union.h" | tr -d '('); do
     [ -s "$work/made/man/man3/$call.3" ] && grep -q "$call *(" "$work/said" || { echo "$call" && return 1; }
   done
