@@ -31,16 +31,18 @@ static int has_null(const UDF_ARGS* args) {
 #define SMALL(k) (*(long long*)args->args[k] < 0 || *(long long*)args->args[k] > 99 ? 99u : \
                   (uint32_t)*(long long*)args->args[k])
 #define DEGREES(k) *(double*)args->args[k]
-#define BEGUN(name, kinds)                                                                          \
+/* `most` is the length of the longest answer. The server cuts answers at it wherever it keeps them: for DISTINCT, say.
+ * It would take that of the arguments. */
+#define BEGUN(name, kinds, most)                                                                    \
   flag name##_init(UDF_INIT* it, UDF_ARGS* args, char* message) {                                    \
-    it->maybe_null = 1, it->const_item = 0, it->ptr = NULL;                                          \
+    it->maybe_null = 1, it->const_item = 0, it->ptr = NULL, it->max_length = most;                   \
     return wanted(args, sizeof kinds - 1, kinds, message);                                           \
   }
 
 /* A number: `call` sets `answer`, and says whether there is one. Letters: u a union, c a cell, i a small number, d a
  * number of degrees, t a text. */
 #define NUMBER(name, kinds, call)                                                                   \
-  BEGUN(name, kinds)                                                                                 \
+  BEGUN(name, kinds, 20)                                                                             \
   long long name(UDF_INIT* it, UDF_ARGS* args, flag* is_null, flag* error) {                         \
     (void)it, (void)error;                                                                           \
     uint64_t answer = 0;                                                                             \
@@ -68,7 +70,7 @@ NUMBER(s2_common_ancestor, "cc", FOUND(s2u_common_ancestor(CELL(0), CELL(1))))
 NUMBER(s2_cell, "t", s2u_from_token(TEXT(0), &answer) == S2U_OK)
 NUMBER(s2_leaf_at, "dd", FOUND(s2u_geo_leaf(DEGREES(0), DEGREES(1))))
 
-BEGUN(s2_token, "c")
+BEGUN(s2_token, "c", S2U_MOST_TOKEN)
 char* s2_token(UDF_INIT* it, UDF_ARGS* args, char* result, unsigned long* length, flag* is_null, flag* error) {
   (void)it, (void)error;
   size_t n = 0;
@@ -79,6 +81,9 @@ char* s2_token(UDF_INIT* it, UDF_ARGS* args, char* result, unsigned long* length
 
 /* ---- unions, in memory that the statement has until its end */
 
+#define KEEPER(name, kinds)                                                                         \
+  BEGUN(name, kinds, 1u << 30)                                                                       \
+  void name##_deinit(UDF_INIT* it) { free(it->ptr); }
 typedef struct { uint64_t* ids; size_t n; } list;
 
 static int read_list(const UDF_ARGS* args, unsigned k, list* to) {
@@ -97,11 +102,7 @@ static char* written(UDF_INIT* it, const uint64_t* ids, size_t n, unsigned long*
 }
 
 #define MAKER(name, kinds, most, call)                                                              \
-  flag name##_init(UDF_INIT* it, UDF_ARGS* args, char* message) {                                    \
-    it->maybe_null = 1, it->ptr = NULL, it->max_length = 1u << 30;                                   \
-    return wanted(args, sizeof kinds - 1, kinds, message);                                           \
-  }                                                                                                  \
-  void name##_deinit(UDF_INIT* it) { free(it->ptr); }                                                \
+  KEEPER(name, kinds)                                                                                \
   char* name(UDF_INIT* it, UDF_ARGS* args, char* result, unsigned long* length, flag* is_null, flag* error) { \
     (void)result, (void)error;                                                                       \
     list a = {NULL, 0}, b = {NULL, 0};                                                               \
@@ -116,8 +117,7 @@ static char* written(UDF_INIT* it, const uint64_t* ids, size_t n, unsigned long*
     return made;                                                                                     \
   }
 /* Texts: the tokens of a union, and the union of tokens. */
-BEGUN(s2_tokens, "u")
-void s2_tokens_deinit(UDF_INIT* it) { free(it->ptr); }
+KEEPER(s2_tokens, "u")
 char* s2_tokens(UDF_INIT* it, UDF_ARGS* args, char* result, unsigned long* length, flag* is_null, flag* error) {
   (void)result, (void)error;
   list a = {NULL, 0};
@@ -132,8 +132,7 @@ char* s2_tokens(UDF_INIT* it, UDF_ARGS* args, char* result, unsigned long* lengt
   *length = len;
   return it->ptr;
 }
-BEGUN(s2_normalise, "t")
-void s2_normalise_deinit(UDF_INIT* it) { free(it->ptr); }
+KEEPER(s2_normalise, "t")
 char* s2_normalise(UDF_INIT* it, UDF_ARGS* args, char* result, unsigned long* length, flag* is_null, flag* error) {
   (void)result, (void)error;
   size_t n = 0, room = has_null(args) ? 0 : args->lengths[0] / 2 + 1;

@@ -157,17 +157,20 @@ class Mariadb(Engine):
         unions = {name: Union(cells) for name, cells in REGIONS.items()}
         wanted = sum(a < b and unions[a].intersects(unions[b]) for a in unions for b in unions)
         self.assertEqual(self.ask(f"USE world; {pairs_of_unions}"), f"{wanted}\n")
-        a, b = unions["France"], unions["Germany"]
-        for name, union in (("union", a | b), ("intersection", a & b), ("difference", a - b),
-                            ("symmetric_difference", a ^ b)):
-            said = self.ask(f"USE world; SELECT hex(s2_{name}(a.u, b.u)) FROM regions a, regions b "
-                            "WHERE a.name = 'France' AND b.name = 'Germany'")
-            self.assertEqual(bytes.fromhex(said), union.to_bytes())
+        france = unions["France"]
+        for a, b in ((france, unions["Germany"]), (~Union(), france), (france, ~Union())):
+            given = f"(x'{a.to_bytes().hex()}', x'{b.to_bytes().hex()}')"
+            said = self.ask(f"SELECT hex(s2_union{given}), hex(s2_intersection{given}), hex(s2_difference{given}), "
+                            f"hex(s2_symmetric_difference{given}), s2_contains{given}")
+            self.assertEqual([bytes.fromhex(word) for word in said.split("\t")[:4]],
+                             [union.to_bytes() for union in (a | b, a & b, a - b, a ^ b)])
+            self.assertEqual(said.split("\t")[4], f"{int(a >= b)}\n")
         said = self.ask("USE world; SELECT hex(s2_complement(u)), s2_count(u), s2_leaves(u), s2_tokens(u), "
                         "hex(s2_normalise(s2_tokens(u))), s2_contains(u, u) FROM regions WHERE name = 'France'")
         said = said.rstrip("\n").split("\t")
-        self.assertEqual([bytes.fromhex(said[k]) for k in (0, 4)], [(~a).to_bytes(), a.to_bytes()])
-        self.assertEqual(said[1:4] + said[5:], [str(len(a)), str(a.leaf_count()), " ".join(a.tokens()), "1"])
+        self.assertEqual([bytes.fromhex(said[k]) for k in (0, 4)], [(~france).to_bytes(), france.to_bytes()])
+        self.assertEqual(said[1:4] + said[5:],
+                         [str(len(france)), str(france.leaf_count()), " ".join(france.tokens()), "1"])
         cell = "s2_cell('9b')"
         said = self.ask(f"SELECT {cell}, s2_token({cell}), s2_level({cell}), s2_face({cell}), s2_parent({cell}, 1), "
                         f"s2_child({cell}, 0), s2_range_min({cell}), s2_range_max({cell}), s2_is_cell({cell}), "
@@ -180,13 +183,35 @@ class Mariadb(Engine):
             "47e66e1d8f8be23b", 1))])
         wrong = ("s2_level(2), s2_token(2), s2_parent(s2_cell('9b'), 31), s2_child(1, 0), s2_cell('x'), s2_count('x'), "
                  "s2_contains_cell('x', 1), s2_leaf_at(541, 0), s2_union('x', 'y'), s2_tokens('x'), "
-                 "s2_normalise('zz'), s2_contains(NULL, 'x'), s2_complement(NULL)")
-        self.assertEqual(self.ask(f"SELECT {wrong}").split(), ["NULL"] * 13)
+                 "s2_normalise('zz'), s2_contains(NULL, 'x'), s2_contains_cell(s2_normalise('1'), NULL), "
+                 "s2_complement(NULL), s2_parent(s2_cell('9b'), -1), s2_parent(s2_cell('9b'), 4294967296), "
+                 "s2_child(s2_cell('9b'), 4)")
+        self.assertEqual(self.ask(f"SELECT {wrong}").split(), ["NULL"] * 17)
         empty = Union().to_bytes().hex()
         self.assertEqual(self.ask("SELECT s2_is_union('x'), s2_is_cell(2), lower(hex(s2_normalise('')))").split(),
                          ["0", "0", empty])
-        with self.assertRaises(subprocess.CalledProcessError):
-            self.ask("SELECT s2_level(1, 2)")
+        two = Union([1, 5])  # answers that are longer than the arguments, kept by the server
+        said = self.ask("USE world; CREATE TABLE kept AS SELECT s2_token(1), hex(s2_normalise('1')), "
+                        f"s2_tokens(x'{two.to_bytes().hex()}'); SELECT * FROM kept")
+        self.assertEqual(said, f"{1:016x}\t{Union([1 << 60]).to_bytes().hex().upper()}\t{' '.join(two.tokens())}\n")
+        for call in ("s2_level(1, 2)", "s2_union(s2_normalise('1'))", "s2_leaf_at(1)"):
+            with self.assertRaises(subprocess.CalledProcessError):
+                self.ask(f"SELECT {call}")
+
+    def test_memory_goes_back_after_each_row(self):
+        many = Union([(8 * k + 1) for k in range(20000)])
+        self.ask(f"""{self.given('')} CREATE TABLE large (u longblob, t longtext);
+            INSERT INTO large VALUES (x'{many.to_bytes().hex()}', '{' '.join(many.tokens())}');""")
+        for call in ("s2_union(u, u)", "s2_complement(u)", "s2_tokens(u)", "s2_normalise(t)"):
+            before = self.resident()
+            self.ask(f"USE world; SELECT BENCHMARK(1000, length({call})) FROM large")
+            self.assertLess(self.resident() - before, 100_000, call)
+
+    @staticmethod
+    def resident():
+        """The server's memory, in KB."""
+        status = Path("/proc", (WORK / "mariadb.pid").read_text().strip(), "status").read_text()
+        return int(status.partition("VmRSS:")[2].split()[0])
 
     def test_what_is_not_cut(self):
         """The CHECK refuses it."""
