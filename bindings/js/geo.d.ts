@@ -20,6 +20,6 @@ export function toGeoJSON(union: CellUnion, properties?: object): {type: string;
 /**
  * A union that contains what GeoJSON has, as an object or as a text: the leaf of each point, and the cells in polygons
  * and at borders, about `atBorder` of them (10,000), which polygons and lines share by their lengths. Edges are
- * straight on the map. @throws RangeError, SyntaxError, Error for what is no GeoJSON
+ * straight on the map. @throws RangeError, SyntaxError, Error for what is no GeoJSON or is too much
  */
 export function fromGeoJSON(geojson: object | string, atBorder?: number): CellUnion;

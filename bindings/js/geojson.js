@@ -12,6 +12,8 @@ const MOST_FEATURES = 500;
 const MOST_POLYGONS = 200_000;
 /** The degrees between two points of a border. What is straight on the map bends less than 10 m between them. */
 const STEP = 0.25;
+/** The most steps of the edges of all shapes. */
+const MOST_STEPS = 4_000_000;
 const STRIPES = 1024;
 const LEAST_LEVEL = 30;
 const radians = (degrees) => degrees * (Math.PI / 180);
@@ -73,12 +75,18 @@ function checked(position) {
   if (!isWithin(longitude, 540) || !isWithin(latitude, 90)) throw new Error("a position is out of range");
 }
 
-/** Refuses shapes that are too many, or that have a position out of range. */
+/** How many steps an edge takes. */
+const stepsOf = ([x, y], [toX, toY]) => Math.max(1, Math.ceil(Math.max(Math.abs(toX - x), Math.abs(toY - y)) / STEP));
+
+/** Refuses shapes that are too many or too long, or that have a position out of range. */
 function checkShapes(all) {
   all.forEach(({lines}) => lines.forEach((line) => listed(line).forEach(checked)));
   if (all.filter(hasEdges).length > MOST_SHAPES) {
     throw new Error(`there are more than ${MOST_SHAPES} polygons and lines`);
   }
+  let steps = 0;
+  all.forEach(({lines}) => lines.forEach((line) => line.slice(1).forEach((to, k) => (steps += stepsOf(line[k], to)))));
+  if (steps > MOST_STEPS) throw new Error(`the edges have more than ${MOST_STEPS} steps of ${STEP} degrees`);
 }
 
 const hasEdges = ({lines}) => lines.some((line) => line.length > 1);
@@ -104,7 +112,7 @@ function edgesOf({lines}) {
   for (const line of lines) {
     for (let k = 1; k < line.length; k++) {
       const [[x, y], [toX, toY]] = [line[k - 1], line[k]];
-      const steps = Math.max(1, Math.ceil(Math.max(Math.abs(toX - x), Math.abs(toY - y)) / STEP));
+      const steps = stepsOf(line[k - 1], line[k]);
       let from = pointOf(x, y);
       for (let step = 1; step <= steps; step++) {
         const to = pointOf(x + ((toX - x) * step) / steps, y + ((toY - y) * step) / steps);
@@ -181,7 +189,7 @@ function squaresOf(shape, most, tell) {
       else if (isIn(square)) found.push(square);
       if (near.length > most) return null;
     }
-    inside.push(...found);
+    for (const square of found) inside.push(square); // they may be more than a call takes
     return near;
   };
   const edges = edgesOf(shape);

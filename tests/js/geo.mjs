@@ -41,6 +41,8 @@ const tests = {
     assert.throws(() => geo.fromGeoJSON({type: "Nothing"}), /no GeoJSON/);
     assert.throws(() => geo.fromGeoJSON("{"), SyntaxError);
     assert.throws(() => geo.fromGeoJSON({type: "Point", coordinates: [0, 91]}), /out of range/);
+    const long = Array.from({length: 1000}, (_, k) => [k % 2 ? 540 : -540, 0]);
+    assert.throws(() => geo.fromGeoJSON({type: "LineString", coordinates: long}), /more than 4000000 steps/);
     assert.throws(() => geo.fromGeoJSON(polygon, 0), RangeError);
     assert.throws(() => geo.toGeoJSON(CellUnion.fromTokens("1").denormalized(1)), TypeError);
   },
@@ -58,6 +60,7 @@ const tests = {
       return union.leafCount();
     });
     assert.ok(sizes[1] < sizes[0]);
+    assert.ok(geo.fromGeoJSON(polygon, 50_000).leafCount() < sizes[1]);
   },
   "to GeoJSON and back": () => {
     const union = CellUnion.fromTokens("47e7 47e1 64");

@@ -230,6 +230,9 @@ class Polygons(unittest.TestCase):
         ring = numpy.stack([numpy.linspace(0, 300, 500001), numpy.zeros(500001)], axis=1).tolist()
         with self.assertRaisesRegex(ValueError, "more than 1000000 positions"):
             coverings({"type": "MultiPolygon", "coordinates": [[ring + ring[:1]], [ring + ring[:1]]]})
+        comb = [[539 if k % 2 else -539, k / 10 - 60] for k in range(1200)]
+        with self.assertRaisesRegex(ValueError, "more than 4000000 steps"):
+            covering(polygon([*comb, [-540, 60], [-540, -60], comb[0]]))
         with tempfile.NamedTemporaryFile() as file:
             file.truncate(s2union_geo.MOST_BYTES + 1)
             with self.assertRaisesRegex(ValueError, "has more than 268435456 bytes"):
