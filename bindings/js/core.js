@@ -400,10 +400,9 @@ class Core {
     return ids.slice(start, start + Number(this.number(count)));
   }
 
-  /** The cell of the list that contains the cell, or 0n. */
-  holder(ids, cell) {
-    const found = this.cellsAt(ids, cell);
-    return found.length === 1 && this.cellContains(found[0], cell) ? found[0] : 0n;
+  /** The cell of the list that has the leaf, or 0n. */
+  holder(ids, leaf) {
+    return this.cellsAt(ids, leaf)[0] ?? 0n;
   }
 
   // ---- many cells: an entry that there isn't is 0, or 255 for a level

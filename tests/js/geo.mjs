@@ -9,7 +9,7 @@ import {pathToFileURL} from "node:url";
 const [folder, places, leaves] = process.argv.slice(2).map((name) => resolve(name));
 const {exports} = JSON.parse(readFileSync(join(folder, "package.json"), "utf8"));
 const imported = (name) => import(pathToFileURL(join(folder, exports[name].default)));
-const {CellUnion, Refusal, load, tokens, fromToken, level, token} = await imported(".");
+const {CellUnion, Refusal, load, tokens, fromToken, face, level, parents, token} = await imported(".");
 const geo = await imported("./geo");
 const rows = readFileSync(places, "utf8").trim().split("\n").map((line) => line.trim().split(" "));
 const positions = rows.map(([longitude, latitude]) => [Number(longitude), Number(latitude)]);
@@ -47,8 +47,9 @@ const tests = {
     assert.throws(() => geo.toGeoJSON(CellUnion.fromTokens("1").denormalized(1)), TypeError);
   },
   "a covering has all points of a polygon, and few more with more cells": () => {
-    const sizes = [50, 1000].map((most) => {
-      const union = geo.fromGeoJSON(JSON.stringify({type: "Feature", geometry: polygon}), most);
+    const sizes = [[50, 0], [1000, 0], [1000, 360], [1000, -360]].map(([most, turn]) => {
+      const geometry = {type: "Polygon", coordinates: [square.map(([x, y]) => [x + turn, y])]};
+      const union = geo.fromGeoJSON(JSON.stringify({type: "Feature", geometry}), most);
       for (let x = -2; x <= 12; x += 0.37) {
         for (let y = -2; y <= 12; y += 0.41) {
           const isIn = x >= 0 && x <= 10 && y >= 0 && y <= 10;
@@ -62,6 +63,15 @@ const tests = {
     assert.ok(sizes[1] < sizes[0]);
     assert.ok(geo.fromGeoJSON(polygon, 50_000).leafCount() < sizes[1]);
   },
+  "points are their leaves, and a ring may be open": () => {
+    const [first, ...others] = positions.slice(0, 9);
+    const points = {type: "GeometryCollection", geometries: [
+      {type: "Point", coordinates: first}, {type: "MultiPoint", coordinates: others}]};
+    assert.ok(geo.fromGeoJSON(points).equals(new CellUnion(geo.fromLngLats(positions.slice(0, 9)))));
+    const [open, closed] = [square.slice(1), square].map(
+      (ring) => geo.fromGeoJSON({type: "Polygon", coordinates: [ring]}, 500));
+    assert.ok(open.equals(closed));
+  },
   "to GeoJSON and back": () => {
     const union = CellUnion.fromTokens("47e7 47e1 64");
     const made = geo.toGeoJSON(union, {name: "three"});
@@ -72,6 +82,17 @@ const tests = {
       assert.ok(back.isSupersetOf(new CellUnion([fromToken(cell)])) || level(fromToken(cell)) < 5);
     }
     assert.equal(geo.toGeoJSON(CellUnion.fromTokens("1 5")).features.length, 8);
+    const cells = [...CellUnion.fromTokens("1 3 5 7 9 b").denormalized(1), ...parents(geo.fromLngLats(positions), 9)];
+    for (const {geometry: {coordinates: [ring]}, properties} of cells.flatMap(
+      (cell) => geo.toGeoJSON(new CellUnion([cell])).features)) {
+      assert.deepEqual(ring.at(-1), ring[0]);
+      const edges = ring.slice(1).map((to, k) => [ring[k], to]);
+      assert.ok(edges.reduce((area, [[x, y], [toX, toY]]) => area + x * toY - toX * y, 0) > 0, properties.cell);
+      const ofPole = edges.map((ends) => ends.filter(([, y]) => Math.abs(y) === 90).length);
+      edges.forEach(([[x], [toX]], k) => assert.ok(Math.abs(toX - x) <= (ofPole[k] === 1 ? 0 : 180), properties.cell));
+      const isAtPole = level(fromToken(properties.cell)) === 1 && [2, 5].includes(face(fromToken(properties.cell)));
+      assert.equal(ring.length, isAtPole || ofPole.some(Boolean) ? 6 : 5, properties.cell);
+    }
     assert.deepEqual(geo.toGeoJSON(new CellUnion()), {type: "FeatureCollection", features: []});
     assert.throws(() => geo.toGeoJSON({denormalizedSize: () => 200_001n}), RangeError);
   },
