@@ -7,10 +7,10 @@ use Rattle.s2list.proofs.Numbers.{first_number-longer}
 use Rattle.s2file.specs.declared.union_file.TheConstants.{MOST_SIZE}
 use Rattle.s2file.specs.declared.fault.FileFault.{FileFault}
 use Rattle.s2file.specs.declared.fault.FileFault.TheVariants.{Version, Count, Short, Trailing, Cell, Memory}
-use Rattle.s2file.specs.File.{stated_count, File, HasVersion, HasHead, HasCount, HasFault}
+use Rattle.s2file.specs.File.{stated_count, File, HasVersion, HasHead, HasFault}
 
 pub longest : (bytes : List ℕ) (S : ℕ → Bool) → File bytes S → length bytes ≤ MOST_SIZE
-longest bytes S f = omega (arith, f.is.length_is, f.is.most)
+longest bytes S f = omega (arith, f.is.framed.length_is, f.most)
 
 -- ---- what more bytes leave
 
@@ -30,25 +30,19 @@ version-longer {xs} ys h v = record { some = omega (arith, longer xs ys); versio
 head-longer : {xs : List ℕ} (ys : List ℕ) → MOST_SIZE < length xs → HasHead xs → HasHead (xs ++ ys)
 head-longer {xs} ys h v = record { version = version-longer ys h v.version; whole = omega (arith, longer xs ys) }
 
-count-longer : {xs : List ℕ} (ys : List ℕ) → MOST_SIZE < length xs → HasCount xs → HasCount (xs ++ ys)
-count-longer {xs} ys h v = record {
-  head = head-longer ys h v.head;
-  most = omega (arith, v.most, stated-longer xs ys h);
-}
-
 -- they are too long for the last checks, and not too short
 fault-longer : (xs ys : List ℕ) (fault : FileFault) → MOST_SIZE < length xs → fault ≢ Memory → HasFault xs fault →
     HasFault (xs ++ ys) fault
 fault-longer xs ys Version h n f = (omega (arith, longer xs ys), λ e. f.1 (sym (first-longer xs ys h) ∙ e))
 fault-longer xs ys Count h n f = (head-longer ys h f.0, omega (arith, f.1, stated-longer xs ys h))
 fault-longer xs ys Trailing h n f = (
-  count-longer ys h f.0,
-  omega (arith, f.0.most, stated-longer xs ys h, longer xs ys),
+  (head-longer ys h f.0.0, omega (arith, f.1, stated-longer xs ys h, longer xs ys)),
+  omega (arith, f.1, stated-longer xs ys h),
 )
-fault-longer xs ys Short h n (inl none) = absurd (omega (arith, none))
-fault-longer xs ys Short h n (inr (inl head)) = absurd (omega (arith, head.1))
-fault-longer xs ys Short h n (inr (inr tail)) = absurd (omega (arith, tail.0.most, tail.1))
-fault-longer xs ys Cell h n f = absurd (omega (arith, f.0.length_is, f.0.counted.most))
+fault-longer xs ys Short h n (inl none, few) = absurd (omega (arith, none))
+fault-longer xs ys Short h n (inr (inl head), few) = absurd (omega (arith, head.1))
+fault-longer xs ys Short h n (inr (inr tail), few) = absurd (omega (arith, few tail.0, tail.1))
+fault-longer xs ys Cell h n f = absurd (omega (arith, f.0.framed.length_is, f.0.most))
 fault-longer xs ys Memory h n f = absurd (n refl)
 
 -- ---- beginnings

@@ -9,18 +9,14 @@ use Rattle.s2list.specs.Union.{has_leaf}
 use Rattle.s2list.specs.Packed.{IsFamily}
 use Rattle.s2list.proofs.Packing.{family_covers}
 use Rattle.s2file.specs.declared.union_file.TheConstants.{MOST_CELLS}
-use Rattle.s2file.specs.File.{IsFileOf, File, file_text}
+use Rattle.s2file.specs.File.{File, file_text}
 use Rattle.s2file.proofs.Texts.{text_is_file}
 
 -- the text of identifiers is a file of a set
 pub file_from_text : (ids bytes : List ℕ) (S : ℕ → Bool) → All IsCell ids → length ids ≤ MOST_CELLS →
     file_text ids ≡ bytes → ((x : ℕ) → S x ≡ has_leaf ids x) → File bytes S
 file_from_text ids bytes S cells most text leaves =
-    record {
-      ids = ids;
-      is = subst (λ (b : List ℕ). IsFileOf b ids) text (text_is_file ids cells most);
-      leaves = leaves;
-    }
+    subst (λ (b : List ℕ). File b S) text (text_is_file ids S cells most leaves)
 
 pub face_0 : IsCell 0x1000_0000_0000_0000
 face_0 = (0, 0, record { level = lit≤ tt; place = lit< tt; id = refl })

@@ -1,4 +1,4 @@
-pub mod Reading
+pub mod Numbers
 pub mod Files
 pub mod Texts
 pub mod Places

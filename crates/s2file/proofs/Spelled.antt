@@ -9,7 +9,8 @@ use Rattle.s2list.proofs.Normal.{same_from_leaves}
 use Rattle.s2list.proofs.Shortest.{shortest}
 use Rattle.s2file.specs.Session.{Content, content_of_list, session_text, IsRegisterList}
 use Rattle.s2file.specs.Session.{IsContent, IsSessionFile, IsUnionFile, Spells}
-use Rattle.s2file.proofs.Files.{same_leaves}
+use Rattle.s2file.specs.File.{file_ids}
+use Rattle.s2file.proofs.Files.{length-file_ids, same_leaves}
 use Rattle.s2file.proofs.Fronts.{parts_of, one_session}
 
 -- a session file spells one session
@@ -32,7 +33,7 @@ pub first_of_file : {bytes : List ℕ} {s : Content} → IsSessionFile bytes s �
 first_of_file f = ap (λ (l : List ℕ). slice_index l 0) f.text
 
 apart : (bytes : List ℕ) (s t : Content) → IsSessionFile bytes s → IsUnionFile bytes t → ⊥
-apart bytes s t f g = absurd (omega (arith, first_of_file f, g.file.is.version))
+apart bytes s t f g = absurd (omega (arith, first_of_file f, g.file.is.framed.head.version.version))
 
 pub one_spelled : (bytes : List ℕ) (s t : Content) → Spells bytes s → Spells bytes t → s ≡ t
 one_spelled bytes s t (inl f) (inl g) = file_same f g
@@ -60,13 +61,14 @@ all_empty zero = tt
 all_empty (suc n) = (record { local = local_nothing; few = omega arith }, all_empty n)
 
 pub union_content : {bytes : List ℕ} {s : Content} → IsUnionFile bytes s → IsContent s
-union_content f =
-    let few : length f.cells ≤ length f.file.ids =
-    shortest (has_leaf f.cells) f.cells f.local (λ x. refl) f.file.ids f.file.is.cells
+union_content {bytes} f =
+    let few : length f.cells ≤ length (file_ids bytes) =
+    shortest (has_leaf f.cells) f.cells f.local (λ x. refl) (file_ids bytes) f.file.is.cells
     (λ x. sym (f.file.leaves x)) in
+    let many = length-file_ids bytes f.file.is.framed in
     subst IsContent (sym f.content) (record {
       count = refl;
-      registers = (record { local = f.local; few = omega (arith, few, f.file.is.most) }, all_empty 25);
+      registers = (record { local = f.local; few = omega (arith, few, many, f.file.most) }, all_empty 25);
       past = tt;
       future = tt;
       few = omega arith;

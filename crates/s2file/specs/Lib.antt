@@ -1,3 +1,4 @@
 pub mod File
+pub mod Numbers
 pub mod Session
 pub mod Working

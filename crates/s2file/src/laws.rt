@@ -3,7 +3,7 @@ ghost use Rattle.std.specs.Prelude.{◌≡◌, ◌≢◌, ◌<◌, ◌≤◌, �
 ghost use Rattle.std.specs.Prelude.{drop, replicate, MatchResult};
 ghost use Rattle.s2list.specs.Union.{has_leaf};
 ghost use Rattle.s2file.specs.declared.union_file.TheConstants.{MOST_CELLS, MOST_SIZE};
-ghost use Rattle.s2file.specs.File.{File, HasFault, file_text, Bytes};
+ghost use Rattle.s2file.specs.File.{Bytes, File, HasFault, HasFrameFault, IsFramed, file_text};
 ghost use Rattle.s2file.specs.Session.{Content, Spells, session_text, content_of_list, one_change};
 
 use crate::fault::FileFault;
@@ -12,13 +12,17 @@ use s2union::CellUnion;
 use std::alloc::Global;
 
 /// Bytes can be read in one way only: a file stands for one set of leaves and has no fault except out of memory, and
-/// other bytes have at most one fault besides it.
+/// other bytes have at most one fault besides it. However many numbers a file may have, its frame has one fault at
+/// most, and none if it is whole.
 pub fn one_reading()
     ensures leaves { (bytes : List ℕ) (S T : ℕ → Bool) → File bytes S → File bytes T → (x : ℕ) → S x ≡ T x }
     ensures no_fault { (bytes : List ℕ) (S : ℕ → Bool) (fault : FileFault) → File bytes S → HasFault bytes fault →
         fault ≡ FileFault.Memory }
     ensures one_fault { (bytes : List ℕ) (fault other : FileFault) → HasFault bytes fault → HasFault bytes other →
         fault ≢ FileFault.Memory → other ≢ FileFault.Memory → fault ≡ other }
+    ensures framed { (bytes : List ℕ) (fault : FileFault) → IsFramed bytes → HasFrameFault bytes fault → ⊥ }
+    ensures one_frame_fault { (bytes : List ℕ) (fault other : FileFault) → HasFrameFault bytes fault →
+        HasFrameFault bytes other → fault ≡ other }
 {}
 
 /// The first `n` bytes decide what the whole is if `n` is more than `MOST_SIZE`: if they are a file of a set, so is the

@@ -1,12 +1,16 @@
 //! The union file: a union of cells as bytes.
-ghost use Rattle.std.specs.Prelude.{◌≡◌, ◌≤◌, ℕ, Bool, length, MatchResult, IfOk};
+ghost use Rattle.std.specs.Prelude.{◌≡◌, ◌≤◌, ◌⊎◌, ℕ, All, Bool, length, drop, MatchResult, IfOk};
+ghost use Rattle.s2cell.specs.Cell.{IsCell};
 ghost use Rattle.s2list.specs.Union.{has_leaf, IsLocal};
 ghost use Rattle.s2file.specs.declared.union_file.TheConstants.{MOST_CELLS};
-ghost use Rattle.s2file.specs.File.{HasFrame, IsFileOf, File, HasFault, file_text, Bytes};
+ghost use Rattle.s2file.specs.File.{Bytes, File, HasFault, HasFrame, HasFrameFault, HasHead, HasWrongNumber, IsFramed};
+ghost use Rattle.s2file.specs.File.{file_text, stated_count};
+ghost use Rattle.s2file.specs.Numbers.{numbers_in};
 
 use crate::fault::FileFault;
+use crate::file_ids::FileIds;
 use s2cell::CellId;
-use s2list::{NUMBER_SIZE, number, put_number};
+use s2list::{Cells, Listed, NUMBER_SIZE, number, put_number};
 use s2union::{CellUnion, normalise};
 use std::alloc::{AllocError, Global};
 
@@ -29,7 +33,6 @@ pub const MOST_SIZE: usize = HEAD_SIZE + NUMBER_SIZE * MOST_CELLS as usize;
 /// at most `MOST_CELLS`; exactly that many identifiers follow; each is the identifier of a cell. Takes one list of
 /// cells, once the first four checks have passed. One pass over the bytes, and a sort, which costs almost nothing if
 /// the cells ascend.
-#[tactic(auto, using(crate::proofs::Reading::file_from_cells))]
 pub fn decode(alloc: Global, bytes: &[u8]) -> Result<CellUnion, FileFault>
     ensures answer { MatchResult result (λ union. File bytes.now (has_leaf union.cells))
         (λ fault. HasFault bytes.now fault) }
@@ -37,14 +40,38 @@ pub fn decode(alloc: Global, bytes: &[u8]) -> Result<CellUnion, FileFault>
         MatchResult result (λ union. (x : ℕ) → has_leaf union.cells x ≡ S x) (λ fault. fault ≡ FileFault.Memory) }
     ensures local { IfOk result (λ union. IsLocal union.cells) }
 {
-    check_frame(bytes)?;
-    let cells = cells_of(alloc, bytes)?;
+    let numbers = checked_numbers(bytes)?;
+    let cells = cells_of(alloc, numbers)?;
     Ok(normalise(cells))
 }
 
-/// Checks all but the identifiers.
-fn check_frame(bytes: &[u8]) -> Result<(), FileFault>
-    ensures { MatchResult result (λ _. HasFrame bytes.now) (λ fault. HasFault bytes.now fault) }
+/// The bytes after the head, of a file of at most `MOST_CELLS` numbers. Checks all but these numbers.
+fn checked_numbers(bytes: &[u8]) -> Result<&[u8], FileFault>
+    ensures { MatchResult result (λ numbers. HasFrame bytes.now × (numbers.now ≡ drop 9 bytes.now))
+        (λ fault. HasFault bytes.now fault) }
+{
+    let count = count_of(bytes)?;
+    if count > MOST_CELLS {
+        return Err(FileFault::Count);
+    }
+    after_head(bytes, count)
+}
+
+/// The bytes after the head of a file, if there are as many as the head says: eight for each number, however many they
+/// are. The fault says which check failed first: there is a first byte, and it is 1; there are at least nine bytes;
+/// exactly the stated number of identifiers follow. Whether these are cells isn't looked at.
+pub fn numbers_of(bytes: &[u8]) -> Result<&[u8], FileFault>
+    ensures { MatchResult result (λ numbers. IsFramed bytes.now × (numbers.now ≡ drop 9 bytes.now))
+        (λ fault. HasFrameFault bytes.now fault) }
+{
+    let count = count_of(bytes)?;
+    after_head(bytes, count)
+}
+
+/// The count that the head of a file states.
+fn count_of(bytes: &[u8]) -> Result<u64, FileFault>
+    ensures { MatchResult result (λ count. HasHead bytes.now × (count ≡ stated_count bytes.now))
+        (λ fault. HasFrameFault bytes.now fault × (HasHead bytes.now → ⊥)) }
 {
     match bytes.first() {
         None => return Err(FileFault::Short),
@@ -54,29 +81,38 @@ fn check_frame(bytes: &[u8]) -> Result<(), FileFault>
     if bytes.len() < HEAD_SIZE {
         return Err(FileFault::Short);
     }
-    let count = number(&bytes[1..]);
-    if count > MOST_CELLS {
-        return Err(FileFault::Count);
-    }
-    let size = HEAD_SIZE + NUMBER_SIZE * count as usize;
-    if bytes.len() < size {
-        return Err(FileFault::Short);
-    }
-    if bytes.len() > size {
-        return Err(FileFault::Trailing);
-    }
-    Ok(())
+    Ok(number(&bytes[1..]))
 }
 
-/// The cells after the head of a file, in their order.
-fn cells_of(alloc: Global, bytes: &[u8]) -> Result<Vec<CellId>, FileFault>
-    requires { HasFrame bytes.now }
-    ensures { MatchResult result (λ cells. IsFileOf bytes.now cells.items) (λ fault. HasFault bytes.now fault) }
+/// The bytes after the head, if they are `count` numbers, as the head states.
+fn after_head(bytes: &[u8], count: u64) -> Result<&[u8], FileFault>
+    requires head { HasHead bytes.now }
+    requires count { count ≡ stated_count bytes.now }
+    ensures { MatchResult result (λ numbers. IsFramed bytes.now × (numbers.now ≡ drop 9 bytes.now))
+        (λ fault. HasFrameFault bytes.now fault) }
 {
     let numbers = &bytes[HEAD_SIZE..];
-    let mut cells = Vec::with_capacity(alloc, numbers.len() / NUMBER_SIZE)?;
-    for chunk in numbers.chunks_exact(NUMBER_SIZE) {
-        match CellId::from_id(number(chunk)) {
+    let size = numbers.len() as u64;
+    if count > size / 8 {
+        return Err(FileFault::Short);
+    }
+    if size > 8 * count {
+        return Err(FileFault::Trailing);
+    }
+    Ok(numbers)
+}
+
+/// The cells with these identifiers, in the order of the bytes.
+pub fn cells_of(alloc: Global, numbers: &[u8]) -> Result<Vec<CellId>, FileFault>
+    ensures { MatchResult result
+        (λ cells. (cells.items ≡ numbers_in numbers.now) × All IsCell (numbers_in numbers.now))
+        (λ fault. (fault ≡ FileFault.Memory) ⊎ ((fault ≡ FileFault.Cell) × HasWrongNumber (numbers_in numbers.now))) }
+{
+    let ids = FileIds { bytes: numbers };
+    let len = ids.len();
+    let mut cells = Vec::with_capacity(alloc, len)?;
+    for k in 0..len {
+        match CellId::from_id(ids.id(k)) {
             Some(cell) => cells.push_reserved(cell),
             None => return Err(FileFault::Cell),
         }

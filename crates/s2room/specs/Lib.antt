@@ -1,4 +1,3 @@
-pub mod Numbers
 pub mod Ancestors
 pub mod Normalising
 pub mod Working

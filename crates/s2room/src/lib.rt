@@ -1,5 +1,4 @@
-//! Set operations on lists of cells that write into a room that the caller provides, and the bytes of a union file at
-//! any address as a list of cells.
+//! Set operations on lists of cells that write into a room that the caller provides.
 //!
 //! They copy no list and take no memory, and have no precondition on a list: whatever the numbers are, the call is safe
 //! and returns. The result is exact if the numbers are the cells of normalized unions; for other numbers it means
@@ -7,7 +6,6 @@
 //! a union in place, and `union_of_many` many lists one; all numbers that they are given must be cells.
 #![tactic(auto)]
 
-mod cells;
 mod denormalising;
 mod differing;
 mod join;
@@ -19,7 +17,6 @@ mod outside;
 mod share;
 mod subtract;
 
-pub use cells::{FileIds, read_numbers};
 pub use denormalising::denormalise;
 pub use differing::put_symmetric_difference;
 pub use join::put_union;

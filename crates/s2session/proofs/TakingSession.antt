@@ -195,7 +195,7 @@ module _ {start coming : Claim → List ℕ → Type 0} (b : Buffer) (p : Passes
       no_spelling : (bytes : List ℕ) → slice_index bytes 0 ≢ 1 → ((s : Content) → IsSessionFile bytes s → ⊥)
           → (s : Content) → Spells bytes s → ⊥
       no_spelling bytes other none s (inl f) = none s f
-      no_spelling bytes other none s (inr u) = other u.file.is.version
+      no_spelling bytes other none s (inr u) = other u.file.is.framed.head.version.version
 
 -- ---- the answer
 
@@ -207,7 +207,7 @@ nothing_found b p none few = held_all b p none (λ s spells. nothing (held b) fe
   where
     nothing : (bytes : List ℕ) → length bytes < 1 → (s : Content) → Spells bytes s → ⊥
     nothing bytes few s (inl f) = absurd (omega (arith, ap length f.text, few))
-    nothing bytes few s (inr u) = absurd (omega (arith, u.file.is.length_is, few))
+    nothing bytes few s (inr u) = absurd (omega (arith, u.file.is.framed.length_is, few))
 
 -- what is held at the end is left behind
 pub answers : {start new : Claim → List ℕ → Type 0} (answer : Result Session ReadFault) →

@@ -1,22 +1,12 @@
--- The bytes of a file: how they are written, and how many they are.
+-- How the bytes of a file are written.
 use Rattle.std.proofs.Common.{◌≡◌, ℕ, ◌+◌, ◌-◌, ◌*◌, ap, ◌∙◌, arith, List, [], ◌∷◌, ◌++◌, length}
 use Rattle.std.proofs.Common.{drop, take, flat_map}
 use Rattle.std.proofs.Math.ListN.{set}
-use Rattle.std.proofs.lemmas.List.{append-nil, drop_all, length-append, length-drop, take_at}
+use Rattle.std.proofs.lemmas.List.{append-nil, drop_all, length-drop, take_at}
 use borrow.Rule.Slice.PartMut.{put_mid}
 use Rattle.s2list.specs.Numbers.{number_text}
-use Rattle.s2list.proofs.Numbers.{length-number_text, length-number_texts}
+use Rattle.s2list.proofs.Numbers.{length-number_text}
 use Rattle.s2file.specs.File.{file_text}
-
-pub length-file_text : (ids : List ℕ) → length (file_text ids) ≡ 9 + 8 * length ids
-length-file_text ids =
-    let count = number_text (length ids) in
-    omega (
-      arith,
-      length-append count (flat_map number_text ids),
-      length-number_text (length ids),
-      length-number_texts ids,
-    )
 
 -- a version, a count and numbers that are written one after the other
 pub file_written : (ids old buf rest dst : List ℕ) → length old ≡ 9 + 8 * length ids

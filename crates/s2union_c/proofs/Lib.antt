@@ -2,7 +2,6 @@ mod Asking
 mod Covering
 mod Ordering
 mod Wrong
-mod Reading
 mod Held
 mod Same
 mod Words

@@ -1,5 +1,5 @@
 -- A list that was put into a room, with the status that tells whether it fits.
-use Rattle.std.proofs.Common.{◌≡◌, ℕ, ℤ, ◌<◌, ◌≤◌, ◌⊎◌, inl, inr, sym, ap, ◌∙◌, arith, List, ◌++◌, length, drop}
+use Rattle.std.proofs.Common.{◌≡◌, ℕ, ℤ, ◌<◌, ◌≤◌, inl, inr, sym, ap, ◌∙◌, arith, List, ◌++◌, length, drop}
 use Rattle.std.proofs.Common.{All, append_assoc, take}
 use Rattle.std.specs.Prelude.{min}
 use Rattle.std.proofs.Math.ListN.{drop_of_length-le}

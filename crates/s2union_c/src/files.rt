@@ -6,16 +6,15 @@ ghost use Rattle.s2cell.specs.Cell.{IsCell, covers};
 ghost use Rattle.s2list.specs.Union.{IsLocal, IsNormalForm, IsWithin, ShareSome, has_leaf};
 ghost use Rattle.s2list.specs.Count.{count_below};
 ghost use Rattle.s2list.specs.Search.{IsFirstWrong};
-ghost use Rattle.s2file.specs.File.{file_text};
+ghost use Rattle.s2file.specs.File.{IsCellFile, IsFramed, file_ids, file_text};
 ghost use Rattle.s2room.specs.Ancestors.{AreHolders};
 ghost use Rattle.s2room.specs.Normalising.{IsNormalisedIn};
-ghost use Rattle.s2room.specs.Numbers.{numbers_in};
-ghost use Rattle.s2union_c.specs.Files.{Decoded, IsCellFile, IsFrameFault, IsFramed, file_ids};
+ghost use Rattle.s2file.specs.Numbers.{numbers_in};
+ghost use Rattle.s2union_c.specs.Files.{Decoded, IsFrameFault};
 ghost use Rattle.s2union_c.specs.Results.{KeepsRest, Made, MadeInPlace, MadeOne, Refused};
 ghost use Rattle.s2union_c.specs.Status.{IsAnswerTo, IsAnswer, IsBit, bad_argument, made, no_cell};
 ghost use Rattle.s2union_c.specs.Status.{no_room, wrong_cell};
 
-use crate::lists::cells_of;
 use crate::many::answer_cells;
 use crate::results::{bound, put_cells, room_status};
 use crate::status::{
@@ -25,9 +24,9 @@ use crate::status::{
 use crate::unions::LEVELS;
 use byteorder::{ByteOrder, LittleEndian};
 use s2cell::{CellId, LEAVES};
-use s2file::{HEAD_SIZE, VERSION};
-use s2list::{Cells, Listed, NUMBER_SIZE, Question, first_wrong, is_union, number};
-use s2room::{FileIds, ancestors, read_numbers};
+use s2file::{FileFault, FileIds, HEAD_SIZE, VERSION, cells_of, numbers_of, read_numbers};
+use s2list::{Cells, Listed, NUMBER_SIZE, Question, first_wrong, is_union};
+use s2room::ancestors;
 use s2union::normalise;
 use std::alloc::Global;
 
@@ -130,7 +129,7 @@ fn put_normalised(alloc: Global, bytes: &[u8], out: &mut [u64], len: &mut usize)
     requires cells { All IsCell (numbers_in bytes.now) }
     ensures { MadeOne result (IsNormalForm (has_leaf (numbers_in bytes.now))) out.old out.new len.new }
 {
-    match cells_of(alloc, &FileIds { bytes }) {
+    match cells_of(alloc, bytes) {
         Ok(cells) => put_cells(normalise(cells).cells(), out, len),
         Err(_) => NO_MEMORY,
     }
@@ -352,21 +351,10 @@ fn bytes_after_head(bytes: &[u8]) -> Result<&[u8], i32>
     ensures { MatchResult result (λ numbers. IsFramed bytes.now × (numbers.now ≡ drop 9 bytes.now))
         (λ status. IsFrameFault bytes.now status) }
 {
-    match bytes.first() {
-        None => return Err(SHORT_FILE),
-        Some(&version) if version != VERSION => return Err(OTHER_VERSION),
-        Some(_) => {}
+    match numbers_of(bytes) {
+        Ok(numbers) => Ok(numbers),
+        Err(FileFault::Version) => Err(OTHER_VERSION),
+        Err(FileFault::Trailing) => Err(LONG_FILE),
+        Err(_) => Err(SHORT_FILE),
     }
-    if bytes.len() < HEAD_SIZE {
-        return Err(SHORT_FILE);
-    }
-    let count = number(&bytes[1..]);
-    let rest = (bytes.len() - HEAD_SIZE) as u64;
-    if count > rest / 8 {
-        return Err(SHORT_FILE);
-    }
-    if 8 * count < rest {
-        return Err(LONG_FILE);
-    }
-    Ok(&bytes[HEAD_SIZE..])
 }

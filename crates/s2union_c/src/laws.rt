@@ -1,44 +1,23 @@
-//! Laws about the definitions, and what the calls for C have in common with those of `CellUnion` and of s2file.
+//! Laws about the definitions, and what the calls for C have in common with those of `CellUnion`.
 ghost use Rattle.std.specs.Prelude.{◌≡◌, ◌<◌, ◌≤◌, ℕ, ℤ, Bool, IfOk, List, drop, length, take};
 ghost use Rattle.s2list.specs.Union.{IsLocal, IsNormalForm, has_leaf};
 ghost use Rattle.s2list.specs.Room.{PutsOne};
-ghost use Rattle.s2file.specs.declared.union_file.TheConstants.{MOST_CELLS};
-ghost use Rattle.s2file.specs.File.{File, HasFault, stated_count};
+ghost use Rattle.s2file.specs.File.{file_ids};
 ghost use Rattle.s2room.specs.Normalising.{IsNormalisedIn};
 ghost use Rattle.s2cover.specs.Coverings.{inner_set, outer_set};
 ghost use Rattle.s2cover.specs.Cut.{cells_kept};
-ghost use Rattle.s2union_c.specs.Files.{IsCellFile, file_ids};
-ghost use Rattle.s2union_c.specs.Laws.{AreCutTo, HasItsNumbers, IsStatusOf, OneReading, RefusesFile};
+ghost use Rattle.s2union_c.specs.Laws.{AreCutTo, HasItsNumbers};
 ghost use Rattle.s2union_c.specs.Results.{KeepsRest, MadeInPlace};
 ghost use Rattle.s2union_c.specs.Status.{made, no_room};
 
 use crate::sets::{s2u_difference, s2u_intersection, s2u_symmetric_difference, s2u_union};
 use s2cell::GREATEST_LEVEL;
-use s2file::FileFault;
 use s2union::CellUnion;
 use std::alloc::AllocError;
 
 /// The file that `s2u_encode` writes of a list has the list's numbers. Questions about a file are about its numbers.
 pub fn file_of_list()
     ensures { (ids : List ℕ) → HasItsNumbers ids }
-{}
-
-/// `s2u_decode` and `decode` of s2file read one union from each file that both take.
-pub fn one_reading()
-    ensures { OneReading }
-{}
-
-/// `s2u_decode`, `s2u_file_check` and `decode` of s2file take and refuse the same bytes, and by the same fault, that of
-/// the first check that fails. But `decode` refuses more than `MOST_CELLS` numbers, and memory may run out.
-pub fn one_refusal()
-    ensures refused { (bytes : List ℕ) (fault : FileFault) (status : ℤ) → IsStatusOf fault status
-        → HasFault bytes fault → RefusesFile bytes status }
-    ensures one { (bytes : List ℕ) (status other : ℤ) → RefusesFile bytes status → RefusesFile bytes other
-        → status ≡ other }
-    ensures apart { (bytes : List ℕ) (status : ℤ) → RefusesFile bytes status → IsCellFile bytes → ⊥ }
-    ensures taken { (bytes : List ℕ) → IsCellFile bytes → stated_count bytes ≤ MOST_CELLS
-        → File bytes (has_leaf (file_ids bytes)) }
-    ensures back { (bytes : List ℕ) (S : ℕ → Bool) → File bytes S → IsCellFile bytes }
 {}
 
 /// The normal form that s2room puts into a room is what a call for C makes there, and the other way round; the call

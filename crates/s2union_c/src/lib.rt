@@ -11,7 +11,6 @@ mod cells;
 mod coverings;
 mod files;
 pub mod laws;
-mod lists;
 mod many;
 mod many_cells;
 mod questions;

@@ -1,34 +1,42 @@
-use Rattle.std.proofs.Common.{rules, ◌≡◌, ℕ, length, ap, ◌∙◌, arith, subst}
-use Rattle.std.proofs.lemmas.List.{length-append, length_push}
+use Rattle.std.proofs.Common.{◌≡◌, ◌<◌, ◌++◌, ◌∷◌, ◌∙◌, [], All, ap, arith, inr, length, refl, rules}
+use Rattle.std.proofs.Common.{slice_index, subst, sym, take}
+use Rattle.std.proofs.lemmas.List.{take_all, take_more}
+use Rattle.std.proofs.lemmas.List.Elements.{All-push}
 use Rattle.s2cell.specs.Cell.{IsCell}
-use Rattle.s2list.specs.Numbers.{first_number}
-use Rattle.s2file.proofs.Reading.{reads_more, reads_wrong}
+use Rattle.s2file.specs.Numbers.{numbers_in}
 use Rattle.s2file.proofs.union_file.cells_of.Goals as goal
 
-pub loop-chunk-preserved : goal.loop-chunk-preserved
-loop-chunk-preserved c =
-    let step = c.in-Some.ensures.steps in
-    let so_far = c.loop-chunk.invariant in
-    let size : length c.in-Some.chunk.now ≡ 8 = step.1.1 ∙ so_far.size in
-    let n : c.in-Some-from_id.cell ≡ first_number c.in-Some.chunk.now = c.in-Some-from_id.ensures.1
-    ∙ c.number.ensures in
+pub returns-in-None : goal.returns-in-None
+returns-in-None c =
+    let many = c.len-len.ensures in
+    inr (
+      refl,
+      record {
+        place = c.loop-k.k;
+        within = omega (arith, c.loop-k-test.true);
+        wrong = λ cell. c.in-None.ensures (rw c.id.ensures cell);
+      },
+    )
+
+pub loop-k-preserved : goal.loop-k-preserved
+loop-k-preserved c =
+    let ids = numbers_in c.args.numbers.now in
+    let k = c.loop-k.k in
+    let many = c.len-len.ensures in
+    let within : k < length ids = omega (arith, c.loop-k-test.true) in
+    let next : c.in-Some.cell ≡ slice_index ids k = c.in-Some.ensures.1 ∙ c.id.ensures in
     record {
-      reads = rw c.push_reserved.ensures.items (reads_more _ _ so_far.reads step.1.0 size n (search rules));
-      size = step.0 ∙ so_far.size;
-      room = omega (
-        arith,
-        so_far.room,
-        c.push_reserved.ensures.capacity,
-        ap length c.push_reserved.ensures.items,
-        length_push c.loop-chunk.cells.items c.in-Some-from_id.cell,
-        ap length step.1.0,
-        length-append c.in-Some.chunk.now c.next.new.self.rest.now,
-      );
+      read = c.push_reserved.ensures.items ∙ ap (λ l. l ++ c.in-Some.cell ∷ []) c.loop-k.invariant.read
+          ∙ ap (λ n. take k ids ++ n ∷ []) next ∙ sym (take_more ids k 0 within);
+      cells = rw c.push_reserved.ensures.items
+          (All-push IsCell c.loop-k.cells.items c.in-Some.cell c.loop-k.invariant.cells (search rules));
+      room = search rules;
     }
 
-pub returns-in-None-from_id : goal.returns-in-None-from_id
-returns-in-None-from_id c =
-    let step = c.in-Some.ensures.steps in
-    let so_far = c.loop-chunk.invariant in
-    reads_wrong _ _ c.requires so_far.reads step.1.0 (step.1.1 ∙ so_far.size)
-    (subst (λ (n : ℕ). IsCell n → ⊥) c.number.ensures c.in-None-from_id.ensures)
+pub returns : goal.returns
+returns c =
+    let ids = numbers_in c.args.numbers.now in
+    let many = c.len-len.ensures in
+    let whole : c.loop-k.cells.items ≡ ids = c.loop-k.invariant.read
+    ∙ take_all c.loop-k.k ids (omega (arith, c.loop-k-test.false)) in
+    (whole, subst (All IsCell) whole c.loop-k.invariant.cells)

@@ -1,11 +1,12 @@
-use Rattle.std.proofs.Common.{◌≡◌, ◌+◌, ◌*◌, ◌≤◌, length}
+use Rattle.std.proofs.Common.{◌≡◌, ◌≤◌, All, take}
 use Rattle.std.specs.Vec.{vec_capacity}
-use Rattle.s2file.proofs.Reading.{ReadsSome}
+use Rattle.s2cell.specs.Cell.{IsCell}
+use Rattle.s2file.specs.Numbers.{numbers_in}
 use Rattle.s2file.proofs.union_file.cells_of.Given as goal
 
-abbrev pub invariant-loop-chunk : goal.invariant-loop-chunk
-invariant-loop-chunk l = record {
-  reads : ReadsSome l.bytes l.cells.items l.chunk-iterator.rest.now;
-  size : l.chunk-iterator.size ≡ 8;
-  room : 8 * length l.cells.items + length l.chunk-iterator.rest.now ≤ 8 * vec_capacity l.cells;
+abbrev pub invariant-loop-k : goal.invariant-loop-k
+invariant-loop-k l = record {
+  read : l.cells.items ≡ take l.k (numbers_in l.numbers);
+  cells : All IsCell l.cells.items;
+  room : l.len ≤ vec_capacity l.cells;
 }

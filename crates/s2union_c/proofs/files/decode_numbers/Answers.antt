@@ -3,7 +3,7 @@ use Rattle.std.specs.Int.{w32}
 use Rattle.std.proofs.lemmas.Int.{to_z-of_z}
 use Rattle.std.proofs.lemmas.List.{length-take-le}
 use mir.Val.{SFits}
-use Rattle.s2room.specs.Numbers.{numbers_in}
+use Rattle.s2file.specs.Numbers.{numbers_in}
 use Rattle.s2union_c.proofs.Wrong.{not_all_cells}
 use Rattle.s2union_c.proofs.Decoding.{decoded_whole, decoded_here, decoded_apart}
 use Rattle.s2union_c.proofs.Placed.{made_length, made_one_few}

@@ -3,7 +3,7 @@ use Rattle.std.specs.Int.{w32}
 use Rattle.std.proofs.lemmas.Int.{to_z-of_z}
 use Rattle.std.proofs.lemmas.List.{length-drop}
 use mir.Val.{SFits}
-use Rattle.s2room.proofs.Numbers.{length-numbers}
+use Rattle.s2file.proofs.Numbers.{length-numbers}
 use Rattle.s2union_c.proofs.files.s2u_decode.Goals as goal
 
 pub decode_numbers-requires-clause-whole : goal.decode_numbers-requires-clause-whole

@@ -1,5 +1,5 @@
 use Rattle.std.proofs.Common.{◌+◌, ◌*◌, ◌++◌, inl, inr, refl, sym, ap, arith, length, drop}
-use Rattle.s2union_c.proofs.Encoding.{length-file_text}
+use Rattle.s2file.proofs.Texts.{length-file_text}
 use Rattle.s2union_c.proofs.files.s2u_encode.Goals as goal
 
 pub returns-then-size-out-clause-made : goal.returns-then-size-out-clause-made

@@ -2,7 +2,7 @@ use Rattle.std.proofs.Common.{ap, arith, length, refl, rules}
 use Rattle.std.specs.Int.{w32}
 use Rattle.std.proofs.lemmas.Int.{to_z-of_z}
 use mir.Val.{SFits}
-use Rattle.s2room.specs.Numbers.{numbers_in}
+use Rattle.s2file.specs.Numbers.{numbers_in}
 use Rattle.s2union_c.proofs.Held.{holders_few}
 use Rattle.s2union_c.proofs.Placed.{placed_any, placed_within}
 use Rattle.s2union_c.proofs.files.s2u_file_ancestors.Goals as goal

@@ -16,7 +16,7 @@ use Rattle.s2cover.specs.Cut.{cells_kept}
 use Rattle.s2cover.proofs.Levelling.{cut_parent, cut_same}
 use Rattle.s2cover.specs.Coverings.{inner_set, outer_set}
 use Rattle.s2cover.proofs.OwnCells.{kept_normal, outer_cells}
-use Rattle.s2union_c.specs.Files.{file_ids}
+use Rattle.s2file.specs.File.{file_ids}
 use Rattle.s2union_c.specs.Laws.{AreCutTo}
 use Rattle.s2union_c.specs.ManyCells.{HasParent, IsValueOr}
 use Rattle.s2union_c.proofs.laws.by_normalising.Goals as goal

@@ -4,7 +4,7 @@ use Rattle.std.proofs.lemmas.List.FromFn.{get_or-map-range_with_len, length-map-
 use Rattle.std.proofs.lemmas.List.{ext_get_or}
 use Rattle.byteorder.specs.Endian.{IsRead, little_number}
 use Rattle.s2list.specs.Numbers.{first_number}
-use Rattle.s2room.specs.Numbers.{number_in, numbers_in}
+use Rattle.s2file.specs.Numbers.{number_in, numbers_in}
 
 pub length-numbers : (bytes : List ℕ) → length (numbers_in bytes) ≡ length bytes / 8
 unfolding numbers_in

@@ -1,6 +1,6 @@
 //! The numbers of a file by their indexes, in its bytes.
 ghost use Rattle.std.specs.Prelude.{◌≡◌, ◌*◌, ◌/◌, ◌<◌, length};
-ghost use Rattle.s2room.specs.Numbers.{number_in, numbers_in};
+ghost use Rattle.s2file.specs.Numbers.{number_in, numbers_in};
 
 use byteorder::{ByteOrder, LittleEndian};
 use s2list::{Cells, Listed, NUMBER_SIZE, number};

@@ -1,6 +1,6 @@
 use Rattle.std.proofs.Common.{arith, sym, ◌∙◌}
-use Rattle.s2room.proofs.Numbers.{length-numbers, get_or-numbers}
-use Rattle.s2room.proofs.cells.FileIdsCells.id.Goals as goal
+use Rattle.s2file.proofs.Numbers.{length-numbers, get_or-numbers}
+use Rattle.s2file.proofs.file_ids.FileIdsCells.id.Goals as goal
 
 pub number_at-requires : goal.number_at-requires
 number_at-requires c = let l = length-numbers c.args.self.now.bytes.now in let r = c.requires in omega arith
