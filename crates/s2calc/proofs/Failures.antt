@@ -93,7 +93,8 @@ count_write : (P : List ℕ → Type 0) (name : List ℕ) (a c : World) (x : Rep
     IsCounted a c x
 count_write P name a c x (inl l) = stays a c x (ap is_failure l.0) l.2.2.failures
 count_write P name a c x (inr (inl l)) = rises a c x (ap is_failure l.0) l.2.failed
-count_write P name a c x (inr (inr (answer, kept, inl l))) = stays a c x (ap is_failure answer) l.0.1
+count_write P name a c x (inr (inr (answer, kept, inl l))) = stays a c x (ap is_failure answer)
+    (ap (λ (h : Files). h.failures) l)
 count_write P name a c x (inr (inr (answer, kept, inr l))) = stays a c x (ap is_failure answer) l.counted
 
 -- what the editor refuses is no failure of the shelf

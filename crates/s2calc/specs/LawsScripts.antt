@@ -5,7 +5,10 @@ use Rattle.s2edit.specs.Leads.{table_at}
 use Rattle.s2edit.specs.Session.{IsKept}
 use Rattle.s2file.specs.File.{Bytes, File, HasFault}
 use Rattle.s2file.specs.declared.fault.FileFault.{FileFault}
+use Rattle.std.specs.List.{AllByRecursion}
+use Rattle.s2shelf.specs.FileCalls.{path_of, path_to}
 use Rattle.s2shelf.specs.Shelf.{Files, Finding, NoFile, Opened, Holding, Beginning, Written, Failed, Found, is_opening}
+use Rattle.s2shelf.specs.Shelf.{AsksSystem}
 use Rattle.s2script.specs.Line.{line_of}
 use Rattle.s2script.specs.declared.command.Command.{Command}
 use Rattle.s2script.specs.declared.command.Command.TheVariants.{Edit, Load, Save, Dump, Restore, Undo, Redo, Ask}
@@ -93,14 +96,21 @@ abbrev pub FoundOneMore : List ℕ → List Found → Files → Type 0
 FoundOneMore name before files = (finding : Finding) × (is_opening finding ≡ false)
     × (files.found ≡ Some (record { name = name; finding = finding } ∷ before))
 
+-- a folder of the system was asked for the file of this name in it, and for no other
+abbrev pub AsksOnlyFor : List ℕ → Files → Files → Type 0
+AsksOnlyFor name old new =
+    AsksSystem old new (λ folder calls. AllByRecursion (λ call. path_of call ≡ path_to folder name) calls)
+
 -- A line with a file, over a shelf that lists what came of its calls, adds one thing to the list, under the name that
 -- the line says: it makes one call of the shelf, or opens a file and closes it again. Or there was no memory for the
--- bytes that it was to store; then it makes no call.
+-- bytes that it was to store; then it makes no call. If the shelf is a folder of the system, it asks the system for the
+-- file of that name alone.
 abbrev pub AsksOnce : Type 0
 AsksOnce =
     (old new : World) (line name : List ℕ) (reply : Reply) (command : Command) (before : List Found) →
     line_of line ≡ Does command → file_in command ≡ Some name → Step old line reply new → old.files.found ≡ Some before
-    → FoundOneMore name before new.files ⊎ ((reply ≡ Refuses Memory) × (new.files.found ≡ Some before))
+    → (FoundOneMore name before new.files ⊎ ((reply ≡ Refuses Memory) × (new.files.found ≡ Some before)))
+    × AsksOnlyFor name old.files new.files
 
 -- each line says `undo`
 abbrev pub AllUndo : List (List ℕ) → Type 0

@@ -1,6 +1,6 @@
 -- What a line may do.
 use Rattle.std.specs.Prelude.{◌≡◌, ℕ, ◌⊎◌, Bool, true, false, List, Option, None, Some, Ok, Err}
-use Rattle.s2shelf.specs.Shelf.{SameShelf, Finds, PutsFile, LosesFile, FailsToPut}
+use Rattle.s2shelf.specs.Shelf.{Finds, PutsFile, LosesFile, FailsToPut}
 use Rattle.s2shelf.specs.declared.shelf.ShelfFault.TheVariants.{Memory as NoRoom}
 use Rattle.s2file.specs.File.{Bytes}
 use Rattle.s2script.specs.declared.command.Command.{Command}
@@ -36,7 +36,7 @@ WritesFile AreThose name old reply new =
     × ((bytes : List ℕ) × AreThose bytes × PutsFile old.files new.files name bytes))
     ⊎ ((reply ≡ Refuses FileFailed) × (new.state ≡ old.state) × LosesFile old.files new.files name)
     ⊎ ((reply ≡ Refuses Memory) × (new.state ≡ old.state)
-    × (SameShelf old.files new.files ⊎ FailsToPut old.files name new.files NoRoom))
+    × ((new.files ≡ old.files) ⊎ FailsToPut old.files name new.files NoRoom))
 
 -- if nothing fails, the file becomes the text of the register's leaves
 abbrev pub Saves : ℕ → List ℕ → World → Reply → World → Type 0

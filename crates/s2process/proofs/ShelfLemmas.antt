@@ -3,7 +3,7 @@ use Rattle.std.proofs.Common.{◌≡◌, ℕ, List, [], ◌∷◌, ◌++◌, len
 use Rattle.std.proofs.Common.{arith, length-take}
 use Rattle.std.proofs.lemmas.Grind.{fold-append}
 use Rattle.std.proofs.lemmas.List.{take_all}
-use Rattle.s2shelf.specs.Shelf.{Files, Found, Finding, Asks, FindsBeginning, Opens, finding_begun}
+use Rattle.s2shelf.specs.Shelf.{Files, Found, Finding, Asks, AsksFor, FindsBeginning, Opens, finding_begun}
 use Rattle.s2shelf.specs.declared.opened_file.OpenedFile.{OpenedFile as File}
 use Rattle.s2shelf.proofs.Begun.{some_begun}
 use Rattle.s2process.specs.declared.shelf.ListedShelf.{ListedShelf}
@@ -20,12 +20,13 @@ module _ {S : Type 0} (files : S → Files) (old new : ListedShelf S) where
   asks : (c : StreamCall) (name : List ℕ) (content : Option (List ℕ)) (f : Finding) →
       calls_of_shelf new ≡ calls_of_shelf old ++ c ∷ []
       → ((before : List Found) → found_after before c ≡ record { name = name; finding = f } ∷ before)
-      → (files new.shelf).failures ≡ (files old.shelf).failures
+      → (files new.shelf).failures ≡ (files old.shelf).failures → AsksFor (files old.shelf) name f (files new.shelf)
       → Asks (listed_files files old) name content f (listed_files files new)
-  asks c name content f listed finds same = record {
+  asks c name content f listed finds same calls = record {
     same = (record { tells = refl; at = λ t other. refl }, same);
     holds = λ t. absurd cc;
     asked = ap Some (ap found_in listed ∙ found_more (calls_of_shelf old) c ∙ finds (found_in (calls_of_shelf old)));
+    calls = calls;
   }
 
   -- it opened a file
@@ -37,6 +38,7 @@ module _ {S : Type 0} (files : S → Files) (old new : ListedShelf S) where
       record {
         same = (record { tells = refl; at = λ t other. refl }, below.same.1);
         asked = ap Some (ap found_in listed ∙ found_more (calls_of_shelf old) (OfShelf (OpenedFile name)));
+        calls = below.calls;
         named = below.named;
         unread = below.unread;
         begins = below.begins;
@@ -58,6 +60,6 @@ module _ {S : Type 0} (files : S → Files) (old new : ListedShelf S) where
       record {
         content = Some bytes;
         asks = asks (OfShelf (HandedOver name most bytes)) name (Some bytes) (finding_begun most (Some bytes)) call
-            (λ before. refl) below.asks.same.1;
+            (λ before. refl) below.asks.same.1 below.asks.calls;
         is = ap Some (sym all);
       }

@@ -41,14 +41,16 @@ calls_of_shelf s = s.calls.entries
 abbrev pub shelf_below : {S : Type 0} → ListedShelf S → S
 shelf_below s = s.shelf
 
--- what is known of a shelf whose calls are listed, of which this is known: what was found, and how many failures were
--- counted, but not what its files hold
+-- what is known of a shelf whose calls are listed, of which this is known: what was found, how many failures were
+-- counted, and which calls it made as a folder of the system, but not what its files hold
 abbrev pub listed_files : {S : Type 0} → (S → Files) → ListedShelf S → Files
 listed_files files s = record {
   tells = false;
   at = λ _. None;
   found = Some (found_in (calls_of_shelf s));
   failures = (files (shelf_below s)).failures;
+  folder = (files (shelf_below s)).folder;
+  calls = (files (shelf_below s)).calls;
 }
 
 -- the moments that a witness has seen, in order

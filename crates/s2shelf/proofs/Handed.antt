@@ -1,11 +1,14 @@
 -- What a folder hands over of a file that was read.
-use Rattle.std.proofs.Common.{◌≡◌, ℕ, List, take, Option, None, Some, Result, Ok, Err, sym, ap, ◌∙◌, subst, arith}
-use Rattle.std.proofs.Common.{length-take}
-use Rattle.std.specs.Prelude.{IfOk, IfSome, option_map}
-use Rattle.std.proofs.lemmas.List.{take_all}
+use Rattle.std.proofs.Common.{◌≡◌, ℕ, Bool, true, false, List, ◌++◌, length, take, drop, Option, None, Some, Result}
+use Rattle.std.proofs.Common.{Ok, Err, refl, sym, ap, ◌∙◌, subst, arith, length-take}
+use Rattle.std.specs.Prelude.{◌==◌, if◌then◌else◌, IfOk, IfSome, option_map}
+use Rattle.std.proofs.lemmas.Bool.{eqb-false}
+use Rattle.std.proofs.lemmas.List.{take_all, take-append-drop}
 use Rattle.std.proofs.lemmas.Option.{same_Some, none-some}
 use Rattle.s2shelf.specs.DirShelf.{IsRead}
-use Rattle.s2shelf.specs.FileCalls.{FileCall, Makes, Reads, NotRead}
+use Rattle.s2shelf.specs.FileCalls.{FileCall, Makes, Reads, NotRead, opening, reading}
+use Rattle.s2shelf.specs.Shelf.{Beginning, Holding, CallsFor, finding_begun}
+use Rattle.s2shelf.proofs.Begun.{fewer_begun}
 use Rattle.s2shelf.specs.Working.Files.{ReadsFile}
 use Rattle.s2shelf.specs.declared.shelf.ShelfFault.{ShelfFault}
 
@@ -65,3 +68,29 @@ module _ {V E : Type 0} (items : V → List ℕ) (path : List ℕ) (most : ℕ) 
       Makes old new (Reads items path most (Ok made))
   calls_of_reading old new answer found made (calls, more, read) known same is =
       (calls, more, calls_by_answer calls answer found made known same is read)
+
+-- the calls of a reading are those of what is found by it
+begun_calls : (most : ℕ) (bytes gave path : List ℕ) (calls : List FileCall) (b : Bool) → (length bytes == most) ≡ b →
+    calls ≡ opening path ++ reading path gave → bytes ≡ take most gave →
+    CallsFor (if b then Beginning bytes else Holding bytes) path calls
+begun_calls most bytes gave path calls true e is cut = (
+  drop most gave,
+  is ∙ ap (λ (g : List ℕ). opening path ++ reading path g)
+      (sym (take-append-drop most gave) ∙ ap (λ (xs : List ℕ). xs ++ drop most gave) (sym cut)),
+)
+begun_calls most bytes gave path calls false e is cut =
+    is ∙ ap (λ (g : List ℕ). opening path ++ reading path g)
+    (sym (fewer_begun most bytes gave cut (eqb-false (length bytes) most e)))
+
+calls_of_finding : {V : Type 0} (items : V → List ℕ) (path : List ℕ) (most : ℕ) (calls : List FileCall)
+    (made : Option V) → Reads items path most (Ok made) calls →
+    CallsFor (finding_begun most (option_map items made)) path calls
+calls_of_finding items path most calls None read = read
+calls_of_finding items path most calls (Some v) (gave, is, cut) =
+    begun_calls most (items v) gave path calls (length (items v) == most) refl is cut
+
+pub makes_finding : {V : Type 0} (items : V → List ℕ) (path : List ℕ) (most : ℕ) (old new : List FileCall)
+    (made : Option V) → Makes old new (Reads items path most (Ok made)) →
+    Makes old new (CallsFor (finding_begun most (option_map items made)) path)
+makes_finding items path most old new made (calls, more, read) =
+    (calls, more, calls_of_finding items path most calls made read)

@@ -1,14 +1,16 @@
 -- What a file that was opened, read and closed leaves on its shelf.
 use Rattle.std.proofs.Common.{◌≡◌, ℕ, Bool, true, false, List, [], ◌∷◌, ◌++◌, Option, None, Some, inl, inr, refl, sym}
-use Rattle.std.proofs.Common.{ap, ◌∙◌, subst}
+use Rattle.std.proofs.Common.{ap, ◌∙◌, subst, append_assoc}
 use Rattle.std.proofs.lemmas.List.{append-nil}
 use Rattle.std.proofs.lemmas.Option.{same_Some}
 use Rattle.std.proofs.lemmas.Slice.Eq.{bytes_eq-Decides}
-use Rattle.std.specs.Prelude.{option_map, if◌then◌else◌}
+use Rattle.std.specs.Prelude.{option_map, if◌then◌else◌, IfSome}
+use Rattle.s2shelf.specs.FileCalls.{FileCall, Makes, path_to, opening, reading}
 use Rattle.s2shelf.specs.OpenedFile.{name_of, given, has_ended, below, Claim, known_left, MayCome, Left, MayBe}
 use Rattle.s2shelf.specs.Shelf.{Files, Found, Finding, one_more, KeepsFiles, SameFiles, Allows, finding_read}
 use Rattle.s2shelf.specs.Shelf.{finding_of_file, Opened, Holding, Failed, closed, without_opening, Finds, MayFind, Asks}
 use Rattle.s2shelf.specs.Shelf.{FindsMore, FindsAtClosing, Opens, Closes, Fails, FailsToClose, FailsToGet}
+use Rattle.s2shelf.specs.Shelf.{AsksSystem, CallsFor}
 use Rattle.s2shelf.specs.declared.opened_file.OpenedFile.{OpenedFile}
 use Rattle.s2shelf.specs.declared.shelf.ShelfFault.{ShelfFault}
 use Rattle.s2shelf.specs.declared.shelf.ShelfFault.TheVariants.{Device, Memory}
@@ -108,6 +110,43 @@ opened_and_closed old opened new name end f is opens closes =
     (option_map (λ (before : List Found). record { name = name; finding = Opened } ∷ before) old.found)) is
     ∙ takes_the_place old.found name f
 
+-- ---- what it asked of the system
+
+-- calls of which this holds, and then calls of which that holds
+calls_then : (folder next : Option (List ℕ)) (a b c : List FileCall) (P Q R : List ℕ → List FileCall → Type 0) →
+    next ≡ folder
+    → ((path : List ℕ) (xs ys : List FileCall) → P path xs → Q path ys → R path (xs ++ ys))
+    → IfSome folder (λ path. Makes a b (P path)) → IfSome next (λ path. Makes b c (Q path))
+    → IfSome folder (λ path. Makes a c (R path))
+calls_then None next a b c P Q R same both first second = tt
+calls_then (Some path) next a b c P Q R same both (xs, is, holds) second =
+    let (ys, more, next_holds) = subst (λ (l : Option (List ℕ)). IfSome l (λ p. Makes b c (Q p))) same second in
+    (xs ++ ys, more ∙ ap (λ (l : List FileCall). l ++ ys) is ∙ append_assoc a xs ys, both path xs ys holds next_holds)
+
+asks_then : (old mid new : Files) (P Q R : List ℕ → List FileCall → Type 0) → AsksSystem old mid P →
+    AsksSystem mid new Q
+    → ((folder : List ℕ) (xs ys : List FileCall) → P folder xs → Q folder ys → R folder (xs ++ ys))
+    → AsksSystem old new R
+asks_then old mid new P Q R (same, first) (next_same, second) both = (
+  next_same ∙ same,
+  calls_then old.folder mid.folder old.calls mid.calls new.calls P Q R same both first second,
+)
+
+-- the calls of an opening, and then those of the closing of a file of the same name
+both_calls : (folder name named bytes : List ℕ) (xs ys : List FileCall) → named ≡ name →
+    xs ≡ opening (path_to folder name) → ys ≡ reading (path_to folder named) bytes →
+    xs ++ ys ≡ opening (path_to folder name) ++ reading (path_to folder name) bytes
+both_calls folder name named bytes xs ys is first second =
+    ap (λ (l : List FileCall). l ++ ys) first
+    ∙ ap (λ (l : List FileCall). opening (path_to folder name) ++ l) second
+    ∙ ap (λ (n : List ℕ). opening (path_to folder name) ++ reading (path_to folder n) bytes) is
+
+calls_read : (ended : Bool) (bytes path : List ℕ) (calls : List FileCall) →
+    calls ≡ opening path ++ reading path bytes → CallsFor (finding_read ended bytes) path calls
+calls_read true bytes path calls is = is
+calls_read false bytes path calls is =
+    ([], is ∙ ap (λ (b : List ℕ). opening path ++ reading path b) (sym (append-nil bytes)))
+
 module _ {F : Type 0} (remaining : F → Option (List ℕ)) (old opened new : Files) (name : List ℕ)
     (start end : OpenedFile F) (opens : Opens remaining old name (Some start) opened) (closes : Closes opened end new)
   where
@@ -134,6 +173,9 @@ module _ {F : Type 0} (remaining : F → Option (List ℕ)) (old opened new : Fi
           );
           holds = opens.holds content may;
           asked = opened_and_closed old opened new name end (finding_of_file end) is opens.asked closes.asked;
+          calls = asks_then old opened new _ _ _ opens.calls closes.calls (λ folder xs ys first second.
+              calls_read (has_ended end) (given end) (path_to folder name) (xs ++ ys)
+              (both_calls folder name (name_of end) (given end) xs ys is first second));
         }
 
     -- a file that was read to its end was found
@@ -178,6 +220,11 @@ opened_fails remaining old opened new name start end fault P opens reads fails =
   counted = fails.counted ∙ ap one_more opens.same.1;
   found = opened_and_closed old opened new name end (Failed Device) (one_name remaining start end P reads ∙ opens.named)
       opens.asked fails.found;
+  calls = asks_then old opened new _ _ _ opens.calls fails.calls (λ folder xs ys first second. inr (
+    given end,
+    both_calls folder name (name_of end) (given end) xs ys (one_name remaining start end P reads ∙ opens.named) first
+        second,
+  ));
 }
 
 -- each file stays after a failed read, and the count rises if the device failed

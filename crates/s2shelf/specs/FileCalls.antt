@@ -18,6 +18,18 @@ pub data FileCall : Type 0 where
   Wrote : (path bytes : List ℕ) → FileCall
   Closed : (path : List ℕ) → FileCall
 
+-- the path that a call has
+abbrev pub path_of : FileCall → List ℕ
+path_of (Looked path) = path
+path_of (Opened path) = path
+path_of (OpenedNot path) = path
+path_of (LookedAgain path) = path
+path_of (Gave path bytes) = path
+path_of (Made path) = path
+path_of (MadeNot path) = path
+path_of (Wrote path bytes) = path
+path_of (Closed path) = path
+
 -- the path of a file: the folder's, a slash, and the name
 abbrev pub path_to : List ℕ → List ℕ → List ℕ
 path_to path name = path ++ (47 ∷ name)

@@ -1,7 +1,8 @@
 -- What is known of named files, and what a call on them may do.
 use Rattle.std.specs.Prelude.{◌≡◌, ◌≢◌, ℕ, ◌+◌, ◌%◌, ◌^◌, ◌==◌, ◌&&◌, ◌⊎◌, Bool, true, false, if◌then◌else◌}
-use Rattle.std.specs.Prelude.{List, [], ◌∷◌, ◌++◌, length, take, Option, None, Some, option_map}
+use Rattle.std.specs.Prelude.{List, [], ◌∷◌, ◌++◌, length, take, Option, None, Some, IfSome, option_map}
 use Rattle.std.specs.Str.{bytes_eq}
+use Rattle.s2shelf.specs.FileCalls.{FileCall, Makes, path_to, opening, reading, storing, NotRead, NotStored}
 use Rattle.s2shelf.specs.OpenedFile.{name_of, given, has_ended, has_failed, MayBe}
 use Rattle.s2shelf.specs.declared.opened_file.OpenedFile.{OpenedFile}
 use Rattle.s2shelf.specs.declared.shelf.ShelfFault.{ShelfFault}
@@ -39,12 +40,15 @@ abbrev pub closed : Found → List Found → List Found
 closed one before = one ∷ without_opening one.name before
 
 -- what is known of a shelf: whether its contents are known, and the file of each name; what came of each call, newest
--- first, or None if that isn't known; and how many failures of the device were counted
+-- first, or None if that isn't known; how many failures of the device were counted; and of a folder of the system its
+-- path, and the calls that it made of the system's files so far
 pub record Files : Type 0 where
   pub tells : Bool
   pub at : List ℕ → Option (List ℕ)
   pub found : Option (List Found)
   pub failures : ℕ
+  pub folder : Option (List ℕ)
+  pub calls : List FileCall
 
 -- one more failure; after the greatest u64 the count starts again at 0
 abbrev pub one_more : ℕ → ℕ
@@ -59,14 +63,30 @@ pub record KeepsFiles (old new : Files) : Type 0 where
 abbrev pub SameFiles : Files → Files → Type 0
 SameFiles old new = KeepsFiles old new × (new.failures ≡ old.failures)
 
--- every file stays as it was, if the shelf exposes its contents, and so do the count and what was found
-abbrev pub SameShelf : Files → Files → Type 0
-SameShelf old new = SameFiles old new × (new.found ≡ old.found)
-
 -- this was found under that name, after all that was found before, if that is known
 abbrev pub FindsMore : Files → List ℕ → Finding → Files → Type 0
 FindsMore old name finding new =
     new.found ≡ option_map (λ before. record { name = name; finding = finding } ∷ before) old.found
+
+-- a shelf that is a folder of the system made calls of the system's files of which this holds, with the folder's path,
+-- and no others
+abbrev pub AsksSystem : Files → Files → (List ℕ → List FileCall → Type 0) → Type 0
+AsksSystem old new P = (new.folder ≡ old.folder) × IfSome old.folder (λ folder. Makes old.calls new.calls (P folder))
+
+-- the calls for the file at a path of which this finding comes: all bytes that were read, or the first of them, from the
+-- beginning of the file
+abbrev pub CallsFor : Finding → List ℕ → List FileCall → Type 0
+CallsFor NoFile path calls = NotRead path calls
+CallsFor Opened path calls = calls ≡ opening path
+CallsFor (Holding bytes) path calls = calls ≡ opening path ++ reading path bytes
+CallsFor (Beginning bytes) path calls = (more : List ℕ) × (calls ≡ opening path ++ reading path (bytes ++ more))
+CallsFor (Written bytes) path calls = calls ≡ storing path bytes
+CallsFor (Failed Device) path calls = NotRead path calls
+CallsFor (Failed Memory) path calls = (calls ≡ []) ⊎ NotRead path calls
+
+-- a folder of the system asked for the file of that name in it, by calls of which this finding comes, and for no other
+abbrev pub AsksFor : Files → List ℕ → Finding → Files → Type 0
+AsksFor old name finding new = AsksSystem old new (λ folder. CallsFor finding (path_to folder name))
 
 -- a call failed on the file `name`, and the count rose: its content is not known, and every other file stays as it was,
 -- if the shelf exposes its contents; it is found that the call failed
@@ -75,6 +95,7 @@ pub record LosesFile (old new : Files) (name : List ℕ) : Type 0 where
   pub others : old.tells ≡ true → (other : List ℕ) → other ≢ name → new.at other ≡ old.at other
   pub failed : new.failures ≡ one_more old.failures
   pub found : FindsMore old name (Failed Device) new
+  pub calls : AsksSystem old new (λ folder calls. (bytes : List ℕ) × NotStored (path_to folder name) bytes calls)
 
 -- if the shelf exposes its contents, the file `name` holds the bytes and every other file stays as it was; and so does
 -- the count; it is known that these bytes were stored, if what was stored is
@@ -84,6 +105,7 @@ pub record PutsFile (old new : Files) (name bytes : List ℕ) : Type 0 where
   pub others : old.tells ≡ true → (other : List ℕ) → other ≢ name → new.at other ≡ old.at other
   pub failures : new.failures ≡ old.failures
   pub found : FindsMore old name (Written bytes) new
+  pub calls : AsksFor old name (Written bytes) new
 
 -- if the shelf exposes its contents, `content` is what it holds under that name
 abbrev pub Holds : Files → List ℕ → Option (List ℕ) → Type 0
@@ -95,6 +117,7 @@ pub record Asks (old : Files) (name : List ℕ) (content : Option (List ℕ)) (f
   pub same : SameFiles old new
   pub holds : Holds old name content
   pub asked : FindsMore old name finding new
+  pub calls : AsksFor old name finding new
 
 -- the finding of a content that is known
 abbrev pub finding_of : Option (List ℕ) → Finding
@@ -149,6 +172,7 @@ pub record IsOpened {F : Type 0} (remaining : F → Option (List ℕ)) (old : Fi
     (new : Files) : Type 0 where
   pub same : SameFiles old new
   pub asked : FindsMore old name Opened new
+  pub calls : AsksFor old name Opened new
   pub named : name_of file ≡ name
   pub unread : given file ≡ []
   pub begins : has_ended file ≡ false
@@ -165,10 +189,16 @@ abbrev pub FindsAtClosing : {F : Type 0} → Files → OpenedFile F → Finding 
 FindsAtClosing old file finding new =
     new.found ≡ option_map (closed (record { name = name_of file; finding = finding })) old.found
 
+-- a folder of the system closed the file, which stands there under its name, after reads that gave these bytes
+abbrev pub AsksToClose : {F : Type 0} → Files → OpenedFile F → Files → Type 0
+AsksToClose old file new =
+    AsksSystem old new (λ folder calls. calls ≡ reading (path_to folder (name_of file)) (given file))
+
 -- an opened file was closed, of which no read had failed, and what its reads gave was found; no file changes
 pub record Closes {F : Type 0} (old : Files) (file : OpenedFile F) (new : Files) : Type 0 where
   pub same : SameFiles old new
   pub asked : FindsAtClosing old file (finding_of_file file) new
+  pub calls : AsksToClose old file new
   pub well : has_failed file ≡ false
 
 -- the count of failures after a call that failed
@@ -182,6 +212,7 @@ pub record Fails (old : Files) (name : List ℕ) (new : Files) (fault : ShelfFau
   pub keeps : KeepsFiles old new
   pub counted : new.failures ≡ count_after fault old.failures
   pub found : FindsMore old name (Failed fault) new
+  pub calls : AsksFor old name (Failed fault) new
 
 -- the closing of an opened file failed, since a read of it had failed; it is found that it failed, in the place of its
 -- opening; no content changes, and the count rises
@@ -192,6 +223,7 @@ pub record FailsToClose {F : Type 0} (old : Files) (file : OpenedFile F) (new : 
   pub keeps : KeepsFiles old new
   pub counted : new.failures ≡ one_more old.failures
   pub found : FindsAtClosing old file (Failed Device) new
+  pub calls : AsksToClose old file new
 
 -- the shelf failed to hand over the file of that name; or it was found, and there was no memory for it
 abbrev pub FailsToGet : Files → List ℕ → Files → ShelfFault → Type 0

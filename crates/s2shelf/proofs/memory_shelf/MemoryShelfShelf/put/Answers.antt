@@ -20,4 +20,5 @@ returns-in-Ok-clause-answer c =
           key ne;
       failures = search rules;
       found = refl;
+      calls = (refl, tt);
     }
