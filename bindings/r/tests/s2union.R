@@ -51,4 +51,15 @@ stopifnot(identical(s2u_contains_cells(face, none[c(3, 1)]), c(NA, TRUE)),
           identical(s2u_file_contains_cells(file, none[c(3, 1)]), c(NA, TRUE)),
           s2u_file_contains_cells(c(replace(file, 2, as.raw(2)), file[10:17]), face), length(s2u_encode(nothing)) == 9,
           s2u_tokens(nothing) == "", length(s2u_from_tokens("")) == 0,
-          identical(s2u_tokens(odd), "7ff1 7ff9 7fff"), all(s2u_contains_cells(odd, odd)))
+          identical(s2u_tokens(odd), "7ff1 7ff9 7fff"),
+          identical(s2u_contains_cells(odd, new_s2_cell(c(unclass(odd), NA))), c(TRUE, TRUE, TRUE, NA)))
+# With a collection at each allocation, what isn't protected is lost, and its memory is given to others.
+many <- s2u_difference(face, s2u_from_tokens("0000000000000001"))
+asked <- many[rep(1:90, 8)] # as many answers as the 90 cells have bytes
+twice <- c(replace(s2u_encode(many), 2, as.raw(91)), tail(s2u_encode(many), 8))
+gctorture()
+made <- list(s2u_file_contains_cells(twice, asked), s2u_decode(twice), s2u_encode(many))
+refused(s2u_union(many, none), "S2U_NO_CELL", 2)
+gctorture(FALSE)
+stopifnot(identical(made, list(rep(TRUE, 720), many, s2u_encode(many))))
+for (k in 1:60000) stopifnot(s2u_encode(face)[1] == 1, s2u_file_contains_cells(twice, many[1])) # nothing stays so
