@@ -73,8 +73,8 @@ FindsMore old name finding new =
 abbrev pub AsksSystem : Files → Files → (List ℕ → List FileCall → Type 0) → Type 0
 AsksSystem old new P = (new.folder ≡ old.folder) × IfSome old.folder (λ folder. Makes old.calls new.calls (P folder))
 
--- the calls for the file at a path of which this finding comes: all bytes that were read, or the first of them, from the
--- beginning of the file
+-- the calls for the file at a path of which this finding comes; the bytes that the reads of it gave are those that were
+-- found, or begin with them
 abbrev pub CallsFor : Finding → List ℕ → List FileCall → Type 0
 CallsFor NoFile path calls = NotRead path calls
 CallsFor Opened path calls = calls ≡ opening path

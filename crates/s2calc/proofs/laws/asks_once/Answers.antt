@@ -45,7 +45,8 @@ found_at : (f : Finding) (path : List ℕ) (calls : List FileCall) → CallsFor 
 found_at NoFile path calls none = not_read path calls none
 found_at Opened path calls is = subst (AllAt path) (sym is) (refl, (refl, (refl, tt)))
 found_at (Holding bytes) path calls is = subst (AllAt path) (sym is) (refl, (refl, (refl, (refl, (refl, tt)))))
-found_at (Beginning bytes) path calls (more, is) = subst (AllAt path) (sym is) (refl, (refl, (refl, (refl, (refl, tt)))))
+found_at (Beginning bytes) path calls (more, is) =
+    subst (AllAt path) (sym is) (refl, (refl, (refl, (refl, (refl, tt)))))
 found_at (Written bytes) path calls is = subst (AllAt path) (sym is) (refl, (refl, (refl, (refl, tt))))
 found_at (Failed Device) path calls none = not_read path calls none
 found_at (Failed NoRoom) path calls (inl is) = subst (AllAt path) (sym is) tt
