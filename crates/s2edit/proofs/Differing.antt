@@ -1,12 +1,13 @@
 -- Steps of the walks along two ascending lists.
 use Rattle.std.proofs.Common.{◌≡◌, ℕ, zero, suc, ◌+◌, ◌<◌, ◌≤◌, Bool, true, false, List, [], ◌∷◌, ◌++◌, length}
-use Rattle.std.proofs.Common.{not, nat_cmp, is_lt, eqb, add-zero, refl}
+use Rattle.std.proofs.Common.{not, nat_cmp, is_lt, eqb, add-zero, refl, set}
 use Rattle.std.proofs.Common.{drop, get_or, sym, ap, ◌∙◌, subst, arith, eq-eqb, append_assoc, add-one, drop-cons, ◌⊎◌}
 use Rattle.std.proofs.Common.{⊎_elim, take, ◌-◌, length-drop}
 use Rattle.std.proofs.lemmas.Bool.Decides.{nat_tests}
 use Rattle.std.proofs.lemmas.Bool.{cond-true, cond-false, or_left, true≢false, cases_lt}
 use Rattle.std.proofs.lemmas.List.Kept.{AllPairs-from_increasing}
-use Rattle.std.proofs.lemmas.List.{take_all, drop_all, take_more, get_or-drop, length-append, length-take-le}
+use Rattle.std.proofs.lemmas.List.{take_all, drop_all, take_more, take_more_set, take-set, get_or-drop}
+use Rattle.std.proofs.lemmas.List.{length-append, length-take-le}
 use mir.Val.{bool_byte}
 use Rattle.std.specs.List.Sorted.{IsStrictlyIncreasing}
 use Rattle.s2union.specs.Apply.{has, cells_without}
@@ -81,29 +82,33 @@ is_below x y p e h = grind (arith, nat_tests)
 pub is_not_below : (x y : ℕ) (p : Bool) → p ≡ is_lt (nat_cmp x y) → p ≡ false → y ≤ x
 is_not_below x y p e h = grind (arith, nat_tests)
 
--- The cells of two lists are compared: p says that the first is below, q that it is above.
-pub counted : (us os : List ℕ) (i j n whole : ℕ) (p q : Bool) → IsStrictlyIncreasing us → IsStrictlyIncreasing os →
-    i < length us → j < length os → (p ≡ true → get_or us i 0 < get_or os j 0) →
+-- Two cells are compared: p says that the first is below, q that it is above. It is written at place n of a list.
+pub written : (us os list whole : List ℕ) (i j n : ℕ) (p q : Bool) → IsStrictlyIncreasing us → IsStrictlyIncreasing os →
+    i < length us → j < length os → n < length list → (p ≡ true → get_or us i 0 < get_or os j 0) →
     (p ≡ false → get_or os j 0 ≤ get_or us i 0) → (q ≡ true → get_or os j 0 < get_or us i 0) →
-    (q ≡ false → get_or us i 0 ≤ get_or os j 0) → n + length (cells_without (drop i us) (drop j os)) ≡ whole →
-    n + bool_byte p + length (cells_without (drop (i + bool_byte (not q)) us) (drop (j + bool_byte (not p)) os)) ≡ whole
-counted us os i j n whole true true a b l m f f' g g' e = absurd (omega (arith, f refl, g refl))
-counted us os i j n whole true false a b l m f f' g g' e =
-    rw (add-zero j) (omega (arith, e, ap length (lacking_cell us os i j b l m (f refl))))
-counted us os i j n whole false true a b l m f f' g g' e =
-    rw (add-zero n, add-zero i) (omega (arith, e, ap length (below_turn us os i j a l m (g refl))))
-counted us os i j n whole false false a b l m f f' g g' e =
-    rw (add-zero n) (omega (
-      arith,
-      e,
-      ap length (same_turn us os i j a l m (omega (arith, f' refl, g' refl))),
-    ))
+    (q ≡ false → get_or us i 0 ≤ get_or os j 0) →
+    take n list ++ cells_without (drop i us) (drop j os) ≡ whole →
+    take (n + bool_byte p) (set list n (get_or us i 0))
+    ++ cells_without (drop (i + bool_byte (not q)) us) (drop (j + bool_byte (not p)) os) ≡ whole
+written us os list whole i j n true true a b l m k f f' g g' e = absurd (omega (arith, f refl, g refl))
+written us os list whole i j n true false a b l m k f f' g g' e =
+    let x : ℕ = get_or us i 0 in
+    rw (add-zero j) (
+    ap (λ (xs : List ℕ). xs ++ cells_without (drop (i + 1) us) (drop j os)) (take_more_set list n x k)
+    ∙ push_on (take n list) (cells_without (drop (i + 1) us) (drop j os)) (cells_without (drop i us) (drop j os)) whole
+    x e (lacking_cell us os i j b l m (f refl)))
+written us os list whole i j n false true a b l m k f f' g g' e =
+    rw (add-zero n, add-zero i, take-set list n (get_or us i 0)) (
+    ap (λ (xs : List ℕ). take n list ++ xs) (below_turn us os i j a l m (g refl)) ∙ e)
+written us os list whole i j n false false a b l m k f f' g g' e =
+    rw (add-zero n, take-set list n (get_or us i 0)) (
+    ap (λ (xs : List ℕ). take n list ++ xs) (same_turn us os i j a l m (omega (arith, f' refl, g' refl))) ∙ e)
 
-pub few_counted : (n i : ℕ) (p q : Bool) → n ≤ i → (p ≡ true → q ≡ true → ⊥) → n + bool_byte p ≤ i + bool_byte (not q)
-few_counted n i true true h f = absurd (f refl refl)
-few_counted n i true false h f = omega (arith, h)
-few_counted n i false true h f = omega (arith, h)
-few_counted n i false false h f = omega (arith, h)
+pub few_written : (n i : ℕ) (p q : Bool) → n ≤ i → (p ≡ true → q ≡ true → ⊥) → n + bool_byte p ≤ i + bool_byte (not q)
+few_written n i true true h f = absurd (f refl refl)
+few_written n i true false h f = omega (arith, h)
+few_written n i false true h f = omega (arith, h)
+few_written n i false false h f = omega (arith, h)
 
 pub one_more : (i n : ℕ) (p : Bool) → i < n → i + bool_byte p ≤ n
 one_more i n true h = omega (arith, h)

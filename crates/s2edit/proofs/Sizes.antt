@@ -1,6 +1,5 @@
 -- How many cells lists have that are put together or that others lack.
 use Rattle.std.proofs.Common.{◌≡◌, ℕ, ◌+◌, ◌≤◌, ltb, List, [], ◌∷◌, length, refl, sym, ap, ◌∙◌, arith}
-use Rattle.std.proofs.Common.{Bool, true, false, if◌then◌else◌}
 use Rattle.std.proofs.lemmas.Bool.{cond_both}
 use Rattle.std.proofs.lemmas.Grind.{common_steps}
 use Rattle.std.specs.List.Sorted.{IsStrictlyIncreasing}
@@ -27,17 +26,6 @@ fewer_without (u ∷ us) vs =
     let rest = fewer_without us vs in
     cond_both (has vs u) (cells_without us vs) (u ∷ cells_without us vs)
     (λ (l : List ℕ). length l ≤ length (u ∷ us)) (λ _. omega arith) (λ _. omega arith)
-
-longest : (b : Bool) (u : ℕ) (xs us : List ℕ) → length xs ≤ length us →
-    length (u ∷ us) ≤ length (if b then xs else u ∷ xs) → (length us ≤ length xs → xs ≡ us) →
-    (if b then xs else u ∷ xs) ≡ u ∷ us
-longest true u xs us k h f = absurd (omega (arith, k, h))
-longest false u xs us k h f = ap (λ (l : List ℕ). u ∷ l) (f (omega (arith, h)))
-
--- a list of which none is taken
-pub lacking_all : (us vs : List ℕ) → length us ≤ length (cells_without us vs) → cells_without us vs ≡ us
-lacking_all [] vs h = refl
-lacking_all (u ∷ us) vs h = longest (has vs u) u (cells_without us vs) us (fewer_without us vs) h (lacking_all us vs)
 
 -- each list with what it lacks of the other has the cells of both
 pub lacking_counts : (us vs : List ℕ) → IsStrictlyIncreasing us → IsStrictlyIncreasing vs →

@@ -1,5 +1,6 @@
 //! Changes of a register.
-ghost use Rattle.std.specs.Prelude.{◌≡◌, ◌≤◌, [], length, IfOk, IsOk, OnErr, ◌↔◌, IsTrue};
+ghost use Rattle.std.specs.Prelude.{◌≡◌, ◌≤◌, [], length, IfOk, IsOk, ◌↔◌, IsTrue};
+ghost use Rattle.std.specs.Vec.{vec_len};
 ghost use Rattle.s2file.specs.Session.{diff_of, IsDiff, IsMove};
 ghost use Rattle.s2edit.specs.Diff.{FitsList};
 
@@ -41,7 +42,8 @@ impl Change {
     /// The change of a register from one union to another: `out` has the cells of `old` that `new` lacks, and `put`
     /// those of `new` that `old` lacks.
     ///
-    /// A few passes over both lists. Takes exactly the memory of the two lists of the change.
+    /// A few passes over both lists. Takes exactly the memory of the two lists of the change, and for the time of the
+    /// call as much as a copy of both lists.
     pub fn between(
         alloc: Global,
         register: Register,
@@ -50,12 +52,27 @@ impl Change {
     ) -> Result<Change, AllocError>
         ensures { IfOk result (λ c. c ≡ change_between register old.now.cells new.now.cells) }
     {
-        let (out, put) = unshared_cells(alloc, old.cells(), new.cells())?;
+        let put = Vec::from_slice(alloc, new.cells())?;
+        Change::written_over(alloc, register, old, new, put)
+    }
+
+    /// The same, where `put` is written over a list that is at least as long as `new`.
+    fn written_over(
+        alloc: Global,
+        register: Register,
+        old: &CellUnion,
+        new: &CellUnion,
+        put: Vec<CellId>,
+    ) -> Result<Change, AllocError>
+        requires { length new.now.cells ≤ vec_len put }
+        ensures { IfOk result (λ c. c ≡ change_between register old.now.cells new.now.cells) }
+    {
+        let (out, put) = unshared_cells(alloc, old.cells(), new.cells(), put)?;
         Ok(Change { register, out, put })
     }
 
-    /// The same for a union that is given away and has to be in the spare list too. If `old` is empty, `put` is the
-    /// union's own list. Takes no memory then, and else just that of the change, before it copies the union.
+    /// The same for a union that is given away and has to be in the spare list too, to which it is copied. If `old` is
+    /// empty, `put` is the union's own list, and no memory is taken; else `put` is written over it.
     pub(crate) fn leading_to(
         alloc: Global,
         register: Register,
@@ -67,20 +84,17 @@ impl Change {
         ensures change { IfOk result (λ c. c ≡ change_between register old.now.cells new.cells) }
         ensures copied { IfOk result (λ _. spare.new.cells ≡ new.cells) }
         ensures room { spare.old.room ≤ spare.new.room }
-        ensures err { OnErr result (spare.new ≡ spare.old) }
         ensures from_empty { old.now.cells ≡ [] → IsOk result }
     {
+        spare.copy_from(&new);
         if old.is_empty() {
-            spare.copy_from(&new);
             return Ok(Change {
                 register,
                 out: Vec::new(alloc),
                 put: new.into_cells(),
             });
         }
-        let change = Change::between(alloc, register, old, &new)?;
-        spare.copy_from(&new);
-        Ok(change)
+        Change::written_over(alloc, register, old, spare, new.into_cells())
     }
 
     /// The change that a session tells, with its lists.

@@ -108,8 +108,9 @@ impl Editor {
     /// future is dropped. If it doesn't, the answer is `(0, 0)` and nothing changes, the future included. A few passes
     /// over the two lists; no other register is looked at.
     ///
-    /// Answers `TooMany` for a union of more than `limit` cells, and `Memory` if there is no memory for the two lists
-    /// of the change. `Memory` is never the answer for an empty register or for the register's own list.
+    /// Answers `TooMany` for a union of more than `limit` cells, and `Memory` if there is no memory for a copy of the
+    /// register's list and the two lists of the change. `Memory` is never the answer for an empty register or for the
+    /// register's own list.
     pub fn assign(
         &mut self,
         register: Register,

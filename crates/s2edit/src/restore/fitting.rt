@@ -125,7 +125,8 @@ fn follow_batch(
         moves,
         register,
     )?;
-    let (out, put) = unshared_cells(alloc, before.cells(), after.cells())?;
+    let put = Vec::from_slice(alloc, after.cells())?;
+    let (out, put) = unshared_cells(alloc, before.cells(), after.cells(), put)?;
     make(alloc, list, spare, &out, &put)?;
     Ok(())
 }

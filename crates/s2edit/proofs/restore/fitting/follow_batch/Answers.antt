@@ -25,8 +25,8 @@ make-requires c =
       c.deref-2.ensures.value,
       c.in_ok-out.ensures.out,
       c.in_ok-out.ensures.put,
-      c.cells.ensures.value,
       c.cells-2.ensures.value,
+      c.cells-3.ensures.value,
     )
     (part_fits ds c.args.list.now.cells c.in_ok-before.before.cells c.in_ok-before.ensures
     (subst (λ (v : List ℕ). FitInTurn v ds) c.in_ok-after.ensures c.in_ok-follow_each.ensures.answer) _
@@ -40,8 +40,8 @@ returns-clause-after c =
       c.deref-2.ensures.value,
       c.in_ok-out.ensures.out,
       c.in_ok-out.ensures.put,
-      c.cells.ensures.value,
       c.cells-2.ensures.value,
+      c.cells-3.ensures.value,
     ) at c.in_ok-make.ensures)
     ∙ part_makes ds c.args.list.now.cells c.in_ok-before.before.cells c.in_ok-before.ensures
     (subst (λ (v : List ℕ). FitInTurn v ds) c.in_ok-after.ensures c.in_ok-follow_each.ensures.answer) _

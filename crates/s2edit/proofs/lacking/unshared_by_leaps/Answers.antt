@@ -1,16 +1,14 @@
-use Rattle.std.proofs.Common.{◌≡◌, ◌≤◌, ◌-◌, ℕ, List, ◌++◌, ◌⊎◌, inl, inr, length, get_or, sym, ap}
+use Rattle.std.proofs.Common.{◌≡◌, ◌≤◌, ℕ, List, ◌++◌, ◌⊎◌, inl, inr, length, get_or, sym, ap}
 use Rattle.std.proofs.Common.{◌∙◌, arith}
 use Rattle.std.proofs.lemmas.Grind.{get_or_default_zero}
 use Rattle.std.proofs.lemmas.Bool.Decides.{nat_tests}
-use Rattle.std.specs.List.Sorted.{IsStrictlyIncreasing}
-use Rattle.s2union.specs.Apply.{cells_without}
-use Rattle.s2edit.proofs.Sizes.{fewer_without, lacking_all, lacking_counts}
+use Rattle.s2edit.proofs.Sizes.{fewer_without, lacking_counts}
 use Rattle.s2edit.proofs.Differing.{same_turn, lacking_rest}
-use Rattle.s2edit.proofs.lacking.unshared_by_walks.Goals as goal
-use Rattle.s2edit.proofs.lacking.unshared_by_walks.Goals.{then-loop-i-test+else-j-new, else-loop-i-test}
+use Rattle.s2edit.proofs.lacking.unshared_by_leaps.Goals as goal
+use Rattle.s2edit.proofs.lacking.unshared_by_leaps.Goals.{then-loop-i-test+else-j-new, else-loop-i-test}
 
 pub overflow_sub-shared : goal.overflow_sub-shared
-overflow_sub-shared c = omega (arith, c.count_lacking-lost.ensures, fewer_without c.args.old.now c.args.«new».now)
+overflow_sub-shared c = omega (arith, c.count_by_leaps-lost.ensures, fewer_without c.args.old.now c.args.«new».now)
 
 pub overflow_sub-won : goal.overflow_sub-won
 overflow_sub-won c =
@@ -18,33 +16,11 @@ overflow_sub-won c =
     let vs : List ℕ = c.args.«new».now in
     omega (
       arith,
-      c.count_lacking-lost.ensures,
+      c.count_by_leaps-lost.ensures,
       fewer_without us vs,
       fewer_without vs us,
       lacking_counts us vs c.requires.old_ascends c.requires.new_ascends,
     )
-
--- no cell of either list is in the other
-none_shared : (us vs : List ℕ) (lost : ℕ) → IsStrictlyIncreasing us → IsStrictlyIncreasing vs →
-    lost ≡ length (cells_without us vs) → length us - lost ≡ 0 → (cells_without us vs ≡ us) × (cells_without vs us ≡ vs)
-none_shared us vs lost a b e f = (
-  lacking_all us vs (omega (arith, e, f)),
-  lacking_all vs us (omega (arith, e, f, fewer_without us vs, lacking_counts us vs a b)),
-)
-
-pub returns-then-shared-eq0-clause-out : goal.returns-then-shared-eq0-clause-out
-returns-then-shared-eq0-clause-out c =
-    let us : List ℕ = c.args.old.now in
-    c.in_ok-extend_from_slice.ensures.items ∙ ap (λ (l : List ℕ). l ++ us) c.in_ok-out.ensures.items
-    ∙ sym (none_shared us c.args.«new».now c.count_lacking-lost.result c.requires.old_ascends c.requires.new_ascends
-    c.count_lacking-lost.ensures c.if-shared-eq0.true).0
-
-pub returns-then-shared-eq0-clause-put : goal.returns-then-shared-eq0-clause-put
-returns-then-shared-eq0-clause-put c =
-    let vs : List ℕ = c.args.«new».now in
-    c.in_ok-extend_from_slice-2.ensures.items ∙ ap (λ (l : List ℕ). l ++ vs) c.in_ok-put.ensures.items
-    ∙ sym (none_shared c.args.old.now vs c.count_lacking-lost.result c.requires.old_ascends c.requires.new_ascends
-    c.count_lacking-lost.ensures c.if-shared-eq0.true).1
 
 pub loop-i-preserved-then-eq : goal.loop-i-preserved-then-eq
 loop-i-preserved-then-eq c =
@@ -74,7 +50,7 @@ returns-clause-out c =
       | then-loop-i-test+else-j-new w ↦ inr (omega arith)
       | else-loop-i-test w ↦ inl (omega arith)
     ] in
-    c.in_ok-extend_from_slice-5.ensures.items ∙ lacking_rest c.args.old.now c.args.«new».now l.out.items l.i l.j
+    c.in_ok-extend_from_slice-3.ensures.items ∙ lacking_rest c.args.old.now c.args.«new».now l.out.items l.i l.j
     ended l.invariant.out
 
 pub returns-clause-put : goal.returns-clause-put
@@ -84,5 +60,5 @@ returns-clause-put c =
       | then-loop-i-test+else-j-new w ↦ inl (omega arith)
       | else-loop-i-test w ↦ inr (omega arith)
     ] in
-    c.in_ok-extend_from_slice-6.ensures.items ∙ lacking_rest c.args.«new».now c.args.old.now l.put.items l.j l.i
+    c.in_ok-extend_from_slice-4.ensures.items ∙ lacking_rest c.args.«new».now c.args.old.now l.put.items l.j l.i
     ended l.invariant.put

@@ -1,5 +1,5 @@
 use Rattle.s2edit.proofs.DiffLemmas.{IsDiff-between}
-use Rattle.s2edit.proofs.change.Change.between.Goals as goal
+use Rattle.s2edit.proofs.change.Change.written_over.Goals as goal
 
 pub invariant_of-result : goal.invariant_of-result
 invariant_of-result c = rw (

@@ -1,6 +1,6 @@
 use Rattle.std.proofs.Common.{◌≡◌, ◌≤◌, ◌++◌, ◌+◌, ◌-◌, length, drop}
 use Rattle.s2union.specs.Apply.{cells_without}
-use Rattle.s2edit.proofs.lacking.unshared_by_walks.Given as goal
+use Rattle.s2edit.proofs.lacking.unshared_by_leaps.Given as goal
 
 -- what is found, and what is left to find, are the whole lists
 abbrev pub invariant-loop-i : goal.invariant-loop-i
