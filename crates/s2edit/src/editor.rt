@@ -262,7 +262,8 @@ fn are_same(cells: &[CellId], others: &[CellId]) -> bool
     cells == others
 }
 
-/// Takes cells out of a register's list and puts others in, in the list's own room.
+/// Takes cells out of a register's list and puts others in: in the list's own room, or if the change is spread over
+/// most of the list, in the spare list, which then takes its place.
 pub(crate) fn change_register(
     registers: &mut Vec<CellUnion>,
     spare: &mut CellUnion,
@@ -281,7 +282,42 @@ pub(crate) fn change_register(
     ensures roomy { (n : ℕ) → AllRoomy n registers.old.items → n ≤ spare.old.room →
         AllRoomy n registers.new.items × (n ≤ spare.new.room) }
 {
-    registers[register.index()].apply(out, put, spare);
+    let at = register.index();
+    if is_spread(registers[at].cells(), out, put) {
+        registers[at].apply_into(out, put, spare);
+        exchange(registers, spare, register);
+        return;
+    }
+    registers[at].apply(out, put, spare);
+}
+
+/// Whether the middle half of a list lies between the first and the last cell of a change.
+fn is_spread(cells: &[CellId], out: &[CellId], put: &[CellId]) -> bool {
+    let quarter = cells.len() / 4;
+    let Some(low) = cells.get(quarter) else {
+        return false;
+    };
+    let Some(high) = cells.get(cells.len() - 1 - quarter) else {
+        return false;
+    };
+    (begins_below(out, *low) || begins_below(put, *low))
+        && (ends_above(out, *high) || ends_above(put, *high))
+}
+
+/// Whether the first of these cells comes before a cell.
+fn begins_below(cells: &[CellId], low: CellId) -> bool {
+    match cells.first() {
+        Some(first) => *first < low,
+        None => false,
+    }
+}
+
+/// Whether the last of these cells comes after a cell.
+fn ends_above(cells: &[CellId], high: CellId) -> bool {
+    match cells.last() {
+        Some(last) => high < *last,
+        None => false,
+    }
 }
 
 /// Exchanges a register's list with the spare list.
