@@ -326,6 +326,8 @@ SQL
         places = geopandas.GeoDataFrame(geometry=[Point(-175, 0), Point(169.999, 0), None, Point(180, 4.9999), Point()],
                                         crs=4326, index=list("abcde"))
         self.assertEqual(wide.s2.sjoin(places).values.tolist(), [["wide", "a"], ["wide", "d"]])
+        small = geopandas.GeoDataFrame(geometry=[Point(-175, 0).buffer(1e-9)], crs=4326, index=["of leaves"])
+        self.assertEqual(small.s2.sjoin(places).values.tolist(), [["of leaves", "a"]])
         self.assertEqual(wide.s2.sjoin(places[2:3]).values.tolist(), [])
         self.assertEqual(wide[1:].s2.sjoin(places).values.tolist(), [])
         meters = places[:2].to_crs(3857)
@@ -333,7 +335,7 @@ SQL
         self.assertEqual(len(meters.s2.leaves()), 2)
         crossed = [[0, 0], [10, 10], [10, 0], [0, 10], [0, 0]]
         wrong = geopandas.GeoDataFrame(geometry=[shape({"type": "Polygon", "coordinates": [crossed]})], index=["it"])
-        with self.assertRaisesRegex(ValueError, "^row 'it': polygon 0: ring 0 crosses or touches itself"):
+        with self.assertRaisesRegex(ValueError, "^row 'it': polygon 0: ring 0 crosses or runs along itself"):
             wrong.s2.coverings()
 
 

@@ -309,9 +309,12 @@ class Maps(unittest.TestCase):
         """The sides of squares that have no square beside them, with the square on the left; and the boundary of the
         complement, which goes the other way."""
         random = Random(12)
-        for _ in range(20):
+        for turn in range(40):
             union = Union(parent(from_face_ij(4, *random.choices(range(2**28, 3 * 2**28), k=2)), random.randrange(3, 7))
                           for _ in range(random.randrange(1, 40)))
+            if turn % 2:  # half of all squares, of which many touch in corners
+                union = Union(parent(from_face_ij(4, 2**28 + SIDE * i, 2**28 + SIDE * j), 6)
+                              for i in range(8) for j in range(8) if random.random() < 0.5)
             squares = {(i // SIDE, j // SIDE) for _, i, j, _ in map(square, union.denormalised(6))}
             wanted = {((i + a, j + b), (i + c, j + d)) for i, j in squares
                       for (x, y), a, b, c, d in (((0, -1), 0, 0, 1, 0), ((1, 0), 1, 0, 1, 1), ((0, 1), 1, 1, 0, 1),
