@@ -60,6 +60,7 @@ fn checked_numbers(bytes: &[u8]) -> Result<&[u8], FileFault>
 /// The bytes after the head of a file, if there are as many as the head says: eight for each number, however many they
 /// are. The fault says which check failed first: there is a first byte, and it is 1; there are at least nine bytes;
 /// exactly the stated number of identifiers follow. Whether these are cells isn't looked at.
+#[inline(always)]
 pub fn numbers_of(bytes: &[u8]) -> Result<&[u8], FileFault>
     ensures { MatchResult result (λ numbers. IsFramed bytes.now × (numbers.now ≡ drop 9 bytes.now))
         (λ fault. HasFrameFault bytes.now fault) }
@@ -69,6 +70,7 @@ pub fn numbers_of(bytes: &[u8]) -> Result<&[u8], FileFault>
 }
 
 /// The count that the head of a file states.
+#[inline(always)]
 fn count_of(bytes: &[u8]) -> Result<u64, FileFault>
     ensures { MatchResult result (λ count. HasHead bytes.now × (count ≡ stated_count bytes.now))
         (λ fault. HasFrameFault bytes.now fault × (HasHead bytes.now → ⊥)) }
@@ -85,6 +87,7 @@ fn count_of(bytes: &[u8]) -> Result<u64, FileFault>
 }
 
 /// The bytes after the head, if they are `count` numbers, as the head states.
+#[inline(always)]
 fn after_head(bytes: &[u8], count: u64) -> Result<&[u8], FileFault>
     requires head { HasHead bytes.now }
     requires count { count ≡ stated_count bytes.now }
