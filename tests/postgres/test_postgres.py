@@ -917,6 +917,8 @@ class Planner(Tests):
             SET plan_cache_mode = force_generic_plan;""")
         self.assertIn("$1", plan)
         self.assertLess(self.expected(plan), 200)
+        made = self.plan("SELECT * FROM small WHERE s2_complement(region) && '1'")
+        self.assertLess(self.expected(made), 200)  # nothing is known of what is made of a column
 
     def test_how_many_rows_with_a_match_are_expected(self):
         for inner in ("countries d WHERE d.region @> c.leaf", "countries d WHERE s2_contains(d.region, c.leaf)",
