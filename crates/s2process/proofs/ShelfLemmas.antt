@@ -1,19 +1,49 @@
 -- What is found by a shelf whose calls are listed.
-use Rattle.std.proofs.Common.{◌≡◌, ℕ, List, [], ◌∷◌, ◌++◌, length, min, take, Option, Some, refl, sym, ap, ◌∙◌, subst}
-use Rattle.std.proofs.Common.{arith, length-take}
+use Rattle.std.proofs.Common.{◌≡◌, ℕ, List, [], ◌∷◌, ◌++◌, length, min, take, Option, None, Some, inl, inr, refl, sym}
+use Rattle.std.proofs.Common.{ap, ◌∙◌, subst, arith, length-take}
 use Rattle.std.proofs.lemmas.Grind.{fold-append}
 use Rattle.std.proofs.lemmas.List.{take_all}
-use Rattle.s2shelf.specs.Shelf.{Files, Found, Finding, Asks, AsksFor, FindsBeginning, Opens, finding_begun}
+use Rattle.s2shelf.specs.FileCalls.{FileCall, path_to}
+use Rattle.s2shelf.specs.Shelf.{Files, Found, Finding, NoFile, Opened, Holding, Beginning, Written, Failed as ItFailed}
+use Rattle.s2shelf.specs.Shelf.{Allows, Asks, AsksFor, CallsFor, FailsToGet, FindsBeginning, Opens}
+use Rattle.s2shelf.specs.Shelf.{count_after, finding_begun}
+use Rattle.s2shelf.specs.declared.shelf.ShelfFault.{ShelfFault}
+use Rattle.s2shelf.specs.declared.shelf.ShelfFault.TheVariants.{Memory}
 use Rattle.s2shelf.specs.declared.opened_file.OpenedFile.{OpenedFile as File}
 use Rattle.s2shelf.proofs.Begun.{some_begun}
+use Rattle.s2shelf.proofs.Opened.{asks_so}
 use Rattle.s2process.specs.declared.shelf.ListedShelf.{ListedShelf}
-use Rattle.s2process.specs.ShelfCalls.{HandedOver, OpenedFile}
+use Rattle.s2process.specs.ShelfCalls.{HandedOver, OpenedFile, Failed}
 use Rattle.s2process.specs.StreamCalls.{StreamCall, OfShelf, found_after, found_in}
 use Rattle.s2process.specs.Listed.{calls_of_shelf, listed_files}
 
 -- one more call adds what it found
 found_more : (calls : List StreamCall) (c : StreamCall) → found_in (calls ++ c ∷ []) ≡ found_after (found_in calls) c
 found_more calls c = fold-append found_after [] calls (c ∷ [])
+
+-- what a folder asks for a file that it finds is what it may ask for one for which there is no memory
+failed_after : (f : Finding) (content : Option (List ℕ)) → Allows f content → (path : List ℕ) (calls : List FileCall) →
+    CallsFor f path calls → CallsFor (ItFailed Memory) path calls
+failed_after NoFile content allows path calls asked = inr asked
+failed_after Opened content allows path calls asked = absurd allows
+failed_after (Holding bytes) content allows path calls asked = inr (inr (bytes, asked))
+failed_after (Beginning bytes) content allows path calls (more, asked) = inr (inr (bytes ++ more, asked))
+failed_after (Written bytes) content allows path calls asked = absurd allows
+failed_after (ItFailed fault) content allows path calls asked = absurd allows
+
+failed_calls : (old new : Files) (name : List ℕ) (fault : ShelfFault) → FailsToGet old name new fault →
+    AsksFor old name (ItFailed fault) new
+failed_calls old new name fault (inl f) = f.calls
+failed_calls old new name fault (inr (memory, (content, found))) =
+    subst (λ g. AsksFor old name (ItFailed g) new) (sym memory)
+    (asks_so old new _ (λ folder. CallsFor (ItFailed Memory) (path_to folder name)) found.asks.calls
+    (λ folder calls. failed_after found.finding content found.allows (path_to folder name) calls))
+
+failed_count : (old new : Files) (name : List ℕ) (fault : ShelfFault) → FailsToGet old name new fault →
+    new.failures ≡ count_after fault old.failures
+failed_count old new name fault (inl f) = f.counted
+failed_count old new name fault (inr (memory, (content, found))) =
+    subst (λ g. new.failures ≡ count_after g old.failures) (sym memory) found.asks.same.1
 
 module _ {S : Type 0} (files : S → Files) (old new : ListedShelf S) where
   -- it was asked for a file once, and this was found
@@ -63,3 +93,15 @@ module _ {S : Type 0} (files : S → Files) (old new : ListedShelf S) where
             (λ before. refl) below.asks.same.1 below.asks.calls;
         is = ap Some (sym all);
       }
+
+  -- it failed to hand over a file
+  pub fails_to_get : (name : List ℕ) (fault : ShelfFault) →
+      calls_of_shelf new ≡ calls_of_shelf old ++ OfShelf (Failed name fault) ∷ []
+      → FailsToGet (files old.shelf) name (files new.shelf) fault
+      → FailsToGet (listed_files files old) name (listed_files files new) fault
+  fails_to_get name fault listed below = inl (record {
+    keeps = record { tells = refl; at = λ t other. refl };
+    counted = failed_count (files old.shelf) (files new.shelf) name fault below;
+    found = ap Some (ap found_in listed ∙ found_more (calls_of_shelf old) (OfShelf (Failed name fault)));
+    calls = failed_calls (files old.shelf) (files new.shelf) name fault below;
+  })

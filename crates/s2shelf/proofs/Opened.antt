@@ -132,6 +132,16 @@ asks_then old mid new P Q R (same, first) (next_same, second) both = (
   calls_then old.folder mid.folder old.calls mid.calls new.calls P Q R same both first second,
 )
 
+makes_so : (folder : Option (List ℕ)) (a b : List FileCall) (P Q : List ℕ → List FileCall → Type 0) →
+    ((path : List ℕ) (calls : List FileCall) → P path calls → Q path calls)
+    → IfSome folder (λ path. Makes a b (P path)) → IfSome folder (λ path. Makes a b (Q path))
+makes_so None a b P Q so made = tt
+makes_so (Some path) a b P Q so (calls, more, holds) = (calls, more, so path calls holds)
+
+-- what a folder asked for of which this holds, if it holds of each such calls
+pub asks_so : (old new : Files) (P Q : List ℕ → List FileCall → Type 0) → AsksSystem old new P →
+    ((folder : List ℕ) (calls : List FileCall) → P folder calls → Q folder calls) → AsksSystem old new Q
+asks_so old new P Q (same, asked) so = (same, makes_so old.folder old.calls new.calls P Q so asked)
 -- the calls of an opening, and then those of the closing of a file of the same name
 both_calls : (folder name named bytes : List ℕ) (xs ys : List FileCall) → named ≡ name →
     xs ≡ opening (path_to folder name) → ys ≡ reading (path_to folder named) bytes →

@@ -8,6 +8,7 @@ use Rattle.s2shelf.specs.FileCalls.{FileCall, Makes, NotOpened, NotRead, NotStor
 use Rattle.s2shelf.specs.Shelf.{Files, Finding, NoFile, Opened, Holding, Beginning, Written, Failed, Found, Allows}
 use Rattle.s2shelf.specs.Shelf.{is_opening, finding_of, FindsMore, Finds, MayFind, FailsToGet, AsksSystem, AsksFor}
 use Rattle.s2shelf.specs.Shelf.{CallsFor}
+use Rattle.s2shelf.proofs.Opened.{asks_so}
 use Rattle.s2shelf.specs.declared.shelf.ShelfFault.{ShelfFault}
 use Rattle.s2shelf.specs.declared.shelf.ShelfFault.TheVariants.{Device, Memory as NoRoom}
 use Rattle.s2script.specs.declared.command.Command.{Command}
@@ -52,12 +53,6 @@ found_at (Failed Device) path calls none = not_read path calls none
 found_at (Failed NoRoom) path calls (inl is) = subst (AllAt path) (sym is) tt
 found_at (Failed NoRoom) path calls (inr none) = not_read path calls none
 
-makes_so : (folder : Option (List ℕ)) (a b : List FileCall) (P Q : List ℕ → List FileCall → Type 0) →
-    ((path : List ℕ) (calls : List FileCall) → P path calls → Q path calls)
-    → IfSome folder (λ path. Makes a b (P path)) → IfSome folder (λ path. Makes a b (Q path))
-makes_so None a b P Q so made = tt
-makes_so (Some path) a b P Q so (calls, more, holds) = (calls, more, so path calls holds)
-
 makes_none : (folder : Option (List ℕ)) (a : List FileCall) (name : List ℕ) →
     IfSome folder (λ path. Makes a a (AllAt (path_to path name)))
 makes_none None a name = tt
@@ -86,11 +81,7 @@ module _ (old new : World) (reply : Reply) (before : List Found) (e : old.files.
       → ((folder : List ℕ) (calls : List FileCall) → P folder calls → AllAt (path_to folder name) calls) → Once name
   once_by name f P none more asks at_path = (
     inl (f, none, more ∙ ap (option_map (λ (fs : List Found). record { name = name; finding = f } ∷ fs)) e),
-    (
-      asks.0,
-      makes_so old.files.folder old.files.calls new.files.calls P (λ folder. AllAt (path_to folder name)) at_path
-          asks.1,
-    ),
+    asks_so old.files new.files P (λ folder. AllAt (path_to folder name)) asks at_path,
   )
 
   once : (name : List ℕ) (f : Finding) → is_opening f ≡ false → FindsMore old.files name f new.files
