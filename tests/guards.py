@@ -79,7 +79,7 @@ MISTAKES = [
             swapped("| 5 | 291 km | 6,144 |", "| 5 | 291 km | 6,154 |")),
     Mistake("another kit on a page", pages.other_kits, "docs/PROOF.md", ended_by(f"\n`{'rattle-kit-0 logic 0'}`\n")),
     Mistake("a call that isn't made on the way of a line", pages.calls_on_the_walk, "docs/ARCHITECTURE.md",
-            swapped("`run_observed` call `run_with`", "`run_observed` call `run_without`")),
+            swapped("`run` calls `run_with`", "`run` calls `run_without`")),
     Mistake("a change that is said twice", pages.said_twice, "CHANGELOG.md",
             lambda text: re.sub(r"^- .*\n", r"\g<0>\g<0>", text, count=1, flags=re.M)),
     Mistake("a limit as a number", pages.limits_as_numbers, "crates/s2file/src/union_file.rt",

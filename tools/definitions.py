@@ -364,7 +364,7 @@ class House:
 
     def add_members(self, source, block):
         """Adds what a type is as one of a trait, where a contract sees that: the ghost members and types of an impl."""
-        named = re.search(r"(\w+)(?:<[^{]*>)? for (\w+)", block.head)
+        named = re.search(r"(\w+)(?:<[^{]*>)? for (\w+)", without_parameters(block.head))
         if not named:
             return
         members = [piece for piece in block.inner if piece.kind == "ghost" and piece.name != "use"]
@@ -462,8 +462,7 @@ class House:
 
     def roots_of_impl(self, source, piece, module):
         """What an impl shows: the public methods of an exported type, and all of a trait that both sides know."""
-        head = re.sub(r"^(?:unsafe )?impl\s*(<(?:[^<>]|<[^<>]*>)*>)?\s*", "", piece.head)
-        trait, _, subject = head.rpartition(" for ")
+        trait, _, subject = without_parameters(piece.head).rpartition(" for ")
         named = re.search(r"(?:\w+::)*([A-Z]\w*)", subject)
         name = named and named[1]
         is_ours = name in source.types or name in source.rust
@@ -482,6 +481,11 @@ class House:
     def module_of(self, crate, name):
         item = self.items.get((crate, "type", name))
         return source_module(item.file) if item else None
+
+
+def without_parameters(head):
+    """The head of an impl from its trait or type on."""
+    return re.sub(r"^(?:unsafe )?impl\s*(<(?:[^<>]|<[^<>]*>)*>)?\s*", "", head)
 
 
 def comment_above(text, at):

@@ -14,7 +14,7 @@ use Rattle.s2calc.specs.Notes.{WritesNotes, note_of, number_of}
 use Rattle.s2calc.specs.Step.{StepBy, asks_for_file}
 use Rattle.s2calc.specs.Working.Stands.{Point}
 use Rattle.s2calc.specs.Working.Stands.{Answered, AnsweredInPart, AnsweredUnflushed}
-use Rattle.s2calc.specs.Working.Seen.{Settled, Unsettled}
+use Rattle.s2calc.specs.Flushing.{Settled, Unsettled}
 use Rattle.s2calc.specs.Output.{AppendsPart}
 
 -- a flush, an answer and a flush

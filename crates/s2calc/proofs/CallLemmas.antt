@@ -3,7 +3,8 @@ use Rattle.std.proofs.Common.{◌≡◌, ◌∙◌, ◌<◌, ℕ, ◌+◌, List,
 use Rattle.std.proofs.Common.{append_assoc, append-nil, subst, arith, length, length-append, Result, Ok, Err}
 use Rattle.s2calc.specs.Calls.{Call, Gains, NoneFailed, LastFlushed, LastFailed, AllWell, Wrote, Flushed, Failed}
 use Rattle.s2calc.specs.Reads.{AllGave, ReadsOn, ReadsLast}
-use Rattle.s2calc.specs.Working.Calls.{FailedIfErr, FlushedIfOk}
+use Rattle.s2calc.specs.Flushing.{FlushedIfOk}
+use Rattle.s2calc.specs.Working.Calls.{FailedIfErr}
 
 pub gains_nil : {A : Type 0} (a : Option (List A)) → Gains a a []
 gains_nil None = tt

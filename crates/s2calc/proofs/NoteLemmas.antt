@@ -19,7 +19,7 @@ use Rattle.s2calc.specs.Output.{AppendsPart}
 use Rattle.s2calc.specs.Run.{no_notes}
 use Rattle.s2calc.specs.Notes.{Noted, WritesNotes, note_of, notes_from, number_of, reason_of, misfit_reason}
 use Rattle.s2calc.specs.Working.Execute.{IsOutcome}
-use Rattle.s2calc.specs.Working.Noting.{noted, Puts}
+use Rattle.s2calc.specs.Working.Noting.{noted_below, Puts}
 use Rattle.s2calc.proofs.CallLemmas.{none_failed_none, none_failed_more, last_failed_after}
 use Rattle.s2calc.proofs.StepLemmas.{misfit_of-kept}
 
@@ -203,11 +203,11 @@ module _ {W : Type 0} (contents : W → Option (List ℕ)) (calls : W → Option
   -- a text was put where nothing waited, and then what waited was passed on
   pub puts_text : (a b : NoteText W) (text : List ℕ) (new : Noted) → a.waiting.items ≡ [] →
       WritesInCalls (Puts contents calls) a text b
-      → WritesNotes (noted contents calls b.writer b.stopped) b.waiting.items new
-      → WritesNotes (noted contents calls a.writer a.stopped) text new
+      → WritesNotes (noted_below contents calls b.writer b.stopped) b.waiting.items new
+      → WritesNotes (noted_below contents calls a.writer a.stopped) text new
   puts_text a b text new none p passed =
       let put = puts_parts a p.parts b p.calls in
       let all : put.0 ++ b.waiting.items ≡ text =
       sym put.1 ∙ ap (λ s. s ++ concat p.parts) none ∙ p.whole in
-      subst (λ bytes. WritesNotes (noted contents calls a.writer a.stopped) bytes new) all
+      subst (λ bytes. WritesNotes (noted_below contents calls a.writer a.stopped) bytes new) all
       (WritesNotes-more _ _ new put.0 b.waiting.items put.2 passed)

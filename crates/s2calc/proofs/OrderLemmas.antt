@@ -19,12 +19,12 @@ use Rattle.s2calc.specs.Run.{Steps, Known, Runs, WereReadWhole}
 use Rattle.s2calc.specs.Working.Stands.{Point}
 use Rattle.s2calc.specs.Calls.{Call, Gains, NoneFailed}
 use Rattle.s2calc.specs.Reads.{Gives, ReadsLast}
-use Rattle.s2calc.specs.Working.Calls.{FlushedIfOk}
+use Rattle.s2calc.specs.Flushing.{FlushedIfOk, Settled}
 use Rattle.s2calc.specs.Working.Stands.{point, Stands, Answered, StandsAfter, Closes}
 use Rattle.s2calc.specs.Moments.{Event, Came, NotCame, LineBegins, LineEnds, Moment, moment, bytes_of, read_of}
 use Rattle.s2calc.specs.Moments.{bytes_read, reads_seen, begun_in, ended_in, Adds, AddsOne}
 use Rattle.s2calc.specs.Order.{HasEnded, AllOut, GoneOut, ReadsWhen, LineWhen, MayCome, EachMay, InOrder, Ordered}
-use Rattle.s2calc.specs.Working.Seen.{Settled, LinesSeen, LineSeen, LineCut, ManySeen, MoreSeen, EndSeen, LastSeen}
+use Rattle.s2calc.specs.Working.Seen.{LinesSeen, LineSeen, LineCut, ManySeen, MoreSeen, EndSeen, LastSeen}
 use Rattle.s2calc.specs.Working.Seen.{SeenSoFar}
 use Rattle.s2calc.proofs.CallLemmas.{gains_nil, gains_more, none_failed_more, last_flushed_after, last_failed_after}
 use Rattle.s2calc.proofs.LineLemmas.{every-append, whole_lines_begun, BeginsWith-more}

@@ -6,9 +6,10 @@ use Rattle.s2shelf.specs.Shelf.{Files}
 use Rattle.s2calc.specs.declared.fault.RunFault.{RunFault}
 use Rattle.s2calc.specs.declared.fault.RunFault.TheVariants.{Output}
 use Rattle.s2calc.specs.Calls.{Call, NoneFailed}
-use Rattle.s2calc.specs.Working.Calls.{FailedIfErr, FlushedIfOk}
+use Rattle.s2calc.specs.Flushing.{FlushedIfOk, Settled, Unsettled, Settles}
+use Rattle.s2calc.specs.Working.Calls.{FailedIfErr}
 use Rattle.s2calc.specs.Moments.{LineBegins, LineEnds, Moment, moment, Adds, AddsOne}
-use Rattle.s2calc.specs.Working.Seen.{Settled, Unsettled, Settles, LineSeen, LineCut}
+use Rattle.s2calc.specs.Working.Seen.{LineSeen, LineCut}
 use Rattle.s2calc.proofs.CallLemmas.{none_failed_more, none_failed_flushed, last_flushed_after}
 use Rattle.s2calc.proofs.CallLemmas.{last_flushed_may, last_failed_may}
 use Rattle.s2calc.proofs.OrderLemmas.{Adds-trans, Adds-weaker}

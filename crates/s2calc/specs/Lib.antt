@@ -14,6 +14,7 @@ pub mod Output
 pub mod Buffered
 pub mod Calls
 pub mod Reads
+pub mod Flushing
 pub mod Moments
 pub mod Order
 pub mod Laws

@@ -1,5 +1,5 @@
 //! The run of a script.
-ghost use Rattle.std.specs.Prelude.{◌≡◌, ◌<◌, ◌≤◌, ◌+◌, ℕ, List, [], ◌∷◌, ◌++◌, OnOk, IfOk, IfErr, IfSome, IfNone};
+ghost use Rattle.std.specs.Prelude.{◌≡◌, ◌<◌, ◌+◌, ℕ, List, [], ◌∷◌, ◌++◌, OnOk, IfOk, IfErr, IfSome, IfNone};
 ghost use Rattle.std.specs.Prelude.{length, take, MatchResult};
 ghost use Rattle.std.specs.Io.KnownBytes.{Keeps};
 ghost use Rattle.s2list.specs.Union.{IsNormalForm, has_leaf};
@@ -10,23 +10,21 @@ ghost use Rattle.s2script.specs.Lines.{IsUnbroken};
 ghost use Rattle.s2script.specs.Working.Lines.{EndsLineAt};
 ghost use Rattle.s2calc.specs.Run.{Runs, known, no_notes};
 ghost use Rattle.s2calc.specs.Reads.{input_of};
-ghost use Rattle.s2calc.specs.Buffered.{written_to};
 ghost use Rattle.s2calc.specs.World.{world};
-ghost use Rattle.s2calc.specs.Working.Calls.{FailedIfErr, FlushedIfOk};
+ghost use Rattle.s2calc.specs.Flushing.{FlushedIfOk};
+ghost use Rattle.s2calc.specs.Working.Calls.{FailedIfErr};
 ghost use Rattle.s2calc.specs.Working.Desk.{SameReferences, AnswersKept, TakesIn, Finishes, RunsOver};
 ghost use Rattle.s2calc.specs.Working.Stands.{keeping};
 ghost use Rattle.s2calc.specs.Order.{Ordered};
-ghost use Rattle.s2calc.specs.Noting.{noted_by};
 ghost use Rattle.s2calc.specs.Notes.{number_of};
 
-use crate::answer_buffer::AnswerBuffer;
 use crate::desk::Desk;
 use crate::execute::{Outcome, asks_for_file, execute};
 use crate::fault::RunFault;
-use crate::flushing::{AtTheEnd, Flushing, Promptly};
+use crate::flushing::{AtTheEnd, Flushing};
 use crate::kept::beginning;
-use crate::limits::{KEPT, MOST_WAITING, READ_SIZE};
-use crate::notes::{NoNotes, NoteWriter, Notes};
+use crate::limits::{KEPT, READ_SIZE};
+use crate::notes::{NoNotes, Notes, note};
 use crate::observer::{Observer, Unobserved, begin_line, end_line};
 use crate::progress::Progress;
 use crate::streams::{Sink, Source};
@@ -151,7 +149,7 @@ fn answer_line<W: Sink, S: Shelf, F: Flushing<W>, N: Notes, O: Observer<W, S>>(
     let outcome = execute::<W, S, F>(desk.alloc, desk.editor, said, desk.writer, desk.shelf)?;
     tally.count(outcome);
     *lines = next_number(*lines);
-    desk.notes.note(*lines, line, outcome);
+    note(desk.notes, *lines, line, outcome);
     end_line::<W, S, F, O>(has_file, desk.writer, desk.shelf, desk.observer)
 }
 
@@ -192,206 +190,42 @@ pub fn run<R: Source, W: Sink, S: Shelf>(
     ensures before { EachList (λ u. IsNormalForm (has_leaf u) u) editor.old }
     ensures after { EachList (λ u. IsNormalForm (has_leaf u) u) editor.new }
 {
-    run_observed(
-        alloc,
-        editor,
-        reader,
-        writer,
-        shelf,
-        &mut Unobserved::<R>::new(),
-    )
-}
-
-/// Runs a script as [`run`] does, and an observer sees its reads and its lines in the order in which they come.
-///
-/// A read comes only where exactly the answers to all lines that were read whole have been written. A line is carried
-/// out only where exactly the answers to the lines before it have been written, and with the files that these have
-/// left, so no answer is held back, and no file is touched before all earlier answers are out. Each line begins once,
-/// and ends once before the next one begins. After `Output` this holds of all reads and lines before the call that
-/// failed, and nothing comes after it.
-pub fn run_observed<W: Sink, S: Shelf, O: Observer<W, S>>(
-    alloc: Global,
-    editor: &mut Editor,
-    reader: &mut O::Reader,
-    writer: &mut W,
-    shelf: &mut S,
-    observer: &mut O,
-) -> Result<Tally, RunFault>
-    ensures runs { (run : Runs ⊥
-        (known (world editor.old (S.files shelf.old)) (input_of O.Reader.remaining O.Reader.given reader.old)
-        (O.Reader.reads reader.old) (W.contents writer.old) (W.calls writer.old) no_notes)
-        (known (world editor.new (S.files shelf.new)) (input_of O.Reader.remaining O.Reader.given reader.new)
-        (O.Reader.reads reader.new) (W.contents writer.new) (W.calls writer.new) no_notes) result)
-        × Ordered W.contents W.calls (λ _. Unit {0}) S.files ⊥ (world editor.old (S.files shelf.old)) writer.old
-        run.ran (O.seen observer.old) (O.seen observer.new) result }
-    ensures before { EachList (λ u. IsNormalForm (has_leaf u) u) editor.old }
-    ensures after { EachList (λ u. IsNormalForm (has_leaf u) u) editor.new }
-{
-    let _ = editor.limit();
-    let result = run_with::<W, S, AtTheEnd, NoNotes, O>(
+    run_with::<W, S, AtTheEnd, NoNotes, Unobserved<R>>(
         alloc,
         editor,
         reader,
         writer,
         shelf,
         &mut NoNotes,
-        observer,
-    );
-    let _ = editor.limit();
-    result
-}
-
-/// Runs a script as [`run`] does, over a writer that buffers answers, and flushes it before each read too, and before
-/// and after each command with a file. So the answers go out before the run waits for more of the script, and whoever
-/// typed a line sees its answer. No file is touched before all earlier answers are out, and the answer to a command
-/// with a file goes out before the next line is carried out.
-///
-/// After `Ok` all answers have reached the writer below; after `Input` exactly the answers to the lines that were read
-/// whole have. In both cases nothing waits in the buffer. After `Output` what was written is as [`run`] says, or a
-/// flush before a read failed, and then it is exactly the answers to the lines that were read whole, or a flush before
-/// or after a command with a file failed, and then it is exactly the answers to the lines that were carried out: those
-/// before the command, or the command too. What has reached the writer below is a beginning of that: all of it but the
-/// bytes that wait, which are its last ones, at most 64 KiB, and are lost when the buffer is dropped.
-pub fn run_promptly<R: Source, W: Sink, S: Shelf>(
-    alloc: Global,
-    editor: &mut Editor,
-    reader: &mut R,
-    writer: &mut AnswerBuffer<W>,
-    shelf: &mut S,
-) -> Result<Tally, RunFault>
-    ensures runs { Runs (Unit {0})
-        (known (world editor.old (S.files shelf.old)) (input_of R.remaining R.given reader.old) (R.reads reader.old)
-        (written_to W.contents writer.old) (W.calls writer.old.writer) no_notes)
-        (known (world editor.new (S.files shelf.new)) (input_of R.remaining R.given reader.new) (R.reads reader.new)
-        (written_to W.contents writer.new) (W.calls writer.new.writer) no_notes) result }
-    ensures nothing_waits { MatchResult result (λ _. writer.new.waiting ≡ []) (λ fault. fault ≡ RunFault.Input →
-        writer.new.waiting ≡ []) }
-    ensures few_wait { length writer.new.waiting ≤ MOST_WAITING }
-    ensures before { EachList (λ u. IsNormalForm (has_leaf u) u) editor.old }
-    ensures after { EachList (λ u. IsNormalForm (has_leaf u) u) editor.new }
-{
-    run_promptly_observed(
-        alloc,
-        editor,
-        reader,
-        writer,
-        shelf,
-        &mut Unobserved::<R>::new(),
+        &mut Unobserved::new(),
     )
 }
 
-/// Runs a script as [`run_promptly`] does, and an observer sees its reads and its lines in the order in which they
-/// come.
+/// Runs a script as [`run`] does, with notes on refused lines and an observer. `F` says when it is flushed.
 ///
-/// The order is that of [`run_observed`]. Besides, nothing waits in the buffer and the last call of the writer below is
-/// a flush wherever a read comes, and before and after each line that asks for a command with a file.
-pub fn run_promptly_observed<W: Sink, S: Shelf, O: Observer<AnswerBuffer<W>, S>>(
-    alloc: Global,
-    editor: &mut Editor,
-    reader: &mut O::Reader,
-    writer: &mut AnswerBuffer<W>,
-    shelf: &mut S,
-    observer: &mut O,
-) -> Result<Tally, RunFault>
-    ensures runs { (run : Runs (Unit {0})
-        (known (world editor.old (S.files shelf.old)) (input_of O.Reader.remaining O.Reader.given reader.old)
-        (O.Reader.reads reader.old) (written_to W.contents writer.old) (W.calls writer.old.writer) no_notes)
-        (known (world editor.new (S.files shelf.new)) (input_of O.Reader.remaining O.Reader.given reader.new)
-        (O.Reader.reads reader.new) (written_to W.contents writer.new) (W.calls writer.new.writer) no_notes) result)
-        × Ordered (written_to W.contents) (λ b. W.calls b.writer) (λ b. b.waiting ≡ []) S.files (Unit {0})
-        (world editor.old (S.files shelf.old)) writer.old run.ran (O.seen observer.old) (O.seen observer.new) result }
-    ensures nothing_waits { MatchResult result (λ _. writer.new.waiting ≡ []) (λ fault. fault ≡ RunFault.Input →
-        writer.new.waiting ≡ []) }
-    ensures few_wait { length writer.new.waiting ≤ MOST_WAITING }
-    ensures before { EachList (λ u. IsNormalForm (has_leaf u) u) editor.old }
-    ensures after { EachList (λ u. IsNormalForm (has_leaf u) u) editor.new }
-{
-    let _ = (editor.limit(), writer.waiting_len());
-    let result = run_with::<AnswerBuffer<W>, S, Promptly, NoNotes, O>(
-        alloc,
-        editor,
-        reader,
-        writer,
-        shelf,
-        &mut NoNotes,
-        observer,
-    );
-    let _ = (editor.limit(), writer.waiting_len());
-    result
-}
-
-/// Runs a script as [`run_promptly`] does, and says why lines are refused: one line for each, with its number, the
-/// refusal and the reason.
+/// With `AtTheEnd` the writer is flushed once, at the end. With `Promptly` it is a buffer of answers, which is flushed
+/// before each read too, and before and after each command with a file. So the answers go out before the run waits for
+/// more of the script, and whoever typed a line sees its answer; and the answer to a command with a file goes out
+/// before the next line is carried out. After `Ok` all answers have then reached the writer below, and after `Input`
+/// exactly those to the lines that were read whole: in both cases nothing waits. After `Output` what was written is as
+/// [`run`] says; or a flush before a read failed, and then it is exactly the answers to the lines that were read whole;
+/// or a flush before or after a command with a file failed, and then it is exactly the answers to the lines before the
+/// command, or to the command too. What has reached the writer below is all of that but the bytes that wait, at most 64
+/// KiB, which are lost when the buffer is dropped.
 ///
-/// The notes are those on the lines that were carried out, with the replies that they had. If the output failed inside
-/// an answer, there is none on that last line. If a note can't be written, the run goes on, and no more notes are
-/// written; the notes that were written are then a beginning of those.
-pub fn run_explained<R: Source, W: Sink, S: Shelf, N: Sink>(
-    alloc: Global,
-    editor: &mut Editor,
-    reader: &mut R,
-    writer: &mut AnswerBuffer<W>,
-    shelf: &mut S,
-    notes: &mut NoteWriter<N>,
-) -> Result<Tally, RunFault>
-    ensures runs { Runs (Unit {0})
-        (known (world editor.old (S.files shelf.old)) (input_of R.remaining R.given reader.old) (R.reads reader.old)
-        (written_to W.contents writer.old) (W.calls writer.old.writer) (noted_by N.contents N.calls notes.old))
-        (known (world editor.new (S.files shelf.new)) (input_of R.remaining R.given reader.new) (R.reads reader.new)
-        (written_to W.contents writer.new) (W.calls writer.new.writer) (noted_by N.contents N.calls notes.new)) result }
-    ensures nothing_waits { MatchResult result (λ _. writer.new.waiting ≡ []) (λ fault. fault ≡ RunFault.Input →
-        writer.new.waiting ≡ []) }
-    ensures few_wait { length writer.new.waiting ≤ MOST_WAITING }
-    ensures before { EachList (λ u. IsNormalForm (has_leaf u) u) editor.old }
-    ensures after { EachList (λ u. IsNormalForm (has_leaf u) u) editor.new }
-{
-    run_explained_observed(
-        alloc,
-        editor,
-        reader,
-        writer,
-        shelf,
-        notes,
-        &mut Unobserved::<R>::new(),
-    )
-}
-
-/// Runs a script as [`run_explained`] does, and an observer sees its reads and its lines in the order in which they
-/// come, which is that of [`run_promptly_observed`].
-pub fn run_explained_observed<W: Sink, S: Shelf, N: Sink, O: Observer<AnswerBuffer<W>, S>>(
-    alloc: Global,
-    editor: &mut Editor,
-    reader: &mut O::Reader,
-    writer: &mut AnswerBuffer<W>,
-    shelf: &mut S,
-    notes: &mut NoteWriter<N>,
-    observer: &mut O,
-) -> Result<Tally, RunFault>
-    ensures runs { (run : Runs (Unit {0})
-        (known (world editor.old (S.files shelf.old)) (input_of O.Reader.remaining O.Reader.given reader.old)
-        (O.Reader.reads reader.old) (written_to W.contents writer.old) (W.calls writer.old.writer)
-        (noted_by N.contents N.calls notes.old))
-        (known (world editor.new (S.files shelf.new)) (input_of O.Reader.remaining O.Reader.given reader.new)
-        (O.Reader.reads reader.new) (written_to W.contents writer.new) (W.calls writer.new.writer)
-        (noted_by N.contents N.calls notes.new)) result)
-        × Ordered (written_to W.contents) (λ b. W.calls b.writer) (λ b. b.waiting ≡ []) S.files (Unit {0})
-        (world editor.old (S.files shelf.old)) writer.old run.ran (O.seen observer.old) (O.seen observer.new) result }
-    ensures nothing_waits { MatchResult result (λ _. writer.new.waiting ≡ []) (λ fault. fault ≡ RunFault.Input →
-        writer.new.waiting ≡ []) }
-    ensures few_wait { length writer.new.waiting ≤ MOST_WAITING }
-    ensures before { EachList (λ u. IsNormalForm (has_leaf u) u) editor.old }
-    ensures after { EachList (λ u. IsNormalForm (has_leaf u) u) editor.new }
-{
-    let _ = (editor.limit(), writer.waiting_len());
-    let result = run_with::<AnswerBuffer<W>, S, Promptly, NoteWriter<N>, O>(
-        alloc, editor, reader, writer, shelf, notes, observer,
-    );
-    let _ = (editor.limit(), writer.waiting_len());
-    result
-}
-
-/// The run. Takes room for what is read, and lays on a desk what it works with.
-fn run_with<W: Sink, S: Shelf, F: Flushing<W>, N: Notes, O: Observer<W, S>>(
+/// The notes are those on the lines that were carried out, with the replies that they had: one line for each refused
+/// line, with its number, the refusal and the reason. If the output failed inside an answer, there is none on that last
+/// line. If a note can't be written, the run goes on, and no more notes are written; the notes that were written are
+/// then a beginning of those.
+///
+/// The observer sees reads and lines in the order in which they come. A read comes only where exactly the answers to
+/// all lines that were read whole have been written. A line is carried out only where exactly the answers to the lines
+/// before it have been written, and with the files that these have left, so no answer is held back, and no file is
+/// touched before all earlier answers are out. Each line begins once, and ends once before the next one begins. After
+/// `Output` this holds of all reads and lines before the call that failed, and nothing comes after it. With `Promptly`,
+/// nothing waits in the buffer and the last call of the writer below is a flush wherever a read comes, and before and
+/// after each line that asks for a command with a file.
+pub fn run_with<W: Sink, S: Shelf, F: Flushing<W>, N: Notes, O: Observer<W, S>>(
     alloc: Global,
     editor: &mut Editor,
     reader: &mut O::Reader,
@@ -409,9 +243,12 @@ fn run_with<W: Sink, S: Shelf, F: Flushing<W>, N: Notes, O: Observer<W, S>>(
         run.ran (O.seen observer.old) (O.seen observer.new) result }
     ensures sent { MatchResult result (λ _. F.is_sent writer.new) (λ fault. fault ≡ RunFault.Input →
         F.is_sent writer.new) }
+    ensures before { EachList (λ u. IsNormalForm (has_leaf u) u) editor.old }
+    ensures after { EachList (λ u. IsNormalForm (has_leaf u) u) editor.new }
 {
+    let _ = editor.limit();
     let mut input = input_buffer(alloc)?;
-    run_over::<W, S, F, N, O>(
+    let result = run_over::<W, S, F, N, O>(
         &mut input,
         reader,
         &mut Desk {
@@ -422,7 +259,9 @@ fn run_with<W: Sink, S: Shelf, F: Flushing<W>, N: Notes, O: Observer<W, S>>(
             notes,
             observer,
         },
-    )
+    );
+    let _ = editor.limit();
+    result
 }
 
 /// A buffer for the reader.

@@ -2,8 +2,7 @@
 ghost use Rattle.std.specs.Prelude.{◌≡◌, true, [], OnOk, IfErr};
 ghost use Rattle.std.specs.Io.KnownBytes.{Keeps};
 ghost use Rattle.s2calc.specs.Buffered.{written_to};
-ghost use Rattle.s2calc.specs.Working.Calls.{FlushedIfOk};
-ghost use Rattle.s2calc.specs.Working.Seen.{Settles};
+ghost use Rattle.s2calc.specs.Flushing.{FlushedIfOk, Settles};
 
 use crate::answer_buffer::AnswerBuffer;
 use crate::fault::RunFault;
@@ -11,7 +10,7 @@ use crate::output::flush;
 use crate::streams::Sink;
 
 /// When a run flushes its writer besides at the end, and what is known of the writer then.
-pub(crate) trait Flushing<W: Sink> {
+pub trait Flushing<W: Sink> {
     // nothing that was written waits in the writer
     ghost is_sent: { W → Type 0 };
 
@@ -31,7 +30,7 @@ pub(crate) trait Flushing<W: Sink> {
 }
 
 /// Nothing happens before the end. It isn't known what waits in a writer of any kind.
-pub(crate) struct AtTheEnd;
+pub struct AtTheEnd;
 
 impl<W: Sink> Flushing<W> for AtTheEnd {
     ghost is_sent = { λ _. Unit {0} };
@@ -48,7 +47,7 @@ impl<W: Sink> Flushing<W> for AtTheEnd {
 }
 
 /// The buffer is flushed each time.
-pub(crate) struct Promptly;
+pub struct Promptly;
 
 impl<W: Sink> Flushing<AnswerBuffer<W>> for Promptly {
     ghost is_sent = { λ b. b.waiting ≡ [] };

@@ -48,15 +48,13 @@ pub use answer_buffer::AnswerBuffer;
 pub use check::check_answer;
 pub use command_line::job;
 pub use draw::{draw_answer, draw_cells_answer};
-pub use engine::{
-    Tally, run, run_explained, run_explained_observed, run_observed, run_promptly,
-    run_promptly_observed,
-};
+pub use engine::{Tally, run, run_with};
 pub use fault::RunFault;
 pub use fit::fit_answer;
+pub use flushing::{AtTheEnd, Flushing, Promptly};
 pub use limits::MOST_WAITING;
-pub use notes::NoteWriter;
-pub use observer::Observer;
+pub use notes::{NoNotes, NoteWriter, Notes};
+pub use observer::{Observer, Unobserved};
 pub use output::emit;
 pub use overlay::overlay_answer;
 pub use program::{answer_status, cell_answer, say, status};

@@ -1,5 +1,5 @@
 //! What a run says of the lines that it refuses.
-ghost use Rattle.std.specs.Prelude.{◌≡◌, false, IfOk, IfErr, [], ◌∷◌, ◌++◌, codes, decimal};
+ghost use Rattle.std.specs.Prelude.{◌≡◌, not, IfOk, IfErr, [], ◌∷◌, ◌++◌, codes, decimal};
 ghost use Rattle.std.specs.Fmt.{WritesInCalls};
 ghost use Rattle.s2script.specs.Line.{misfit_of};
 ghost use Rattle.s2calc.specs.Replies.{Reply};
@@ -7,7 +7,7 @@ ghost use Rattle.s2calc.specs.Working.Execute.{IsOutcome};
 ghost use Rattle.s2calc.specs.Notes.{WritesNotes, note_of, note_text, reason_of, misfit_reason};
 ghost use Rattle.s2calc.specs.Noting.{noted_by};
 ghost use Rattle.s2calc.specs.Refusals.{name_of};
-ghost use Rattle.s2calc.specs.Working.Noting.{noted};
+ghost use Rattle.s2calc.specs.Working.Noting.{noted_below};
 
 use crate::execute::Outcome;
 use crate::limits::NOTE_ROOM;
@@ -19,28 +19,37 @@ use std::alloc::Global;
 use std::marker::Model;
 
 /// Where notes on refused lines go.
-pub(crate) trait Notes {
+pub trait Notes {
     ghost use Rattle.s2calc.specs.Notes.{Noted};
 
     // what is known of the notes that were written
     ghost noted: { Self → Noted };
 
-    /// Says why the line with this number is refused, if it is.
-    fn note(&mut self, number: u64, line: &[u8], outcome: Outcome)
-        ensures { (reply : Reply) → IsOutcome outcome reply →
-            WritesNotes (noted self.old) (note_of number line.now reply) (noted self.new) };
+    /// Says why the line with this number is refused.
+    fn note(&mut self, number: u64, line: &[u8], refusal: Refusal)
+        ensures { WritesNotes (noted self.old) (note_text number line.now refusal ++ 10 ∷ []) (noted self.new) };
+}
+
+/// Says why the line with this number is refused, if it is.
+pub(crate) fn note<N: Notes>(notes: &mut N, number: u64, line: &[u8], outcome: Outcome)
+    ensures { (reply : Reply) → IsOutcome outcome reply →
+        WritesNotes (N.noted notes.old) (note_of number line.now reply) (N.noted notes.new) }
+{
+    if let Outcome::Refused(refusal) = outcome {
+        notes.note(number, line, refusal);
+    }
 }
 
 /// No note is written.
 #[derive(Drop)]
-pub(crate) struct NoNotes;
+pub struct NoNotes;
 
 impl Notes for NoNotes {
     ghost use Rattle.s2calc.specs.Run.{no_notes};
 
     ghost noted = { λ _. no_notes };
 
-    fn note(&mut self, _number: u64, _line: &[u8], _outcome: Outcome) {}
+    fn note(&mut self, _number: u64, _line: &[u8], _refusal: Refusal) {}
 }
 
 /// Puts the note on a line: `line 7: error cell: 'zz' is not a cell (a token or a debug text)`.
@@ -107,8 +116,8 @@ struct NoteText<W> {
 
 /// Writes bytes, unless a write has failed before.
 fn pass<W: Sink>(writer: &mut W, stopped: &mut bool, bytes: &[u8])
-    ensures { WritesNotes (noted W.contents W.calls writer.old stopped.old) bytes.now
-        (noted W.contents W.calls writer.new stopped.new) }
+    ensures { WritesNotes (noted_below W.contents W.calls writer.old stopped.old) bytes.now
+        (noted_below W.contents W.calls writer.new stopped.new) }
 {
     if *stopped {
         return;
@@ -122,8 +131,8 @@ fn pass<W: Sink>(writer: &mut W, stopped: &mut bool, bytes: &[u8])
 impl<W: Sink> NoteText<W> {
     /// Writes what waits.
     fn pass_on(&mut self)
-        ensures passes { WritesNotes (noted W.contents W.calls self.old.writer self.old.stopped) self.old.waiting.items
-            (noted W.contents W.calls self.new.writer self.new.stopped) }
+        ensures passes { WritesNotes (noted_below W.contents W.calls self.old.writer self.old.stopped)
+            self.old.waiting.items (noted_below W.contents W.calls self.new.writer self.new.stopped) }
         ensures nothing_waits { self.new.waiting.items ≡ [] }
     {
         pass(&mut self.writer, &mut self.stopped, self.waiting.as_slice());
@@ -132,8 +141,8 @@ impl<W: Sink> NoteText<W> {
 
     /// Writes what waits, and then a part.
     fn pass_with(&mut self, part: &[u8])
-        ensures passes { WritesNotes (noted W.contents W.calls self.old.writer self.old.stopped)
-            (self.old.waiting.items ++ part.now) (noted W.contents W.calls self.new.writer self.new.stopped) }
+        ensures passes { WritesNotes (noted_below W.contents W.calls self.old.writer self.old.stopped)
+            (self.old.waiting.items ++ part.now) (noted_below W.contents W.calls self.new.writer self.new.stopped) }
         ensures nothing_waits { self.new.waiting.items ≡ [] }
     {
         self.pass_on();
@@ -180,18 +189,23 @@ impl<W> Model for NoteWriter<W> {
 
 impl<W: Sink + Drop> NoteWriter<W> {
     /// A writer of notes over a writer. Takes room for the longest note. If there is no memory, the writer is given
-    /// back.
-    pub fn new(alloc: Global, writer: W) -> Result<NoteWriter<W>, W>
+    /// back. If no notes are wanted, it has stopped from the beginning, and takes no memory.
+    pub fn new(alloc: Global, writer: W, wanted: bool) -> Result<NoteWriter<W>, W>
         ensures writer { IfOk result (λ n. n.writer ≡ writer) }
-        ensures writes { IfOk result (λ n. n.stopped ≡ false) }
+        ensures writes { IfOk result (λ n. n.stopped ≡ not wanted) }
         ensures given_back { IfErr result (λ w. w ≡ writer) }
     {
-        match Vec::with_capacity(alloc, NOTE_ROOM) {
+        let room = if wanted {
+            Vec::with_capacity(alloc, NOTE_ROOM)
+        } else {
+            Ok(Vec::new(alloc))
+        };
+        match room {
             Ok(waiting) => Ok(NoteWriter {
                 notes: NoteText {
                     writer,
                     waiting,
-                    stopped: false,
+                    stopped: !wanted,
                 },
             }),
             Err(_) => Err(writer),
@@ -208,23 +222,15 @@ impl<W> NoteWriter<W> {
     }
 }
 
-impl<W: Sink> NoteWriter<W> {
-    /// Writes a note, unless it has stopped.
-    fn write_note(&mut self, number: u64, line: &[u8], refusal: Refusal)
-        ensures { WritesNotes (noted_by W.contents W.calls self.old) (note_text number line.now refusal ++ 10 ∷ [])
-            (noted_by W.contents W.calls self.new) }
-    {
-        put_note(number, line, refusal, &mut self.notes);
-        self.notes.pass_on();
-    }
-}
-
 impl<W: Sink> Notes for NoteWriter<W> {
     ghost noted = { noted_by W.contents W.calls };
 
-    fn note(&mut self, number: u64, line: &[u8], outcome: Outcome) {
-        if let Outcome::Refused(refusal) = outcome {
-            self.write_note(number, line, refusal);
+    /// Writes a note, unless it has stopped.
+    fn note(&mut self, number: u64, line: &[u8], refusal: Refusal) {
+        if self.notes.stopped {
+            return;
         }
+        put_note(number, line, refusal, &mut self.notes);
+        self.notes.pass_on();
     }
 }

@@ -4,7 +4,7 @@ ghost use Rattle.std.specs.Io.{ReadsAtMost};
 ghost use Rattle.std.specs.Io.KnownBytes.{ReadConsumes};
 ghost use Rattle.std.specs.Prelude.{[], ◌∷◌};
 ghost use Rattle.s2calc.specs.Calls.{Gains, bytes_given, what_came};
-ghost use Rattle.s2calc.specs.Working.Seen.{Settled, Unsettled};
+ghost use Rattle.s2calc.specs.Flushing.{Settled, Unsettled};
 ghost use Rattle.s2calc.specs.Moments.{Moment, LineBegins, LineEnds, read_event, AddsOne};
 
 use crate::fault::RunFault;
@@ -53,13 +53,13 @@ pub trait Observer<W: Sink, S: Shelf> {
 
 /// No one observes the run.
 #[derive(Drop)]
-pub(crate) struct Unobserved<R> {
+pub struct Unobserved<R> {
     of: PhantomData<R>,
 }
 
 impl<R> Unobserved<R> {
     /// No one.
-    pub(crate) fn new() -> Unobserved<R> {
+    pub fn new() -> Unobserved<R> {
         Unobserved { of: PhantomData }
     }
 }

@@ -48,13 +48,18 @@ module _ {E : Type 0} (old new : ListedWriter E) where
     );
   }
 
-  -- what a writer is given that was not called is all that it has
-  pub given_alone : (text : List ℕ) → calls_of old ≡ [] → TellsMore text old new → Tells text (taken new) (called new)
-  given_alone text none more =
+  -- what a writer is given that took nothing, and of which no call ended, is all that it has
+  pub given_first : (text : List ℕ) → taken old ≡ [] → called old ≡ [] → TellsMore text old new →
+      Tells text (taken new) (called new)
+  given_first text none_taken none_called more =
       subst (λ (bytes : List ℕ). Tells text bytes (called new))
-      (sym (more.taken_are ∙ ap (λ (xs : List ℕ). xs ++ more.bytes) (ap taken_in none)))
+      (sym (more.taken_are ∙ ap (λ (xs : List ℕ). xs ++ more.bytes) none_taken))
       (subst (λ (ended : List Call). Tells text more.bytes ended)
-      (sym (more.called_are ∙ ap (λ (xs : List Call). xs ++ more.calls) (ap ended_in none))) more.tells)
+      (sym (more.called_are ∙ ap (λ (xs : List Call). xs ++ more.calls) none_called)) more.tells)
+
+  -- the same of a writer that was not called
+  pub given_alone : (text : List ℕ) → calls_of old ≡ [] → TellsMore text old new → Tells text (taken new) (called new)
+  given_alone text none more = given_first text (ap taken_in none) (ap ended_in none) more
 
 -- no text
 pub nothing_given : {E : Type 0} (writer : ListedWriter E) → TellsMore [] writer writer

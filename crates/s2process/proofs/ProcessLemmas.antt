@@ -1,6 +1,6 @@
 -- What a run did over streams whose calls are all known.
 use Rattle.std.proofs.Common.{◌≡◌, ◌≤◌, ℕ, ◌+◌, ◌⊎◌, List, [], ◌∷◌, ◌++◌, length, Option, Some, None, Result, Ok, Err}
-use Rattle.std.proofs.Common.{Bool, false, MatchResult, refl, sym, ap, ◌∙◌, subst, inl, inr}
+use Rattle.std.proofs.Common.{Bool, true, false, MatchResult, refl, sym, ap, ◌∙◌, subst, inl, inr}
 use Rattle.std.specs.Io.KnownBytes.{Appends, IsAtEnd}
 use Rattle.s2shelf.specs.Shelf.{Files}
 use Rattle.s2script.specs.Lines.{lines, whole_lines, BeginsWith}
@@ -321,22 +321,27 @@ module _ {V S : Type 0} (taken : V → List ℕ) (called : V → List Call) (fil
     module _ (taken_old taken_new : List ℕ) (called_old called_new : List Call) (stopped : Bool)
         (none_taken : taken_old ≡ []) (none_called : called_old ≡ []) (old_is : noted_old.contents ≡ Some taken_old)
         (new_is : noted_new.contents ≡ Some taken_new) (old_calls : noted_old.calls ≡ Some called_old)
-        (new_calls : noted_new.calls ≡ Some called_new) (writes : noted_old.stopped ≡ false)
-        (stopped_is : noted_new.stopped ≡ stopped) where
+        (new_calls : noted_new.calls ≡ Some called_new) (stopped_is : noted_new.stopped ≡ stopped) where
+      all_taken : (ran : Ran old new) → taken_new ≡ ran.noted.part
+      all_taken ran =
+          let w = ran.noted in
+          let all : taken_new ≡ taken_old ++ w.part = subst (λ (o : Option (List ℕ)). Appends o (Some taken_new)
+          w.part) old_is
+          (subst (λ (o : Option (List ℕ)). Appends noted_old.contents o w.part) new_is w.written) in
+          all ∙ ap (λ xs. xs ++ w.part) none_taken
+
       -- what is said of the calls that are known
       of_calls : (P : Option (List Call) → Option (List Call) → Type 0) → P noted_old.calls noted_new.calls →
           P (Some called_old) (Some called_new)
       of_calls P p = subst (P (Some called_old)) new_calls (subst (λ o. P o noted_new.calls) old_calls p)
 
-      notes_written : (ran : Ran old new) → Explains (did ran) taken_new called_new stopped
-      notes_written ran =
+      notes_written : (ran : Ran old new) → noted_old.stopped ≡ false →
+          Explains (did ran) taken_new called_new stopped
+      notes_written ran writes =
           let w = ran.noted in
-          let all : taken_new ≡ taken_old ++ w.part = subst (λ (o : Option (List ℕ)). Appends o (Some taken_new)
-          w.part) old_is
-          (subst (λ (o : Option (List ℕ)). Appends noted_old.contents o w.part) new_is w.written) in
           record {
             rest = w.rest;
-            notes_are = w.notes_are ∙ ap (λ xs. xs ++ w.rest) (sym (all ∙ ap (λ xs. xs ++ w.part) none_taken));
+            notes_are = w.notes_are ∙ ap (λ xs. xs ++ w.rest) (sym (all_taken ran));
             whole = λ e. let h = w.whole (stopped_is ∙ e) in (
               h.0,
               none_failed called_old called_new none_called (none_failed_may (Unit {0}) (Some called_old)
@@ -349,15 +354,25 @@ module _ {V S : Type 0} (taken : V → List ℕ) (called : V → List Call) (fil
             );
           }
 
+      -- a writer of notes that had stopped was not called
+      silent : (ran : Ran old new) → noted_old.stopped ≡ true → (taken_new ≡ []) × (called_new ≡ [])
+      silent ran e =
+          let (no_part, same_calls, stays) = ran.noted.stays e in (
+            all_taken ran ∙ no_part,
+            ap (inside []) (sym new_calls ∙ same_calls ∙ old_calls) ∙ none_called,
+          )
+
       pub explains : (seen_old seen_new : List (Moment (Buffered V) S)) (result : Result Tally RunFault) →
           (none : seen_old ≡ [])
           → (runs : (r : Runs (Unit {0}) old new result)
           × Ordered contents known_calls sent files (Unit {0}) start first r.ran (Some seen_old) (Some seen_new) result)
           → (waits : MatchResult result (λ _. last.waiting ≡ []) (λ fault. fault ≡ Input → last.waiting ≡ []))
           → (few : length last.waiting ≤ MOST_WAITING)
-          → Explains (process seen_old seen_new result none runs waits few).did taken_new called_new stopped
+          → (noted_old.stopped ≡ false
+          → Explains (process seen_old seen_new result none runs waits few).did taken_new called_new stopped)
+          × (noted_old.stopped ≡ true → (taken_new ≡ []) × (called_new ≡ []))
       unfolding process
-      explains seen_old seen_new (Ok tally) none (r, ordered) waits few = notes_written r.ran
-      explains seen_old seen_new (Err Input) none (r, ordered) waits few = notes_written r.ran
-      explains seen_old seen_new (Err Output) none (r, ordered) waits few = notes_written r.ran
-      explains seen_old seen_new (Err Memory) none (r, ordered) waits few = notes_written r.ran
+      explains seen_old seen_new (Ok tally) none (r, ordered) waits few = (notes_written r.ran, silent r.ran)
+      explains seen_old seen_new (Err Input) none (r, ordered) waits few = (notes_written r.ran, silent r.ran)
+      explains seen_old seen_new (Err Output) none (r, ordered) waits few = (notes_written r.ran, silent r.ran)
+      explains seen_old seen_new (Err Memory) none (r, ordered) waits few = (notes_written r.ran, silent r.ran)

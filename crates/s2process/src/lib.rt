@@ -27,7 +27,7 @@ pub use crate::ended::Ended;
 pub use crate::folders::{Folders, Opening};
 pub use crate::process::program;
 pub use crate::reader::ListedReader;
-pub use crate::run::{run_explained_listed, run_listed};
+pub use crate::run::run_listed;
 pub use crate::shelf::ListedShelf;
 pub use crate::streams::Streams;
 pub use crate::witness::Witness;

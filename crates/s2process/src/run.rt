@@ -1,5 +1,5 @@
 //! A run over streams whose calls are all known.
-ghost use Rattle.std.specs.Prelude.{◌≡◌, false, []};
+ghost use Rattle.std.specs.Prelude.{◌≡◌, false, true, []};
 ghost use Rattle.s2calc.specs.World.{world};
 ghost use Rattle.s2process.specs.Listed.{calls_of_reader, given, reads, calls_of, taken, called, moments_of};
 ghost use Rattle.s2process.specs.Process.{RunsListed};
@@ -8,40 +8,18 @@ ghost use Rattle.s2process.specs.Explained.{Explains};
 use crate::reader::ListedReader;
 use crate::witness::Witness;
 use crate::writer::ListedWriter;
-use s2calc::{
-    AnswerBuffer, NoteWriter, RunFault, Sink, Source, Tally, run_explained_observed,
-    run_promptly_observed,
-};
+use s2calc::{AnswerBuffer, NoteWriter, Promptly, RunFault, Sink, Source, Tally, run_with};
 use s2edit::Editor;
 use s2shelf::Shelf;
 use std::alloc::Global;
 
-/// Runs a script as `s2calc::run_promptly` does, over streams that nothing was read from or written to.
+/// Runs a script as `s2calc::run_with` does, promptly, over streams that nothing was read from or written to. It says
+/// why lines are refused, unless the writer of notes has stopped before: then nothing of that is called.
 ///
 /// Whatever the reader and the writer are, the contract says which bytes the reads gave and the writes took, in which
 /// order reads, lines and writes came, and how all this ended. Over a `ListedShelf` it says too which bytes of files
 /// the shelf handed over, for which each `load` is right.
-pub fn run_listed<R: Source, W: Sink, S: Shelf>(
-    alloc: Global,
-    editor: &mut Editor,
-    reader: &mut ListedReader<R>,
-    writer: &mut AnswerBuffer<ListedWriter<W>>,
-    shelf: &mut S,
-    witness: &mut Witness<ListedReader<R>, AnswerBuffer<ListedWriter<W>>, S>,
-) -> Result<Tally, RunFault>
-    requires nothing_read { calls_of_reader reader.old ≡ [] }
-    requires nothing_written { calls_of writer.old.writer ≡ [] }
-    requires nothing_waits { writer.old.waiting ≡ [] }
-    requires nothing_seen { moments_of witness.old ≡ [] }
-    ensures { RunsListed taken called S.files (given reader.new) (reads reader.new)
-        (world editor.old (S.files shelf.old)) (world editor.new (S.files shelf.new)) (moments_of witness.new)
-        writer.new.writer writer.new.waiting result }
-{
-    run_promptly_observed(alloc, editor, reader, writer, shelf, witness)
-}
-
-/// Runs a script as [`run_listed`] does, and says why lines are refused, as `s2calc::run_explained` does.
-pub fn run_explained_listed<R: Source, W: Sink, S: Shelf, N: Sink>(
+pub fn run_listed<R: Source, W: Sink, S: Shelf, N: Sink>(
     alloc: Global,
     editor: &mut Editor,
     reader: &mut ListedReader<R>,
@@ -54,12 +32,17 @@ pub fn run_explained_listed<R: Source, W: Sink, S: Shelf, N: Sink>(
     requires nothing_written { calls_of writer.old.writer ≡ [] }
     requires nothing_waits { writer.old.waiting ≡ [] }
     requires no_notes { calls_of notes.old.writer ≡ [] }
-    requires not_stopped { notes.old.stopped ≡ false }
     requires nothing_seen { moments_of witness.old ≡ [] }
     ensures { (runs : RunsListed taken called S.files (given reader.new) (reads reader.new)
         (world editor.old (S.files shelf.old)) (world editor.new (S.files shelf.new)) (moments_of witness.new)
         writer.new.writer writer.new.waiting result)
-        × Explains runs.did (taken notes.new.writer) (called notes.new.writer) notes.new.stopped }
+        × (notes.old.stopped ≡ false →
+        Explains runs.did (taken notes.new.writer) (called notes.new.writer) notes.new.stopped)
+        × (notes.old.stopped ≡ true → (taken notes.new.writer ≡ []) × (called notes.new.writer ≡ [])) }
 {
-    run_explained_observed(alloc, editor, reader, writer, shelf, notes, witness)
+    let result = run_with::<_, _, Promptly, _, _>(
+        alloc, editor, reader, writer, shelf, notes, witness,
+    );
+    let _ = writer.waiting_len();
+    result
 }

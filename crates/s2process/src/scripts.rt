@@ -1,5 +1,5 @@
 //! The program's run of a script.
-ghost use Rattle.std.specs.Prelude.{◌≡◌, [], false, true};
+ghost use Rattle.std.specs.Prelude.{◌≡◌, List, [], ℕ, Bool, not};
 ghost use Rattle.s2process.specs.Listed.{calls_of, calls_of_reader, moments_of};
 ghost use Rattle.s2process.specs.Program.{MayRunFrom, RunsFrom};
 ghost use Rattle.s2process.specs.Streams.{AreNew};
@@ -7,13 +7,12 @@ ghost use Rattle.s2process.specs.Streams.{AreNew};
 use crate::ended::{Ended, end_run, not_begun};
 use crate::folders::{Folders, Opening};
 use crate::reader::ListedReader;
-use crate::run::{run_explained_listed, run_listed};
+use crate::run::run_listed;
 use crate::streams::Streams;
 use crate::witness::Witness;
 use crate::writer::ListedWriter;
 use s2calc::{AnswerBuffer, NoteWriter, Sink, Source};
 use s2edit::Editor;
-use s2shelf::Shelf;
 use std::alloc::Global;
 
 /// Runs the script on standard input, from this state of an editor, over the folder at a path; and if asked, says why
@@ -34,63 +33,14 @@ pub(crate) fn run_script<R: Source + Drop, W: Sink + Drop, E: Sink + Drop, F: Fo
     let Ok(folder) = folders.open(dir) else {
         return not_begun(streams, Opening::Failed);
     };
-    if explain {
-        explain_over(alloc, editor, folder, streams, witness)
-    } else {
-        run_over(alloc, editor, folder, streams, witness)
-    }
-}
-
-/// Runs the script over a folder.
-fn run_over<R: Source + Drop, W: Sink + Drop, E: Sink + Drop, F: Drop, S: Shelf + Drop>(
-    alloc: Global,
-    editor: Editor,
-    folder: S,
-    streams: Streams<R, W, E>,
-    witness: &mut Witness<ListedReader<R>, AnswerBuffer<ListedWriter<W>>, S>,
-) -> Ended<R, W, E, F, S>
-    requires nothing_called { AreNew streams }
-    requires nothing_seen { moments_of witness.old ≡ [] }
-    ensures { MayRunFrom S.files (λ first path. first ≡ folder) (moments_of witness.new) result editor [] false }
-{
     let Streams {
         input,
         output,
         errors,
     } = streams;
     match AnswerBuffer::new(alloc, output) {
-        Ok(answers) => run_buffered(alloc, editor, folder, input, answers, errors, witness),
-        Err(output) => not_begun(
-            Streams {
-                input,
-                output,
-                errors,
-            },
-            Opening::Opened(folder),
-        ),
-    }
-}
-
-/// Runs the script over a folder, and says why lines are refused.
-fn explain_over<R: Source + Drop, W: Sink + Drop, E: Sink + Drop, F: Drop, S: Shelf + Drop>(
-    alloc: Global,
-    editor: Editor,
-    folder: S,
-    streams: Streams<R, W, E>,
-    witness: &mut Witness<ListedReader<R>, AnswerBuffer<ListedWriter<W>>, S>,
-) -> Ended<R, W, E, F, S>
-    requires nothing_called { AreNew streams }
-    requires nothing_seen { moments_of witness.old ≡ [] }
-    ensures { MayRunFrom S.files (λ first path. first ≡ folder) (moments_of witness.new) result editor [] true }
-{
-    let Streams {
-        input,
-        output,
-        errors,
-    } = streams;
-    match AnswerBuffer::new(alloc, output) {
-        Ok(answers) => match NoteWriter::new(alloc, errors) {
-            Ok(notes) => explain_buffered(alloc, editor, folder, input, answers, notes, witness),
+        Ok(answers) => match NoteWriter::new(alloc, errors, explain) {
+            Ok(notes) => run_over(alloc, editor, folder, input, answers, notes, witness),
             Err(errors) => not_begun(
                 Streams {
                     input,
@@ -111,62 +61,26 @@ fn explain_over<R: Source + Drop, W: Sink + Drop, E: Sink + Drop, F: Drop, S: Sh
     }
 }
 
-/// Runs the script over a folder and a buffer in which nothing waits.
-fn run_buffered<R: Source + Drop, W: Sink + Drop, E: Sink + Drop, F: Drop, S: Shelf + Drop>(
+/// Runs the script over a folder, a buffer in which nothing waits, and a writer of notes, which has stopped if none are
+/// wanted.
+fn run_over<R: Source + Drop, W: Sink + Drop, E: Sink + Drop, F: Folders + Drop>(
     alloc: Global,
     mut editor: Editor,
-    mut folder: S,
-    mut input: ListedReader<R>,
-    mut answers: AnswerBuffer<ListedWriter<W>>,
-    mut errors: ListedWriter<E>,
-    witness: &mut Witness<ListedReader<R>, AnswerBuffer<ListedWriter<W>>, S>,
-) -> Ended<R, W, E, F, S>
-    requires nothing_read { calls_of_reader input ≡ [] }
-    requires nothing_written { calls_of answers.writer ≡ [] }
-    requires nothing_waits { answers.waiting ≡ [] }
-    requires nothing_said { calls_of errors ≡ [] }
-    requires nothing_seen { moments_of witness.old ≡ [] }
-    ensures { RunsFrom S.files (λ first path. first ≡ folder) (moments_of witness.new) result editor [] false }
-{
-    let result = run_listed(
-        alloc,
-        &mut editor,
-        &mut input,
-        &mut answers,
-        &mut folder,
-        witness,
-    );
-    let status = end_run(&result, &mut errors);
-    Ended {
-        status,
-        streams: Streams {
-            input,
-            output: answers.into_writer(),
-            errors,
-        },
-        folder: Opening::Opened(folder),
-    }
-}
-
-/// The same, with notes.
-fn explain_buffered<R: Source + Drop, W: Sink + Drop, E: Sink + Drop, F: Drop, S: Shelf + Drop>(
-    alloc: Global,
-    mut editor: Editor,
-    mut folder: S,
+    mut folder: F::Folder,
     mut input: ListedReader<R>,
     mut answers: AnswerBuffer<ListedWriter<W>>,
     mut notes: NoteWriter<ListedWriter<E>>,
-    witness: &mut Witness<ListedReader<R>, AnswerBuffer<ListedWriter<W>>, S>,
-) -> Ended<R, W, E, F, S>
+    witness: &mut Witness<ListedReader<R>, AnswerBuffer<ListedWriter<W>>, F::Folder>,
+) -> Ended<R, W, E, F, F::Folder>
     requires nothing_read { calls_of_reader input ≡ [] }
     requires nothing_written { calls_of answers.writer ≡ [] }
     requires nothing_waits { answers.waiting ≡ [] }
     requires no_notes { calls_of notes.writer ≡ [] }
-    requires not_stopped { notes.stopped ≡ false }
     requires nothing_seen { moments_of witness.old ≡ [] }
-    ensures { RunsFrom S.files (λ first path. first ≡ folder) (moments_of witness.new) result editor [] true }
+    ensures { (path : List ℕ) (explains : Bool) → F.opened folder path → notes.stopped ≡ not explains →
+        RunsFrom F.Folder.files F.opened (moments_of witness.new) result editor path explains }
 {
-    let result = run_explained_listed(
+    let result = run_listed(
         alloc,
         &mut editor,
         &mut input,

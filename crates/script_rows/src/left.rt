@@ -3,7 +3,9 @@ use crate::known::count_of;
 use crate::narrow::{Mishap, Narrow};
 use crate::pieces::Pieces;
 use crate::row::{editor_of, shelf_of};
-use s2calc::{AnswerBuffer, RunFault, Tally, run, run_promptly, session_file};
+use s2calc::{
+    AnswerBuffer, NoNotes, Promptly, RunFault, Tally, Unobserved, run, run_with, session_file,
+};
 use s2shelf::{MemoryShelf, Shelf};
 use std::alloc::{AllocError, Global};
 
@@ -81,7 +83,15 @@ pub fn run_over(
             let Ok(mut buffer) = AnswerBuffer::new(alloc, writer) else {
                 return Err(AllocError);
             };
-            let ended = run_promptly(alloc, &mut editor, &mut reader, &mut buffer, &mut shelf);
+            let ended = run_with::<_, _, Promptly, _, _>(
+                alloc,
+                &mut editor,
+                &mut reader,
+                &mut buffer,
+                &mut shelf,
+                &mut NoNotes,
+                &mut Unobserved::<Pieces<'_>>::new(),
+            );
             (ended, buffer.into_writer())
         }
     };

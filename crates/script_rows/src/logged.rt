@@ -5,7 +5,7 @@ use crate::pieces::Pieces;
 use crate::row::editor_of;
 use crate::watcher::{Sight, Watcher};
 use row_table::{add_line, script_of};
-use s2calc::{AnswerBuffer, run, run_observed, run_promptly};
+use s2calc::{AnswerBuffer, AtTheEnd, NoNotes, Promptly, Unobserved, run, run_with};
 use std::alloc::{AllocError, Global};
 use std::cell::RefCell;
 
@@ -37,12 +37,13 @@ pub fn add_seen(
     let script = script_of(alloc, lines)?;
     let log = RefCell::new(Vec::new(alloc));
     let mut watcher = Watcher::new(alloc);
-    let _ = run_observed(
+    let _ = run_with::<_, _, AtTheEnd, _, _>(
         alloc,
         &mut editor_of(alloc, lines)?,
         &mut Pieces::of(alloc, &script, size, 0),
         &mut LoggedWriter { log: &log },
         &mut shelf_with(alloc, &log),
+        &mut NoNotes,
         &mut watcher,
     );
     let Some(sightings) = watcher.sightings() else {
@@ -88,9 +89,15 @@ fn log_run(
     };
     let mut shelf = shelf_with(alloc, log);
     let _ = match flushing {
-        Flushing::Promptly => {
-            run_promptly(alloc, &mut editor, &mut reader, &mut writer, &mut shelf)
-        }
+        Flushing::Promptly => run_with::<_, _, Promptly, _, _>(
+            alloc,
+            &mut editor,
+            &mut reader,
+            &mut writer,
+            &mut shelf,
+            &mut NoNotes,
+            &mut Unobserved::<&[u8]>::new(),
+        ),
         Flushing::AtTheEnd => run(alloc, &mut editor, &mut reader, &mut writer, &mut shelf),
     };
     Ok(())

@@ -1,13 +1,8 @@
 -- Which calls of a writer failed, by the result of a function that makes them.
 use Rattle.std.specs.Prelude.{List, Option, Result, MatchResult}
-use Rattle.s2calc.specs.Calls.{Call, NoneFailed, LastFlushed, LastFailed}
+use Rattle.s2calc.specs.Calls.{Call, NoneFailed, LastFailed}
 
 -- after `Ok` no call failed; after `Err` the last one did, and no other
 abbrev pub FailedIfErr : {T E : Type 0} → Type 0 → Option (List Call) → Option (List Call) → Result T E → Type 0
 FailedIfErr may_flush old new result =
     MatchResult result (λ _. NoneFailed may_flush old new) (λ _. LastFailed may_flush old new)
-
--- after `Ok` no call failed, and the last one was a flush; after `Err` the last one failed, and no other
-abbrev pub FlushedIfOk : {T E : Type 0} → Type 0 → Option (List Call) → Option (List Call) → Result T E → Type 0
-FlushedIfOk may_flush old new result =
-    MatchResult result (λ _. LastFlushed may_flush old new) (λ _. LastFailed may_flush old new)

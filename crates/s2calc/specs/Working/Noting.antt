@@ -14,10 +14,10 @@ module _ {W : Type 0} where
 
 module _ {W : Type 0} (contents : W → Option (List ℕ)) (calls : W → Option (List Call)) where
   -- what is known of a writer of notes, by the writer below and whether it has stopped
-  abbrev pub noted : W → Bool → Noted
-  noted writer stopped = record { contents = contents writer; calls = calls writer; stopped = stopped }
+  abbrev pub noted_below : W → Bool → Noted
+  noted_below writer stopped = record { contents = contents writer; calls = calls writer; stopped = stopped }
 
   -- a part came to the bytes that waited: the first of all these were passed to the writer, and the others wait
   abbrev pub Puts : NoteText W → List ℕ → NoteText W → Type 0
   Puts old part new = (out : List ℕ) × (old.waiting.items ++ part ≡ out ++ new.waiting.items)
-      × WritesNotes (noted old.writer old.stopped) out (noted new.writer new.stopped)
+      × WritesNotes (noted_below old.writer old.stopped) out (noted_below new.writer new.stopped)

@@ -1,43 +1,15 @@
--- What a flush between two lines does, and what an observer sees of one line, of the lines that end in the bytes of a
--- read, and of a last line.
-use Rattle.std.specs.Prelude.{◌≡◌, ℕ, ◌+◌, Bool, true, List, [], ◌∷◌, ◌++◌, length, Option, Result, MatchResult}
-use Rattle.std.specs.Io.KnownBytes.{Appends, Keeps}
+-- What an observer sees of one line, of the lines that end in the bytes of a read, and of a last line.
+use Rattle.std.specs.Prelude.{◌≡◌, ℕ, ◌+◌, Bool, true, List, [], ◌∷◌, ◌++◌, length, Option}
+use Rattle.std.specs.Io.KnownBytes.{Appends}
 use Rattle.s2shelf.specs.Shelf.{Files}
 use Rattle.s2script.specs.Lines.{lines, whole_lines}
-use Rattle.s2calc.specs.declared.fault.RunFault.{RunFault}
-use Rattle.s2calc.specs.declared.fault.RunFault.TheVariants.{Output}
 use Rattle.s2calc.specs.World.{World}
 use Rattle.s2calc.specs.Replies.{Reply, texts}
-use Rattle.s2calc.specs.Calls.{Call, NoneFailed, LastFlushed, LastFailed}
+use Rattle.s2calc.specs.Calls.{Call, NoneFailed, LastFlushed}
 use Rattle.s2calc.specs.Moments.{LineBegins, LineEnds, Moment, moment, bytes_read, reads_seen}
+use Rattle.s2calc.specs.Flushing.{Settled}
 use Rattle.s2calc.specs.Moments.{begun_in, ended_in}
 use Rattle.s2calc.specs.Order.{HasEnded, EachMay, InOrder}
-
--- between these two writers nothing was written, and no call failed; at a command with a file the last call was a
--- flush, if there are flushes before the end, and nothing waits
-pub record Settled {W : Type 0} (contents : W → Option (List ℕ)) (calls : W → Option (List Call))
-    (is_sent : W → Type 0) (may_flush : Type 0) (has_file : Bool) (old new : W) : Type 0 where
-  pub kept : Keeps (contents old) (contents new)
-  pub none_failed : NoneFailed may_flush (calls old) (calls new)
-  pub flushed : has_file ≡ true → may_flush → LastFlushed may_flush (calls old) (calls new)
-  pub sent : has_file ≡ true → is_sent new
-
--- between these two writers nothing was written, and the flush at a command with a file failed, since there are flushes
--- before the end
-pub record Unsettled {W : Type 0} (contents : W → Option (List ℕ)) (calls : W → Option (List Call))
-    (may_flush : Type 0) (has_file : Bool) (old new : W) (fault : RunFault) : Type 0 where
-  pub is_output : fault ≡ Output
-  pub may : may_flush
-  pub asked : has_file ≡ true
-  pub kept : Keeps (contents old) (contents new)
-  pub failed : LastFailed may_flush (calls old) (calls new)
-
--- what a flush at a command with a file leaves, or at another line none, by its result
-abbrev pub Settles : {W : Type 0} → (W → Option (List ℕ)) → (W → Option (List Call)) → (W → Type 0) → Type 0 → Bool →
-    W → W → Result (Unit {0}) RunFault → Type 0
-Settles contents calls is_sent may_flush has_file old new result =
-    MatchResult result (λ _. Settled contents calls is_sent may_flush has_file old new)
-    (Unsettled contents calls may_flush has_file old new)
 
 -- this many lines have begun, and all of them have ended
 abbrev pub LinesSeen : {W S : Type 0} → ℕ → List (Moment W S) → Type 0

@@ -2,4 +2,4 @@ use Rattle.s2calc.proofs.NoteLemmas.{WritesNotes-unknown}
 use Rattle.s2calc.proofs.notes.NoNotesNotes.note.Goals as goal
 
 pub returns : goal.returns
-returns c = λ reply is. WritesNotes-unknown _
+returns c = WritesNotes-unknown _
