@@ -1,183 +1,89 @@
-//! The program's answers besides runs.
-ghost use Rattle.std.specs.Prelude.{◌≡◌, [], ◌∷◌, string_bytes, map};
-ghost use Rattle.s2calc.specs.Program.{cell_reply};
-ghost use Rattle.s2calc.specs.Check.{Checks};
-ghost use Rattle.s2calc.specs.Draw.{Draws, DrawsWords};
-ghost use Rattle.s2calc.specs.Fit.{Fits};
-ghost use Rattle.s2calc.specs.Overlay.{Overlays};
-ghost use Rattle.s2calc.specs.Replies.{Says};
+//! The program's answers about files.
+ghost use Rattle.std.specs.Prelude.{◌≡◌, OnOk, OnErr, string_bytes, map};
+ghost use Rattle.s2calc.specs.Calls.{LastFlushed, LastFailed};
+ghost use Rattle.s2calc.specs.Program.{ShowsReply};
+ghost use Rattle.s2calc.specs.Replies.{Reply};
 ghost use Rattle.s2process.specs.Errors.{misnamed_lines};
-ghost use Rattle.s2process.specs.Program.{AsksFolder, AsksNoFolder};
+ghost use Rattle.s2process.specs.Program.{AsksFolder};
 ghost use Rattle.s2process.specs.Streams.{AreNew};
+ghost use Rattle.s2process.specs.Working.Answers.{may_be, names_of};
 
 use crate::ended::{Ended, end_answer, not_begun};
 use crate::folders::{Folders, Opening};
 use crate::streams::Streams;
-use s2calc::{
-    Sink, cell_answer, check_answer, draw_answer, draw_cells_answer, fit_answer, overlay_answer,
-    say,
-};
+use s2calc::{RunFault, Sink, check_answer, draw_answer, fit_answer, overlay_answer};
+use s2shelf::Shelf;
 use std::alloc::Global;
 use std::slice;
 
-/// Shows the help that was asked for.
-pub(crate) fn answer_help<R: Drop, W: Sink + Drop, E: Sink + Drop, F: Drop, S: Drop>(
-    alloc: Global,
-    text: &str,
-    mut streams: Streams<R, W, E>,
-    folders: F,
-) -> Ended<R, W, E, F, S>
-    requires { AreNew streams }
-    ensures { AsksNoFolder result (λ reply. reply ≡ Says text.now) }
-{
-    let outcome = say(text.as_bytes(), &mut streams.output);
-    let status = end_answer(alloc, &outcome, &[], &mut streams.errors);
-    Ended {
-        status,
-        streams,
-        folder: Opening::Unopened(folders),
+/// What is asked of the files of a folder.
+#[derive(Clone, Copy)]
+pub(crate) enum FileQuestion<'a> {
+    /// How many cells and leaves a file has.
+    Check(&'a String),
+    /// The picture of a file, with the curve or without.
+    Draw(&'a String, bool),
+    /// One picture of several files, with the curve or without.
+    Overlay(&'a [String], bool),
+    /// The picture of the part of the faces in which files lie.
+    Fit(&'a [String]),
+}
+
+impl<'a> FileQuestion<'a> {
+    /// The names of the files.
+    fn names(self) -> &'a [String]
+        ensures { map string_bytes result.now ≡ names_of self.entry }
+    {
+        match self {
+            FileQuestion::Check(name) => slice::from_ref(name),
+            FileQuestion::Draw(name, _) => slice::from_ref(name),
+            FileQuestion::Overlay(names, _) => names,
+            FileQuestion::Fit(names) => names,
+        }
     }
 }
 
-/// Answers one `cell CELL`.
-pub(crate) fn answer_cell<R: Drop, W: Sink + Drop, E: Sink + Drop, F: Drop, S: Drop>(
-    alloc: Global,
-    word: &str,
-    mut streams: Streams<R, W, E>,
-    folders: F,
-) -> Ended<R, W, E, F, S>
-    requires { AreNew streams }
-    ensures { AsksNoFolder result (λ reply. reply ≡ cell_reply word.now) }
-{
-    let outcome = cell_answer(word.as_bytes(), &mut streams.output);
-    let status = end_answer(alloc, &outcome, &[], &mut streams.errors);
-    Ended {
-        status,
-        streams,
-        folder: Opening::Unopened(folders),
-    }
-}
-
-/// Answers one `draw --cells CELL..`.
-pub(crate) fn answer_draw_cells<R: Drop, W: Sink + Drop, E: Sink + Drop, F: Drop, S: Drop>(
-    alloc: Global,
-    words: &[String],
-    curve: bool,
-    mut streams: Streams<R, W, E>,
-    folders: F,
-) -> Ended<R, W, E, F, S>
-    requires { AreNew streams }
-    ensures { AsksNoFolder result (DrawsWords (map string_bytes words.now) curve) }
-{
-    let outcome = draw_cells_answer(alloc, words, curve, &mut streams.output);
-    let status = end_answer(alloc, &outcome, &[], &mut streams.errors);
-    Ended {
-        status,
-        streams,
-        folder: Opening::Unopened(folders),
-    }
-}
-
-/// Answers one `check FILE`.
-pub(crate) fn answer_check<R: Drop, W: Sink + Drop, E: Sink + Drop, F: Folders + Drop>(
+/// Answers a question about files of the folder at a path.
+pub(crate) fn answer_of_files<R: Drop, W: Sink + Drop, E: Sink + Drop, F: Folders + Drop>(
     alloc: Global,
     dir: &str,
-    name: &String,
+    question: FileQuestion<'_>,
     mut streams: Streams<R, W, E>,
     folders: F,
 ) -> Ended<R, W, E, F, F::Folder>
     requires { AreNew streams }
-    ensures { AsksFolder F.Folder.files F.opened result dir.now (Checks (string_bytes name.now))
-        (misnamed_lines (string_bytes name.now ∷ [])) }
+    ensures { AsksFolder F.Folder.files F.opened result dir.now (may_be question.entry)
+        (misnamed_lines (names_of question.entry)) }
 {
     let Ok(mut folder) = folders.open(dir) else {
         return not_begun(streams, Opening::Failed);
     };
-    let outcome = check_answer(alloc, &mut folder, name.as_str(), &mut streams.output);
-    let status = end_answer(alloc, &outcome, slice::from_ref(name), &mut streams.errors);
-    Ended {
-        status,
-        streams,
-        folder: Opening::Opened(folder),
-    }
-}
-
-/// Answers one `draw FILE`.
-pub(crate) fn answer_draw<R: Drop, W: Sink + Drop, E: Sink + Drop, F: Folders + Drop>(
-    alloc: Global,
-    dir: &str,
-    name: &String,
-    curve: bool,
-    mut streams: Streams<R, W, E>,
-    folders: F,
-) -> Ended<R, W, E, F, F::Folder>
-    requires { AreNew streams }
-    ensures { AsksFolder F.Folder.files F.opened result dir.now (Draws (string_bytes name.now) curve)
-        (misnamed_lines (string_bytes name.now ∷ [])) }
-{
-    let Ok(mut folder) = folders.open(dir) else {
-        return not_begun(streams, Opening::Failed);
-    };
-    let outcome = draw_answer(
+    let outcome = ask(alloc, &mut folder, question, &mut streams.output);
+    end_answer(
         alloc,
-        &mut folder,
-        name.as_str(),
-        curve,
-        &mut streams.output,
-    );
-    let status = end_answer(alloc, &outcome, slice::from_ref(name), &mut streams.errors);
-    Ended {
-        status,
+        &outcome,
+        question.names(),
         streams,
-        folder: Opening::Opened(folder),
-    }
+        Opening::Opened(folder),
+    )
 }
 
-/// Answers one `draw FILE FILE..`.
-pub(crate) fn answer_overlay<R: Drop, W: Sink + Drop, E: Sink + Drop, F: Folders + Drop>(
+/// Writes the answer to a question about files.
+fn ask<S: Shelf, W: Sink>(
     alloc: Global,
-    dir: &str,
-    names: &[String],
-    curve: bool,
-    mut streams: Streams<R, W, E>,
-    folders: F,
-) -> Ended<R, W, E, F, F::Folder>
-    requires { AreNew streams }
-    ensures { AsksFolder F.Folder.files F.opened result dir.now (Overlays (map string_bytes names.now) curve)
-        (misnamed_lines (map string_bytes names.now)) }
+    folder: &mut S,
+    question: FileQuestion<'_>,
+    writer: &mut W,
+) -> Result<bool, RunFault>
+    ensures answer { (reply : Reply) × may_be question.entry (S.files folder.old) reply (S.files folder.new)
+        × ShowsReply reply (W.contents writer.old) (W.contents writer.new) result }
+    ensures flushed { OnOk result (LastFlushed ⊥ (W.calls writer.old) (W.calls writer.new)) }
+    ensures failed { OnErr result (LastFailed ⊥ (W.calls writer.old) (W.calls writer.new)) }
 {
-    let Ok(mut folder) = folders.open(dir) else {
-        return not_begun(streams, Opening::Failed);
-    };
-    let outcome = overlay_answer(alloc, &mut folder, names, curve, &mut streams.output);
-    let status = end_answer(alloc, &outcome, names, &mut streams.errors);
-    Ended {
-        status,
-        streams,
-        folder: Opening::Opened(folder),
-    }
-}
-
-/// Answers one `draw --fit FILE..`.
-pub(crate) fn answer_fit<R: Drop, W: Sink + Drop, E: Sink + Drop, F: Folders + Drop>(
-    alloc: Global,
-    dir: &str,
-    names: &[String],
-    mut streams: Streams<R, W, E>,
-    folders: F,
-) -> Ended<R, W, E, F, F::Folder>
-    requires { AreNew streams }
-    ensures { AsksFolder F.Folder.files F.opened result dir.now (Fits (map string_bytes names.now))
-        (misnamed_lines (map string_bytes names.now)) }
-{
-    let Ok(mut folder) = folders.open(dir) else {
-        return not_begun(streams, Opening::Failed);
-    };
-    let outcome = fit_answer(alloc, &mut folder, names, &mut streams.output);
-    let status = end_answer(alloc, &outcome, names, &mut streams.errors);
-    Ended {
-        status,
-        streams,
-        folder: Opening::Opened(folder),
+    match question {
+        FileQuestion::Check(name) => check_answer(alloc, folder, name.as_str(), writer),
+        FileQuestion::Draw(name, curve) => draw_answer(alloc, folder, name.as_str(), curve, writer),
+        FileQuestion::Overlay(names, curve) => overlay_answer(alloc, folder, names, curve, writer),
+        FileQuestion::Fit(names) => fit_answer(alloc, folder, names, writer),
     }
 }

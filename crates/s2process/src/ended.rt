@@ -1,8 +1,9 @@
 //! How the program ends: what standard error gets, and the exit status.
-ghost use Rattle.std.specs.Prelude.{◌≡◌, List, ℕ, string_bytes, map};
-ghost use Rattle.s2calc.specs.Program.{status_of, status_of_answer};
+ghost use Rattle.std.specs.Prelude.{◌≡◌, string_bytes, map};
+ghost use Rattle.s2calc.specs.Program.{status_of};
+ghost use Rattle.s2process.specs.Working.Answers.{EndsAnswer};
 ghost use Rattle.s2process.specs.Working.Errors.{TellsMore};
-ghost use Rattle.s2process.specs.Errors.{IsSaidAfter, fault_line_of, misnamed_lines};
+ghost use Rattle.s2process.specs.Errors.{fault_line_of, misnamed_lines};
 ghost use Rattle.s2process.specs.Streams.{AreNew};
 ghost use Rattle.s2process.specs.Program.{NotBegun, ShowsUsage};
 
@@ -70,18 +71,22 @@ pub(crate) fn end_run<E: Sink>(
     status(outcome)
 }
 
-/// Tells what failed, or if an answer is a refusal what is wrong with the words that are no names of files, and gives
-/// the exit status after an answer.
-pub(crate) fn end_answer<E: Sink>(
+/// Ends a program that has answered: tells what failed, or if the answer is a refusal what is wrong with the words that
+/// are no names of files.
+pub(crate) fn end_answer<R: Drop, W: Drop, E: Sink + Drop, F: Drop, S: Drop>(
     alloc: Global,
     outcome: &Result<bool, RunFault>,
     words: &[String],
-    errors: &mut ListedWriter<E>,
-) -> u8
-    ensures tells { (text : List ℕ) × IsSaidAfter (misnamed_lines (map string_bytes words.now)) outcome.now text
-        × TellsMore text errors.old errors.new }
-    ensures status { result ≡ status_of_answer outcome.now }
+    mut streams: Streams<R, W, E>,
+    folder: Opening<F, S>,
+) -> Ended<R, W, E, F, S>
+    ensures { EndsAnswer outcome.now (misnamed_lines (map string_bytes words.now)) streams folder result }
 {
-    tell_of_answer(alloc, outcome, words, errors);
-    answer_status(outcome)
+    tell_of_answer(alloc, outcome, words, &mut streams.errors);
+    let status = answer_status(outcome);
+    Ended {
+        status,
+        streams,
+        folder,
+    }
 }

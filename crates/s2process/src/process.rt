@@ -5,18 +5,15 @@ ghost use Rattle.s2process.specs.Listed.{moments_of};
 ghost use Rattle.s2process.specs.Streams.{AreNew};
 ghost use Rattle.s2process.specs.Program.{Does, DoesJob, Stops};
 
-use crate::answers::{
-    answer_cell, answer_check, answer_draw, answer_draw_cells, answer_fit, answer_help,
-    answer_overlay,
-};
-use crate::ended::{Ended, end_usage, not_begun};
+use crate::answers::{FileQuestion, answer_of_files};
+use crate::ended::{Ended, end_answer, end_usage, not_begun};
 use crate::folders::{Folders, Opening};
 use crate::reader::ListedReader;
 use crate::scripts::run_script;
 use crate::streams::Streams;
 use crate::witness::Witness;
 use crate::writer::ListedWriter;
-use s2calc::{AnswerBuffer, Job, Sink, Source, Stop};
+use s2calc::{AnswerBuffer, Job, Sink, Source, Stop, cell_answer, draw_cells_answer, say};
 use s2edit::Editor;
 use std::alloc::Global;
 
@@ -46,7 +43,7 @@ pub fn program<R: Source + Drop, W: Sink + Drop, E: Sink + Drop, F: Folders + Dr
 fn answer<R: Source + Drop, W: Sink + Drop, E: Sink + Drop, F: Folders + Drop>(
     alloc: Global,
     job: Job,
-    streams: Streams<R, W, E>,
+    mut streams: Streams<R, W, E>,
     folders: F,
     witness: &mut Witness<ListedReader<R>, AnswerBuffer<ListedWriter<W>>, F::Folder>,
 ) -> Ended<R, W, E, F, F::Folder>
@@ -74,24 +71,29 @@ fn answer<R: Source + Drop, W: Sink + Drop, E: Sink + Drop, F: Folders + Drop>(
             ),
             Err(_) => not_begun(streams, Opening::Unopened(folders)),
         },
-        Job::Cell { word } => answer_cell(alloc, word.as_str(), streams, folders),
-        Job::Check { dir, name } => answer_check(alloc, dir.as_str(), &name, streams, folders),
-        Job::Draw { dir, name, curve } => {
-            answer_draw(alloc, dir.as_str(), &name, curve, streams, folders)
-        }
-        Job::Overlay { dir, names, curve } => answer_overlay(
-            alloc,
-            dir.as_str(),
-            names.as_slice(),
-            curve,
-            streams,
-            folders,
-        ),
-        Job::Fit { dir, names } => {
-            answer_fit(alloc, dir.as_str(), names.as_slice(), streams, folders)
+        Job::Cell { word } => {
+            let outcome = cell_answer(word.as_bytes(), &mut streams.output);
+            end_answer(alloc, &outcome, &[], streams, Opening::Unopened(folders))
         }
         Job::DrawCells { words, curve } => {
-            answer_draw_cells(alloc, words.as_slice(), curve, streams, folders)
+            let outcome = draw_cells_answer(alloc, words.as_slice(), curve, &mut streams.output);
+            end_answer(alloc, &outcome, &[], streams, Opening::Unopened(folders))
+        }
+        Job::Check { dir, name } => {
+            let question = FileQuestion::Check(&name);
+            answer_of_files(alloc, dir.as_str(), question, streams, folders)
+        }
+        Job::Draw { dir, name, curve } => {
+            let question = FileQuestion::Draw(&name, curve);
+            answer_of_files(alloc, dir.as_str(), question, streams, folders)
+        }
+        Job::Overlay { dir, names, curve } => {
+            let question = FileQuestion::Overlay(names.as_slice(), curve);
+            answer_of_files(alloc, dir.as_str(), question, streams, folders)
+        }
+        Job::Fit { dir, names } => {
+            let question = FileQuestion::Fit(names.as_slice());
+            answer_of_files(alloc, dir.as_str(), question, streams, folders)
         }
     }
 }
@@ -100,14 +102,17 @@ fn answer<R: Source + Drop, W: Sink + Drop, E: Sink + Drop, F: Folders + Drop>(
 fn answer_stop<R: Drop, W: Sink + Drop, E: Sink + Drop, F: Drop, S: Drop>(
     alloc: Global,
     stop: Stop,
-    streams: Streams<R, W, E>,
+    mut streams: Streams<R, W, E>,
     folders: F,
 ) -> Ended<R, W, E, F, S>
     requires nothing_called { AreNew streams }
     ensures { Stops result stop }
 {
     match stop {
-        Stop::Help(text) => answer_help(alloc, text.as_str(), streams, folders),
+        Stop::Help(text) => {
+            let outcome = say(text.as_bytes(), &mut streams.output);
+            end_answer(alloc, &outcome, &[], streams, Opening::Unopened(folders))
+        }
         Stop::Usage(wrong) => end_usage(wrong.as_bytes(), streams, folders),
         Stop::Memory => not_begun(streams, Opening::Unopened(folders)),
     }
