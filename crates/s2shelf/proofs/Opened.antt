@@ -142,6 +142,7 @@ makes_so (Some path) a b P Q so (calls, more, holds) = (calls, more, so path cal
 pub asks_so : (old new : Files) (P Q : List ℕ → List FileCall → Type 0) → AsksSystem old new P →
     ((folder : List ℕ) (calls : List FileCall) → P folder calls → Q folder calls) → AsksSystem old new Q
 asks_so old new P Q (same, asked) so = (same, makes_so old.folder old.calls new.calls P Q so asked)
+
 -- the calls of an opening, and then those of the closing of a file of the same name
 both_calls : (folder name named bytes : List ℕ) (xs ys : List FileCall) → named ≡ name →
     xs ≡ opening (path_to folder name) → ys ≡ reading (path_to folder named) bytes →
