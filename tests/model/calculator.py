@@ -119,7 +119,7 @@ def joined(runs):
     return made
 
 
-def without(runs, others):
+def difference(runs, others):
     made = []
     for first, end in runs:
         for other_first, other_end in others:
@@ -135,8 +135,8 @@ def without(runs, others):
     return made
 
 
-def shared(runs, others):
-    return without(runs, without(runs, others))
+def intersection(runs, others):
+    return difference(runs, difference(runs, others))
 
 
 def normal_form(runs):
@@ -173,7 +173,7 @@ def part(cell, runs, rectangle):
             return "out"
         inside = i0 <= i and i + side - 1 <= i1 and j0 <= j and j + side - 1 <= j1
     if runs is not None:
-        met = shared([run_of(cell)], runs)
+        met = intersection([run_of(cell)], runs)
         if not met:
             return "out"
         inside = inside and met == [run_of(cell)]
@@ -468,10 +468,10 @@ def cell_line(cell):
 EDITS_BY_REGISTER = {
     "copy": lambda a, b: b,
     "union": lambda a, b: joined(a + b),
-    "intersect": shared,
-    "subtract": without,
+    "intersect": intersection,
+    "subtract": difference,
 }
-COMPARISONS = {"covers": lambda a, b: not without(b, a), "meets": shared}
+COMPARISONS = {"covers": lambda a, b: not difference(b, a), "meets": intersection}
 
 
 @functools.cache
@@ -582,10 +582,10 @@ class Calculator:
         return self.edit_by_cells(words, lambda a, b: joined(a + b))
 
     def do_remove(self, words):
-        return self.edit_by_cells(words, without)
+        return self.edit_by_cells(words, difference)
 
     def do_keep(self, words):
-        return self.edit_by_cells(words, shared)
+        return self.edit_by_cells(words, intersection)
 
     def do_clear(self, words):
         register = words.register()
@@ -692,12 +692,12 @@ class Calculator:
     def do_has(self, words):
         register, cell = words.register(), words.cell()
         words.end()
-        return self.tell(not without([run_of(cell)], self.table[register]))
+        return self.tell(not difference([run_of(cell)], self.table[register]))
 
     def do_touches(self, words):
         register, cell = words.register(), words.cell()
         words.end()
-        return self.tell(shared([run_of(cell)], self.table[register]))
+        return self.tell(intersection([run_of(cell)], self.table[register]))
 
     def compare(self, words, comparison):
         register, other = words.register(), words.register()

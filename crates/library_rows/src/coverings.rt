@@ -1,14 +1,14 @@
 //! Calls of `s2cover`: coverings of regions, and how many quadrants the search for a covering looks at.
 ghost use Rattle.std.specs.Prelude.{◌≤◌};
 ghost use Rattle.s2cell.specs.declared.TheConstants.{GREATEST_LEVEL};
-ghost use Rattle.s2cover.specs.declared.TheConstants.{MOST_CELLS};
+ghost use Rattle.s2cover.specs.declared.TheConstants.{MOST_COVERING};
 
 use crate::even::Even;
 use crate::texts::{add_cells, coordinate, cut, numbers_of, small, union_of};
 use row_table::add_line;
 use s2cell::GREATEST_LEVEL;
 use s2cover::{
-    Clip, CoverFault, FaceRect, Looks, MOST_CELLS, Region, clip_inner, clip_outer, inner, outer,
+    Clip, CoverFault, FaceRect, Looks, MOST_COVERING, Region, clip_inner, clip_outer, inner, outer,
     rect_inner, rect_outer,
 };
 use s2union::CellUnion;
@@ -28,7 +28,7 @@ struct Wanted {
     level: u8,
     most: usize,
     ghost level_is_one: { level ≤ GREATEST_LEVEL },
-    ghost most_is_allowed: { most ≤ MOST_CELLS },
+    ghost most_is_allowed: { most ≤ MOST_COVERING },
 }
 
 /// Makes a call `outer` or `inner`, `REGION LEVEL MOST / ..`, and adds its answer. False for the name of another call.
@@ -69,7 +69,7 @@ fn kind_of(name: &str) -> Option<Kind> {
 /// What `LEVEL MOST` ask for.
 fn wanted_of(kind: Kind, sizes: &str) -> Option<Wanted> {
     let [level, most, ..] = numbers_of(sizes);
-    if level > u64::from(GREATEST_LEVEL) || most > MOST_CELLS as u64 {
+    if level > u64::from(GREATEST_LEVEL) || most > MOST_COVERING as u64 {
         return None;
     }
     Some(Wanted {

@@ -4,7 +4,7 @@ use crate::{
     shelves, unions,
 };
 use row_table::{Table, add_line, option};
-use s2edit::{Editor, MOST_CELLS, MOST_STATES};
+use s2edit::{Editor, MOST_REGISTER, MOST_STATES};
 use s2shelf::{DirShelf, MemoryShelf};
 use std::alloc::{AllocError, Global};
 use std::rt::Files;
@@ -63,7 +63,7 @@ impl<R: Files + AllocGlobal> Libraries<R> {
 fn editor_of(alloc: Global, lines: &[&str]) -> Result<Option<Editor>, AllocError> {
     let limit = option(lines, "limit", 10_000) as usize;
     let depth = option(lines, "depth", 100) as usize;
-    if limit < 1 || limit > MOST_CELLS || depth < 1 || depth > MOST_STATES {
+    if limit < 1 || limit > MOST_REGISTER || depth < 1 || depth > MOST_STATES {
         return Ok(None);
     }
     Ok(Some(Editor::open(alloc, limit, depth)?))

@@ -25,7 +25,7 @@ pub fn answer(
         add_denormalized(alloc, words, found)?;
     } else if name == "same" {
         add_compared(alloc, words, found)?;
-    } else if name == "in_one" {
+    } else if name == "symmetric_difference" {
         add_difference(alloc, words, found)?;
     } else {
         return Ok(false);

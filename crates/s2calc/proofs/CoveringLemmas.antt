@@ -8,7 +8,7 @@ use Rattle.s2cell.specs.Cell.{IsCell}
 use Rattle.s2cell.proofs.CellLemmas.{cell_leaves}
 use Rattle.s2cell.specs.declared.TheConstants.{LEAVES}
 use Rattle.s2list.specs.Union.{has_leaf, IsLocal, IsNormalForm}
-use Rattle.s2list.specs.Sets.{either, without}
+use Rattle.s2list.specs.Sets.{union_of, difference_of}
 use Rattle.s2list.proofs.Normal.{leaf_from, normal_form_same}
 use Rattle.s2cover.specs.Coverings.{filled, outer_set, inner_set}
 use Rattle.s2cover.proofs.NormalForms.{outer_has_normal_form, inner_has_normal_form}
@@ -53,35 +53,35 @@ and_first false b h = h
 
 -- the leaves of cells without others have a normal form
 rest_has_normal_form : (u : List ℕ) (T : ℕ → Bool) → IsLocal u →
-    (v : List ℕ) × IsNormalForm (without (has_leaf u) T) v
+    (v : List ℕ) × IsNormalForm (difference_of (has_leaf u) T) v
 rest_has_normal_form u T local =
-    let (v, normal) = inner_has_normal_form (without (has_leaf u) T) 30 in (
+    let (v, normal) = inner_has_normal_form (difference_of (has_leaf u) T) 30 in (
       v,
-      normal_form_same (inner_set (without (has_leaf u) T) 30) (without (has_leaf u) T) v
-          (λ x. inner_leaves (without (has_leaf u) T) x (λ h.
+      normal_form_same (inner_set (difference_of (has_leaf u) T) 30) (difference_of (has_leaf u) T) v
+          (λ x. inner_leaves (difference_of (has_leaf u) T) x (λ h.
           leaf_below u x local (and_first (has_leaf u x) (not (T x)) h)))
           normal,
     )
 
 pub rest_too_long : (u : List ℕ) (T : ℕ → Bool) (limit : ℕ) → IsLocal u →
-    ((v : List ℕ) → IsNormalForm (without (has_leaf u) T) v → limit < length v) →
-    IsTooLong (without (has_leaf u) T) limit
+    ((v : List ℕ) → IsNormalForm (difference_of (has_leaf u) T) v → limit < length v) →
+    IsTooLong (difference_of (has_leaf u) T) limit
 rest_too_long u T limit local h = too_long _ limit (rest_has_normal_form u T local) h
 
 -- the leaves of cells and of others have a normal form
 either_has_normal_form : (u w : List ℕ) → IsLocal u → IsLocal w →
-    (v : List ℕ) × IsNormalForm (either (has_leaf u) (has_leaf w)) v
+    (v : List ℕ) × IsNormalForm (union_of (has_leaf u) (has_leaf w)) v
 either_has_normal_form u w lu lw =
-    let (v, normal) = inner_has_normal_form (either (has_leaf u) (has_leaf w)) 30 in (
+    let (v, normal) = inner_has_normal_form (union_of (has_leaf u) (has_leaf w)) 30 in (
       v,
-      normal_form_same (inner_set (either (has_leaf u) (has_leaf w)) 30) (either (has_leaf u) (has_leaf w)) v
-          (λ x. inner_leaves (either (has_leaf u) (has_leaf w)) x (λ h.
+      normal_form_same (inner_set (union_of (has_leaf u) (has_leaf w)) 30) (union_of (has_leaf u) (has_leaf w)) v
+          (λ x. inner_leaves (union_of (has_leaf u) (has_leaf w)) x (λ h.
           ⊎_elim (λ (e : has_leaf u x ≡ true). leaf_below u x lu e) (λ (e : has_leaf w x ≡ true). leaf_below w x lw e)
           (or_cases (has_leaf u x) (has_leaf w x) h)))
           normal,
     )
 
 pub either_too_long : (u w : List ℕ) (limit : ℕ) → IsLocal u → IsLocal w →
-    ((v : List ℕ) → IsNormalForm (either (has_leaf u) (has_leaf w)) v → limit < length v) →
-    IsTooLong (either (has_leaf u) (has_leaf w)) limit
+    ((v : List ℕ) → IsNormalForm (union_of (has_leaf u) (has_leaf w)) v → limit < length v) →
+    IsTooLong (union_of (has_leaf u) (has_leaf w)) limit
 either_too_long u w limit lu lw h = too_long _ limit (either_has_normal_form u w lu lw) h

@@ -5,7 +5,7 @@ use Rattle.std.proofs.lemmas.List.{length-take}
 use Rattle.s2list.specs.Union.{IsLocal}
 use Rattle.s2list.proofs.Normal.{local_from_normal}
 use Rattle.s2file.specs.declared.TheConstants.{SESSION_CELLS}
-use Rattle.s2file.specs.declared.union_file.TheConstants.{MOST_CELLS}
+use Rattle.s2file.specs.declared.union_file.TheConstants.{MOST_FILE}
 use Rattle.s2edit.specs.Chain.{IsLocalWithin}
 use Rattle.s2edit.specs.History.{History, changed, undone, undone_to, redone, redone_to, untouched, AllLists}
 use Rattle.s2edit.specs.History.{AllTables, EachList}
@@ -244,8 +244,8 @@ list_has P [] r a p = p
 list_has P (u ∷ t) zero a p = a.0
 list_has P (u ∷ t) (suc r) a p = list_has P t r a.1 p
 
-pub fits_file : (h : History (List ℕ)) (r : ℕ) → IsOrdinary h → h.limit ≤ MOST_CELLS →
-    IsLocalWithin MOST_CELLS (list_at h.now r)
+pub fits_file : (h : History (List ℕ)) (r : ℕ) → IsOrdinary h → h.limit ≤ MOST_FILE →
+    IsLocalWithin MOST_FILE (list_at h.now r)
 fits_file h r o few =
     let short = list_has (λ u. length u ≤ h.limit) h.now r o.kept.few.now (omega arith) in
     record { local = list_has IsLocal h.now r o.local.now none_local; few = omega (arith, short, few) }

@@ -10,7 +10,7 @@ use Rattle.s2edit.specs.History.{History, Assigned}
 use Rattle.s2edit.specs.Leads.{list_at}
 use Rattle.s2edit.specs.Session.{Text, Stored, Restored}
 use Rattle.s2edit.proofs.Spelling.{text_is_stored}
-use Rattle.s2file.specs.declared.union_file.TheConstants.{MOST_CELLS}
+use Rattle.s2file.specs.declared.union_file.TheConstants.{MOST_FILE}
 use Rattle.s2file.specs.File.{Bytes, File, file_text}
 use Rattle.s2file.proofs.Files.{same_leaves}
 use Rattle.s2file.proofs.Texts.{file_of_text}
@@ -64,7 +64,7 @@ stored AreThose name bytes a b (inr (inr (answer, same, keeps))) last = absurd c
 -- ---- a list
 
 -- the file of a list that fits into one
-file_of : (u bytes : List ℕ) → IsLocalWithin MOST_CELLS u → Bytes (has_leaf u) bytes → File bytes (has_leaf u)
+file_of : (u bytes : List ℕ) → IsLocalWithin MOST_FILE u → Bytes (has_leaf u) bytes → File bytes (has_leaf u)
 file_of u bytes w b =
     let one : b.ids ≡ u = one_normal_form (has_leaf u) b.ids u b.normal (normal_from_local u w.local) in
     file_of_text bytes w.local (b.is ∙ ap file_text one) w.few
@@ -84,7 +84,7 @@ gets_list u S r old new reply n (inr (inl (answer, long, same))) p =
     inr (omega (arith, one, above), answer, same)
 gets_list u S r old new reply n (inr (inr (answer, same))) p = absurd (p.0 answer)
 
-loaded : (u : List ℕ) (name bytes : List ℕ) (r : ℕ) (c d : World) (reply : Reply) → IsLocalWithin MOST_CELLS u →
+loaded : (u : List ℕ) (name bytes : List ℕ) (r : ℕ) (c d : World) (reply : Reply) → IsLocalWithin MOST_FILE u →
     File bytes (has_leaf u) → Loads r name c reply d → IsPlain reply → FoundLast name (Holding bytes) d
     → GetsList u r c.state reply d.state
 loaded u name bytes r c d reply w file (inl (S, (others, found, read), gets)) p last =

@@ -4,7 +4,7 @@ use Rattle.std.specs.Prelude.{Option, Some, None}
 use Rattle.s2cell.specs.Cell.{first_leaf, size_of}
 use Rattle.s2cell.specs.Rectangles.{Rect, rect_set}
 use Rattle.s2list.specs.Union.{has_leaf, between, IsNormalForm}
-use Rattle.s2list.specs.Sets.{either, shared, without}
+use Rattle.s2list.specs.Sets.{union_of, intersection_of, difference_of}
 use Rattle.s2cover.specs.Coverings.{outer_set, inner_set}
 use Rattle.s2edit.specs.History.{History, sets, numbers}
 use Rattle.s2edit.specs.Named.{Becomes}
@@ -32,14 +32,14 @@ within (Some rect) S = λ x. S x && rect_set rect x
 
 -- the new set of leaves of the register r after the edit
 abbrev pub new_set : List (List ℕ) → ℕ → RegisterEdit → ℕ → Bool
-new_set table r (Add cells) = either (leaves_of table r) (has_leaf cells)
-new_set table r (Remove cells) = without (leaves_of table r) (has_leaf cells)
-new_set table r (Keep cells) = shared (leaves_of table r) (has_leaf cells)
+new_set table r (Add cells) = union_of (leaves_of table r) (has_leaf cells)
+new_set table r (Remove cells) = difference_of (leaves_of table r) (has_leaf cells)
+new_set table r (Keep cells) = intersection_of (leaves_of table r) (has_leaf cells)
 new_set table r Clear = no_leaf
 new_set table r (Copy s) = leaves_of table s
-new_set table r (Union s) = either (leaves_of table r) (leaves_of table s)
-new_set table r (Intersect s) = shared (leaves_of table r) (leaves_of table s)
-new_set table r (Subtract s) = without (leaves_of table r) (leaves_of table s)
+new_set table r (Union s) = union_of (leaves_of table r) (leaves_of table s)
+new_set table r (Intersect s) = intersection_of (leaves_of table r) (leaves_of table s)
+new_set table r (Subtract s) = difference_of (leaves_of table r) (leaves_of table s)
 new_set table r (Range span) = between (first_leaf span.first) (first_leaf span.last + size_of span.last)
 new_set table r (Outer level rect) = outer_set (rect_set rect) level
 new_set table r (Inner level rect) = inner_set (rect_set rect) level

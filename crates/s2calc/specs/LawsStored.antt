@@ -5,7 +5,7 @@ use Rattle.s2edit.specs.Chain.{IsLocalWithin}
 use Rattle.s2edit.specs.History.{History, Assigned, EachList}
 use Rattle.s2edit.specs.Leads.{list_at}
 use Rattle.s2edit.specs.Session.{IsKept}
-use Rattle.s2file.specs.declared.union_file.TheConstants.{MOST_CELLS}
+use Rattle.s2file.specs.declared.union_file.TheConstants.{MOST_FILE}
 use Rattle.s2shelf.specs.Shelf.{Finding, Holding, Written, Found}
 use Rattle.s2script.specs.Line.{line_of}
 use Rattle.s2script.specs.declared.command.Command.TheVariants.{Load, Save, Dump, Restore}
@@ -50,7 +50,7 @@ abbrev pub LoadGivesBack : Type 0
 LoadGivesBack =
     (a b c d : World) (line other name found_as bytes : List ℕ) (r s : ℕ) (y : Reply) →
     line_of line ≡ Does (Save r name) → line_of other ≡ Does (Load s found_as) →
-    IsLocalWithin MOST_CELLS (list_at a.state.now r)
+    IsLocalWithin MOST_FILE (list_at a.state.now r)
     → Step a line (Says done_line) b → FoundLast name (Written bytes) b → Step c other y d → IsPlain y →
     FoundLast found_as (Holding bytes) d
     → GetsList (list_at a.state.now r) s c.state y d.state

@@ -4,7 +4,7 @@ use Rattle.std.specs.Prelude.{Result, Ok, Err, MatchResult, ◌++◌, codes, str
 use Rattle.std.specs.Io.KnownBytes.{Appends}
 use Rattle.s2script.specs.declared.refusal.Refusal.TheVariants.{Cell as NoCell}
 use Rattle.s2calc.specs.declared.refusal.Refusal.TheVariants.{Words}
-use Rattle.s2edit.specs.declared.TheConstants.{MOST_CELLS, MOST_STATES}
+use Rattle.s2edit.specs.declared.TheConstants.{MOST_REGISTER, MOST_STATES}
 use Rattle.s2script.specs.Named.{cell_named}
 use Rattle.s2calc.specs.declared.engine.Tally.{Tally}
 use Rattle.s2calc.specs.declared.fault.RunFault.{RunFault}
@@ -71,7 +71,7 @@ StopsForInvalid NoMemory = Unit {0}
 -- the limit and the depth of a run are in range
 abbrev pub IsInRange : Job → Type 0
 IsInRange (Run limit depth dir explain prompt) =
-    (1 ≤ limit) × (limit ≤ MOST_CELLS) × (1 ≤ depth) × (depth ≤ MOST_STATES)
+    (1 ≤ limit) × (limit ≤ MOST_REGISTER) × (1 ≤ depth) × (depth ≤ MOST_STATES)
 IsInRange (Cell word) = Unit {0}
 IsInRange (Check dir name) = Unit {0}
 IsInRange (Draw dir name curve) = Unit {0}

@@ -9,7 +9,7 @@ use crate::task::{Job, Stop};
 use clap::builder::ValueParser;
 use clap::error::ErrorKind;
 use clap::{Arg, ArgAction, ArgGroup, ArgMatches, Command, Error, value_parser};
-use s2edit::{MOST_CELLS, MOST_STATES};
+use s2edit::{MOST_REGISTER, MOST_STATES};
 use s2script::HELP;
 use std::alloc::{AllocError, Global};
 
@@ -81,7 +81,7 @@ fn run_job(alloc: Global, run: &ArgMatches<'_>) -> Result<Option<Job>, AllocErro
 {
     let limit = run.get_one::<usize>("limit").unwrap_or(0);
     let depth = run.get_one::<usize>("depth").unwrap_or(0);
-    if !is_within(limit, MOST_CELLS) || !is_within(depth, MOST_STATES) {
+    if !is_within(limit, MOST_REGISTER) || !is_within(depth, MOST_STATES) {
         return Ok(None);
     }
     Ok(Some(Job::Run {
@@ -236,7 +236,7 @@ fn arg_of<'a>(alloc: Global, named: ArgumentName) -> Result<Arg<'a>, AllocError>
         ArgumentName::Limit => Ok(number(
             alloc,
             "limit",
-            MOST_CELLS as i64,
+            MOST_REGISTER as i64,
             "10000",
             "The most cells of a register, 1 to 1000000",
         )),

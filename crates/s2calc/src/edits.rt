@@ -2,7 +2,7 @@
 ghost use Rattle.std.specs.Prelude.{◌≡◌, ◌<◌, ℕ, Bool, List, length, Ok, IfOk, IfErr};
 ghost use Rattle.s2cell.specs.Rectangles.{rect_set};
 ghost use Rattle.s2list.specs.Union.{IsNormalForm, has_leaf};
-ghost use Rattle.s2list.specs.Sets.{either, shared, without};
+ghost use Rattle.s2list.specs.Sets.{union_of, intersection_of, difference_of};
 ghost use Rattle.s2cover.specs.Coverings.{outer_set, inner_set};
 ghost use Rattle.s2edit.specs.History.{undone, redone, sets};
 ghost use Rattle.s2calc.specs.Working.Answer.{reply_of};
@@ -53,10 +53,10 @@ pub(crate) fn edit_register(
             give(editor, register, in_memory(union))
         }
         RegisterEdit::Intersect(other) => {
-            let shared = editor
+            let both = editor
                 .register(register)
                 .intersection(editor.register(other));
-            give(editor, register, in_memory(shared))
+            give(editor, register, in_memory(both))
         }
         RegisterEdit::Subtract(other) => {
             let union = editor.register(register);
@@ -167,7 +167,7 @@ pub(crate) fn redo(editor: &mut Editor) -> Answer
 
 /// Adds cells to a register.
 fn add_cells(alloc: Global, editor: &mut Editor, register: Register, cells: Cells<'_>) -> Answer
-    ensures { Gets (either (leaves_of editor.old.now register) (has_leaf cells.entry)) register editor.old
+    ensures { Gets (union_of (leaves_of editor.old.now register) (has_leaf cells.entry)) register editor.old
         (reply_of result editor.new) editor.new }
 {
     match union_of(alloc, cells) {
@@ -178,7 +178,7 @@ fn add_cells(alloc: Global, editor: &mut Editor, register: Register, cells: Cell
 
 /// Adds the leaves of a union to a register.
 fn add(editor: &mut Editor, register: Register, named: &CellUnion) -> Answer
-    ensures { Gets (either (leaves_of editor.old.now register) (has_leaf named.now.cells)) register editor.old
+    ensures { Gets (union_of (leaves_of editor.old.now register) (has_leaf named.now.cells)) register editor.old
         (reply_of result editor.new) editor.new }
 {
     let _ = named.cells();
@@ -188,7 +188,7 @@ fn add(editor: &mut Editor, register: Register, named: &CellUnion) -> Answer
 
 /// Takes cells out of a register.
 fn remove_cells(alloc: Global, editor: &mut Editor, register: Register, cells: Cells<'_>) -> Answer
-    ensures { Gets (without (leaves_of editor.old.now register) (has_leaf cells.entry)) register editor.old
+    ensures { Gets (difference_of (leaves_of editor.old.now register) (has_leaf cells.entry)) register editor.old
         (reply_of result editor.new) editor.new }
 {
     match union_of(alloc, cells) {
@@ -199,7 +199,7 @@ fn remove_cells(alloc: Global, editor: &mut Editor, register: Register, cells: C
 
 /// Takes the leaves of a union out of a register.
 fn remove(editor: &mut Editor, register: Register, named: &CellUnion) -> Answer
-    ensures { Gets (without (leaves_of editor.old.now register) (has_leaf named.now.cells)) register editor.old
+    ensures { Gets (difference_of (leaves_of editor.old.now register) (has_leaf named.now.cells)) register editor.old
         (reply_of result editor.new) editor.new }
 {
     let _ = editor.register(register).cells();
@@ -245,7 +245,7 @@ fn union_of(alloc: Global, mut cells: Cells<'_>) -> Result<CellUnion, AllocError
 /// The union without the leaves of another.
 #[tactic(auto, using(crate::proofs::CoveringLemmas::rest_too_long))]
 fn difference(union: &CellUnion, taken: &CellUnion, limit: usize) -> Result<CellUnion, Refusal>
-    ensures { Makes (without (has_leaf union.now.cells) (has_leaf taken.now.cells)) limit result }
+    ensures { Makes (difference_of (has_leaf union.now.cells) (has_leaf taken.now.cells)) limit result }
 {
     let _ = union.cells();
     match union.difference_up_to(taken, limit) {
@@ -261,7 +261,8 @@ fn intersection_with_cells(
     union: &CellUnion,
     cells: Cells<'_>,
 ) -> Result<CellUnion, AllocError>
-    ensures { IfOk result (λ u. IsNormalForm (shared (has_leaf union.now.cells) (has_leaf cells.entry)) u.cells) }
+    ensures { IfOk result (λ u. IsNormalForm (intersection_of (has_leaf union.now.cells) (has_leaf cells.entry))
+        u.cells) }
 {
     union.intersection(&union_of(alloc, cells)?)
 }

@@ -97,22 +97,22 @@ cells_aligned g (c ∷ u) h x y e =
     ∙ ap (λ b. covers c y || b) (cells_aligned g u (λ k d l. h (suc k) d (omega arith)) x y e)
 
 -- what a union and a set share
-abbrev pub Shared : List ℕ → (ℕ → Bool) → ℕ → Bool
-Shared u S x = has_leaf u x && S x
+abbrev pub Intersection : List ℕ → (ℕ → Bool) → ℕ → Bool
+Intersection u S x = has_leaf u x && S x
 
-shared_aligned : (S : ℕ → Bool) (g : ℕ) (u : List ℕ) → IsAligned S g → All (λ c. g ≤ depth_of c) u →
-    IsAligned (Shared u S) g
-shared_aligned S g u al h x y e =
+intersection_aligned : (S : ℕ → Bool) (g : ℕ) (u : List ℕ) → IsAligned S g → All (λ c. g ≤ depth_of c) u →
+    IsAligned (Intersection u S) g
+intersection_aligned S g u al h x y e =
     ap (λ b. b && S x) (cells_aligned g u h x y e) ∙ ap (λ b. has_leaf u y && b) (al x y e)
 
 -- the cells in one cell of the union
 part_run : (S : ℕ → Bool) (g : ℕ) {u : List ℕ} (c : ℕ) → IsAligned S g → IsLocal u → All (λ c. g ≤ depth_of c) u →
-    Contains u c → Run (Shared u S) (first_leaf c) (first_leaf c + size_of c) (form_in S g c)
+    Contains u c → Run (Intersection u S) (first_leaf c) (first_leaf c + size_of c) (form_in S g c)
 part_run S g {u} c al l h m =
-    let T = Shared u S in
+    let T = Intersection u S in
     let hg : g ≤ depth_of c = All-contains (λ c. g ≤ depth_of c) u c h m in
     let i : IsCell c = All-contains IsCell u c l.cells m in
-    let r = formed T g (depth_of c - g) (shared_aligned S g u al h) i (omega arith)
+    let r = formed T g (depth_of c - g) (intersection_aligned S g u al h) i (omega arith)
     (λ deep p. (member_greatest u l c m).greatest deep (λ x v. (and_parts (has_leaf u x) (S x) (p x v)).0)) in
     subst (λ (v : List ℕ). Run T (first_leaf c) (first_leaf c + size_of c) v)
     (form_in_same T S g c hg (λ x v. ap (λ b. b && S x) (leaf_to u c x m v))) r
@@ -156,8 +156,8 @@ and_again true b = refl
 and_again false b = refl
 
 pub record Clipped (S : ℕ → Bool) (u v : List ℕ) : Type 0 where
-  pub normal : IsNormalForm (Shared u S) v
-  pub leaves : (x : ℕ) → has_leaf v x ≡ Shared u S x
+  pub normal : IsNormalForm (Intersection u S) v
+  pub leaves : (x : ℕ) → has_leaf v x ≡ Intersection u S x
 
 deep_enough : (k : ℕ) (u : List ℕ) → All (λ c. level_of c ≤ k) u → All (λ c. 30 - k ≤ depth_of c) u
 deep_enough k u h i d l = let a = h i d l in omega arith
@@ -165,7 +165,7 @@ deep_enough k u h i d l = let a = h i d l in omega arith
 pub parts_normal : (S : ℕ → Bool) (k : ℕ) {u : List ℕ} →
     IsAligned S (30 - k) → IsLocal u → All (λ c. level_of c ≤ k) u → Clipped S u (flat_map (form_in S (30 - k)) u)
 parts_normal S k {u} al l h =
-    let T = Shared u S in
+    let T = Intersection u S in
     let p = parts_join T (form_in S (30 - k)) u (packed_from_local u l).chain
     (λ i d m. part_run S (30 - k) (get_or u i d) al l (deep_enough k u h) (Contains-get_or u i d m)) in
     let same : (x : ℕ) → has_leaf (flat_map (form_in S (30 - k)) u) x ≡ T x = λ x. p.leaves x
@@ -177,10 +177,10 @@ parts_normal S k {u} al l h =
     }
 
 pub parts_many : (S : ℕ → Bool) (k : ℕ) {u w : List ℕ} (max : ℕ) → IsAligned S (30 - k) → IsLocal u → All (λ c. level_of
-    c ≤ k) u → max < length (flat_map (form_in S (30 - k)) u) → IsNormalForm (Shared u S) w → max < length w
+    c ≤ k) u → max < length (flat_map (form_in S (30 - k)) u) → IsNormalForm (Intersection u S) w → max < length w
 parts_many S k {u} {w} max al l h m n =
     let e = ap length
-    (one_normal_form (Shared u S) (flat_map (form_in S (30 - k)) u) w (parts_normal S k al l h).normal n) in
+    (one_normal_form (Intersection u S) (flat_map (form_in S (30 - k)) u) w (parts_normal S k al l h).normal n) in
     omega arith
 
 -- ---- the list on the way
@@ -294,19 +294,23 @@ aligned_inner T k x al lim =
     (not_filled T lo n (four_pos (30 - k)) (λ y a b. al y x (block_leaves (30 - k) x y a b) ∙ f))))
     (cases_Bool (T x))
 
-shared_limit : (S : ℕ → Bool) {u : List ℕ} (x : ℕ) → IsLocal u → Shared u S x ≡ true → x < LEAVES
-shared_limit S {u} x l t =
+intersection_limit : (S : ℕ → Bool) {u : List ℕ} (x : ℕ) → IsLocal u → Intersection u S x ≡ true → x < LEAVES
+intersection_limit S {u} x l t =
     let r = leaf_from u x (and_parts (has_leaf u x) (S x) t).0 in
     let w = (cell_leaves r.cell (All-contains IsCell u r.cell l.cells r.member)).within in
     let h = r.high in
     omega arith
 
-pub shared_outer : (S : ℕ → Bool) (k : ℕ) {u : List ℕ} →
-    IsAligned S (30 - k) → IsLocal u → All (λ c. level_of c ≤ k) u → (x : ℕ) → Shared u S x ≡ outer_set (Shared u S) k x
-shared_outer S k {u}
-    al l h x = aligned_outer (Shared u S) k x (shared_aligned S (30 - k) u al (deep_enough k u h)) (shared_limit S x l)
+pub intersection_outer : (S : ℕ → Bool) (k : ℕ) {u : List ℕ} →
+    IsAligned S (30 - k) → IsLocal u → All (λ c. level_of c ≤ k) u → (x : ℕ) →
+    Intersection u S x ≡ outer_set (Intersection u S) k x
+intersection_outer S k {u}
+    al l h x = aligned_outer (Intersection u S) k x (intersection_aligned S (30 - k) u al (deep_enough k u h))
+    (intersection_limit S x l)
 
-pub shared_inner : (S : ℕ → Bool) (k : ℕ) {u : List ℕ} →
-    IsAligned S (30 - k) → IsLocal u → All (λ c. level_of c ≤ k) u → (x : ℕ) → Shared u S x ≡ inner_set (Shared u S) k x
-shared_inner S k {u}
-    al l h x = aligned_inner (Shared u S) k x (shared_aligned S (30 - k) u al (deep_enough k u h)) (shared_limit S x l)
+pub intersection_inner : (S : ℕ → Bool) (k : ℕ) {u : List ℕ} →
+    IsAligned S (30 - k) → IsLocal u → All (λ c. level_of c ≤ k) u → (x : ℕ) →
+    Intersection u S x ≡ inner_set (Intersection u S) k x
+intersection_inner S k {u}
+    al l h x = aligned_inner (Intersection u S) k x (intersection_aligned S (30 - k) u al (deep_enough k u h))
+    (intersection_limit S x l)

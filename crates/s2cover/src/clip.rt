@@ -13,7 +13,7 @@ ghost use Rattle.s2cover.specs.Cut.{cells_kept};
 ghost use Rattle.s2cover.specs.Coverings.{HasLeavesOf, TooManyMeans, inner_set, outer_set, clipped};
 ghost use Rattle.s2cover.specs.Working.Descent.{IsAligned, form_in};
 
-use crate::MOST_CELLS;
+use crate::MOST_COVERING;
 use crate::cut_to_level::union_cut;
 use crate::looks::{Looks, seek};
 use crate::met::add_met;
@@ -42,7 +42,7 @@ pub fn clip_outer(
     looks: &mut Looks,
 ) -> Result<CellUnion, CoverFault>
     requires level { level ≤ GREATEST_LEVEL }
-    requires max { max ≤ MOST_CELLS }
+    requires max { max ≤ MOST_COVERING }
     ensures leaves { IfOk result (λ u. HasLeavesOf (outer_set (clipped union.now.cells rect.now) level) u.cells) }
     ensures local { IfOk result (λ u. IsLocal u.cells) }
     ensures normal { IfOk result (λ u. IsNormalForm (outer_set (clipped union.now.cells rect.now) level) u.cells) }
@@ -80,7 +80,7 @@ pub fn clip_inner(
     looks: &mut Looks,
 ) -> Result<CellUnion, CoverFault>
     requires level { level ≤ GREATEST_LEVEL }
-    requires max { max ≤ MOST_CELLS }
+    requires max { max ≤ MOST_COVERING }
     ensures leaves { IfOk result (λ u. HasLeavesOf (inner_set (clipped union.now.cells rect.now) level) u.cells) }
     ensures local { IfOk result (λ u. IsLocal u.cells) }
     ensures normal { IfOk result (λ u. IsNormalForm (inner_set (clipped union.now.cells rect.now) level) u.cells) }
@@ -108,7 +108,7 @@ fn inner_part(
     looks: &mut Looks,
 ) -> Result<CellUnion, CoverFault>
     requires level { level ≤ GREATEST_LEVEL }
-    requires max { max ≤ MOST_CELLS }
+    requires max { max ≤ MOST_COVERING }
     requires aligned { IsAligned (rect_set rect) (30 - level) }
     requires looks { looks.old.count ≡ 0 }
     ensures leaves { IfOk result (λ u. HasLeavesOf (inner_set (clipped union.now.cells rect) level) u.cells) }
@@ -136,7 +136,7 @@ fn clip_aligned(
     looks: &mut Looks,
 ) -> Result<CellUnion, CoverFault>
     requires level { level ≤ GREATEST_LEVEL }
-    requires max { max ≤ MOST_CELLS }
+    requires max { max ≤ MOST_COVERING }
     requires above { All (λ c. level_of c ≤ level) union.now.cells }
     requires aligned { IsAligned (rect_set rect.now) (30 - level) }
     requires looks { looks.old.count + length union.now.cells + 4 * level * (max + 1) < 2 ^ 64 }
@@ -168,7 +168,7 @@ fn cells_within(
     looks: &mut Looks,
 ) -> Result<Vec<CellId>, CoverFault>
     requires level { level ≤ GREATEST_LEVEL }
-    requires max { max ≤ MOST_CELLS }
+    requires max { max ≤ MOST_COVERING }
     requires above { All (λ c. level_of c ≤ level) cells.now }
     requires aligned { IsAligned (rect_set rect.now) (30 - level) }
     requires looks { looks.old.count + length cells.now + 4 * level * (max + 1) < 2 ^ 64 }

@@ -4,7 +4,7 @@ ghost use Rattle.s2list.specs.Union.{IsLocal, IsNormalForm};
 ghost use Rattle.s2cover.specs.Coverings.{HasLeavesOf, TooManyMeans, inner_set, outer_set};
 ghost use Rattle.s2cover.specs.Working.Descent.{covering_set, is_outer};
 
-use crate::MOST_CELLS;
+use crate::MOST_COVERING;
 use crate::descent::{Kind, visit};
 use crate::region::{CoverFault, Region};
 use s2cell::{GREATEST_LEVEL, PlacedCell};
@@ -23,7 +23,7 @@ pub fn outer<R: Region>(
     max: usize,
 ) -> Result<CellUnion, CoverFault>
     requires level { level ≤ GREATEST_LEVEL }
-    requires max { max ≤ MOST_CELLS }
+    requires max { max ≤ MOST_COVERING }
     ensures leaves { IfOk result (λ u. HasLeavesOf (outer_set (R.holds region.now) level) u.cells) }
     ensures local { IfOk result (λ u. IsLocal u.cells) }
     ensures normal { IfOk result (λ u. IsNormalForm (outer_set (R.holds region.now) level) u.cells) }
@@ -44,7 +44,7 @@ pub fn inner<R: Region>(
     max: usize,
 ) -> Result<CellUnion, CoverFault>
     requires level { level ≤ GREATEST_LEVEL }
-    requires max { max ≤ MOST_CELLS }
+    requires max { max ≤ MOST_COVERING }
     ensures leaves { IfOk result (λ u. HasLeavesOf (inner_set (R.holds region.now) level) u.cells) }
     ensures local { IfOk result (λ u. IsLocal u.cells) }
     ensures normal { IfOk result (λ u. IsNormalForm (inner_set (R.holds region.now) level) u.cells) }
@@ -63,7 +63,7 @@ fn cover<R: Region>(
     max: usize,
 ) -> Result<CellUnion, CoverFault>
     requires level { level ≤ GREATEST_LEVEL }
-    requires max { max ≤ MOST_CELLS }
+    requires max { max ≤ MOST_COVERING }
     ensures leaves { IfOk result (λ u. HasLeavesOf (covering_set (is_outer kind) (R.holds region.now) level) u.cells) }
     ensures local { IfOk result (λ u. IsLocal u.cells) }
     ensures normal { IfOk result (λ u. IsNormalForm (covering_set (is_outer kind) (R.holds region.now) level) u.cells) }

@@ -5,7 +5,7 @@ ghost use Rattle.s2cell.specs.Cell.{level_of, place_of};
 ghost use Rattle.s2cell.specs.Square.{IsPlacedCell};
 ghost use Rattle.s2cover.specs.Working.Descent.{blocks, depth_of, filled_in, form_in, is_outer};
 
-use crate::MOST_CELLS;
+use crate::MOST_COVERING;
 use crate::region::{CoverFault, Part, Region};
 use s2cell::{CellId, GREATEST_LEVEL, PlacedCell};
 
@@ -45,7 +45,7 @@ pub(crate) fn visit<R: Region>(
     requires above { level_of placed.now.cell ≤ level }
     requires level { level ≤ GREATEST_LEVEL }
     requires loose { loose ≤ 3 * level_of placed.now.cell }
-    requires max { max ≤ MOST_CELLS }
+    requires max { max ≤ MOST_COVERING }
     requires room { vec_len list.old ≤ max + loose }
     ensures list { IfOk result (λ full. list.new.items ≡ list.old.items
         ++ form_in (blocks (is_outer kind) (R.holds region.now) (30 - level)) (30 - level) placed.now.cell) }

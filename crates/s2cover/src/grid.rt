@@ -5,7 +5,7 @@ ghost use Rattle.s2list.specs.Union.{IsLocal, IsNormalForm};
 ghost use Rattle.s2cover.specs.Coverings.{HasLeavesOf, TooManyMeans, inner_set, outer_set};
 ghost use Rattle.s2cover.specs.Working.Descent.{IsAligned};
 
-use crate::MOST_CELLS;
+use crate::MOST_COVERING;
 use crate::looks::{Looks, seek};
 use crate::region::CoverFault;
 use crate::rounding::{round_inward, round_outward};
@@ -27,7 +27,7 @@ pub fn rect_outer(
     looks: &mut Looks,
 ) -> Result<CellUnion, CoverFault>
     requires level { level ≤ GREATEST_LEVEL }
-    requires max { max ≤ MOST_CELLS }
+    requires max { max ≤ MOST_COVERING }
     ensures leaves { IfOk result (λ u. HasLeavesOf (outer_set (rect_set rect.now) level) u.cells) }
     ensures local { IfOk result (λ u. IsLocal u.cells) }
     ensures normal { IfOk result (λ u. IsNormalForm (outer_set (rect_set rect.now) level) u.cells) }
@@ -54,7 +54,7 @@ pub fn rect_inner(
     looks: &mut Looks,
 ) -> Result<CellUnion, CoverFault>
     requires level { level ≤ GREATEST_LEVEL }
-    requires max { max ≤ MOST_CELLS }
+    requires max { max ≤ MOST_COVERING }
     ensures leaves { IfOk result (λ u. HasLeavesOf (inner_set (rect_set rect.now) level) u.cells) }
     ensures local { IfOk result (λ u. IsLocal u.cells) }
     ensures normal { IfOk result (λ u. IsNormalForm (inner_set (rect_set rect.now) level) u.cells) }
@@ -81,7 +81,7 @@ fn cover_aligned(
     looks: &mut Looks,
 ) -> Result<CellUnion, CoverFault>
     requires level { level ≤ GREATEST_LEVEL }
-    requires max { max ≤ MOST_CELLS }
+    requires max { max ≤ MOST_COVERING }
     requires aligned { IsAligned (rect_set rect.now) (30 - level) }
     requires looks { looks.old.count ≡ 0 }
     ensures leaves { IfOk result (λ u. HasLeavesOf (rect_set rect.now) u.cells) }

@@ -40,4 +40,4 @@ pub use s2cell::FaceRect;
 pub use union::Clip;
 
 /// The most cells that a call may allow a covering: the greatest `max`.
-pub const MOST_CELLS: usize = 1_000_000;
+pub const MOST_COVERING: usize = 1_000_000;

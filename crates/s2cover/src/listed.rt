@@ -5,7 +5,7 @@ ghost use Rattle.s2list.specs.Union.{IsLocal, IsNormalForm};
 ghost use Rattle.s2cover.specs.Cut.{cells_kept};
 ghost use Rattle.s2cover.specs.Coverings.{TooManyMeans, inner_set, outer_set, clipped};
 
-use crate::MOST_CELLS;
+use crate::MOST_COVERING;
 use crate::around::cells_around;
 use crate::clip::{clip_inner, clip_outer};
 use crate::looks::Looks;
@@ -30,7 +30,7 @@ pub fn clip_outer_of<C: Cells>(
     max: usize,
 ) -> Result<CellUnion, CoverFault>
     requires level { level ≤ GREATEST_LEVEL }
-    requires max { max ≤ MOST_CELLS }
+    requires max { max ≤ MOST_COVERING }
     ensures local { IfOk result (λ u. IsLocal u.cells) }
     ensures normal { IsLocal (C.ids cells.now) → IfOk result (λ u.
         IsNormalForm (outer_set (clipped (C.ids cells.now) rect.now) level) u.cells) }
@@ -52,7 +52,7 @@ pub fn clip_inner_of<C: Cells>(
     max: usize,
 ) -> Result<CellUnion, CoverFault>
     requires level { level ≤ GREATEST_LEVEL }
-    requires max { max ≤ MOST_CELLS }
+    requires max { max ≤ MOST_COVERING }
     ensures local { IfOk result (λ u. IsLocal u.cells) }
     ensures normal { IsLocal (C.ids cells.now) → IfOk result (λ u.
         IsNormalForm (inner_set (clipped (C.ids cells.now) rect.now) level) u.cells) }

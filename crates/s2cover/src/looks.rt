@@ -8,7 +8,7 @@ ghost use Rattle.s2list.specs.Union.{LiesIn};
 ghost use Rattle.s2cover.specs.Coverings.{LiesOutside};
 ghost use Rattle.s2cover.specs.Working.Descent.{IsAligned, depth_of, form_in};
 
-use crate::MOST_CELLS;
+use crate::MOST_COVERING;
 use crate::rect::part_of;
 use crate::region::{CoverFault, Part};
 use s2cell::{CellId, FaceRect, GREATEST_LEVEL, PlacedCell, SIDE, Square};
@@ -49,7 +49,7 @@ pub(crate) fn seek(
     requires placed { IsPlacedCell placed.now }
     requires above { level_of placed.now.cell ≤ level }
     requires level { level ≤ GREATEST_LEVEL }
-    requires max { max ≤ MOST_CELLS }
+    requires max { max ≤ MOST_COVERING }
     requires room { vec_len list.old ≤ max }
     requires aligned { IsAligned (rect_set rect.now) (30 - level) }
     requires looks { looks.old.count + 1 + 4 * (depth_of placed.now.cell - (30 - level))

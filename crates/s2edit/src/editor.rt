@@ -10,7 +10,7 @@ ghost use Rattle.s2edit.specs.Working.Chain.{lists_of, AllRoomy};
 ghost use Rattle.s2edit.specs.declared.editor.EditFault.TheVariants.{Memory};
 
 use crate::change::Change;
-use crate::{MOST_CELLS, MOST_STATES, REGISTERS, Register};
+use crate::{MOST_REGISTER, MOST_STATES, REGISTERS, Register};
 use circular_buffer::HeapCircularBuffer;
 use s2cell::CellId;
 use s2union::CellUnion;
@@ -68,14 +68,14 @@ impl Model for Editor {
 
 impl Editor {
     /// An editor with empty registers and no history. A register may have at most `limit` cells (1 to
-    /// [`MOST_CELLS`](crate::MOST_CELLS)), and at most `depth` states are kept (1 to
+    /// [`MOST_REGISTER`](crate::MOST_REGISTER)), and at most `depth` states are kept (1 to
     /// [`MOST_STATES`](crate::MOST_STATES)).
     ///
     /// Takes all memory that registers, undo and redo will need: room for `limit` cells for each register and for the
     /// spare list, 8 bytes a cell, and two rings of `depth` changes. At the greatest limit that is 216,000,000 bytes of
     /// address space; a system such as Linux provides only the part that is used.
     pub fn open(alloc: Global, limit: usize, depth: usize) -> Result<Editor, AllocError>
-        requires limit { (1 ≤ limit) × (limit ≤ MOST_CELLS) }
+        requires limit { (1 ≤ limit) × (limit ≤ MOST_REGISTER) }
         requires depth { (1 ≤ depth) × (depth ≤ MOST_STATES) }
         ensures { IfOk result (λ e. e ≡ untouched limit depth (replicate REGISTERS [])) }
     {
@@ -218,7 +218,7 @@ impl Editor {
     /// more, and each list is normalized.
     pub fn limit(&self) -> usize
         ensures value { result ≡ self.now.limit }
-        ensures most { result ≤ MOST_CELLS }
+        ensures most { result ≤ MOST_REGISTER }
         ensures few { EachList (λ u. length u ≤ self.now.limit) self.now }
         ensures local { EachList IsLocal self.now }
         ensures normal { EachList (λ u. IsNormalForm (has_leaf u) u) self.now }

@@ -25,7 +25,7 @@ pub use session::RestoreFault;
 pub use sides::{Future, Past, Sides};
 
 /// The most cells that a register may ever have: the greatest limit of an editor.
-pub const MOST_CELLS: usize = 1_000_000;
+pub const MOST_REGISTER: usize = 1_000_000;
 
 /// The most states that may ever be kept: the greatest depth of an editor.
 pub const MOST_STATES: usize = 10_000;

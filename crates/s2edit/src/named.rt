@@ -7,7 +7,7 @@
 ghost use Rattle.std.specs.Prelude.{◌≡◌, ℕ, Bool, true, ◌<◌, ◌≤◌, ◌||◌, ◌&&◌, not, List, length};
 ghost use Rattle.std.specs.Prelude.{Err, IfOk, IfSome, OnOk, OnErr};
 ghost use Rattle.s2list.specs.Union.{has_leaf, IsNormalForm};
-ghost use Rattle.s2list.specs.Sets.{either, without};
+ghost use Rattle.s2list.specs.Sets.{union_of, difference_of};
 ghost use Rattle.s2union.specs.Apply.{has};
 ghost use Rattle.s2edit.specs.History.{numbers, Assigned};
 ghost use Rattle.s2edit.specs.Diff.{FitsList};
@@ -42,11 +42,11 @@ impl Editor {
         register: Register,
         named: &CellUnion,
     ) -> Result<(usize, usize), EditFault>
-        ensures ok { OnOk result (Becomes (either (has_leaf (list_at self.old.now register)) (has_leaf named.now.cells))
-            register self.old self.new) }
+        ensures ok { OnOk result (Becomes (union_of (has_leaf (list_at self.old.now register))
+            (has_leaf named.now.cells)) register self.old self.new) }
         ensures numbers { IfOk result (λ n. n ≡ numbers self.old.now self.new.now) }
         ensures too_many { result ≡ Err EditFault.TooMany → (u : List ℕ) →
-            IsNormalForm (either (has_leaf (list_at self.old.now register)) (has_leaf named.now.cells)) u →
+            IsNormalForm (union_of (has_leaf (list_at self.old.now register)) (has_leaf named.now.cells)) u →
             self.old.limit < length u }
         ensures err { OnErr result (self.new ≡ self.old) }
     {
@@ -68,11 +68,11 @@ impl Editor {
         named: &CellUnion,
     ) -> Result<(usize, usize), EditFault>
         ensures ok { OnOk result (Becomes
-            (without (has_leaf (list_at self.old.now register)) (has_leaf named.now.cells)) register
+            (difference_of (has_leaf (list_at self.old.now register)) (has_leaf named.now.cells)) register
             self.old self.new) }
         ensures numbers { IfOk result (λ n. n ≡ numbers self.old.now self.new.now) }
         ensures too_many { result ≡ Err EditFault.TooMany → (u : List ℕ) →
-            IsNormalForm (without (has_leaf (list_at self.old.now register)) (has_leaf named.now.cells)) u →
+            IsNormalForm (difference_of (has_leaf (list_at self.old.now register)) (has_leaf named.now.cells)) u →
             self.old.limit < length u }
         ensures err { OnErr result (self.new ≡ self.old) }
     {
@@ -130,7 +130,7 @@ fn adding(
     named: &CellUnion,
 ) -> Result<Option<Change>, AllocError>
     ensures { IfOk result (λ found. IfSome found
-        (Gives (either (has_leaf union.now.cells) (has_leaf named.now.cells)) register union.now.cells)) }
+        (Gives (union_of (has_leaf union.now.cells) (has_leaf named.now.cells)) register union.now.cells)) }
 {
     if union.len() / REGISTER_TO_NAMED < named.len() {
         return Ok(None);
@@ -146,8 +146,8 @@ fn adding(
         return Ok(Some(change));
     }
     let part = part_near(alloc, union, named.cells())?;
-    let joined = part.union(named)?;
-    adding_near(alloc, register, union, named, &joined)
+    let united = part.union(named)?;
+    adding_near(alloc, register, union, named, &united)
 }
 
 /// The change that adds the leaves of the named cells, if it is found near the cells that others complete.
@@ -159,12 +159,12 @@ fn adding_near(
     others: &CellUnion,
 ) -> Result<Option<Change>, AllocError>
     ensures { IfOk result (λ found. IfSome found
-        (Gives (either (has_leaf union.now.cells) (has_leaf named.now.cells)) register union.now.cells)) }
+        (Gives (union_of (has_leaf union.now.cells) (has_leaf named.now.cells)) register union.now.cells)) }
 {
     let complete = completed_cells(alloc, union.cells(), others.cells())?;
     let part = part_near(alloc, union, &complete)?;
-    let joined = part.union(named)?;
-    change_of_part(alloc, register, union, &part, &joined)
+    let united = part.union(named)?;
+    change_of_part(alloc, register, union, &part, &united)
 }
 
 /// The change that takes the leaves of the named cells out, if it is found near them.
@@ -175,7 +175,7 @@ fn removing(
     named: &CellUnion,
 ) -> Result<Option<Change>, AllocError>
     ensures { IfOk result (λ found. IfSome found
-        (Gives (without (has_leaf union.now.cells) (has_leaf named.now.cells)) register union.now.cells)) }
+        (Gives (difference_of (has_leaf union.now.cells) (has_leaf named.now.cells)) register union.now.cells)) }
 {
     if union.len() / REGISTER_TO_NAMED < named.len() {
         return Ok(None);

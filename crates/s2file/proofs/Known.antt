@@ -8,12 +8,12 @@ use Rattle.s2cell.proofs.CellLemmas.{face_of_cell, trailing_even}
 use Rattle.s2list.specs.Union.{has_leaf}
 use Rattle.s2list.specs.Packed.{IsFamily}
 use Rattle.s2list.proofs.Packing.{family_covers}
-use Rattle.s2file.specs.declared.union_file.TheConstants.{MOST_CELLS}
+use Rattle.s2file.specs.declared.union_file.TheConstants.{MOST_FILE}
 use Rattle.s2file.specs.File.{File, file_text}
 use Rattle.s2file.proofs.Texts.{text_is_file}
 
 -- the text of identifiers is a file of a set
-pub file_from_text : (ids bytes : List ℕ) (S : ℕ → Bool) → All IsCell ids → length ids ≤ MOST_CELLS →
+pub file_from_text : (ids bytes : List ℕ) (S : ℕ → Bool) → All IsCell ids → length ids ≤ MOST_FILE →
     file_text ids ≡ bytes → ((x : ℕ) → S x ≡ has_leaf ids x) → File bytes S
 file_from_text ids bytes S cells most text leaves =
     subst (λ (b : List ℕ). File b S) text (text_is_file ids S cells most leaves)

@@ -9,7 +9,7 @@ use Rattle.s2list.specs.Union.{has_leaf, IsLocal}
 use Rattle.s2list.proofs.Normal.{normal_from_local, normal_form_same, one_normal_form}
 use Rattle.s2list.specs.Numbers.{first_number, number_text}
 use Rattle.s2list.proofs.Numbers.{first_number-number_text, length-number_text, drop-number_texts, length-number_texts}
-use Rattle.s2file.specs.declared.union_file.TheConstants.{MOST_CELLS}
+use Rattle.s2file.specs.declared.union_file.TheConstants.{MOST_FILE}
 use Rattle.s2file.specs.File.{Bytes, File, IsFramed, file_ids, file_text, stated_count}
 use Rattle.s2file.specs.Numbers.{numbers_in}
 use Rattle.s2file.proofs.Numbers.{get_or-numbers, length-numbers}
@@ -58,7 +58,7 @@ ids_of_text ids fit =
     ∙ numbers_are ids fit
 
 -- the text of cells is a file of their leaves
-pub text_is_file : (ids : List ℕ) (S : ℕ → Bool) → All IsCell ids → length ids ≤ MOST_CELLS
+pub text_is_file : (ids : List ℕ) (S : ℕ → Bool) → All IsCell ids → length ids ≤ MOST_FILE
     → ((x : ℕ) → S x ≡ has_leaf ids x) → File (file_text ids) S
 text_is_file ids S cells most leaves =
     let fits : length ids < 2 ^ 64 = omega (arith, most) in
@@ -70,7 +70,7 @@ text_is_file ids S cells most leaves =
     }
 
 pub file_of_text : {u : List ℕ} (bytes : List ℕ) →
-    IsLocal u → bytes ≡ file_text u → length u ≤ MOST_CELLS → File bytes (has_leaf u)
+    IsLocal u → bytes ≡ file_text u → length u ≤ MOST_FILE → File bytes (has_leaf u)
 file_of_text {u} bytes local e most = rw e (text_is_file u (has_leaf u) local.cells most (λ x. refl))
 
 pub bytes_of_text : {u : List ℕ} (bytes : List ℕ) → IsLocal u → bytes ≡ file_text u → Bytes (has_leaf u) bytes

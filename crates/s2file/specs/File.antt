@@ -5,7 +5,7 @@ use Rattle.std.specs.Prelude.{◌∷◌, ◌++◌, length, drop, slice_index, Al
 use Rattle.s2cell.specs.Cell.{IsCell}
 use Rattle.s2list.specs.Numbers.{first_number, number_text}
 use Rattle.s2list.specs.Union.{has_leaf, IsNormalForm}
-use Rattle.s2file.specs.declared.union_file.TheConstants.{MOST_CELLS}
+use Rattle.s2file.specs.declared.union_file.TheConstants.{MOST_FILE}
 use Rattle.s2file.specs.declared.fault.FileFault.{FileFault}
 use Rattle.s2file.specs.declared.fault.FileFault.TheVariants.{Version, Count, Short, Trailing, Cell, Memory}
 use Rattle.s2file.specs.Numbers.{numbers_in}
@@ -38,10 +38,10 @@ pub record IsCellFile (bytes : List ℕ) : Type 0 where
   pub framed : IsFramed bytes
   pub cells : All IsCell (file_ids bytes)
 
--- the bytes are a file of at most 1,000,000 (`MOST_CELLS`) cells, in any order, whose leaves are the set `S`
+-- the bytes are a file of at most 1,000,000 (`MOST_FILE`) cells, in any order, whose leaves are the set `S`
 pub record File (bytes : List ℕ) (S : ℕ → Bool) : Type 0 where
   pub is : IsCellFile bytes
-  pub most : stated_count bytes ≤ MOST_CELLS
+  pub most : stated_count bytes ≤ MOST_FILE
   pub leaves : (x : ℕ) → S x ≡ has_leaf (file_ids bytes) x
 
 -- the first byte is not 1
@@ -70,7 +70,7 @@ HasFrameFault bytes Memory = ⊥
 -- exactly as many follow
 pub record HasFrame (bytes : List ℕ) : Type 0 where
   pub framed : IsFramed bytes
-  pub most : stated_count bytes ≤ MOST_CELLS
+  pub most : stated_count bytes ≤ MOST_FILE
 
 -- some number is not the identifier of a cell
 pub record HasWrongNumber (ids : List ℕ) : Type 0 where
@@ -81,9 +81,9 @@ pub record HasWrongNumber (ids : List ℕ) : Type 0 where
 -- the fault of the first check that fails; once the first four have passed, memory may run out
 abbrev pub HasFault : List ℕ → FileFault → Type 0
 HasFault bytes Version = IsOtherVersion bytes
-HasFault bytes Short = IsShortFile bytes × (HasHead bytes → stated_count bytes ≤ MOST_CELLS)
-HasFault bytes Count = HasHead bytes × (MOST_CELLS < stated_count bytes)
-HasFault bytes Trailing = IsLongFile bytes × (stated_count bytes ≤ MOST_CELLS)
+HasFault bytes Short = IsShortFile bytes × (HasHead bytes → stated_count bytes ≤ MOST_FILE)
+HasFault bytes Count = HasHead bytes × (MOST_FILE < stated_count bytes)
+HasFault bytes Trailing = IsLongFile bytes × (stated_count bytes ≤ MOST_FILE)
 HasFault bytes Cell = HasFrame bytes × HasWrongNumber (file_ids bytes)
 HasFault bytes Memory = HasFrame bytes
 

@@ -12,7 +12,7 @@ pub enum FileFault {
     /// The first byte is not 1.
     #[error("the version is not 1")]
     Version,
-    /// The head states more than `MOST_CELLS` identifiers.
+    /// The head states more than `MOST_FILE` identifiers.
     #[error("more than 1000000 identifiers")]
     Count,
     /// There is no byte, or the head or an identifier is cut off.

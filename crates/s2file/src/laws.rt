@@ -2,7 +2,7 @@
 ghost use Rattle.std.specs.Prelude.{◌≡◌, ◌≢◌, ◌<◌, ◌≤◌, ℕ, Bool, List, [], ◌∷◌, ◌++◌, length, take};
 ghost use Rattle.std.specs.Prelude.{drop, replicate, MatchResult};
 ghost use Rattle.s2list.specs.Union.{has_leaf};
-ghost use Rattle.s2file.specs.declared.union_file.TheConstants.{MOST_CELLS, MOST_SIZE};
+ghost use Rattle.s2file.specs.declared.union_file.TheConstants.{MOST_FILE, MOST_SIZE};
 ghost use Rattle.s2file.specs.File.{Bytes, File, HasFault, HasFrameFault, IsFramed, file_text};
 ghost use Rattle.s2file.specs.Session.{Content, Spells, session_text, content_of_list, one_change};
 
@@ -90,7 +90,7 @@ pub fn refused_bytes()
 
 /// What `decode` answers for the bytes that `encode` wrote: the same union, or out of memory.
 pub fn round_trip(alloc: Global, union: &CellUnion) -> Result<CellUnion, FileFault>
-    requires { length union.now.cells ≤ MOST_CELLS }
+    requires { length union.now.cells ≤ MOST_FILE }
     ensures { MatchResult result (λ back. back.cells ≡ union.now.cells) (λ fault. fault ≡ FileFault.Memory) }
 {
     let bytes = encode(alloc, union)?;

@@ -22,7 +22,7 @@ pub use crate::fault::FileFault;
 pub use crate::file_ids::{FileIds, read_numbers};
 pub use crate::session::{Move, Session};
 pub use crate::union_file::{
-    HEAD_SIZE, MOST_CELLS, MOST_SIZE, VERSION, cells_of, decode, encode, numbers_of,
+    HEAD_SIZE, MOST_FILE, MOST_SIZE, VERSION, cells_of, decode, encode, numbers_of,
 };
 
 /// How many registers a session file has.

@@ -2,7 +2,7 @@
 ghost use Rattle.std.specs.Prelude.{◌≡◌, ◌≤◌, ◌⊎◌, ℕ, All, Bool, length, drop, MatchResult, IfOk};
 ghost use Rattle.s2cell.specs.Cell.{IsCell};
 ghost use Rattle.s2list.specs.Union.{has_leaf, IsLocal};
-ghost use Rattle.s2file.specs.declared.union_file.TheConstants.{MOST_CELLS};
+ghost use Rattle.s2file.specs.declared.union_file.TheConstants.{MOST_FILE};
 ghost use Rattle.s2file.specs.File.{Bytes, File, HasFault, HasFrame, HasFrameFault, HasHead, HasWrongNumber, IsFramed};
 ghost use Rattle.s2file.specs.File.{file_text, stated_count};
 ghost use Rattle.s2file.specs.Numbers.{numbers_in};
@@ -21,16 +21,16 @@ pub const VERSION: u8 = 1;
 pub const HEAD_SIZE: usize = 9;
 
 /// How many identifiers a file may hold: the greatest count that `decode` accepts.
-pub const MOST_CELLS: u64 = 1_000_000;
+pub const MOST_FILE: u64 = 1_000_000;
 
-/// The size of the longest file, in bytes: the head and `MOST_CELLS` identifiers.
-pub const MOST_SIZE: usize = HEAD_SIZE + NUMBER_SIZE * MOST_CELLS as usize;
+/// The size of the longest file, in bytes: the head and `MOST_FILE` identifiers.
+pub const MOST_SIZE: usize = HEAD_SIZE + NUMBER_SIZE * MOST_FILE as usize;
 
 /// The union that a file stands for: the normal form of the leaves of its cells.
 ///
 /// The cells may be in any order, repeated, contained in one another or unmerged. All other bytes are refused, and the
 /// fault says which check failed first: there is a first byte, and it is 1; there are at least nine bytes; the count is
-/// at most `MOST_CELLS`; exactly that many identifiers follow; each is the identifier of a cell. Takes one list of
+/// at most `MOST_FILE`; exactly that many identifiers follow; each is the identifier of a cell. Takes one list of
 /// cells, once the first four checks have passed. One pass over the bytes, and a sort, which costs almost nothing if
 /// the cells ascend.
 pub fn decode(alloc: Global, bytes: &[u8]) -> Result<CellUnion, FileFault>
@@ -45,13 +45,13 @@ pub fn decode(alloc: Global, bytes: &[u8]) -> Result<CellUnion, FileFault>
     Ok(normalise(cells))
 }
 
-/// The bytes after the head, of a file of at most `MOST_CELLS` numbers. Checks all but these numbers.
+/// The bytes after the head, of a file of at most `MOST_FILE` numbers. Checks all but these numbers.
 fn checked_numbers(bytes: &[u8]) -> Result<&[u8], FileFault>
     ensures { MatchResult result (λ numbers. HasFrame bytes.now × (numbers.now ≡ drop 9 bytes.now))
         (λ fault. HasFault bytes.now fault) }
 {
     let count = count_of(bytes)?;
-    if count > MOST_CELLS {
+    if count > MOST_FILE {
         return Err(FileFault::Count);
     }
     after_head(bytes, count)
@@ -125,12 +125,12 @@ pub fn cells_of(alloc: Global, numbers: &[u8]) -> Result<Vec<CellId>, FileFault>
 
 /// The file of a union: its cells in ascending order, however many they are.
 ///
-/// Two unions with the same leaves have the same file. `decode` reads it back, if the union has at most `MOST_CELLS`
+/// Two unions with the same leaves have the same file. `decode` reads it back, if the union has at most `MOST_FILE`
 /// cells. Takes one list of nine bytes plus eight for each cell.
 pub fn encode(alloc: Global, union: &CellUnion) -> Result<Vec<u8>, AllocError>
     ensures text { IfOk result (λ bytes. bytes.items ≡ file_text union.now.cells) }
     ensures bytes { IfOk result (λ bytes. Bytes (has_leaf union.now.cells) bytes.items) }
-    ensures back { length union.now.cells ≤ MOST_CELLS →
+    ensures back { length union.now.cells ≤ MOST_FILE →
         IfOk result (λ bytes. File bytes.items (has_leaf union.now.cells)) }
 {
     let cells = union.cells();

@@ -6,7 +6,7 @@ use Rattle.std.proofs.Math.Logic.{⊎_elim}
 use Rattle.std.proofs.lemmas.Bool.{cases_lt, true≢false}
 use Rattle.s2cell.specs.declared.TheConstants.{LEAVES}
 use Rattle.s2list.specs.Packed.{FirstEndBy}
-use Rattle.s2list.specs.Sets.{in_one}
+use Rattle.s2list.specs.Sets.{symmetric_difference_of}
 use Rattle.s2list.specs.Working.Piles.{Brings, IsPast}
 use Rattle.s2list.proofs.Walking.{ended_later}
 
@@ -35,7 +35,7 @@ both false b e f = absurd (true≢false (sym e))
 -- what one turn of the walk adds
 pub turn_brings : {A B : ℕ → Bool} {done xf xe yf ye from end to next : ℕ} → Comes A done xf xe → Comes B done yf ye →
     from ≡ min xf yf → end ≡ min xe ye → to ≡ min (max xf yf) end → next ≡ max done end → (from < to → to ≤ LEAVES)
-    → Brings (in_one A B) done from to next
+    → Brings (symmetric_difference_of A B) done from to next
 turn_brings {A} {B} {done} {xf} {xe} {yf} {ye} {from} {end} {to} {next} a b ef ee et en within =
     let oa = a.order in
     let ob = b.order in

@@ -21,7 +21,7 @@ use Rattle.s2list.proofs.Finding.{ends_later, starts_later}
 use Rattle.s2list.proofs.Heaping.{heaping_flush, heaping_on}
 use Rattle.s2list.proofs.Normal.{member_greatest}
 use Rattle.s2list.proofs.Picking.{Picked, picked_push}
-use Rattle.s2list.proofs.Shared.{run_push}
+use Rattle.s2list.proofs.Intersecting.{run_push}
 use Rattle.s2list.proofs.Tiling.{none_between}
 use Rattle.s2list.proofs.Walking.{gap, leaf_at, leaf_there, not_true}
 

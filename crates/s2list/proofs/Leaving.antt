@@ -12,8 +12,8 @@ use Rattle.s2list.specs.Union.{IsLocal, has_leaf}
 use Rattle.s2list.specs.Packed.{IsPacked, FirstEndBy}
 use Rattle.s2list.proofs.Checking.{packed_from_local}
 use Rattle.s2list.proofs.Picking.{picked_none}
-use Rattle.s2list.proofs.Subtracting.{Subtracting, minus, subtracting_free, subtracting_from}
-use Rattle.s2list.proofs.Subtracting.{subtracting_on_x, subtracting_on_y, subtracting_run, subtracting_taken}
+use Rattle.s2list.proofs.Differences.{Difference, minus, difference_free, difference_from}
+use Rattle.s2list.proofs.Differences.{difference_on_x, difference_on_y, difference_run, difference_taken}
 use Rattle.s2list.specs.Output.{Fills, WritesUpTo}
 use Rattle.s2list.proofs.Walking.{walk_done}
 use Rattle.s2list.proofs.Writing.{Counts, written_normal, written_past}
@@ -22,7 +22,7 @@ use Rattle.s2list.proofs.Writing.{Counts, written_normal, written_past}
 pub record LeavingIn (xs ys : List ℕ) (Holds : List ℕ → Type 0) (i j lo : ℕ) : Type 0 where
   pub list : List ℕ
   pub held : Holds list
-  pub left : Subtracting xs ys list i j lo
+  pub left : Difference xs ys list i j lo
 
 pub left_none : (xs ys : List ℕ) (Holds : List ℕ → Type 0) → Holds [] → LeavingIn xs ys Holds 0 0 0
 left_none xs ys Holds held = record {
@@ -55,11 +55,11 @@ pub left_on : {xs ys : List ℕ} {Holds : List ℕ → Type 0} {i j lo next x fi
 left_on {xs} {ys} {i = i} {j} {lo} {next} {x} {first} {start} lx ly s h rx fx es in_y leap =
     let cx : IsCell x = rw rx (lx.cells i 0 h) in
     let e : start ≡ max (first_leaf x) lo = es ∙ ap (λ v. max v lo) (fx cx) in
-    let on = subtracting_from xs ys s.list i j lo start x lx s.left h (sym rx) e in
+    let on = difference_from xs ys s.list i j lo start x lx s.left h (sym rx) e in
     record {
       list = s.list;
       held = s.held;
-      left = subtracting_on_y xs ys s.list i j start next on in_y (leap (packed_from_local ys ly) on.walk.ended_y);
+      left = difference_on_y xs ys s.list i j start next on in_y (leap (packed_from_local ys ly) on.walk.ended_y);
     }
 
 -- the next cell of ys begins before the cell of xs ends
@@ -84,7 +84,7 @@ left_taken {xs} {ys} {i = i} {j} {x} {y} {first} {end} {start} {y_first} {y_end}
     record {
       list = longer;
       held = held;
-      left = subtracting_taken xs ys s.list longer i j start start y_first next x y lx ly s.left h g (sym rx) (sym ry)
+      left = difference_taken xs ys s.list longer i j start start y_first next x y lx ly s.left h g (sym rx) (sym ry)
           (omega arith) (omega arith) c (omega arith) fills;
     }
 
@@ -95,7 +95,7 @@ pub left_jump : {xs ys : List ℕ} {Holds : List ℕ → Type 0} {i j lo next : 
 left_jump {xs} {ys} {i = i} {j} {lo} {next} lx s le in_x leap = record {
   list = s.list;
   held = s.held;
-  left = subtracting_on_x xs ys s.list i j lo next lx s.left le in_x (leap lx s.left.walk.ended_x);
+  left = difference_on_x xs ys s.list i j lo next lx s.left le in_x (leap lx s.left.walk.ended_x);
 }
 
 -- the rest of the cell of xs is free of ys
@@ -116,7 +116,7 @@ left_free {xs} {ys} {i = i} {j} {x} {first} {end} {start} {next} lo Later lx ly 
     record {
       list = longer;
       held = held;
-      left = subtracting_free xs ys s.list longer i j start start end next x lx ly s.left h (sym rx) free
+      left = difference_free xs ys s.list longer i j start start end next x lx ly s.left h (sym rx) free
           (omega arith) b
           en fills;
     }
@@ -142,7 +142,7 @@ left_run {xs} {ys} {i = i} {j} {x} {first} {start} {next} {last} {end} Later lx 
     record {
       list = s.list ++ take (next - i) (drop i xs);
       held = puts s.list s.held;
-      left = subtracting_run xs ys s.list (s.list ++ take (next - i) (drop i xs)) i j start next end lx ly s.left
+      left = difference_run xs ys s.list (s.list ++ take (next - i) (drop i xs)) i j start next end lx ly s.left
           (omega arith) more in_x free b refl;
     }
 

@@ -26,7 +26,7 @@ use Rattle.s2cell.proofs.Leaves.{inside_from_within}
 use Rattle.s2cell.proofs.Family.{deeper_inside, level_of_child, parent_around, parent_larger, parent_level}
 use Rattle.s2cell.proofs.Family.{parent_within, within_trans}
 use Rattle.s2cell.proofs.Squares.{first_leaf_covered}
-use Rattle.s2list.specs.Sets.{either, in_one, shared, without}
+use Rattle.s2list.specs.Sets.{union_of, symmetric_difference_of, intersection_of, difference_of}
 use Rattle.s2list.specs.Union.{between, has_leaf, IsGreatestIn, IsNormalForm, LiesIn}
 use Rattle.s2list.proofs.Checking.{packed_from_local}
 use Rattle.s2list.proofs.Normal.{child_of_leaf, leaf_from, leaf_to, local_from_normal, same_level_same}
@@ -363,7 +363,7 @@ between_there lo hi x low high = grind (arith, nat_tests)
 -- ---- of each operation
 
 pub union_few : (xs ys : List ℕ) {u : List ℕ} → All IsCell xs → All IsCell ys
-    → IsNormalForm (either (has_leaf xs) (has_leaf ys)) u → length u ≤ length xs + length ys
+    → IsNormalForm (union_of (has_leaf xs) (has_leaf ys)) u → length u ≤ length xs + length ys
 union_few xs ys ax ay n =
     let both = length-append xs ys in
     let within = few (xs ++ ys) n (λ d g.
@@ -376,7 +376,7 @@ union_few xs ys ax ay n =
     omega arith
 
 pub intersection_few : (xs ys : List ℕ) {u : List ℕ} → All IsCell xs → All IsCell ys
-    → IsNormalForm (shared (has_leaf xs) (has_leaf ys)) u → length u ≤ length xs + length ys
+    → IsNormalForm (intersection_of (has_leaf xs) (has_leaf ys)) u → length u ≤ length xs + length ys
 intersection_few xs ys ax ay n =
     let both = length-append xs ys in
     let within = few (xs ++ ys) n (λ d g.
@@ -391,7 +391,7 @@ intersection_few xs ys ax ay n =
     omega arith
 
 pub difference_few : (xs ys : List ℕ) {u : List ℕ} → All IsCell xs → All IsCell ys
-    → IsNormalForm (without (has_leaf xs) (has_leaf ys)) u → length u ≤ length xs + 90 * length ys
+    → IsNormalForm (difference_of (has_leaf xs) (has_leaf ys)) u → length u ≤ length xs + 90 * length ys
 difference_few xs ys ax ay n =
     let beside_ys = flat_map besides ys in
     let both = length-append xs beside_ys in
@@ -428,11 +428,11 @@ only_first a true h e = absurd (false≢true (rw e at h))
 only_first a false h e = refl
 
 -- a greatest cell of what only one list has that begins with a leaf of `xs`
-in_one_hit : {S : ℕ → Bool} (xs ys v : List ℕ) {d : ℕ} → All IsCell xs → All IsCell ys → IsGreatestIn S d
-    → ((x : ℕ) → S x ≡ in_one (has_leaf xs) (has_leaf ys) x) → has_leaf xs (first_leaf d) ≡ true
+symmetric_difference_hit : {S : ℕ → Bool} (xs ys v : List ℕ) {d : ℕ} → All IsCell xs → All IsCell ys → IsGreatestIn S d
+    → ((x : ℕ) → S x ≡ symmetric_difference_of (has_leaf xs) (has_leaf ys) x) → has_leaf xs (first_leaf d) ≡ true
     → ((x c : ℕ) → Contains xs x → Contains (parts ys x) c → Contains v c)
     → ((y c : ℕ) → Contains ys y → Contains (parts xs y) c → Contains v c) → Hit v d
-in_one_hit {S} xs ys v {d} ax ay g same h from_x from_y =
+symmetric_difference_hit {S} xs ys v {d} ax ay g same h from_x from_y =
     let one : (x : ℕ) → S x ≡ true → has_leaf xs x ≡ true → has_leaf ys x ≡ false = λ x s t.
     only_first (has_leaf xs x) (has_leaf ys x) (sym (same x) ∙ s) t in
     ⊎_elim
@@ -457,14 +457,14 @@ in_one_hit {S} xs ys v {d} ax ay g same h from_x from_y =
     (rw (cond-true (has_leaf xs (first_leaf near.cell)) (besides near.cell) (near.cell ∷ []) there) near.near))
     g.cell (self d))
     (λ (free : IsFree ys (parent d)).
-    absurd (g.greatest deep (λ p t. same p ∙ or_left (without (has_leaf xs) (has_leaf ys) p)
-    (without (has_leaf ys) (has_leaf xs) p)
+    absurd (g.greatest deep (λ p t. same p ∙ or_left (difference_of (has_leaf xs) (has_leaf ys) p)
+    (difference_of (has_leaf ys) (has_leaf xs) p)
     (and_from (has_leaf xs p) (not (has_leaf ys p)) (leaf_to xs x p m (inside p t)) (ap not (free p t))))))
     (near_or_free ys ay g.cell deep (λ p t. one p (g.inside p t) (leaf_to xs x p m (own p t)))))
     (around_or_in xs ax g.cell h)
 
 pub symmetric_difference_few : (xs ys : List ℕ) {u : List ℕ} → All IsCell xs → All IsCell ys
-    → IsNormalForm (in_one (has_leaf xs) (has_leaf ys)) u → length u ≤ 90 * length xs + 90 * length ys
+    → IsNormalForm (symmetric_difference_of (has_leaf xs) (has_leaf ys)) u → length u ≤ 90 * length xs + 90 * length ys
 symmetric_difference_few xs ys ax ay n =
     let X = flat_map (parts ys) xs in
     let Y = flat_map (parts xs) ys in
@@ -479,11 +479,11 @@ symmetric_difference_few xs ys ax ay n =
     let T = has_leaf ys in
     let within = few (X ++ Y) n (λ d g.
     ⊎_elim
-    (λ h. in_one_hit xs ys (X ++ Y) ax ay g (λ x. refl) (and_parts (S (first_leaf d)) (not (T (first_leaf d))) h).0
-    from_x from_y)
-    (λ h. in_one_hit ys xs (X ++ Y) ay ax g (λ x. or_comm (without S T x) (without T S x))
+    (λ h. symmetric_difference_hit xs ys (X ++ Y) ax ay g (λ x. refl) (and_parts (S (first_leaf d))
+    (not (T (first_leaf d))) h).0 from_x from_y)
+    (λ h. symmetric_difference_hit ys xs (X ++ Y) ay ax g (λ x. or_comm (difference_of S T x) (difference_of T S x))
     (and_parts (T (first_leaf d)) (not (S (first_leaf d))) h).0 from_y from_x)
-    (or_cases (without S T (first_leaf d)) (without T S (first_leaf d)) (first_in g))) in
+    (or_cases (difference_of S T (first_leaf d)) (difference_of T S (first_leaf d)) (first_in g))) in
     omega arith
 
 -- the faces from `a` on, `n` of them

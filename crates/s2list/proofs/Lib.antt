@@ -18,8 +18,8 @@ pub mod Finding
 pub mod Looking
 pub mod Turns
 -- Cited by the crates above: set operations.
-pub mod Shared
-pub mod Subtracting
+pub mod Intersecting
+pub mod Differences
 pub mod Writing
 pub mod Heaping
 pub mod Putting
@@ -32,7 +32,7 @@ mod Alone
 mod Gapping
 mod Laying
 mod Leaving
-mod Sharing
+mod Intersections
 mod Uniting
 mod Marking
 mod Narrowing

@@ -7,7 +7,7 @@ use Rattle.s2cell.specs.Cell.{first_leaf, size_of}
 use Rattle.s2cell.specs.declared.TheConstants.{LEAVES}
 use Rattle.s2cell.proofs.CellLemmas.{cell_leaves}
 use Rattle.s2list.specs.Union.{IsLocal, has_leaf}
-use Rattle.s2list.specs.Sets.{either}
+use Rattle.s2list.specs.Sets.{union_of}
 use Rattle.s2list.specs.Output.{Fills, Writes}
 use Rattle.s2list.specs.Working.Piles.{Along, Brings, HeapIn, IsRun, PileIn}
 use Rattle.s2list.specs.declared.pile.Pile.{Pile}
@@ -70,14 +70,14 @@ none_of true b e f = absurd (false≢true (sym e))
 none_of false b e f = f
 
 -- where `ys` has no leaf, the set is that of `xs`
-pub no_other : {S : ℕ → Bool} (xs ys : List ℕ) → ((x : ℕ) → S x ≡ either (has_leaf xs) (has_leaf ys) x) →
+pub no_other : {S : ℕ → Bool} (xs ys : List ℕ) → ((x : ℕ) → S x ≡ union_of (has_leaf xs) (has_leaf ys) x) →
     (x : ℕ) → has_leaf ys x ≡ false → S x ≡ has_leaf xs x
 no_other xs ys same x none = same x ∙ ap (λ v. has_leaf xs x || v) none ∙ sym (or_false (has_leaf xs x))
 
 -- the next cell of `xs`, which begins before that of `ys`, brings its leaves
 pub next_brings : {S : ℕ → Bool} {Holds : ℕ → List ℕ → Type 0} {xs ys : List ℕ} {i j : ℕ} {p : Pile} (from next : ℕ) →
-    IsLocal xs → IsLocal ys → ((x : ℕ) → S x ≡ either (has_leaf xs) (has_leaf ys) x) → Along S Holds xs ys i j p p.hi →
-    i < length xs →
+    IsLocal xs → IsLocal ys → ((x : ℕ) → S x ≡ union_of (has_leaf xs) (has_leaf ys) x) →
+    Along S Holds xs ys i j p p.hi → i < length xs →
     (j < length ys → first_leaf (get_or xs i 0) ≤ first_leaf (get_or ys j 0)) →
     from ≡ max p.hi (first_leaf (get_or xs i 0)) →
     next ≡ max p.hi (first_leaf (get_or xs i 0) + size_of (get_or xs i 0)) →
@@ -102,8 +102,8 @@ next_brings {S} {Holds} {xs} {ys} {i} {j} {p} from next lx ly same s h before ef
 
 -- if it begins in the pile or at its end, the pile ends with it or where it did
 pub along_within : {S : ℕ → Bool} {Holds : ℕ → List ℕ → Type 0} {xs ys : List ℕ} {i j : ℕ} {p : Pile} (end : ℕ) →
-    IsLocal xs → IsLocal ys → ((x : ℕ) → S x ≡ either (has_leaf xs) (has_leaf ys) x) → Along S Holds xs ys i j p p.hi →
-    i < length xs →
+    IsLocal xs → IsLocal ys → ((x : ℕ) → S x ≡ union_of (has_leaf xs) (has_leaf ys) x) →
+    Along S Holds xs ys i j p p.hi → i < length xs →
     (j < length ys → first_leaf (get_or xs i 0) ≤ first_leaf (get_or ys j 0)) → first_leaf (get_or xs i 0) ≤ p.hi →
     end ≡ max p.hi (first_leaf (get_or xs i 0) + size_of (get_or xs i 0)) → HeapIn S (Holds p.n) p.lo end end
 along_within {S} {Holds} {xs} {ys} {i} {j} {p} end lx ly same s h before meets ee =

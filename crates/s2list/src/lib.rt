@@ -18,22 +18,22 @@ mod along;
 mod appending;
 mod ask;
 mod cells;
-mod differing;
+mod complement;
+mod difference;
 mod eight_bytes;
 mod find;
 mod four;
 mod gap;
-mod join;
+mod intersection;
 pub mod laws;
 mod looks;
 mod output;
-mod outside;
 mod pile;
 mod room;
 mod run;
-mod share;
 mod stretch;
-mod subtract;
+mod symmetric_difference;
+mod union;
 mod walk;
 mod whole;
 
@@ -45,20 +45,20 @@ pub use ask::{
     intersects_cell, intersects_cell_at, intersects_cell_at_counted, intersects_cell_counted,
 };
 pub use cells::{CellList, Cells, IdList, Listed, cell_of};
-pub use differing::write_symmetric_difference;
+pub use complement::write_complement;
+pub use difference::write_difference;
 pub use eight_bytes::{NUMBER_SIZE, number, put_number};
 pub use find::{
     NEARBY, end_of, find_counted, find_from, find_from_counted, find_id, first_of, first_place,
 };
 pub use four::{Places, places_of_four, places_of_four_counted};
 pub use gap::{Gap, contains_in_gap, gap_at, gap_of, intersects_in_gap, lies_in_gap};
-pub use join::write_union;
+pub use intersection::write_intersection;
 pub use looks::{Count, LookedAt, Looks, Uncounted};
 pub use output::{Copies, Output};
-pub use outside::write_complement;
 pub use room::{Room, put};
 pub use run::cells_at;
-pub use share::write_shared;
-pub use subtract::write_difference;
+pub use symmetric_difference::write_symmetric_difference;
+pub use union::write_union;
 pub use walk::{Question, contains, holds_all, intersects, meets_any};
 pub use whole::{first_wrong, is_union, leaf_count, parent_of_family};

@@ -4,7 +4,7 @@ use Rattle.std.specs.Prelude.{count_by}
 use Rattle.s2shelf.specs.Shelf.{Files, Found, Holding, Written}
 use Rattle.s2edit.specs.History.{History, untouched}
 use Rattle.s2edit.specs.Leads.{list_at}
-use Rattle.s2edit.specs.declared.TheConstants.{MOST_CELLS}
+use Rattle.s2edit.specs.declared.TheConstants.{MOST_REGISTER}
 use Rattle.s2script.specs.declared.register.TheConstants.{REGISTERS}
 use Rattle.s2script.specs.Line.{line_of}
 use Rattle.s2script.specs.Lines.{lines}
@@ -130,7 +130,7 @@ module _ (R W E F : Type 0) {S : Type 0} (files : S → Files) (opened : S → L
   abbrev pub GivesBack : Type 0
   GivesBack =
       (limit depth limit' depth' : ℕ) (a b c d : World) (line line' name name' bytes : List ℕ) (reply : Reply) →
-      limit ≤ MOST_CELLS
+      limit ≤ MOST_REGISTER
       → CarriesOut limit depth a line (Says done_line) b → FoundLast name (Written bytes) b
       → CarriesOut limit' depth' c line' reply d → IsPlain reply → FoundLast name' (Holding bytes) d
       → ((r s : ℕ) → line_of line ≡ Asks (Save r name) → line_of line' ≡ Asks (Load s name')

@@ -6,23 +6,23 @@
 //! a union in place, and `union_of_many` many lists one; all numbers that they are given must be cells.
 #![tactic(auto)]
 
+mod complement;
 mod denormalising;
-mod differing;
-mod join;
+mod difference;
+mod intersection;
 mod keys;
 pub mod laws;
 mod merge;
 mod normalising;
-mod outside;
-mod share;
-mod subtract;
+mod symmetric_difference;
+mod union;
 
+pub use complement::put_complement;
 pub use denormalising::denormalise;
-pub use differing::put_symmetric_difference;
-pub use join::put_union;
+pub use difference::put_difference;
+pub use intersection::put_intersection;
 pub use keys::ancestors;
 pub use merge::union_of_many;
 pub use normalising::normalise;
-pub use outside::put_complement;
-pub use share::put_intersection;
-pub use subtract::put_difference;
+pub use symmetric_difference::put_symmetric_difference;
+pub use union::put_union;

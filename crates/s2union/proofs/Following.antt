@@ -19,7 +19,7 @@ use Rattle.s2union.specs.Working.Tail.{Continues}
 use Rattle.s2list.proofs.Packing.{read_at}
 use Rattle.s2list.proofs.PackedLocal.{local_from_packed}
 use Rattle.s2list.proofs.Checking.{packed_from_local}
-use Rattle.s2union.proofs.Joining.{Start, Adding}
+use Rattle.s2union.proofs.Uniting.{Start, Adding}
 
 -- the next cell is added
 pub adding_step : {old cells list new : List ℕ} {i : ℕ} (x : ℕ) →

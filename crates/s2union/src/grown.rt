@@ -4,8 +4,8 @@ ghost use Rattle.s2list.specs.Output.{Fills};
 ghost use Rattle.s2union.specs.Grown.{IsGrown};
 ghost use Rattle.s2union.specs.declared.grown.Grown.{Grown};
 
+use crate::difference::fill_gap;
 use crate::sets::extend;
-use crate::subtract::fill_gap;
 use s2cell::{CellId, LEAVES};
 use s2list::{CellList, Copies, Output};
 use std::alloc::AllocError;

@@ -1,22 +1,22 @@
 //! The set operations, by the walks of `s2list`; the union of lists of similar length has one of its own. How a
-//! difference is made is in subtract.rt.
+//! difference is made is in difference.rt.
 ghost use Rattle.std.specs.Prelude.{◌≡◌, ◌≤◌, ◌<◌, ◌+◌, ◌||◌, ◌&&◌, ◌*◌, ◌++◌};
 ghost use Rattle.std.specs.Prelude.{◌↔◌, All, slice_index, ℕ, length, []};
 ghost use Rattle.std.specs.Prelude.{IfErr, IfOk, List, OnOk, not, IsTrue};
 ghost use Rattle.std.specs.Vec.{vec_len, vec_capacity};
 ghost use Rattle.s2cell.specs.Cell.{first_leaf};
 ghost use Rattle.s2list.specs.Union.{IsLocal, IsNormalForm, has_leaf};
-ghost use Rattle.s2list.specs.Sets.{either, in_one, shared, without};
+ghost use Rattle.s2list.specs.Sets.{union_of, symmetric_difference_of, intersection_of, difference_of};
 ghost use Rattle.s2list.specs.Packed.{IsPacked};
 ghost use Rattle.s2union.specs.Working.Tail.{Continues};
 
+use crate::difference::put_difference;
 use crate::fault::UnionFault;
 use crate::grown::Grown;
 use crate::normalising::add_reserved;
-use crate::subtract::subtract;
 use crate::union::CellUnion;
 use s2cell::CellId;
-use s2list::{CellList, is_short, write_shared, write_symmetric_difference, write_union};
+use s2list::{CellList, is_short, write_intersection, write_symmetric_difference, write_union};
 use std::alloc::AllocError;
 
 impl CellUnion {
@@ -28,11 +28,11 @@ impl CellUnion {
         ensures leaves { IfOk result (λ u. (x : ℕ) →
             has_leaf u.cells x ≡ (has_leaf self.now.cells x || has_leaf other.now.cells x)) }
         ensures normal { IfOk result (λ u. IsNormalForm
-            (either (has_leaf self.now.cells) (has_leaf other.now.cells)) u.cells) }
+            (union_of (has_leaf self.now.cells) (has_leaf other.now.cells)) u.cells) }
     {
         let room = self.cells.len() + other.cells.len();
         let mut cells = Vec::with_capacity(*self.cells.allocator(), room)?;
-        join(&mut cells, self.cells(), other.cells())?;
+        put_union(&mut cells, self.cells(), other.cells())?;
         Ok(CellUnion { cells })
     }
 
@@ -44,10 +44,10 @@ impl CellUnion {
         ensures leaves { IfOk result (λ u. (x : ℕ) →
             has_leaf u.cells x ≡ (has_leaf self.now.cells x && has_leaf other.now.cells x)) }
         ensures normal { IfOk result (λ u. IsNormalForm
-            (shared (has_leaf self.now.cells) (has_leaf other.now.cells)) u.cells) }
+            (intersection_of (has_leaf self.now.cells) (has_leaf other.now.cells)) u.cells) }
     {
         let mut cells = Vec::new(*self.cells.allocator());
-        share(&mut cells, self.cells(), other.cells())?;
+        put_intersection(&mut cells, self.cells(), other.cells())?;
         Ok(CellUnion { cells })
     }
 
@@ -60,7 +60,7 @@ impl CellUnion {
         ensures leaves { IfOk result (λ u. (x : ℕ) →
             has_leaf u.cells x ≡ (has_leaf self.now.cells x && not (has_leaf other.now.cells x))) }
         ensures normal { IfOk result (λ u. IsNormalForm
-            (without (has_leaf self.now.cells) (has_leaf other.now.cells)) u.cells) }
+            (difference_of (has_leaf self.now.cells) (has_leaf other.now.cells)) u.cells) }
     {
         // Only memory can run out: no list has more cells than this limit.
         match self.difference_up_to(other, usize::MAX) {
@@ -75,12 +75,12 @@ impl CellUnion {
     pub fn symmetric_difference(&self, other: &CellUnion) -> Result<CellUnion, AllocError>
         ensures local { IfOk result (λ u. IsLocal u.cells) }
         ensures leaves { IfOk result (λ u. (x : ℕ) →
-            has_leaf u.cells x ≡ in_one (has_leaf self.now.cells) (has_leaf other.now.cells) x) }
+            has_leaf u.cells x ≡ symmetric_difference_of (has_leaf self.now.cells) (has_leaf other.now.cells) x) }
         ensures normal { IfOk result (λ u. IsNormalForm
-            (in_one (has_leaf self.now.cells) (has_leaf other.now.cells)) u.cells) }
+            (symmetric_difference_of (has_leaf self.now.cells) (has_leaf other.now.cells)) u.cells) }
     {
         let mut cells = Vec::new(*self.cells.allocator());
-        differ(&mut cells, self.cells(), other.cells())?;
+        put_symmetric_difference(&mut cells, self.cells(), other.cells())?;
         Ok(CellUnion { cells })
     }
 
@@ -93,25 +93,29 @@ impl CellUnion {
         ensures leaves { IfOk result (λ u. (x : ℕ) →
             has_leaf u.cells x ≡ (has_leaf self.now.cells x && not (has_leaf other.now.cells x))) }
         ensures normal { IfOk result (λ u. IsNormalForm
-            (without (has_leaf self.now.cells) (has_leaf other.now.cells)) u.cells) }
+            (difference_of (has_leaf self.now.cells) (has_leaf other.now.cells)) u.cells) }
         ensures within { IfOk result (λ u. length u.cells ≤ limit) }
         ensures many { IfErr result (λ fault. fault ≡ UnionFault.TooMany → (u : List ℕ) →
-            IsNormalForm (without (has_leaf self.now.cells) (has_leaf other.now.cells)) u → limit < length u) }
+            IsNormalForm (difference_of (has_leaf self.now.cells) (has_leaf other.now.cells)) u → limit < length u) }
     {
         let mut cells = Vec::new(*self.cells.allocator());
-        subtract(&mut cells, self.cells(), other.cells(), limit)?;
+        put_difference(&mut cells, self.cells(), other.cells(), limit)?;
         Ok(CellUnion { cells })
     }
 }
 
 /// Puts the leaves that only one of `xs` and `ys` has into an empty list.
-fn differ(list: &mut Vec<CellId>, xs: &[CellId], ys: &[CellId]) -> Result<(), AllocError>
+fn put_symmetric_difference(
+    list: &mut Vec<CellId>,
+    xs: &[CellId],
+    ys: &[CellId],
+) -> Result<(), AllocError>
     requires empty { list.old.items ≡ [] }
     requires x_local { IsLocal xs.now }
     requires y_local { IsLocal ys.now }
     ensures local { OnOk result (IsLocal list.new.items) }
     ensures leaves { OnOk result ((x : ℕ) → has_leaf list.new.items x
-        ≡ in_one (has_leaf xs.now) (has_leaf ys.now) x) }
+        ≡ symmetric_difference_of (has_leaf xs.now) (has_leaf ys.now) x) }
 {
     let xs = CellList { cells: xs };
     let ys = CellList { cells: ys };
@@ -124,7 +128,7 @@ fn differ(list: &mut Vec<CellId>, xs: &[CellId], ys: &[CellId]) -> Result<(), Al
 }
 
 /// Puts the leaves that `xs` and `ys` share into an empty list.
-fn share(list: &mut Vec<CellId>, xs: &[CellId], ys: &[CellId]) -> Result<(), AllocError>
+fn put_intersection(list: &mut Vec<CellId>, xs: &[CellId], ys: &[CellId]) -> Result<(), AllocError>
     requires empty { list.old.items ≡ [] }
     requires x_local { IsLocal xs.now }
     requires y_local { IsLocal ys.now }
@@ -137,12 +141,12 @@ fn share(list: &mut Vec<CellId>, xs: &[CellId], ys: &[CellId]) -> Result<(), All
         list,
         most: usize::MAX,
     };
-    write_shared(&xs, &ys, &mut grown)?;
+    write_intersection(&xs, &ys, &mut grown)?;
     Ok(())
 }
 
 /// Puts the leaves of `xs` and of `ys` into an empty list that has room for the cells of both.
-fn join(list: &mut Vec<CellId>, xs: &[CellId], ys: &[CellId]) -> Result<(), AllocError>
+fn put_union(list: &mut Vec<CellId>, xs: &[CellId], ys: &[CellId]) -> Result<(), AllocError>
     requires empty { list.old.items ≡ [] }
     requires room { length xs.now + length ys.now ≤ vec_capacity list.old }
     requires x_local { IsLocal xs.now }
@@ -151,14 +155,18 @@ fn join(list: &mut Vec<CellId>, xs: &[CellId], ys: &[CellId]) -> Result<(), Allo
     ensures leaves { OnOk result ((x : ℕ) → has_leaf list.new.items x ≡ (has_leaf xs.now x || has_leaf ys.now x)) }
 {
     if is_short(xs.len(), ys.len()) || is_short(ys.len(), xs.len()) {
-        return join_apart(list, xs, ys);
+        return put_union_by_leaps(list, xs, ys);
     }
-    join_evenly(list, xs, ys);
+    put_union_by_steps(list, xs, ys);
     Ok(())
 }
 
-/// As `join`, by leaps from one interval of leaves to the next.
-fn join_apart(list: &mut Vec<CellId>, xs: &[CellId], ys: &[CellId]) -> Result<(), AllocError>
+/// As `put_union`, by leaps from one interval of leaves to the next.
+fn put_union_by_leaps(
+    list: &mut Vec<CellId>,
+    xs: &[CellId],
+    ys: &[CellId],
+) -> Result<(), AllocError>
     requires empty { list.old.items ≡ [] }
     requires x_local { IsLocal xs.now }
     requires y_local { IsLocal ys.now }
@@ -176,7 +184,7 @@ fn join_apart(list: &mut Vec<CellId>, xs: &[CellId], ys: &[CellId]) -> Result<()
 }
 
 /// Puts the leaves of `xs` and of `ys` into an empty list, cell by cell of both.
-fn join_evenly(list: &mut Vec<CellId>, xs: &[CellId], ys: &[CellId])
+fn put_union_by_steps(list: &mut Vec<CellId>, xs: &[CellId], ys: &[CellId])
     requires empty { list.old.items ≡ [] }
     requires room { length xs.now + length ys.now ≤ vec_capacity list.old }
     requires x_local { IsLocal xs.now }

@@ -14,8 +14,8 @@ ghost use Rattle.s2cell.specs.Cell.{first_leaf, size_of};
 ghost use Rattle.s2list.specs.Union.{IsLocal, IsNormalForm, IsShortest, has_leaf, between};
 ghost use Rattle.s2list.specs.Count.{count_below};
 
+use crate::difference::fill_gap;
 use crate::normalising::normalise;
-use crate::subtract::fill_gap;
 use s2cell::{CellId, LEAVES};
 use s2list::CellList;
 use std::alloc::{AllocError, Global};

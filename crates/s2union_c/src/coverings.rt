@@ -13,7 +13,7 @@ ghost use Rattle.s2union_c.specs.Working.Coverings.{covering_of};
 use crate::results::{put_cells, room_status};
 use crate::status::{BAD_ARGUMENT, NO_MEMORY, TOO_MANY};
 use s2cover::{
-    CoverFault, FaceRect, Looks, MOST_CELLS, clip_inner_of, clip_outer_of, put_inner, put_outer,
+    CoverFault, FaceRect, Looks, MOST_COVERING, clip_inner_of, clip_outer_of, put_inner, put_outer,
     rect_inner, rect_outer,
 };
 use s2list::IdList;
@@ -37,7 +37,7 @@ pub struct Rect {
 }
 
 /// The cells of a level that share a leaf with a rectangle, normalized: at most `most` of them, and at most
-/// `MOST_CELLS`.
+/// `MOST_COVERING`.
 #[unsafe(no_mangle)]
 pub extern "C" fn s2u_outer(
     alloc: Global,
@@ -50,15 +50,15 @@ pub extern "C" fn s2u_outer(
     ensures made { let S : ℕ → Bool = outer_set (rect_set (rect_with bounds.now)) level in
         IsRect (rect_with bounds.now) → level ≤ 30 → MadeOne result (IsNormalForm S) out.old out.new len.new
         ⊎ (Refused result too_many out.old out.new len.new
-        × ((u : List ℕ) → IsNormalForm S u → min most MOST_CELLS < length u)) }
-    ensures most { len.new ≤ min most MOST_CELLS }
+        × ((u : List ℕ) → IsNormalForm S u → min most MOST_COVERING < length u)) }
+    ensures most { len.new ≤ min most MOST_COVERING }
     ensures argument { (IsRect (rect_with bounds.now) → 30 < level)
         → Refused result bad_argument out.old out.new len.new }
 {
     cover_rect(alloc, Side::Outer, bounds, level, most, out, len)
 }
 
-/// The cells of a level that lie inside a rectangle, normalized: at most `most` of them, and at most `MOST_CELLS`.
+/// The cells of a level that lie inside a rectangle, normalized: at most `most` of them, and at most `MOST_COVERING`.
 #[unsafe(no_mangle)]
 pub extern "C" fn s2u_inner(
     alloc: Global,
@@ -71,16 +71,16 @@ pub extern "C" fn s2u_inner(
     ensures made { let S : ℕ → Bool = inner_set (rect_set (rect_with bounds.now)) level in
         IsRect (rect_with bounds.now) → level ≤ 30 → MadeOne result (IsNormalForm S) out.old out.new len.new
         ⊎ (Refused result too_many out.old out.new len.new
-        × ((u : List ℕ) → IsNormalForm S u → min most MOST_CELLS < length u)) }
-    ensures most { len.new ≤ min most MOST_CELLS }
+        × ((u : List ℕ) → IsNormalForm S u → min most MOST_COVERING < length u)) }
+    ensures most { len.new ≤ min most MOST_COVERING }
     ensures argument { (IsRect (rect_with bounds.now) → 30 < level)
         → Refused result bad_argument out.old out.new len.new }
 {
     cover_rect(alloc, Side::Inner, bounds, level, most, out, len)
 }
 
-/// The cells of a level that share a leaf with a union, normalized: at most `most` of them, and at most `MOST_CELLS`.
-/// Of a list that is not a union the result means nothing.
+/// The cells of a level that share a leaf with a union, normalized: at most `most` of them, and at most
+/// `MOST_COVERING`. Of a list that is not a union the result means nothing.
 #[unsafe(no_mangle)]
 pub extern "C" fn s2u_outer_of(
     ids: &[u64],
@@ -93,11 +93,11 @@ pub extern "C" fn s2u_outer_of(
         MadeInPlace result (IsNormalForm (outer_set (has_leaf ids.now) level)) out.old out.new len.new
         ⊎ (Refused result too_many out.old out.new len.new
         × ((u : List ℕ) → IsNormalForm (outer_set (has_leaf ids.now) level) u →
-        min most MOST_CELLS < length u)) }
+        min most MOST_COVERING < length u)) }
     ensures few { IsLocal ids.now → len.new ≤ length ids.now }
-    ensures most { len.new ≤ min most MOST_CELLS }
+    ensures most { len.new ≤ min most MOST_COVERING }
     ensures any { level ≤ 30 → KeepsRest result out.old out.new len.new
-        ⊎ FindsMany (min most MOST_CELLS) result out.old out.new len.new }
+        ⊎ FindsMany (min most MOST_COVERING) result out.old out.new len.new }
     ensures argument { 30 < level → Refused result bad_argument out.old out.new len.new }
 {
     *len = 0;
@@ -108,13 +108,13 @@ pub extern "C" fn s2u_outer_of(
         Side::Outer,
         ids,
         level as u8,
-        most.min(MOST_CELLS),
+        most.min(MOST_COVERING),
         out,
         len,
     )
 }
 
-/// The cells of a level that lie inside a union, normalized: at most `most` of them, and at most `MOST_CELLS`. Of a
+/// The cells of a level that lie inside a union, normalized: at most `most` of them, and at most `MOST_COVERING`. Of a
 /// list that is not a union the result means nothing.
 #[unsafe(no_mangle)]
 pub extern "C" fn s2u_inner_of(
@@ -128,11 +128,11 @@ pub extern "C" fn s2u_inner_of(
         MadeInPlace result (IsNormalForm (inner_set (has_leaf ids.now) level)) out.old out.new len.new
         ⊎ (Refused result too_many out.old out.new len.new
         × ((u : List ℕ) → IsNormalForm (inner_set (has_leaf ids.now) level) u →
-        min most MOST_CELLS < length u)) }
+        min most MOST_COVERING < length u)) }
     ensures few { IsLocal ids.now → len.new ≤ length ids.now }
-    ensures most { len.new ≤ min most MOST_CELLS }
+    ensures most { len.new ≤ min most MOST_COVERING }
     ensures any { level ≤ 30 → KeepsRest result out.old out.new len.new
-        ⊎ FindsMany (min most MOST_CELLS) result out.old out.new len.new }
+        ⊎ FindsMany (min most MOST_COVERING) result out.old out.new len.new }
     ensures argument { 30 < level → Refused result bad_argument out.old out.new len.new }
 {
     *len = 0;
@@ -143,14 +143,14 @@ pub extern "C" fn s2u_inner_of(
         Side::Inner,
         ids,
         level as u8,
-        most.min(MOST_CELLS),
+        most.min(MOST_COVERING),
         out,
         len,
     )
 }
 
 /// The cells of a level that share a leaf with what a union and a rectangle share, normalized: at most `most` of them,
-/// and at most `MOST_CELLS`. Of a list that is not a union the result is some union, which means nothing.
+/// and at most `MOST_COVERING`. Of a list that is not a union the result is some union, which means nothing.
 #[unsafe(no_mangle)]
 pub extern "C" fn s2u_outer_in(
     alloc: Global,
@@ -165,10 +165,10 @@ pub extern "C" fn s2u_outer_in(
         IsLocal ids.now → IsRect (rect_with bounds.now) → level ≤ 30 →
         MadeOne result (IsNormalForm S) out.old out.new len.new
         ⊎ (Refused result too_many out.old out.new len.new
-        × ((u : List ℕ) → IsNormalForm S u → min most MOST_CELLS < length u)) }
+        × ((u : List ℕ) → IsNormalForm S u → min most MOST_COVERING < length u)) }
     ensures any { IsRect (rect_with bounds.now) → level ≤ 30 → MadeOne result IsLocal out.old out.new len.new
         ⊎ Refused result too_many out.old out.new len.new }
-    ensures most { len.new ≤ min most MOST_CELLS }
+    ensures most { len.new ≤ min most MOST_COVERING }
     ensures argument { (IsRect (rect_with bounds.now) → 30 < level)
         → Refused result bad_argument out.old out.new len.new }
 {
@@ -176,7 +176,7 @@ pub extern "C" fn s2u_outer_in(
 }
 
 /// The cells of a level that lie inside what a union and a rectangle share, normalized: at most `most` of them, and at
-/// most `MOST_CELLS`. Of a list that is not a union the result is some union, which means nothing.
+/// most `MOST_COVERING`. Of a list that is not a union the result is some union, which means nothing.
 #[unsafe(no_mangle)]
 pub extern "C" fn s2u_inner_in(
     alloc: Global,
@@ -191,10 +191,10 @@ pub extern "C" fn s2u_inner_in(
         IsLocal ids.now → IsRect (rect_with bounds.now) → level ≤ 30 →
         MadeOne result (IsNormalForm S) out.old out.new len.new
         ⊎ (Refused result too_many out.old out.new len.new
-        × ((u : List ℕ) → IsNormalForm S u → min most MOST_CELLS < length u)) }
+        × ((u : List ℕ) → IsNormalForm S u → min most MOST_COVERING < length u)) }
     ensures any { IsRect (rect_with bounds.now) → level ≤ 30 → MadeOne result IsLocal out.old out.new len.new
         ⊎ Refused result too_many out.old out.new len.new }
-    ensures most { len.new ≤ min most MOST_CELLS }
+    ensures most { len.new ≤ min most MOST_COVERING }
     ensures argument { (IsRect (rect_with bounds.now) → 30 < level)
         → Refused result bad_argument out.old out.new len.new }
 {
@@ -271,8 +271,8 @@ fn cover_rect(
     ensures made { let S : ℕ → Bool = covering_of side level (rect_set (rect_with bounds.now)) in
         IsRect (rect_with bounds.now) → level ≤ 30 → MadeOne result (IsNormalForm S) out.old out.new len.new
         ⊎ (Refused result too_many out.old out.new len.new
-        × ((u : List ℕ) → IsNormalForm S u → min most MOST_CELLS < length u)) }
-    ensures most { len.new ≤ min most MOST_CELLS }
+        × ((u : List ℕ) → IsNormalForm S u → min most MOST_COVERING < length u)) }
+    ensures most { len.new ≤ min most MOST_COVERING }
     ensures argument { (IsRect (rect_with bounds.now) → 30 < level)
         → Refused result bad_argument out.old out.new len.new }
 {
@@ -283,7 +283,7 @@ fn cover_rect(
     if level > 30 {
         return BAD_ARGUMENT;
     }
-    match rect_covering(alloc, side, &rect, level as u8, most.min(MOST_CELLS)) {
+    match rect_covering(alloc, side, &rect, level as u8, most.min(MOST_COVERING)) {
         Ok(union) => put_cells(union.cells(), out, len),
         Err(CoverFault::TooMany) => TOO_MANY,
         Err(CoverFault::Memory) => NO_MEMORY,
@@ -299,7 +299,7 @@ fn rect_covering(
     bound: usize,
 ) -> Result<CellUnion, CoverFault>
     requires level { level ≤ 30 }
-    requires bound { bound ≤ MOST_CELLS }
+    requires bound { bound ≤ MOST_COVERING }
     ensures normal { IfOk result (λ u. IsNormalForm (covering_of side level (rect_set rect.now)) u.cells) }
     ensures within { IfOk result (λ u. length u.cells ≤ bound) }
     ensures many { IfErr result (TooManyMeans (covering_of side level (rect_set rect.now)) bound) }
@@ -326,10 +326,10 @@ fn cover_in(
         IsLocal ids.now → IsRect (rect_with bounds.now) → level ≤ 30 →
         MadeOne result (IsNormalForm S) out.old out.new len.new
         ⊎ (Refused result too_many out.old out.new len.new
-        × ((u : List ℕ) → IsNormalForm S u → min most MOST_CELLS < length u)) }
+        × ((u : List ℕ) → IsNormalForm S u → min most MOST_COVERING < length u)) }
     ensures any { IsRect (rect_with bounds.now) → level ≤ 30 → MadeOne result IsLocal out.old out.new len.new
         ⊎ Refused result too_many out.old out.new len.new }
-    ensures most { len.new ≤ min most MOST_CELLS }
+    ensures most { len.new ≤ min most MOST_COVERING }
     ensures argument { (IsRect (rect_with bounds.now) → 30 < level)
         → Refused result bad_argument out.old out.new len.new }
 {
@@ -340,7 +340,14 @@ fn cover_in(
     if level > 30 {
         return BAD_ARGUMENT;
     }
-    match clipped_covering(alloc, side, ids, &rect, level as u8, most.min(MOST_CELLS)) {
+    match clipped_covering(
+        alloc,
+        side,
+        ids,
+        &rect,
+        level as u8,
+        most.min(MOST_COVERING),
+    ) {
         Ok(union) => put_cells(union.cells(), out, len),
         Err(CoverFault::TooMany) => TOO_MANY,
         Err(CoverFault::Memory) => NO_MEMORY,
@@ -357,7 +364,7 @@ fn clipped_covering(
     bound: usize,
 ) -> Result<CellUnion, CoverFault>
     requires level { level ≤ 30 }
-    requires bound { bound ≤ MOST_CELLS }
+    requires bound { bound ≤ MOST_COVERING }
     ensures local { IfOk result (λ u. IsLocal u.cells) }
     ensures normal { IsLocal ids.now → IfOk result (λ u.
         IsNormalForm (covering_of side level (clipped ids.now rect.now)) u.cells) }

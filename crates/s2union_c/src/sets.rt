@@ -3,7 +3,7 @@
 //! An operation is given as much of the room as its result can need, and answers no greater length: so both bounds hold
 //! of any list.
 ghost use Rattle.std.specs.Prelude.{◌+◌, ◌*◌, ◌≤◌, length};
-ghost use Rattle.s2list.specs.Sets.{either, in_one, outside, shared, without};
+ghost use Rattle.s2list.specs.Sets.{union_of, symmetric_difference_of, complement_of, intersection_of, difference_of};
 ghost use Rattle.s2list.specs.Union.{IsLocal, IsNormalForm, has_leaf};
 ghost use Rattle.s2union_c.specs.Results.{KeepsRest, MadeInPlace};
 
@@ -20,7 +20,7 @@ const BESIDE: usize = 90;
 #[unsafe(no_mangle)]
 pub extern "C" fn s2u_union(xs: &[u64], ys: &[u64], out: &mut [u64], len: &mut usize) -> i32
     ensures made { IsLocal xs.now → IsLocal ys.now
-        → MadeInPlace result (IsNormalForm (either (has_leaf xs.now) (has_leaf ys.now))) out.old out.new len.new }
+        → MadeInPlace result (IsNormalForm (union_of (has_leaf xs.now) (has_leaf ys.now))) out.old out.new len.new }
     ensures any { KeepsRest result out.old out.new len.new }
     ensures most { len.new ≤ length xs.now + length ys.now }
 {
@@ -35,7 +35,8 @@ pub extern "C" fn s2u_union(xs: &[u64], ys: &[u64], out: &mut [u64], len: &mut u
 #[unsafe(no_mangle)]
 pub extern "C" fn s2u_intersection(xs: &[u64], ys: &[u64], out: &mut [u64], len: &mut usize) -> i32
     ensures made { IsLocal xs.now → IsLocal ys.now
-        → MadeInPlace result (IsNormalForm (shared (has_leaf xs.now) (has_leaf ys.now))) out.old out.new len.new }
+        → MadeInPlace result (IsNormalForm (intersection_of (has_leaf xs.now) (has_leaf ys.now))) out.old out.new
+        len.new }
     ensures any { KeepsRest result out.old out.new len.new }
     ensures most { len.new ≤ length xs.now + length ys.now }
 {
@@ -50,7 +51,8 @@ pub extern "C" fn s2u_intersection(xs: &[u64], ys: &[u64], out: &mut [u64], len:
 #[unsafe(no_mangle)]
 pub extern "C" fn s2u_difference(xs: &[u64], ys: &[u64], out: &mut [u64], len: &mut usize) -> i32
     ensures made { IsLocal xs.now → IsLocal ys.now
-        → MadeInPlace result (IsNormalForm (without (has_leaf xs.now) (has_leaf ys.now))) out.old out.new len.new }
+        → MadeInPlace result (IsNormalForm (difference_of (has_leaf xs.now) (has_leaf ys.now))) out.old out.new
+        len.new }
     ensures any { KeepsRest result out.old out.new len.new }
     ensures most { len.new ≤ length xs.now + 90 * length ys.now }
 {
@@ -70,7 +72,8 @@ pub extern "C" fn s2u_symmetric_difference(
     len: &mut usize,
 ) -> i32
     ensures made { IsLocal xs.now → IsLocal ys.now
-        → MadeInPlace result (IsNormalForm (in_one (has_leaf xs.now) (has_leaf ys.now))) out.old out.new len.new }
+        → MadeInPlace result (IsNormalForm (symmetric_difference_of (has_leaf xs.now) (has_leaf ys.now))) out.old
+        out.new len.new }
     ensures any { KeepsRest result out.old out.new len.new }
     ensures most { len.new ≤ 90 * length xs.now + 90 * length ys.now }
 {
@@ -85,7 +88,7 @@ pub extern "C" fn s2u_symmetric_difference(
 #[unsafe(no_mangle)]
 pub extern "C" fn s2u_complement(ids: &[u64], out: &mut [u64], len: &mut usize) -> i32
     ensures made { IsLocal ids.now
-        → MadeInPlace result (IsNormalForm (outside (has_leaf ids.now))) out.old out.new len.new }
+        → MadeInPlace result (IsNormalForm (complement_of (has_leaf ids.now))) out.old out.new len.new }
     ensures any { KeepsRest result out.old out.new len.new }
     ensures most { len.new ≤ 6 + 90 * length ids.now }
 {

@@ -4,7 +4,7 @@ use crate::calls::make;
 use crate::pieces::Pieces;
 use row_table::{Table, add_line, bytes_of, option, script_of, wanted_of};
 use s2calc::{RunFault, Sink, Tally, run};
-use s2edit::{Editor, MOST_CELLS, MOST_STATES};
+use s2edit::{Editor, MOST_REGISTER, MOST_STATES};
 use s2shelf::{MemoryShelf, Shelf};
 use std::alloc::{AllocError, Global};
 use std::io;
@@ -126,7 +126,7 @@ pub fn editor_of(alloc: Global, lines: &[&str]) -> Result<Editor, AllocError> {
     let depth = option(lines, "depth", 100) as usize;
     Editor::open(
         alloc,
-        limit.clamp(1, MOST_CELLS),
+        limit.clamp(1, MOST_REGISTER),
         depth.clamp(1, MOST_STATES),
     )
 }

@@ -6,7 +6,7 @@ use Rattle.s2edit.specs.History.{History}
 use Rattle.s2edit.specs.Diff.{inverse}
 use Rattle.s2edit.specs.Working.Chain.{history, lists_of, AllWithin, AllRoomy, FitAlong}
 use Rattle.s2edit.specs.declared.editor.Editor.TheInside.{Inside}
-use Rattle.s2edit.specs.declared.TheConstants.{MOST_CELLS}
+use Rattle.s2edit.specs.declared.TheConstants.{MOST_REGISTER}
 
 -- the history that a contract sees
 abbrev pub history_of : Inside → History (List ℕ)
@@ -15,7 +15,7 @@ history_of e = history e.limit e.depth e.registers.items e.past.items e.future.i
 -- Each register and the spare list have room for a whole list, each ring has room for all states that may be kept,
 -- and the changes of each side can be made one after another, starting from the present table.
 pub record IsEditor (e : Inside) : Type 0 where
-  pub limit_bound : e.limit ≤ MOST_CELLS
+  pub limit_bound : e.limit ≤ MOST_REGISTER
   pub depth_most : e.depth ≤ SESSION_CHANGES
   pub count : length e.registers.items ≡ REGISTERS
   pub past_room : e.past.capacity ≡ e.depth

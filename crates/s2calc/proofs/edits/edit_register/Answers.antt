@@ -2,7 +2,7 @@ use Rattle.std.proofs.Common.{◌+◌, ℕ, List, [], sym, subst}
 use Rattle.std.proofs.lemmas.Option.{get_or_from_slice_get}
 use Rattle.s2cell.specs.Cell.{first_leaf, size_of}
 use Rattle.s2list.specs.Union.{has_leaf, between}
-use Rattle.s2list.specs.Sets.{either, shared, without}
+use Rattle.s2list.specs.Sets.{union_of, intersection_of, difference_of}
 use Rattle.s2edit.specs.Leads.{list_at}
 use Rattle.s2calc.specs.Edits.{Gets}
 use Rattle.s2calc.specs.Working.Answer.{reply_of}
@@ -18,10 +18,10 @@ returns-in-Keep c =
     let reply = reply_of c.give.result c.give.new.editor in
     let new = c.give.new.editor in
     rw c.in-Keep.is
-    (subst (λ (k : List ℕ). Gets (shared (has_leaf k) (has_leaf cells)) r h reply new)
+    (subst (λ (k : List ℕ). Gets (intersection_of (has_leaf k) (has_leaf cells)) r h reply new)
     (sym (get_or_from_slice_get h.now r u [] c.register.ensures.list))
-    (c.give.ensures (shared (has_leaf u) (has_leaf cells))
-    (c.in_memory.ensures.makes (shared (has_leaf u) (has_leaf cells)) h.limit
+    (c.give.ensures (intersection_of (has_leaf u) (has_leaf cells))
+    (c.in_memory.ensures.makes (intersection_of (has_leaf u) (has_leaf cells)) h.limit
     c.intersection_with_cells-kept.ensures)))
 
 pub returns-in-Copy : goal.returns-in-Copy
@@ -47,12 +47,12 @@ returns-in-Union c =
     let reply = reply_of c.give-in-Union.result c.give-in-Union.new.editor in
     let new = c.give-in-Union.new.editor in
     rw c.in-Union.is
-    (subst (λ (k : List ℕ). Gets (either (has_leaf k) (has_leaf (list_at h.now s))) r h reply new)
+    (subst (λ (k : List ℕ). Gets (union_of (has_leaf k) (has_leaf (list_at h.now s))) r h reply new)
     (sym (get_or_from_slice_get h.now r u [] c.register-in-Union.ensures.list))
-    (subst (λ (k : List ℕ). Gets (either (has_leaf u) (has_leaf k)) r h reply new)
+    (subst (λ (k : List ℕ). Gets (union_of (has_leaf u) (has_leaf k)) r h reply new)
     (sym (get_or_from_slice_get h.now s v [] c.register-in-Union-2.ensures.list))
-    (c.give-in-Union.ensures (either (has_leaf u) (has_leaf v))
-    (c.in_memory-in-Union.ensures.makes (either (has_leaf u) (has_leaf v)) h.limit c.union-union.ensures.normal))))
+    (c.give-in-Union.ensures (union_of (has_leaf u) (has_leaf v))
+    (c.in_memory-in-Union.ensures.makes (union_of (has_leaf u) (has_leaf v)) h.limit c.union-union.ensures.normal))))
 
 pub returns-in-Intersect : goal.returns-in-Intersect
 returns-in-Intersect c =
@@ -64,13 +64,13 @@ returns-in-Intersect c =
     let reply = reply_of c.give-in-Intersect.result c.give-in-Intersect.new.editor in
     let new = c.give-in-Intersect.new.editor in
     rw c.in-Intersect.is
-    (subst (λ (k : List ℕ). Gets (shared (has_leaf k) (has_leaf (list_at h.now s))) r h reply new)
+    (subst (λ (k : List ℕ). Gets (intersection_of (has_leaf k) (has_leaf (list_at h.now s))) r h reply new)
     (sym (get_or_from_slice_get h.now r u [] c.register-in-Intersect.ensures.list))
-    (subst (λ (k : List ℕ). Gets (shared (has_leaf u) (has_leaf k)) r h reply new)
+    (subst (λ (k : List ℕ). Gets (intersection_of (has_leaf u) (has_leaf k)) r h reply new)
     (sym (get_or_from_slice_get h.now s v [] c.register-in-Intersect-2.ensures.list))
-    (c.give-in-Intersect.ensures (shared (has_leaf u) (has_leaf v))
-    (c.in_memory-in-Intersect.ensures.makes (shared (has_leaf u) (has_leaf v)) h.limit
-    c.intersection-shared.ensures.normal))))
+    (c.give-in-Intersect.ensures (intersection_of (has_leaf u) (has_leaf v))
+    (c.in_memory-in-Intersect.ensures.makes (intersection_of (has_leaf u) (has_leaf v)) h.limit
+    c.intersection-both.ensures.normal))))
 
 pub returns-in-Subtract : goal.returns-in-Subtract
 returns-in-Subtract c =
@@ -82,12 +82,12 @@ returns-in-Subtract c =
     let reply = reply_of c.give-in-Subtract.result c.give-in-Subtract.new.editor in
     let new = c.give-in-Subtract.new.editor in
     rw c.in-Subtract.is
-    (subst (λ (k : List ℕ). Gets (without (has_leaf k) (has_leaf (list_at h.now s))) r h reply new)
+    (subst (λ (k : List ℕ). Gets (difference_of (has_leaf k) (has_leaf (list_at h.now s))) r h reply new)
     (sym (get_or_from_slice_get h.now r u [] c.register-union.ensures.list))
-    (subst (λ (k : List ℕ). Gets (without (has_leaf u) (has_leaf k)) r h reply new)
+    (subst (λ (k : List ℕ). Gets (difference_of (has_leaf u) (has_leaf k)) r h reply new)
     (sym (get_or_from_slice_get h.now s v [] c.register-in-Subtract.ensures.list))
-    (c.give-in-Subtract.ensures (without (has_leaf u) (has_leaf v))
-    (subst (λ (n : ℕ). Makes (without (has_leaf u) (has_leaf v)) n c.difference-rest.result) c.limit.ensures.value
+    (c.give-in-Subtract.ensures (difference_of (has_leaf u) (has_leaf v))
+    (subst (λ (n : ℕ). Makes (difference_of (has_leaf u) (has_leaf v)) n c.difference-rest.result) c.limit.ensures.value
     c.difference-rest.ensures))))
 
 pub returns-in-Range : goal.returns-in-Range

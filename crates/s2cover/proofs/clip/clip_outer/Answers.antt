@@ -4,7 +4,7 @@ use Rattle.s2list.specs.Union.{has_leaf}
 use Rattle.s2cover.specs.Coverings.{outer_set}
 use Rattle.s2cover.proofs.Faces.{many_same}
 use Rattle.s2cover.proofs.Clips.{cut_clip, leaves_ok, normal_ok}
-use Rattle.s2cover.proofs.Parts.{shared_outer}
+use Rattle.s2cover.proofs.Parts.{intersection_outer}
 use Rattle.s2cover.proofs.clip.clip_outer.Goals as goal
 
 -- the leaves of what the two share, once both are made of cells of the level
@@ -12,7 +12,7 @@ leaves : (c : goal.After-drop-whole-inside) (x : ℕ) →
     (has_leaf c.in_ok-whole.whole.cells x && rect_set c.round_outward.result x)
     ≡ outer_set (λ y. has_leaf c.args.union.now.cells y && rect_set c.args.rect.now y) c.args.level x
 leaves c x =
-    shared_outer (rect_set c.round_outward.result) c.args.level c.round_outward.ensures.aligned
+    intersection_outer (rect_set c.round_outward.result) c.args.level c.round_outward.ensures.aligned
     c.in_ok-whole.ensures.local c.in_ok-whole.ensures.above x
     ∙ cut_clip c.args.level c.in_ok-whole.whole.cells (rect_set c.args.rect.now) (rect_set c.round_outward.result)
     c.requires.level c.cells.ensures.local c.in_ok-whole.ensures.leaves c.round_outward.ensures.leaves x

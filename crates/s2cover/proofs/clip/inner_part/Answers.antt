@@ -5,14 +5,14 @@ use Rattle.s2cover.specs.Cut.{cells_kept}
 use Rattle.s2cover.specs.Coverings.{inner_set}
 use Rattle.s2cover.proofs.Faces.{many_same}
 use Rattle.s2cover.proofs.Clips.{kept_clip, leaves_ok, met_clip, normal_ok}
-use Rattle.s2cover.proofs.Parts.{shared_inner}
+use Rattle.s2cover.proofs.Parts.{intersection_inner}
 use Rattle.s2cover.proofs.clip.inner_part.Goals as goal
 
 -- the leaves of what the two share, once both are made of cells of the level
 leaves : (c : goal.After-drop-whole-inside) (x : ℕ) → (has_leaf c.in_ok-whole.whole.cells x && rect_set c.args.rect x)
     ≡ inner_set (λ y. has_leaf c.args.union.now.cells y && rect_set c.args.rect y) c.args.level x
 leaves c x =
-    shared_inner (rect_set c.args.rect) c.args.level c.requires.aligned c.in_ok-whole.ensures.local
+    intersection_inner (rect_set c.args.rect) c.args.level c.requires.aligned c.in_ok-whole.ensures.local
     c.in_ok-whole.ensures.above x
     ∙ kept_clip c.args.level c.in_ok-whole.whole.cells (rect_set c.args.rect) c.requires.level c.cells.ensures.local
     (met_clip (rect_set c.args.rect) (cells_kept c.args.level c.args.union.now.cells) c.in_ok-whole.ensures.cells) x

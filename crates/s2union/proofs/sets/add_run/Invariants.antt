@@ -1,6 +1,6 @@
 use Rattle.std.proofs.Common.{length, ◌-◌, ◌≤◌, ◌≡◌, ◌+◌}
 use Rattle.std.specs.Vec.{vec_len, vec_capacity}
-use Rattle.s2union.proofs.Joining.{Adding}
+use Rattle.s2union.proofs.Uniting.{Adding}
 use Rattle.s2union.proofs.sets.add_run.Given as goal
 
 abbrev pub invariant-loop-i : goal.invariant-loop-i

@@ -1,6 +1,6 @@
 use Rattle.std.proofs.Common.{ℕ, List}
 use Rattle.s2list.specs.Union.{has_leaf, IsNormalForm}
-use Rattle.s2list.specs.Sets.{either}
+use Rattle.s2list.specs.Sets.{union_of}
 use Rattle.s2edit.specs.Leads.{list_at}
 use Rattle.s2edit.specs.Working.Named.{Gives}
 use Rattle.s2edit.proofs.Making.{of_list, made_becomes, made_too_long, assigned_becomes, as_long}
@@ -8,9 +8,9 @@ use Rattle.s2edit.proofs.editor.Editor.add.Goals.{In-Some, After-assign}
 use Rattle.s2edit.proofs.editor.Editor.add.Goals as goal
 
 -- what the change gives
-given : (c : In-Some) → Gives (either (has_leaf (list_at c.args.self.now.now c.args.register))
+given : (c : In-Some) → Gives (union_of (has_leaf (list_at c.args.self.now.now c.args.register))
     (has_leaf c.args.named.now.cells)) c.args.register c.register-union.result.now.cells c.in-Some.change
-given c = of_list (λ (k : List ℕ). Gives (either (has_leaf k) (has_leaf c.args.named.now.cells)) c.args.register
+given c = of_list (λ (k : List ℕ). Gives (union_of (has_leaf k) (has_leaf c.args.named.now.cells)) c.args.register
     c.register-union.result.now.cells c.in-Some.change) c.args.self.now c.args.register
     c.register-union.result.now.cells c.register-union.ensures.list (rw c.in-Some.is at c.in_ok-change.ensures)
 
@@ -26,9 +26,9 @@ returns-in-Some-clause-too_many c =
     c.register-union.result.now.cells c.register-union.ensures.list c.cells.ensures.local
     (given (goal.at.returns-in-Some-clause-too_many c).In-Some) c.make.result c.make.ensures.too_many
 
-normal : (c : After-assign) → IsNormalForm (either (has_leaf (list_at c.args.self.now.now c.args.register))
+normal : (c : After-assign) → IsNormalForm (union_of (has_leaf (list_at c.args.self.now.now c.args.register))
     (has_leaf c.args.named.now.cells)) c.in_ok-sum.sum.cells
-normal c = of_list (λ (k : List ℕ). IsNormalForm (either (has_leaf k) (has_leaf c.args.named.now.cells))
+normal c = of_list (λ (k : List ℕ). IsNormalForm (union_of (has_leaf k) (has_leaf c.args.named.now.cells))
     c.in_ok-sum.sum.cells) c.args.self.now c.args.register c.register-union.result.now.cells
     c.register-union.ensures.list c.in_ok-sum.ensures.normal
 

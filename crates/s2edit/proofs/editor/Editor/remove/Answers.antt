@@ -1,6 +1,6 @@
 use Rattle.std.proofs.Common.{ℕ, List}
 use Rattle.s2list.specs.Union.{has_leaf, IsNormalForm}
-use Rattle.s2list.specs.Sets.{without}
+use Rattle.s2list.specs.Sets.{difference_of}
 use Rattle.s2edit.specs.Leads.{list_at}
 use Rattle.s2edit.specs.Working.Named.{Gives}
 use Rattle.s2edit.proofs.Making.{of_list, made_becomes, made_too_long, assigned_becomes}
@@ -8,9 +8,9 @@ use Rattle.s2edit.proofs.editor.Editor.remove.Goals.{In-Some}
 use Rattle.s2edit.proofs.editor.Editor.remove.Goals as goal
 
 -- what the change gives
-given : (c : In-Some) → Gives (without (has_leaf (list_at c.args.self.now.now c.args.register))
+given : (c : In-Some) → Gives (difference_of (has_leaf (list_at c.args.self.now.now c.args.register))
     (has_leaf c.args.named.now.cells)) c.args.register c.register-union.result.now.cells c.in-Some.change
-given c = of_list (λ (k : List ℕ). Gives (without (has_leaf k) (has_leaf c.args.named.now.cells)) c.args.register
+given c = of_list (λ (k : List ℕ). Gives (difference_of (has_leaf k) (has_leaf c.args.named.now.cells)) c.args.register
     c.register-union.result.now.cells c.in-Some.change) c.args.self.now c.args.register
     c.register-union.result.now.cells c.register-union.ensures.list (rw c.in-Some.is at c.in_ok-change.ensures)
 
@@ -29,6 +29,6 @@ returns-in-Some-clause-too_many c =
 pub returns-in-Ok-clause-ok : goal.returns-in-Ok-clause-ok
 returns-in-Ok-clause-ok c =
     assigned_becomes _ c.args.register c.args.self.now _ c.in-Ok.rest.cells c.assign.result
-    (of_list (λ (k : List ℕ). IsNormalForm (without (has_leaf k) (has_leaf c.args.named.now.cells)) c.in-Ok.rest.cells)
-    c.args.self.now c.args.register c.register-union.result.now.cells c.register-union.ensures.list
+    (of_list (λ (k : List ℕ). IsNormalForm (difference_of (has_leaf k) (has_leaf c.args.named.now.cells))
+    c.in-Ok.rest.cells) c.args.self.now c.args.register c.register-union.result.now.cells c.register-union.ensures.list
     c.in-Ok.ensures.normal) c.assign.ensures.ok c.assign.ensures.ok_sets c.assign.ensures.too_many

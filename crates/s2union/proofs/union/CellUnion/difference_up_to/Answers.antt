@@ -1,10 +1,10 @@
 use Rattle.std.proofs.Common.{rules}
 use Rattle.s2list.specs.Union.{has_leaf}
-use Rattle.s2list.specs.Sets.{without}
+use Rattle.s2list.specs.Sets.{difference_of}
 use Rattle.s2list.proofs.Normal.{normal_from_leaves}
 use Rattle.s2union.proofs.union.CellUnion.difference_up_to.Goals as goal
 
 pub returns-clause-normal : goal.returns-clause-normal
 returns-clause-normal c =
-    normal_from_leaves (without (has_leaf c.args.self.now.cells) (has_leaf c.args.other.now.cells)) _
-    c.in_ok-subtract.ensures.local (search rules)
+    normal_from_leaves (difference_of (has_leaf c.args.self.now.cells) (has_leaf c.args.other.now.cells)) _
+    c.in_ok-put_difference.ensures.local (search rules)
