@@ -13,7 +13,7 @@ import tempfile
 from concurrent.futures import ThreadPoolExecutor
 
 TOP = os.path.dirname(os.path.dirname(os.path.realpath(__file__)))
-ROWS = ("library_rows", "script_rows")
+ROWS = ("test_library", "test_script")
 
 
 def built(crate, room):

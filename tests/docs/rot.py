@@ -34,9 +34,9 @@ ARMS = 7
 MANY_ARMS = 9
 WORDS = {"told": 58, "asked about": 0, "so many": 0, "refused where": 0, "exactly if": 26}
 # Lines of proof of each crate. Their sum may only fall; the body of a commit that raises it says why.
-PROOFS = {"library_rows": 143, "s2calc": 6750, "s2cell": 5196, "s2cover": 5284, "s2draw": 789,
-          "s2edit": 6619, "s2file": 999, "s2list": 9099, "s2process": 1487, "s2room": 1842, "s2script": 681,
-          "s2session": 1831, "s2shelf": 623, "s2union": 2883, "s2union_c": 2489, "script_rows": 42}
+PROOFS = {"s2calc": 6750, "s2cell": 5196, "s2cover": 5284, "s2draw": 789, "s2edit": 6619, "s2file": 999,
+          "s2list": 9099, "s2process": 1487, "s2room": 1842, "s2script": 681, "s2session": 1831, "s2shelf": 623,
+          "s2union": 2883, "s2union_c": 2489, "test_library": 143, "test_script": 42}
 FUNCTION = re.compile(r"( *)(?:pub(?:\([a-z]+\))? )?(?:const |unsafe |final |extern \"C\" )*fn ")
 CLAUSE = re.compile(r" *(?:requires|ensures)")
 # Files whose lines may be long: pages and tables of rows, which are not wrapped, texts of others, and what pins a line.

@@ -159,7 +159,7 @@ class Judge:
 
 def main():
     has_program("tests/run allocations")
-    has_program("tests/run allocations", ROWS, "rt run in crates/script_rows")
+    has_program("tests/run allocations", ROWS, "rt run in crates/test_script")
     judge = Judge()
     with tempfile.TemporaryDirectory() as room:
         refusing = Refusing(room)
@@ -167,7 +167,7 @@ def main():
         judge.refuse_all_from_one_on(refusing.run, whole)
         if any(map(verdict, wrong_ends(whole))):
             judge.wrong("a wrong run is judged right")
-        # script_rows lists the reads of a run, as long as there is memory for that.
+        # test_script lists the reads of a run, as long as there is memory for that.
         judge.refuse_each("a run over a shelf in memory", refusing.run_in_memory, spare=1)
         script = b"".join(line + b"\n" for line in NOTED)
         judge.refuse_each(

@@ -1,5 +1,5 @@
 """Runs of the script with every command in which some calls of the program fail: tests/refuse.c, which the loader puts
-in front of the C library, makes them fail. The same run over a shelf in memory is a row of crates/script_rows."""
+in front of the C library, makes them fail. The same run over a shelf in memory is a row of crates/test_script."""
 import collections
 import os
 import shutil
@@ -9,7 +9,7 @@ import tempfile
 
 from every_command import DEPTH, FILES, LIMIT, LINES, PROGRAM, STEPS, TOP, arguments, files_of, fill
 
-ROWS = os.path.join(TOP, "crates/script_rows/out/script_rows")
+ROWS = os.path.join(TOP, "crates/test_script/out/test_script")
 SCRIPT = b"".join(line + b"\n" for line in LINES)
 TITLE = "Every command."
 NAMES = sorted({name for step in STEPS for name in step.model.files})
@@ -49,7 +49,7 @@ class Refusing:
             return Ended(done.returncode, done.stdout, done.stderr, files_of(folder), calls)
 
     def run_in_memory(self, refused=""):
-        """The same for a run over a shelf in memory, by script_rows. It counts as a run that ends with 3 and
+        """The same for a run over a shelf in memory, by test_script. It counts as a run that ends with 3 and
         `s2calc: memory` if `run` answers so, or if there is no memory for the row or the editor; then it has no calls,
         since the reads of the table are not those of a run."""
         done, calls = self.started([ROWS], row(), refused)
@@ -74,7 +74,7 @@ class Refusing:
 
 
 def row():
-    """A row for script_rows with the script, the files, and calls for how the run ended and for each file."""
+    """A row for test_script with the script, the files, and calls for how the run ended and for each file."""
     options = [f"$ limit {LIMIT}", f"$ depth {DEPTH}", "$ shown 1"]
     files = [f"@ {name} {content.hex()}" for name, content in FILES.items()]
     lines = ["> " + line.decode().replace("\r", "\\r") for line in LINES]

@@ -322,5 +322,5 @@ class Documents(unittest.TestCase):
 
     def test_the_example_in_rust_is_the_one_that_is_compiled(self):
         example = re.search(r"```rust\n(.*?)```", self.texts["docs/ARCHITECTURE.md"], re.S).group(1)
-        with open(os.path.join(TOP, "crates/script_rows/src/example.rt"), encoding="utf-8") as it:
+        with open(os.path.join(TOP, "crates/test_script/src/example.rt"), encoding="utf-8") as it:
             self.assertIn(example, it.read())

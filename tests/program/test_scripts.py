@@ -1,5 +1,5 @@
-"""The worked rows of crates/script_rows, over the program: their scripts, the files before and after them, and the
-other commands. crates/row_table and crates/script_rows say what the lines of a row mean."""
+"""The worked rows of crates/test_script, over the program: their scripts, the files before and after them, and the
+other commands. crates/test_table and crates/test_script say what the lines of a row mean."""
 import os
 import re
 import tempfile
@@ -7,7 +7,7 @@ import unittest
 
 from process import TOP, answered, first_line, ran
 
-TABLE = os.path.join(TOP, "crates/script_rows/stdin")
+TABLE = os.path.join(TOP, "crates/test_script/stdin")
 
 
 def text_of(word):

@@ -1,0 +1,38 @@
+//! Worked rows on the calls of the libraries. Standard input is a table (`test_table`), whose rows have calls and what
+//! they must answer. Prints the title of each row with other answers, and how many have theirs.
+//!
+//! Modules, by what is called: `cells` (of `s2cell`), `unions` (`s2union`), `counted` (`s2union`, `s2list` and
+//! `s2room`), `coverings` (`s2cover`), `files` (`s2file`), `shelves` (`s2shelf`), `edits`, `changes` and `sessions`
+//! (`s2edit` and `s2session`). `even` is a region of its own. `curve`, `rectangles` and `differing` compare calls with
+//! other calls, or with plain readings that stand here as test code. `table` has a row answered, and `texts` reads and
+//! writes the words of calls.
+#![tactic(auto)]
+
+mod cells;
+mod changes;
+mod counted;
+mod coverings;
+mod curve;
+mod differing;
+mod edits;
+mod even;
+mod files;
+mod rectangles;
+mod sessions;
+mod shelves;
+mod table;
+mod texts;
+mod unions;
+
+use s2shelf::DirShelf;
+use std::{fs, io};
+use table::Libraries;
+use test_table::answer_rows;
+
+fn main(rt: HostRuntime) -> io::Result<()> {
+    let folder = DirShelf::at(&rt, ".")?;
+    answer_rows(&rt, &mut Libraries { folder })?;
+    // Rows that put files into the folder give them this name. It isn't there if there are none.
+    let _ = fs::remove_file(&rt, "rows.tmp");
+    Ok(())
+}
