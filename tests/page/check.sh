@@ -29,8 +29,9 @@ lost_crates() { # those of this repository that a crate of the copy names, and t
 }
 nothing_lost() { [ -s "$work/copy/crates.txt" ] && ! lost_crates; }
 step "each crate that the module needs" nothing_lost
+named_sources() { sed -n 's/^\(pub \)\?mod \(.*\);$/\2.rt/p' lib.rt | sort; }
 lost_sources() ( # those of the module that its lib.rt doesn't name
-  cd "$work/copy/crates/s2union_c/src" && sed -n 's/^\(pub \)\?mod \(.*\);$/\2.rt/p' lib.rt | sort | diff - <(ls | grep -vx lib.rt)
+  cd "$work/copy/crates/s2union_c/src" && diff <(named_sources) <(ls | grep -vx lib.rt)
 )
 step "each source of the module" lost_sources
 in_browser() { # the library's module for Python answers beside the page
