@@ -7,7 +7,7 @@ import math
 import sys
 
 import pywraps2 as s2
-from s2union import Union
+from s2union import CellUnion
 
 EARTH = 6371.01  # its radius, in kilometers
 
@@ -21,7 +21,7 @@ def corridor(start, end, kilometers):
     for cover, factor in ((coverer.GetCovering, 1.04), (coverer.GetInteriorCovering, 1)):
         radius = s2.S1Angle.Radians(kilometers / EARTH * factor)  # 1.04: nothing is left out between two caps
         caps = (s2.S2Cap(way.Interpolate(k / steps), radius) for k in range(steps + 1))
-        yield Union(cell.id() for cap in caps for cell in cover(cap))
+        yield CellUnion(cell.id() for cap in caps for cell in cover(cap))
 
 
 if __name__ == "__main__":

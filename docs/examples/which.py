@@ -9,7 +9,7 @@ from pathlib import Path
 
 import numpy
 from s2union_geo import leaves
-from s2union import Union
+from s2union import CellUnion
 from shapely.geometry import Point, shape
 from shapely.prepared import prep
 
@@ -19,7 +19,7 @@ def features_of(file):
 
 
 def covering(folder, feature, kind):
-    return Union.from_bytes(Path(folder, f"{feature['properties']['file']}.{kind}").read_bytes())
+    return CellUnion.from_bytes(Path(folder, f"{feature['properties']['file']}.{kind}").read_bytes())
 
 
 def which(features, folder, longitude, latitude):

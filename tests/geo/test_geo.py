@@ -19,7 +19,7 @@ import page
 import pywraps2 as s2
 import s2union_geo.frames
 from earth import all_pairs, points_of_the_sphere
-from s2union import Union, from_tokens, to_signed, tokens
+from s2union import CellUnion, from_tokens, to_signed, tokens
 from s2union_geo import area, boundary, coverings, leaves, points, to_geojson
 from s2union_geo.geojson import rings
 from s2union_geo.sphere import sphere
@@ -184,12 +184,12 @@ SQL
         with open(self.file("france.geojson"), encoding="utf-8") as it:
             features = json.load(it)["features"]
         with open(self.file("countries/France.outer"), "rb") as it:
-            union = Union.from_bytes(it.read())
+            union = CellUnion.from_bytes(it.read())
         self.assertEqual([feature["properties"]["cell"] for feature in features], union.tokens())
 
     def union(self, name):
         with open(self.file(name), "rb") as it:
-            return Union.from_bytes(it.read())
+            return CellUnion.from_bytes(it.read())
 
     def test_areas_and_boundaries_are_s2s(self):
         """Of all coverings of countries, and of unions with a face, a pole and corners that touch."""
@@ -198,7 +198,7 @@ SQL
                     "-lcrypto")
         made = {f"made.{k}": text for k, text in enumerate(("1", "5", "04 0c 1c", "04 14", "5c", "1 44", ""))}
         for name, text in made.items():
-            Path(self.file(name)).write_bytes(Union.from_tokens(text).to_bytes())
+            Path(self.file(name)).write_bytes(CellUnion.from_tokens(text).to_bytes())
         names = [*made, *(f"countries/{name}" for name in sorted(os.listdir(self.file("countries"))))]
         lines = iter(subprocess.run([self.file("outline"), *map(self.file, names)], stdout=subprocess.PIPE, text=True,
                                     check=True).stdout.splitlines())
@@ -224,7 +224,7 @@ SQL
                         self.file(f"countries/{name}"))
             found, union = json.loads(done.stdout)["features"], self.union(f"countries/{name}")
             with self.subTest(name=name):
-                self.assertEqual(Union(cell["properties"]["cell"] for cell in found), union)
+                self.assertEqual(CellUnion(cell["properties"]["cell"] for cell in found), union)
                 for feature, wanted in zip(found, to_geojson(union)["features"]):
                     self.assertEqual(feature["properties"]["token"], wanted["properties"]["cell"])
                     ring, other = (numpy.array(it["geometry"]["coordinates"][0]) for it in (feature, wanted))
@@ -263,7 +263,7 @@ SQL
         regions = {}
         for line in Path(self.file("made.tsv")).read_text().splitlines():
             name, region, drawn = line.split("\t")
-            regions[name] = union = Union.from_bytes(bytes.fromhex(region))
+            regions[name] = union = CellUnion.from_bytes(bytes.fromhex(region))
             with self.subTest(name=name):
                 self.assertEqual(union, self.union(f"python/{name}.outer"))
                 self.assertEqual(json.loads(drawn)["coordinates"],
@@ -283,7 +283,7 @@ SQL
             db.enable_load_extension(True)
             db.load_extension(os.path.join(os.environ["PREFIX"], "lib", "sqlite3", "mod_s2union"))
             for line in re.findall(r"^    (db\.create_function\(.*)$", self.text, re.M):
-                exec(line, {**vars(s2union_geo), "db": db, "json": json, "Union": Union})
+                exec(line, {**vars(s2union_geo), "db": db, "json": json, "CellUnion": CellUnion})
             db.executescript("CREATE TABLE given (name text, shape text); CREATE TABLE places (place int, leaf int)")
             db.executemany("INSERT INTO given VALUES (?, ?)", rows)
             db.executemany("INSERT INTO places VALUES (?, ?)", enumerate(cells.view("int64").tolist()))
@@ -291,7 +291,7 @@ SQL
             db.execute("CREATE TABLE tiles AS SELECT name, tile, part FROM made, s2_tiles(region, 5)")
             regions = {}
             for name, region, drawn in db.execute("SELECT name, region, s2_geojson(region) FROM made"):
-                regions[name] = union = Union.from_bytes(region)
+                regions[name] = union = CellUnion.from_bytes(region)
                 self.assertEqual((union, json.loads(drawn)), (self.union(f"python/{name}.outer"), to_geojson(union)))
             found = db.execute("SELECT place, name FROM places JOIN tiles ON tile = s2_parent(leaf, 5)"
                                " AND s2_contains(part, leaf)").fetchall()

@@ -15,7 +15,7 @@ import sys
 import unicodedata
 from pathlib import Path
 
-from s2union import Union, tokens
+from s2union import CellUnion, tokens
 
 from . import coverings, leaves, read_geojson, to_geojson
 
@@ -113,7 +113,7 @@ def cover(file, folder, max_cells, max_level):
 
 
 def show_geojson(*files):
-    found = [to_geojson(Union.from_bytes(Path(file).read_bytes()), name=Path(file).name) for file in files]
+    found = [to_geojson(CellUnion.from_bytes(Path(file).read_bytes()), name=Path(file).name) for file in files]
     features = [feature for collection in found for feature in collection["features"]]
     json.dump({"type": "FeatureCollection", "features": features}, sys.stdout)
 

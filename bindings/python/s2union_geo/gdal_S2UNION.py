@@ -9,7 +9,7 @@ and `level`, and the polygons of `to_geojson`. It can be read, not written. It i
 from pathlib import Path
 
 from gdal_python_driver import BaseDataset, BaseDriver, BaseLayer
-from s2union import Union, levels, to_signed, tokens
+from s2union import CellUnion, levels, to_signed, tokens
 from s2union_geo.geojson import rings
 
 HEADER = 9  # bytes of a file before its cells: a version and their number
@@ -17,7 +17,7 @@ HEADER = 9  # bytes of a file before its cells: a version and their number
 
 class Layer(BaseLayer):
     def __init__(self, path):
-        self.cells = list(Union.from_bytes(path.read_bytes()).denormalised(1))  # two faces have a pole inside
+        self.cells = list(CellUnion.from_bytes(path.read_bytes()).denormalised(1))  # two faces have a pole inside
         self.name = path.name
         self.fields = [{"name": "token", "type": "String"}, {"name": "cell", "type": "Integer64"},
                        {"name": "level", "type": "Integer"}]

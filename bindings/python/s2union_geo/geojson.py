@@ -7,7 +7,7 @@ import os
 from typing import Any, Iterator
 
 import numpy
-from s2union import Union, tokens
+from s2union import CellUnion, tokens
 
 from .sphere import MOST, geographic, on_cube, range_of, squares_of
 
@@ -135,7 +135,7 @@ def rings(cells: Any) -> Iterator[list[list[float]]]:
         yield ring + ring[:1]
 
 
-def to_geojson(union: Union, **properties: Any) -> dict[str, Any]:
+def to_geojson(union: CellUnion, **properties: Any) -> dict[str, Any]:
     """The cells of a union as polygons of GeoJSON.
 
     .. versionadded:: 1.1
@@ -161,8 +161,8 @@ def to_geojson(union: Union, **properties: Any) -> dict[str, Any]:
 
     Examples
     --------
-    >>> from s2union import Union
-    >>> found = to_geojson(Union.from_tokens("14"), name="pond")["features"]
+    >>> from s2union import CellUnion
+    >>> found = to_geojson(CellUnion.from_tokens("14"), name="pond")["features"]
     >>> [(feature["properties"], feature["geometry"]["type"]) for feature in found]
     [({'name': 'pond', 'cell': '14'}, 'Polygon')]
     """

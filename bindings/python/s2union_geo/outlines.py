@@ -5,7 +5,7 @@ from __future__ import annotations
 from typing import Any, Iterator
 
 import numpy
-from s2union import Union
+from s2union import CellUnion
 
 from .sphere import SIDE, geographic, on_axes, on_cube_line, squares_of
 
@@ -14,7 +14,7 @@ NODES = 6  # of Gauss and Legendre's rule, along a side
 SMALL = 3  # the level from which on so few nodes give the area of a cell to its last digits
 
 
-def area(union: Union) -> float:
+def area(union: CellUnion) -> float:
     """The area of a union, on a sphere with the earth's mean radius.
 
     .. versionadded:: 1.2
@@ -40,8 +40,8 @@ def area(union: Union) -> float:
 
     Examples
     --------
-    >>> from s2union import CellUnion as Union
-    >>> round(area(Union.from_tokens("1"))), area(Union())
+    >>> from s2union import CellUnion
+    >>> round(area(CellUnion.from_tokens("1"))), area(CellUnion())
     (85011012, 0.0)
     """
     _, i, j, side = squares_of(union.denormalised(SMALL))
@@ -58,7 +58,7 @@ def _on_face(begin: Any, length: Any) -> tuple[Any, Any]:
     return on_cube_line(begin), 4 * length * numpy.where(s >= 0.5, 2 * s + length, 2 - 2 * s - length) / 3
 
 
-def boundary(union: Union) -> dict[str, Any]:
+def boundary(union: CellUnion) -> dict[str, Any]:
     """The boundary of a union, as lines on a map.
 
     .. versionadded:: 1.2
@@ -86,16 +86,16 @@ def boundary(union: Union) -> dict[str, Any]:
 
     Examples
     --------
-    >>> from s2union import CellUnion as Union
-    >>> boundary(Union.from_tokens("14 1c"))["coordinates"] == boundary(Union.from_tokens("14 1c 14"))["coordinates"]
+    >>> from s2union import CellUnion
+    >>> boundary(CellUnion.from_tokens("14 1c")) == boundary(CellUnion.from_tokens("14 1c 14"))
     True
-    >>> [len(line) for line in boundary(Union.from_tokens("04 0c 1c"))["coordinates"]]
+    >>> [len(line) for line in boundary(CellUnion.from_tokens("04 0c 1c"))["coordinates"]]
     [9]
     """
     return {"type": "MultiLineString", "coordinates": [_on_map(line) for line in _lines(union)]}
 
 
-def _segments(union: Union) -> Any:
+def _segments(union: CellUnion) -> Any:
     """Between two corners each, the parts of sides that one cell alone has, in the direction that has it on the left.
     Corners are whole numbers on a cube, so that those of two faces are the same."""
     face, i, j, side = squares_of(union)
@@ -116,7 +116,7 @@ def _segments(union: Union) -> Any:
         yield (corner[k], corner[k + 1]) if sums[k] > 0 else (corner[k + 1], corner[k])
 
 
-def _lines(union: Union) -> Iterator[list[tuple[int, ...]]]:
+def _lines(union: CellUnion) -> Iterator[list[tuple[int, ...]]]:
     """The segments, one after the other, as closed lines that have no corner twice."""
     after: dict[tuple[int, ...], list[tuple[int, ...]]] = {}
     for start, end in _segments(union):

@@ -10,7 +10,7 @@ from __future__ import annotations
 from typing import Any, NamedTuple
 
 import numpy
-from s2union import Union, from_points, parents
+from s2union import CellUnion, from_points, parents
 
 from .crossings import look_for_crossings
 from .geojson import polygons_of
@@ -50,7 +50,7 @@ class Squares(NamedTuple):
         return Squares(*(part[places] for part in self))
 
 
-def covering(shape: Any, max_cells: int = 200, max_level: int = 30) -> Union:
+def covering(shape: Any, max_cells: int = 200, max_level: int = 30) -> CellUnion:
     """A covering: a union that contains all of the polygons.
 
     .. versionadded:: 1.1
@@ -97,7 +97,7 @@ def covering(shape: Any, max_cells: int = 200, max_level: int = 30) -> Union:
     return _Walk(shape, max_cells, max_level).outer()
 
 
-def interior(shape: Any, max_cells: int = 200, max_level: int = 30) -> Union:
+def interior(shape: Any, max_cells: int = 200, max_level: int = 30) -> CellUnion:
     """An inner covering: a union of cells that lie in a polygon, the largest first.
 
     .. versionadded:: 1.1
@@ -141,7 +141,7 @@ def interior(shape: Any, max_cells: int = 200, max_level: int = 30) -> Union:
     return _Walk(shape, max_cells, max_level).inner()
 
 
-def coverings(shape: Any, max_cells: int = 200, max_level: int = 30) -> tuple[Union, Union]:
+def coverings(shape: Any, max_cells: int = 200, max_level: int = 30) -> tuple[CellUnion, CellUnion]:
     """Both: `covering` and `interior`. The polygons are looked at once.
 
     .. versionadded:: 1.1
@@ -323,9 +323,9 @@ class _Walk:
         leaves = from_points(squares.face, squares.i << (30 - level), squares.j << (30 - level))
         return numpy.asarray(parents(numpy.asarray(leaves, "uint64"), level), "uint64")
 
-    def outer(self) -> Union:
+    def outer(self) -> CellUnion:
         if self.edges is None:
-            return Union()
+            return CellUnion()
         squares, found, of, edge = self.begin()
         border = numpy.unique(of)
         for level in range(1, self.deepest + 1):
@@ -345,11 +345,11 @@ class _Walk:
             squares, border = below, numpy.unique(of)
             if not len(border):
                 break
-        return Union(numpy.concatenate([*found, self.ids(squares.at(border), self.deepest)]))
+        return CellUnion(numpy.concatenate([*found, self.ids(squares.at(border), self.deepest)]))
 
-    def inner(self) -> Union:
+    def inner(self) -> CellUnion:
         if self.edges is None:
-            return Union()
+            return CellUnion()
         squares, found, of, edge = self.begin()
         border = numpy.unique(of)
         for level in range(1, self.deepest + 1):
@@ -359,4 +359,4 @@ class _Walk:
             inside, of, edge = self.divided(squares, level, pairs, edges)
             found.append(self.ids(squares.at(inside), level))
             border = numpy.unique(of)
-        return Union(numpy.concatenate(found)[:self.most])
+        return CellUnion(numpy.concatenate(found)[:self.most])
