@@ -145,6 +145,20 @@ class Keys(unittest.TestCase):
                              f"error syntax\n  '{line.split()[0]}' is not a command{hint}\n")
         self.assertEqual(self.answered(session, "quit now"), "error syntax\n  'quit' takes no word\n")
 
+    def test_habits_of_other_prompts(self):
+        session = self.started()
+        cell = "is not a cell (a token or a debug text)"
+        degrees = "'python3 -m s2union_geo leaves' makes cells of degrees"
+        for line, reason in (("show a;", "register\n  'a;' is not a register (a to z); a command ends without ';'"),
+                             ("add a 04;", f"cell\n  '04;' {cell}; a command ends without ';'"),
+                             ("add a 04,0c", f"cell\n  '04,0c' {cell}; cells stand apart by blanks"),
+                             ("add a 04, 0c", f"cell\n  '04,' {cell}; cells stand apart by blanks"),
+                             ("has a -2.35 48.85", f"cell\n  '-2.35' {cell}; {degrees}"),
+                             ("at 48.85 2.35", f"face\n  '48.85' is not a face (0 to 5); {degrees}"),
+                             ("add a 04.", f"cell\n  '04.' {cell}"),
+                             ("add a x.y", f"cell\n  'x.y' {cell}")):
+            self.assertEqual(self.answered(session, line), f"error {reason}\n")
+
     # ---- keys
 
     def test_interrupt(self):

@@ -302,11 +302,19 @@ def hinted(reason, word):
     return reason + (near(word, [*COMMANDS, *WORDS]) or "; 'help' lists the commands")
 
 
+# Words that other prompts and places take, as the reason has them, and what is done here instead.
+HABITS = ((r"'[^']*;' is not an? ", "a command ends without ';'"),
+          (r"'[^']*,[^']*' is not a cell ", "cells stand apart by blanks"),
+          (r"'[+-]?\d+\.\d+' is not an? ", "'python3 -m s2union_geo leaves' makes cells of degrees"))
+
+
 def answer(program, line):
     """Has the program carry out a line, and shows why if it refuses it."""
     reason = program.carry_out(os.fsencode(line)).rstrip("\n")
     if re.search(r"is not a command(; did|$)", reason):
         reason = hinted(reason, line.split()[0])
+    else:
+        reason += next((f"; {advice}" for habit, advice in HABITS if re.match(habit, reason)), "")
     if reason:
         print(f"  {reason}", flush=True)
 
