@@ -1,20 +1,23 @@
 #!/usr/bin/env python3
 """That the tests refuse what they look for, where nothing else would tell: tests/run guards.
 
-Each end of a part that is no good one has to count as a failure in tests/run, each step in tests/steps.sh that fails or
-checks nothing, each mutant there that isn't found, each check of texts that finds something or looks at nothing, each
+Each end of a part that is no good one has to count as a failure in tests/run, and what it runs has to end with it; each
+step in tests/steps.sh that fails or checks nothing, each mutant there that isn't found, each check of texts that finds something or looks at nothing, each
 page of SQL with an answer that isn't said, and each line of C that computes. Then each mistake below is made in a copy
 of the repository, and the check beside it, of tests/docs, tests/mutants or tools/statement, has to find more than it
 does without it. tests/tools/table.py does the same for tools/calls. The last line is 'N passed, M failed'.
 """
 import contextlib
+import fcntl
 import importlib.machinery
 import importlib.util
 import io
 import re
+import signal
 import subprocess
 import sys
 import tempfile
+import time
 from pathlib import Path
 from typing import Callable, NamedTuple
 
@@ -144,6 +147,10 @@ STEPS = [
     ("step a echo 7 passed, 0 failed", "1 passed, 0 failed"),
     ("need no-such-command a-package; step a test \"${packages[*]}\" = a-package", "1 passed, 0 failed"),
     ("install_packages() { false; }; packages=(none); need_packages; step a true", "0 passed, 1 failed"),
+    ("apt-get() { rm \"$work/x\" || return 0; echo Unable to lock directory x; return 100; }; sleep() { :; }; "
+     "touch \"$work/x\"; step a update_lists", "1 passed, 0 failed"),
+    ("apt-get() { rm \"$work/x\" || return 0; return 100; }; touch \"$work/x\"; step a update_lists",
+     "0 passed, 1 failed"),
     ("tests() { return 1; }; survives() { refuse; }; step a found edit", "1 passed, 0 failed"),
     ("tests() { return 0; }; survives() { refuse; }; step a found edit", "0 passed, 1 failed"),
     ("tests() { return 137; }; survives() { refuse; }; step a found edit", "0 passed, 1 failed"),
@@ -159,6 +166,13 @@ STEPS = [
      "0 passed, 1 failed"),
     ("calls() { echo s2u_a | has_all_calls /dev/null none; }; step a calls", "0 passed, 1 failed"),
 ]
+
+# What tests/run is ended in, `module` being it, and by which signal: then `holds`, which runs in it, has to end too.
+KILLED = [
+    ("a lane whose gate is killed", "lane = module.Lane(['docs'], room, ''); time.sleep(600)", signal.SIGKILL),
+    ("a part that is run", "module.end_by_signals(); module.shown(['sh', '-c', f'{holds}; :'], print)", signal.SIGTERM),
+]
+HOLDS = "import fcntl, time; it = open({!r}, 'w'); fcntl.flock(it, fcntl.LOCK_EX); print(flush=True); time.sleep(600)\n"
 
 # What a check of texts has looked at and found, with whether it has failed.
 CHECKS = [(3, [], False), (3, ["a mistake"], True), (0, [], True)]
@@ -192,11 +206,51 @@ class Counts:
             print(f"NOT REFUSED: {what}\n{said}", flush=True)
 
 
-def ends_of_parts(counts, room):
-    """Runs each of these parts by tests/run, one that is given words, one that isn't there, and measurements."""
+def the_runner():
+    """tests/run, as a module."""
     loader = importlib.machinery.SourceFileLoader("run", str(TOP / "tests" / "run"))
     module = importlib.util.module_from_spec(importlib.util.spec_from_loader("run", loader))
     loader.exec_module(module)
+    return module
+
+
+def becomes(is_so):
+    """Whether something is so within 20 seconds."""
+    ends = time.monotonic() + 20
+    while not is_so() and time.monotonic() < ends:
+        time.sleep(0.05)
+    return is_so()
+
+
+def is_held(file):
+    """Whether a process that lives has locked the file."""
+    with open(file, "a", encoding="ascii") as it:
+        try:
+            fcntl.flock(it, fcntl.LOCK_EX | fcntl.LOCK_NB)
+        except BlockingIOError:
+            return True
+    return False
+
+
+def ends_of_the_runner(counts, room):
+    """Kills tests/run, and asks whether it runs on; and reads less of --list than there is."""
+    (room / "tests").mkdir()
+    for name, text, number in KILLED:
+        held, run = room / f"{name}.held", room / "tests" / "run"
+        run.write_text(HOLDS.format(str(held)))
+        script = (f"import sys, time; sys.path.append({str(TOP / 'tests')!r}); import guards; "
+                  f"module, room, holds = guards.the_runner(), {str(room)!r}, '{sys.executable} {run}'; {text}")
+        with subprocess.Popen([sys.executable, "-c", script], stdout=subprocess.DEVNULL) as process:
+            has_begun = becomes(lambda: is_held(held))
+            process.send_signal(number)
+        counts.tell(f"{name}, which runs on", has_begun and becomes(lambda: not is_held(held)))
+    done = subprocess.run(f"'{TOP}/tests/run' --list | head -1", shell=True, capture_output=True, text=True, check=False)
+    counts.tell("--list, of which a line is read", (done.stdout.count("\n"), done.stderr) == (1, ""), done.stderr)
+
+
+def ends_of_parts(counts, room):
+    """Runs each of these parts by tests/run, one that is given words, one that isn't there, and measurements."""
+    module = the_runner()
     module.TOP = str(room)
 
     def ended(name, tier, text, words=()):
@@ -294,6 +348,7 @@ def mistakes(counts, room):
 def main():
     counts = Counts()
     with tempfile.TemporaryDirectory() as room:
+        ends_of_the_runner(counts, Path(room))
         ends_of_parts(counts, Path(room))
         ends_of_pages(counts, Path(room))
     ends_of_steps(counts)

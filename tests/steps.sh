@@ -31,11 +31,21 @@ finish() {
   exit
 }
 
-install_packages() { # one run after the other, since `apt-get update` doesn't wait for another
+update_lists() { # WORD..: `WORD.. apt-get update`, once no other one runs: it has no option to wait for that
+  local said
+  for _ in {1..60}; do
+    said=$(LC_ALL=C "$@" apt-get update 2>&1) && return
+    [[ $said == *"Unable to lock directory"* ]] || break
+    sleep 10
+  done
+  echo "$said" && return 1
+}
+
+install_packages() { # one run after the other
   local as_root=()
   [ "$(id -u)" -eq 0 ] || as_root=(sudo -n)
   (
-    flock 9 && "${as_root[@]}" apt-get update &&
+    flock 9 && update_lists "${as_root[@]}" &&
       "${as_root[@]}" apt-get -o DPkg::Lock::Timeout=600 install -y --no-install-recommends "$@"
   ) 9>"/tmp/s2union-packages.$(id -u)"
 }
