@@ -1,11 +1,12 @@
 #!/usr/bin/env python3
 """That the tests refuse what they look for, where nothing else would tell: tests/run guards.
 
-Each end of a part that is no good one has to count as a failure in tests/run, and what it runs has to end with it; each
-step in tests/steps.sh that fails or checks nothing, each mutant there that isn't found, each check of texts that finds something or looks at nothing, each
-page of SQL with an answer that isn't said, and each line of C that computes. Then each mistake below is made in a copy
-of the repository, and the check beside it, of tests/docs, tests/mutants or tools/statement, has to find more than it
-does without it. tests/tools/table.py does the same for tools/calls. The last line is 'N passed, M failed'.
+Each end of a part that is no good one has to count as a failure in tests/run, and all that it runs ends with it. So
+has each step in tests/steps.sh that fails or checks nothing, each mutant there that isn't found, each check of texts
+that finds something or looks at nothing, each page of SQL with an answer that isn't said, and each line of C that
+computes. Then each mistake below is made in a copy of the repository, and the check beside it, of tests/docs,
+tests/mutants or tools/statement, has to find more than it does without it. tests/tools/table.py does the same for
+tools/calls. The last line is 'N passed, M failed'.
 """
 import contextlib
 import fcntl
@@ -167,7 +168,7 @@ STEPS = [
     ("calls() { echo s2u_a | has_all_calls /dev/null none; }; step a calls", "0 passed, 1 failed"),
 ]
 
-# What tests/run is ended in, `module` being it, and by which signal: then `holds`, which runs in it, has to end too.
+# In which the runner, `module`, is ended, and by which signal: then `holds`, which it runs, has to end too.
 KILLED = [
     ("a lane whose gate is killed", "lane = module.Lane(['docs'], room, ''); time.sleep(600)", signal.SIGKILL),
     ("a part that is run", "module.end_by_signals(); module.shown(['sh', '-c', f'{holds}; :'], print)", signal.SIGTERM),
@@ -244,7 +245,8 @@ def ends_of_the_runner(counts, room):
             has_begun = becomes(lambda: is_held(held))
             process.send_signal(number)
         counts.tell(f"{name}, which runs on", has_begun and becomes(lambda: not is_held(held)))
-    done = subprocess.run(f"'{TOP}/tests/run' --list | head -1", shell=True, capture_output=True, text=True, check=False)
+    done = subprocess.run(f"'{TOP}/tests/run' --list | head -1", shell=True, capture_output=True, text=True,
+                          check=False)
     counts.tell("--list, of which a line is read", (done.stdout.count("\n"), done.stderr) == (1, ""), done.stderr)
 
 

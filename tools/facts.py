@@ -1,7 +1,9 @@
 """Facts that stand in more than one file: where each stands, for tools/calls, which writes them.
 
-The version is that of the file VERSION. The statuses, their numbers and texts are those of s2union.h. A file that
-tools/calls makes, whole or in part, isn't here.
+The version is that of the file VERSION. The statuses, their numbers and texts are those of s2union.h. The commands of a
+script, with the forms of their words, are those of HELP in crates/s2script/src/table.rt; their errors and examples are
+those of docs/SCRIPT.md. The limits are constants of the crates. A file that tools/calls makes, whole or in part, isn't
+here.
 """
 import re
 import textwrap
@@ -88,11 +90,88 @@ def of_statuses(statuses):
     ]
 
 
+TABLE, SCRIPT = "crates/s2script/src/table.rt", "docs/SCRIPT.md"
+COMMAND = re.compile(r"^  ([a-z]+)((?: \S+)*)  +\S.*$", re.M)
+ROW = re.compile(r"^\| `([a-z]+)[^`]*` \| .* \| ([^|]*?) ?\| `([^`]*)` \|$", re.M)
+
+
+def commands(table):
+    """The commands of the help in the text of table.rt, in their order, with the forms of their words."""
+    return dict(COMMAND.findall(table[table.index("HELP: &str"):table.index('";')]))
+
+
+def lost_commands(table):
+    """Each command of table.rt, with what it lacks there."""
+    forms, arms = commands(table), set(re.findall(r'name == b"(\w+)"', table))
+    for name in sorted(arms.union(forms)):
+        lacks = "" if name in forms and name in arms else "arm" if name in forms else "line of HELP"
+        yield name, f"no {lacks} is there" if lacks else ""
+
+
+def in_lines(words, first, more, end):
+    """Words in lines of at most 120 characters: the first begins after `first` characters, the others begin with `more`
+    and all but the last end with a blank and `end`."""
+    indent = textwrap.wrap(" ".join(words), 119 - len(end), initial_indent=" " * first,
+                           subsequent_indent=" " * len(more))
+    return f" {end}\n{more}".join(line.strip() for line in indent)
+
+
+def of_commands(table, page):
+    """The places of the commands, where the texts are those of table.rt and of docs/SCRIPT.md."""
+    forms, rows = commands(table), {name: more for name, *more in ROW.findall(page)}
+    errors = {name: (rows[name][0].replace("`", ""), rows[name][1]) for name in forms if name in rows}
+    lines = "".join(f'    "{name}": ("{own}", "{example}"),\n' for name, (own, example) in errors.items())
+    similar = "crates/s2script/{}"
+    return [
+        Place(SCRIPT, r"^\| `(?P<name>[a-z]+)(?P<form>[^`|]*)` \| .* \|[^|]*\| `[^`]*` \|$",
+              {name: {"form": form} for name, form in forms.items()}),
+        Place("tools/launcher/prompt.py", r"^COMMANDS = \{\n(?P<lines>(?:    .*\n)*)\}", {"": {"lines": lines}}),
+        Place(similar.format("src/similar.rt"), r'^        b"(?P<names>[^"]*)"',
+              {"": {"names": in_lines(forms, 10, " " * 10, "\\")}}),
+        Place(similar.format("specs/Similar.antt"), r'^names = words \(codes "(?P<names>[^)]*)"\)',
+              {"": {"names": in_lines(forms, 22, '    ++ codes "', '"')}}),
+    ]
+
+
+LIMITS = {"LONGEST_LINE": "s2script/src/limits.rt", "MOST_FILE": "s2file/src/union_file.rt",
+          "SESSION_CHANGES": "s2file/src/lib.rt", "MOST_LISTED": "s2calc/src/limits.rt",
+          "MOST_REGISTER": "s2edit/src/lib.rt", "MOST_STATES": "s2edit/src/lib.rt",
+          "MOST_COVERING": "s2cover/src/lib.rt"}
+
+
+def limits(read):
+    """The limits by their names, where `read` answers the text of a file."""
+    return {name: int(re.search(rf"const {name}: \w+ = ([\d_]+);", read(f"crates/{file}"))[1])
+            for name, file in LIMITS.items()}
+
+
+def of_limits(of):
+    """The places of these limits; the header has one, from which tools/calls makes others."""
+    options = {"limit": {"value": of["MOST_REGISTER"]}, "depth": {"value": of["MOST_STATES"]}}
+    note = {"most": of["MOST_REGISTER"], "listed": of["MOST_LISTED"]}
+    note_form = r"\(--limit raises that, up to (?P<most>\d+)\), denorm lists (?P<listed>\d+)\""
+    return [
+        Place("crates/s2union_c/include/s2union.h", r"^#define S2U_MOST_COVERING (?P<value>\d+)",
+              {"": {"value": of["MOST_COVERING"]}}),
+        Place("tests/model/calculator.py", r"^(?P<name>[A-Z_]+) = (?P<value>[\d_]+)$",
+              {own: {"value": f"{of[name]:_}" if of[name] >= 10_000 else of[name]} for own, name in (
+                  ("LONGEST_LINE", "LONGEST_LINE"), ("MOST_IN_A_FILE", "MOST_FILE"),
+                  ("MOST_CHANGES", "SESSION_CHANGES"), ("MOST_LISTED", "MOST_LISTED"))}),
+        Place("tools/launcher/prompt.py", r"^LONGEST = (?P<value>\d+)", {"": {"value": of["LONGEST_LINE"]}}),
+        Place("crates/s2calc/src/command_line.rt", r'"(?P<name>\w+)",\n.*\n.*\n +"The most .*, 1 to (?P<value>\d+)"',
+              options),
+        Place(SCRIPT, r"^\| `--(?P<name>\w+) N` \| the most .*, 1 to (?P<value>\d+);", options),
+        Place(SCRIPT, r"raise `--(?P<name>\w+)`, up to (?P<value>\d+)", options),
+        Place("crates/s2calc/src/notes.rt", note_form, {"": note}),
+        Place("crates/s2calc/specs/Notes.antt", note_form, {"": note}),
+    ]
+
+
 def written(places, read):
     """The text of each file of the places with their facts in it, where `read` answers that of a file, and what has no
     place: the file, and the names of the facts."""
     texts, lost = {}, []
     for place in places:
         texts[place.file], left = place.filled(texts.get(place.file) or read(place.file))
-        lost += [(place.file, name or "the version") for name in left]
+        lost += [(place.file, name or place.pattern) for name in left]
     return texts, lost

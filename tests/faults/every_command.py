@@ -11,9 +11,8 @@ from model import calculator as model
 from process import PROGRAM
 
 LIMIT, DEPTH = 10_000, 3  # the oldest states are dropped
-WRITERS, READERS = ("save", "dump"), ("load", "restore")
-EDITS = ("add", "remove", "keep", "clear", "copy", "union", "intersect", "subtract", "range")
-EDITS += ("outer", "inner", "outerof", "innerof")
+READERS = [name for name, errors in model.ERRORS.items() if "missing" in errors]
+WRITERS = [name for name, errors in model.ERRORS.items() if "file" in errors and name not in READERS]
 
 
 def remembered(function):
@@ -108,21 +107,19 @@ class Way:
         self.notes += f"line {self.lines}: error {refusal}: {refusal.reason}\n".encode()
         return f"error {refusal}\n".encode()
 
-    def refused(self, name, reason=None):
+    def refused(self, name):
         """The answer to a line that is refused and changes nothing, with the way that it leads."""
         other = self.copy()
-        return other.refuse(model.Refused(name, reason)), other
+        return other.refuse(model.Refused(name)), other
 
     def failures(self, line, memory, disk):
         """The other answers that the line may have if memory or the disk fails, each with the way that it leads."""
         command = line.split()[0].decode() if line.split() else ""
-        if memory and command in EDITS + READERS:
-            yield self.refused("memory", "out of memory")
+        if memory and "memory" in model.ERRORS.get(command, ()) or command in WRITERS:
+            yield self.refused("memory")
         if disk and command in READERS:
             yield self.refused("file")
             yield self.refused("missing")
-        if command in WRITERS:
-            yield self.refused("memory", "out of memory")
         if disk and command in WRITERS:
             name = line.split()[-1].decode()
             done = self.copy()

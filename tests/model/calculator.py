@@ -8,6 +8,7 @@ import codecs
 import functools
 import re
 import string
+from pathlib import Path
 
 LEAVES = 6 * 4**30
 SIZES = [4 ** (30 - level) for level in range(31)]
@@ -19,23 +20,21 @@ LONGEST_LINE = 4096
 MOST_IN_A_FILE = 1_000_000
 MOST_CHANGES = 10_000
 MOST_LISTED = 1_000_000
-COMMANDS = (
-    "add remove keep union subtract intersect copy clear range outer inner outerof innerof show count denorm has "
-    "touches covers meets cell at square load save undo redo history dump restore"
-).split()
+TOP = Path(__file__).resolve().parents[2]
+# The errors of each command, in the order of the tables of docs/SCRIPT.md.
+ERRORS = {name: re.findall(r"`([a-z-]+)`", errors) for name, errors in re.findall(
+    r"^\| `([a-z]+)[^`]*` \| .* \| ([^|]*?) ?\| `[^`]*` \|$", (TOP / "docs/SCRIPT.md").read_text("utf-8"), re.M)}
+COMMANDS = list(ERRORS)
 
 
-REASONS = {
-    "missing": "there is no file of that name",
-    "file": "the file could not be read or written",
-    "format": "the file is not a union file",
-    "session": "the file is not a session file",
-    "too-deep": "the session has more states than the depth",
-    "too-many": "too many cells: a register has up to 10000 (--limit raises that, up to 1000000), "
-                "denorm lists 1000000",
-    "nothing": "there is nothing to undo or redo",
-    "line": f"the line has more than {LONGEST_LINE} bytes: write several shorter lines",
-}
+def texts_of(module, function):
+    """The texts that a function of the definitions has for its arguments."""
+    text = (TOP / f"crates/s2calc/specs/{module}.antt").read_text("utf-8")
+    return dict(re.findall(rf'^{function} (?:line )?(\w+) =\s+codes "(.*)"$', text, re.M))
+
+
+# Why a line is refused, by the name of its error.
+REASONS = {name: texts_of("Notes", "reason_of")[error] for error, name in texts_of("Refusals", "name_of").items()}
 
 
 class Refused(Exception):
@@ -517,7 +516,7 @@ class Calculator:
 
     def answer(self, line):
         if len(line) > LONGEST_LINE:
-            raise Refused("line")
+            raise Refused("line", f"the line has more than {LONGEST_LINE} bytes: write several shorter lines")
         line = line[:-1] if line.endswith(b"\r") else line
         words = re.findall(rb"[^ \t]+", line)
         if line.startswith(b"#") or not words:

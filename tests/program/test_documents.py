@@ -7,8 +7,8 @@ import subprocess
 import tempfile
 import unittest
 
+from model import calculator as model
 from process import LAUNCHER, PROGRAM, TOP, launched, ran
-import prompt  # which process finds
 
 
 def has_gnu_parallel():
@@ -234,8 +234,7 @@ class Documents(unittest.TestCase):
                     wanted = b"error %s\n" % name.encode() if example else b""
                     self.assertEqual(ran("run", "--depth", "1", script=example.encode(), cwd=folder)[1], wanted)
         self.assertEqual({name for name, example in rows if not example}, {"memory", "line"})
-        of_commands = {error for name in prompt.COMMANDS for error in self.help_on(name)[1]}
-        self.assertEqual({name for name, _ in rows}, of_commands | {"line"})
+        self.assertEqual({name for name, _ in rows}, {"syntax", "line"}.union(*model.ERRORS.values()))
 
     def test_what_other_commands_print(self):
         shown = re.findall(r"```text\n\$ (printf .*\| \./s2calc .*)\n((?:.*\n)*?)```", self.texts["docs/SCRIPT.md"])
@@ -267,26 +266,11 @@ class Documents(unittest.TestCase):
                 if option != "--help":
                     self.assertRegex(self.texts["docs/SCRIPT.md"], f"`{option}\\b")
 
-    def help_on(self, name):
-        """The form, the errors and the example of a command, as the prompt has them."""
-        form, _, errors, example = prompt.help_on(PROGRAM, name).splitlines()
-        return form, errors.removeprefix("errors: ").split(", "), example.removeprefix("example: ")
-
     def test_each_command(self):
-        """The tables have the commands with their forms, errors and examples as the prompt has them, and each command
-        is in a session."""
-        text = self.texts["docs/SCRIPT.md"]
-        tables = text[text.index("## Commands"):text.index("## The prompt")]
-        rows = re.findall(r"^\| `([^`]*)` \| .* \| ([^|]*?) ?\| `([^`]*)` \|$", tables, re.M)
-        for form, errors, example in rows:
-            its_form, its_errors, its_example = self.help_on(form.split()[0])
-            its_errors = ", ".join(f"`{error}`" for error in its_errors if error != "syntax")
-            self.assertEqual((form, errors, example), (its_form, its_errors, its_example))
-        commands = {form.split()[0] for form, _, _ in rows}
-        scripts = "".join(re.findall(r"<<'SCRIPT'\n(.*?)SCRIPT\n", text, re.S))
-        with open(os.path.join(TOP, "crates/s2script/src/table.rt"), encoding="utf-8") as it:
-            self.assertEqual(commands, set(re.findall(r'name == b"(\w+)"', it.read())))
-        self.assertEqual(commands - {line.split()[0] for line in scripts.splitlines() if line.split()}, set())
+        """Each command of the page is in a session."""
+        scripts = "".join(re.findall(r"<<'SCRIPT'\n(.*?)SCRIPT\n", self.texts["docs/SCRIPT.md"], re.S))
+        shown = {line.split()[0] for line in scripts.splitlines() if line.split()}
+        self.assertEqual(set(model.COMMANDS) - shown, set())
 
     def test_the_first_command(self):
         shown = re.compile(r"printf '(.*?)\\n' \| \./s2calc run .*?The first prints `(.*?)`", re.S)

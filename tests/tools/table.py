@@ -17,10 +17,12 @@ READ = ["tools/calls", "crates/s2union_c/src", "crates/s2union_c/include", "crat
         "bindings/c/s2union.ffi.h",
         "bindings/cpp", "tests/cpp/examples.cc", "tests/c/calls.h", "docs/SQLITE.md", "bindings/sqlite/functions.h",
         "bindings/sqlite/s2union_geo.c", "docs/GO.md", "VERSION", "README.md", "CITATION.cff", "docs/C.md",
-        "crates/s2calc/src/command_line.rt", "bindings/rust/Cargo.toml", "bindings/rust/serde/Cargo.toml",
+        "bindings/rust/Cargo.toml", "bindings/rust/serde/Cargo.toml",
         "bindings/r/DESCRIPTION", "bindings/js/package.json", "bindings/postgres/s2union.control",
         "bindings/postgres/s2union_geo.control", "bindings/postgres/s2union_postgis.control",
-        "bindings/postgres/expected"]
+        "bindings/postgres/expected", "docs/SCRIPT.md", "tools/launcher/prompt.py", "tests/model/calculator.py",
+        "crates/s2script/src", "crates/s2script/specs", "crates/s2calc/src", "crates/s2calc/specs/Notes.antt",
+        "crates/s2file/src", "crates/s2edit/src/lib.rt"]
 HEADER = "crates/s2union_c/include/s2union.h"
 
 
@@ -53,7 +55,19 @@ MISTAKES = [
     Mistake("a status that the header lacks", "crates/s2union_c/src/status.rt", "const NO_ROOM: i32 = -1;",
             "const NO_ROOM: i32 = -1;\nconst NO_NAME: i32 = -99;", "status -99: it has no name"),
     Mistake("another most of a covering", "crates/s2cover/src/lib.rt", "const MOST_COVERING: usize = 1_000_000;",
-            "const MOST_COVERING: usize = 1_000_001;", "S2U_MOST_COVERING: it is"),
+            "const MOST_COVERING: usize = 1_000_001;", "s2union.h: not what tools/calls makes"),
+    Mistake("another limit of a line", "crates/s2script/src/limits.rt", "LONGEST_LINE: usize = 4096;",
+            "LONGEST_LINE: usize = 4097;", "calculator.py: not what tools/calls makes"),
+    Mistake("a command without a line of the help", "crates/s2script/src/table.rt",
+            "  cell CELL                                describes the cell\n", "", "cell: no line of HELP is there"),
+    Mistake("a command without an arm", "crates/s2script/src/table.rt", 'name == b"square"', 'name == SQUARE',
+            "square: no arm is there"),
+    Mistake("another form of a command", "crates/s2script/src/table.rt", "\n  load r NAME   ", "\n  load s NAME   ",
+            "docs/SCRIPT.md: not what tools/calls makes"),
+    Mistake("another error of a command", "docs/SCRIPT.md", "| `name`, `file`, `memory` | `dump session` |",
+            "| `name`, `memory` | `dump session` |", "prompt.py: not what tools/calls makes"),
+    Mistake("a command that the page lacks", "docs/SCRIPT.md", "| `redo` | goes", "| redo | goes",
+            "docs/SCRIPT.md: it has no place for redo"),
     Mistake("two lengths of Rust in the wrong order", "bindings/rust/src/calls.rs",
             "fn s2u_is_union(ids: *const u64, n: usize)", "fn s2u_is_union(n: usize, ids: *const u64)"),
     Mistake("two lengths that Rust passes in the wrong order", "bindings/rust/src/calls.rs",

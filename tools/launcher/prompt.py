@@ -24,41 +24,38 @@ OWN = {
     "quit": "leaves, as 'exit' and Ctrl-D do",
 }
 WORDS = ("help", "quit", "exit")  # of the prompt, beside the commands of a script
-# The errors of each kind of word in a command's form.
-OF_WORDS = {"r": "register", "s": "register", "CELL": "cell", "LEVEL": "level", "MIN": "level", "MOD": "level",
-            "FACE": "face", "I": "rectangle", "I0": "rectangle", "NAME": "name"}
-# The other errors of each command, and an example. docs/SCRIPT.md has the same table.
+# The errors of each command beside `syntax`, and an example: tools/calls writes them, of docs/SCRIPT.md.
 COMMANDS = {
-    "add": ("too-many, memory", "add a 04 0c 14"),
-    "remove": ("too-many, memory", "remove a 0/00"),
-    "keep": ("too-many, memory", "keep a 0/1 0/2"),
-    "union": ("too-many, memory", "union a b"),
-    "subtract": ("too-many, memory", "subtract a b"),
-    "intersect": ("too-many, memory", "intersect a b"),
-    "copy": ("memory", "copy b a"),
-    "clear": ("memory", "clear a"),
-    "range": ("order, too-many, memory", "range a 0/3 1/0"),
-    "outer": ("too-many, memory", "outer a 29 0 0 2 0 0"),
-    "inner": ("too-many, memory", "inner a 29 0 0 3 0 1"),
-    "outerof": ("too-many, memory", "outerof b a 4"),
-    "innerof": ("too-many, memory", "innerof b a 4 0 0 1023 0 1023"),
-    "show": ("", "show a"),
-    "count": ("", "count a"),
-    "denorm": ("too-many", "denorm a 3 2"),
-    "has": ("", "has a 0/11"),
-    "touches": ("", "touches a 1"),
-    "covers": ("", "covers a b"),
-    "meets": ("", "meets a b"),
-    "cell": ("", "cell 64c"),
-    "at": ("", "at 0 0 536870912"),
-    "square": ("", "square 0c"),
-    "load": ("missing, file, format, too-many, memory", "load a parks"),
-    "save": ("file, memory", "save a parks"),
+    "add": ("register, cell, too-many, memory", "add a 04 0c 14"),
+    "remove": ("register, cell, too-many, memory", "remove a 0/00"),
+    "keep": ("register, cell, too-many, memory", "keep a 0/1 0/2"),
+    "union": ("register, too-many, memory", "union a b"),
+    "subtract": ("register, too-many, memory", "subtract a b"),
+    "intersect": ("register, too-many, memory", "intersect a b"),
+    "copy": ("register, memory", "copy b a"),
+    "clear": ("register, memory", "clear a"),
+    "range": ("register, cell, order, too-many, memory", "range a 0/3 1/0"),
+    "outer": ("register, level, face, rectangle, too-many, memory", "outer a 29 0 0 2 0 0"),
+    "inner": ("register, level, face, rectangle, too-many, memory", "inner a 29 0 0 3 0 1"),
+    "outerof": ("register, level, face, rectangle, too-many, memory", "outerof b a 4"),
+    "innerof": ("register, level, face, rectangle, too-many, memory", "innerof b a 4 0 0 1023 0 1023"),
+    "show": ("register", "show a"),
+    "count": ("register", "count a"),
+    "denorm": ("register, level, too-many", "denorm a 3 2"),
+    "has": ("register, cell", "has a 0/11"),
+    "touches": ("register, cell", "touches a 1"),
+    "covers": ("register", "covers a b"),
+    "meets": ("register", "meets a b"),
+    "cell": ("cell", "cell 64c"),
+    "at": ("face, rectangle", "at 0 0 536870912"),
+    "square": ("cell", "square 0c"),
+    "load": ("register, name, missing, file, format, too-many, memory", "load a parks"),
+    "save": ("register, name, file, memory", "save a parks"),
     "undo": ("nothing", "undo"),
     "redo": ("nothing", "redo"),
     "history": ("", "history"),
-    "dump": ("file, memory", "dump session"),
-    "restore": ("missing, file, session, too-deep, too-many, memory", "restore session"),
+    "dump": ("name, file, memory", "dump session"),
+    "restore": ("name, missing, file, session, too-deep, too-many, memory", "restore session"),
 }
 
 
@@ -85,9 +82,8 @@ def whole_help(program):
 def help_on(program, name):
     """The help on a command."""
     form, does = help_of(program)[1][name]
-    kinds = [OF_WORDS.get(word.strip("[].")) for word in form.split()[1:]]
-    errors = [*dict.fromkeys(filter(None, kinds)), *filter(None, COMMANDS[name][0].split(", "))]
-    return f"{form}\n    {does}\nerrors: {', '.join([*errors, 'syntax'])}\nexample: {COMMANDS[name][1]}"
+    errors, example = COMMANDS[name]
+    return f"{form}\n    {does}\nerrors: {', '.join(filter(None, [errors, 'syntax']))}\nexample: {example}"
 
 
 def near(word, names):
