@@ -75,7 +75,7 @@ class Mutant:
     def is_refused(self, said):
         """Whether the mutant's test ran and failed."""
         test = re.escape(self.test)  # whose name may be the beginning of another's
-        failure = rf"other answers: {test}$" if self.crate else rf"(?:FAILED|ERROR) \S*::{test}(?: |$)"
+        failure = rf"other answers: {test}$" if self.crate else rf"(?:FAILED|ERROR) \S*::{test}(?:\[| |$)"
         found = re.search(rf"^{failure}", said, re.M)
         other = "NOT TRIED: not built" if said == "not built" else "NOT REFUSED"
         print(f"{self.name}: {f'refused by {self.test}' if found else other}", flush=True)

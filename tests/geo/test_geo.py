@@ -6,7 +6,6 @@ import runpy
 import sqlite3
 import subprocess
 import sys
-import unittest
 from contextlib import closing
 from math import atan, cos, degrees, radians, sin
 from pathlib import Path
@@ -113,10 +112,9 @@ SQL
             plain[inside] = feature["properties"]["name"]
             for folder in ("countries", "python"):
                 inner, outer = (covering(self.file(folder), feature, kind) for kind in ("inner", "outer"))
-                with self.subTest(folder=folder, name=feature["properties"]["name"]):
-                    self.assertFalse((inner.contains_cells(cells) & ~inside).any())
-                    self.assertFalse((inside & ~outer.contains_cells(cells)).any())
-                    self.assertTrue(inner <= outer)
+                self.assertFalse((inner.contains_cells(cells) & ~inside).any())
+                self.assertFalse((inside & ~outer.contains_cells(cells)).any())
+                self.assertTrue(inner <= outer)
         self.assertEqual(names.tolist(), plain.tolist())
         self.assertTrue(0 < numpy.count_nonzero(tested) < 2000)
 
@@ -155,15 +153,14 @@ SQL
         with as many cells both bound the polygon about as closely."""
         ours, theirs = numpy.zeros(2), numpy.zeros(2)
         for feature in features_of(self.file("countries.geojson")):
-            with self.subTest(name=feature["properties"]["name"]):
-                here, there = ({kind: covering(self.file(folder), feature, kind) for kind in ("inner", "outer")}
-                               for folder in ("countries", "python"))
-                self.assertTrue(here["inner"] <= there["outer"] and there["inner"] <= here["outer"])
-                outer, inner = coverings(feature, 200)
-                self.assertTrue(here["inner"] <= outer and inner <= here["outer"] and inner <= outer)
-                self.assertTrue(len(outer) <= 200 and len(inner) <= 200)
-                ours += [outer.leaf_count(), inner.leaf_count()]
-                theirs += [here["outer"].leaf_count(), here["inner"].leaf_count()]
+            here, there = ({kind: covering(self.file(folder), feature, kind) for kind in ("inner", "outer")}
+                           for folder in ("countries", "python"))
+            self.assertTrue(here["inner"] <= there["outer"] and there["inner"] <= here["outer"])
+            outer, inner = coverings(feature, 200)
+            self.assertTrue(here["inner"] <= outer and inner <= here["outer"] and inner <= outer)
+            self.assertTrue(len(outer) <= 200 and len(inner) <= 200)
+            ours += [outer.leaf_count(), inner.leaf_count()]
+            theirs += [here["outer"].leaf_count(), here["inner"].leaf_count()]
         self.assertLess(ours[0] / theirs[0], 1.1)
         self.assertGreater(ours[1] / theirs[1], 0.9)
 
@@ -203,13 +200,12 @@ SQL
         lines = iter(subprocess.run([self.file("outline"), *map(self.file, names)], stdout=subprocess.PIPE, text=True,
                                     check=True).stdout.splitlines())
         for name in names:
-            with self.subTest(name=name):
-                union, (wanted, count) = self.union(name), next(lines).split()
-                wanted = float(wanted) * 6371.01**2
-                self.assertLessEqual(abs(area(union) - wanted), 1e-9 * wanted)
-                theirs = [corners_of(numpy.array(next(lines).split(), float).reshape(-1, 2)) for _ in range(int(count))]
-                ours = [corners_of(numpy.array(line)) for line in boundary(union)["coordinates"]]
-                self.assertEqual((len(ours), set(ours)), (len(theirs), set(theirs)))
+            union, (wanted, count) = self.union(name), next(lines).split()
+            wanted = float(wanted) * 6371.01**2
+            self.assertLessEqual(abs(area(union) - wanted), 1e-9 * wanted)
+            theirs = [corners_of(numpy.array(next(lines).split(), float).reshape(-1, 2)) for _ in range(int(count))]
+            ours = [corners_of(numpy.array(line)) for line in boundary(union)["coordinates"]]
+            self.assertEqual((len(ours), set(ours)), (len(theirs), set(theirs)))
 
     def test_gdal_reads_union_files(self):
         """Each covering of a country is a layer with its cells, which go through GeoPackage; and what is no union."""
@@ -223,12 +219,11 @@ SQL
             done = gdal("ogr2ogr", "-f", "GeoJSON", "-lco", "COORDINATE_PRECISION=15", "/vsistdout/",
                         self.file(f"countries/{name}"))
             found, union = json.loads(done.stdout)["features"], self.union(f"countries/{name}")
-            with self.subTest(name=name):
-                self.assertEqual(CellUnion(cell["properties"]["cell"] for cell in found), union)
-                for feature, wanted in zip(found, to_geojson(union)["features"]):
-                    self.assertEqual(feature["properties"]["token"], wanted["properties"]["cell"])
-                    ring, other = (numpy.array(it["geometry"]["coordinates"][0]) for it in (feature, wanted))
-                    self.assertLess(numpy.abs(ring - other).max(), 1e-12)
+            self.assertEqual(CellUnion(cell["properties"]["cell"] for cell in found), union)
+            for feature, wanted in zip(found, to_geojson(union)["features"]):
+                self.assertEqual(feature["properties"]["token"], wanted["properties"]["cell"])
+                ring, other = (numpy.array(it["geometry"]["coordinates"][0]) for it in (feature, wanted))
+                self.assertLess(numpy.abs(ring - other).max(), 1e-12)
         for name, content, said in (("no_cell", b"\1" + (1).to_bytes(8, "little") + b"\2" + bytes(7), "not a cell"),
                                     ("short", b"\1" + (2).to_bytes(8, "little") + bytes(8), "Unable to open"),
                                     ("none", b"", "Unable to open")):
@@ -264,10 +259,9 @@ SQL
         for line in Path(self.file("made.tsv")).read_text().splitlines():
             name, region, drawn = line.split("\t")
             regions[name] = union = CellUnion.from_bytes(bytes.fromhex(region))
-            with self.subTest(name=name):
-                self.assertEqual(union, self.union(f"python/{name}.outer"))
-                self.assertEqual(json.loads(drawn)["coordinates"],
-                                 [it["geometry"]["coordinates"] for it in to_geojson(union)["features"]])
+            self.assertEqual(union, self.union(f"python/{name}.outer"))
+            self.assertEqual(json.loads(drawn)["coordinates"],
+                             [it["geometry"]["coordinates"] for it in to_geojson(union)["features"]])
         self.assertEqual(said, f"177|{sum(len(it.denormalised(1)) for it in regions.values())}|t\n")
         found = {(int(place), name) for place, name in
                  (line.split("\t") for line in Path(self.file("pairs.tsv")).read_text().splitlines())}

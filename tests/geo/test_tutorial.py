@@ -1,6 +1,5 @@
 """What docs/TUTORIAL.md shows, and that it is true: beside plain tests by polygons, and S2's distances."""
 import json
-import unittest
 from pathlib import Path
 from random import Random
 
@@ -90,8 +89,7 @@ class Tutorial(page.Page):
             polygon = polygons[name]
             points = [point for point in zip(*random_points(4000, polygon.bounds)) if polygon.contains(Point(point))]
             share = numpy.mean([lakes.have(*point) for point in points])
-            with self.subTest(name=name, share=share):
-                self.assertTrue(float(least) / 100 < share < float(most) / 100)
+            self.assertTrue(float(least) / 100 < share < float(most) / 100)
 
     def test_the_flight(self):
         """The corridor has the points within 50 km; the countries are those whose polygons are so near."""

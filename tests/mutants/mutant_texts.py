@@ -190,7 +190,7 @@ def misfit(mutant, folder):
 def has_test(folder, crate, name):
     """Whether a test of the program has this name, or if there is a crate, a row of its table."""
     files = [folder / "crates" / crate[1] / "stdin"] if crate else folder.glob("tests/program/*.py")
-    form = rf"^## {re.escape(name)}$" if crate else rf"^    def {re.escape(name)}\("
+    form = rf"^## {re.escape(name)}$" if crate else rf"^(?:    )?def {re.escape(name)}\("
     return any(re.search(form, file.read_text(encoding="utf-8"), re.M) for file in files)
 
 

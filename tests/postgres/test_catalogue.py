@@ -282,8 +282,7 @@ class Updates(unittest.TestCase):
         self.assertEqual(versions[0], "1.0")
         self.assertNotIn(VERSION, versions)
         for earlier in versions:
-            with self.subTest(earlier=earlier):
-                self.update_from(earlier)
+            self.update_from(earlier)
 
     def update_from(self, earlier):
         query = """

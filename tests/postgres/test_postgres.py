@@ -1255,7 +1255,7 @@ class Points(Tests):
                            ("s2_leaf_at(540.1, 0)", "s2union: a longitude is a number from -540 to 540: 540.1"),
                            ("s2_longitude(2)", "s2union: not a cell: 2"), ("s2_latitude(0)", "s2union: not a cell: 0"),
                            ("s2_latitude('zz')", 's2union: not a cell: "zz"')):
-            with self.subTest(call=call), self.assertRaisesRegex(AssertionError, said):
+            with self.assertRaisesRegex(AssertionError, said, msg=call):
                 psql(f"SELECT {call}")
 
 

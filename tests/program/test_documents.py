@@ -7,6 +7,8 @@ import subprocess
 import tempfile
 import unittest
 
+import pytest
+
 from model import calculator as model
 from process import LAUNCHER, PROGRAM, TOP, launched, ran
 
@@ -168,47 +170,88 @@ class Launcher(unittest.TestCase):
                                                        check=True, timeout=60).stdout)
 
 
-class Tools(unittest.TestCase):
-    """The tools that write into a folder."""
+def said_by_tool(tool, words, room):
+    """What a tool that writes into a folder says in one, in which it then has left nothing."""
+    done = subprocess.run([os.path.join(TOP, "tools", tool), *words], cwd=room, capture_output=True, text=True,
+                          env={"PATH": "/usr/bin:/bin"}, timeout=60)
+    assert os.listdir(room) == []
+    return done
 
-    def test_no_folder_is_named(self):
-        """Then nothing is made, and nothing installed. Who asks for help gets it."""
-        for tool in ("library", "package", "package-trial", "page", "java"):
-            for words in ([], [""], ["--help"]) + ((["f", "--once"],) if tool in ("library", "package") else ()):
-                with self.subTest(tool=tool, words=words), tempfile.TemporaryDirectory() as room:
-                    done = subprocess.run([os.path.join(TOP, "tools", tool), *words], cwd=room, capture_output=True,
-                                          env={"PATH": "/usr/bin:/bin"}, timeout=60, text=True)
-                    self.assertEqual(os.listdir(room), [])
-                    if words == ["--help"]:
-                        self.assertEqual((done.returncode, done.stderr), (0, ""))
-                        self.assertIn(f"tools/{tool} ", done.stdout)
-                        continue
-                    self.assertNotEqual(done.returncode, 0)
-                    self.assertRegex(done.stderr, f"^(the folder is missing: )?tools/{tool} ")
-                    self.assertEqual(done.stdout, "")
+
+TOOLS = ["library", "package", "package-trial", "page", "java"]
+
+
+@pytest.mark.parametrize("tool,words", [*((tool, words) for tool in TOOLS for words in ([], [""])),
+                                        ("library", ["f", "--once"]), ("package", ["f", "--once"])])
+def test_no_folder_is_named(tool, words, tmp_path):
+    """Then nothing is made, and nothing installed."""
+    done = said_by_tool(tool, words, tmp_path)
+    assert (done.returncode != 0, done.stdout) == (True, "")
+    assert re.match(f"(the folder is missing: )?tools/{tool} ", done.stderr)
+
+
+@pytest.mark.parametrize("tool", TOOLS)
+def test_help_of_a_tool(tool, tmp_path):
+    done = said_by_tool(tool, ["--help"], tmp_path)
+    assert (done.returncode, done.stderr, f"tools/{tool} " in done.stdout) == (0, "", True)
+
+
+def text_of(name):
+    with open(os.path.join(TOP, name), encoding="utf-8") as it:
+        return it.read()
+
+
+PAGES = ["README.md", *(f"docs/{name}" for name in sorted(os.listdir(os.path.join(TOP, "docs"))) if name[-3:] == ".md")]
+TRANSCRIPT = re.compile(r"```text\n\$ \./s2calc run <<'SCRIPT'\n(.*?)SCRIPT\n(.*?)```", re.S)
+TRANSCRIPTS = [pytest.param(*shown, id=f"{page}: {place}") for page in PAGES
+               for place, shown in enumerate(TRANSCRIPT.findall(text_of(page)), 1)]
+
+
+@pytest.mark.parametrize("script,answers", TRANSCRIPTS)
+def test_transcripts(script, answers, tmp_path):
+    assert ran("run", script=script.encode(), cwd=tmp_path)[1].decode() == answers
+
+
+# Calls on the page that show their answers, with what a call leads into, if it does.
+CALLS = [(*words.partition(" | ")[::2], text) for words, text in
+         re.findall(r"```text\n\$ \./s2calc ([^<\n]*)\n(.*?)```", text_of("docs/SCRIPT.md"), re.S)]
+
+
+@pytest.mark.parametrize("words,rest,text", CALLS)
+def test_calls_pictures_and_usage_faults(words, rest, text):
+    status, out, error = launched(*shlex.split(words), cwd=TOP)
+    if rest:
+        out = subprocess.run(rest, shell=True, input=out, stdout=subprocess.PIPE, check=True).stdout
+    assert ((out + error).decode(), status) == (text, 2 if error else 0)
+
+
+# The names of errors on the page, each with the line that is its example, if it has one.
+ERRORS = re.findall(r"^\| `([a-z-]+)` \| [^|]+ \| (?:`(.*?)` )?\| [^|]*\|$",
+                    text_of("docs/SCRIPT.md").partition("\n## Errors\n")[2].partition("\n### ")[0], re.M)
+
+
+@pytest.mark.parametrize("name,example", ERRORS)
+def test_each_error(name, example, tmp_path):
+    """The example of an error is answered so."""
+    (tmp_path / "folder").mkdir()
+    (tmp_path / "bad").write_bytes(b"bad")
+    ran("run", script=b"add a 1\nadd a 3\ndump deep\n", cwd=tmp_path)
+    wanted = b"error %s\n" % name.encode() if example else b""
+    assert ran("run", "--depth", "1", script=example.encode(), cwd=tmp_path)[1] == wanted
+
+
+def test_the_page_has_what_is_looked_for():
+    """Transcripts, five calls, and each error of a command; two errors have no example."""
+    assert TRANSCRIPTS and len(CALLS) == 5
+    assert {name for name, example in ERRORS if not example} == {"memory", "line"}
+    assert {name for name, _ in ERRORS} == {"syntax", "line"}.union(*model.ERRORS.values())
 
 
 class Documents(unittest.TestCase):
     """The program answers what README.md and docs/ show."""
 
     def setUp(self):
-        folder = os.path.join(TOP, "docs")
-        pages = sorted(name for name in os.listdir(folder) if name.endswith(".md"))
-        files = [os.path.join(TOP, "README.md")] + [os.path.join(folder, name) for name in pages]
-        self.texts = {}
-        for file in files:
-            with open(file, encoding="utf-8") as it:
-                self.texts[os.path.relpath(file, TOP)] = it.read()
-
-    def test_transcripts(self):
-        shown = 0
-        for file, text in self.texts.items():
-            runs = re.findall(r"```text\n\$ \./s2calc run <<'SCRIPT'\n(.*?)SCRIPT\n(.*?)```", text, re.S)
-            for script, answers in runs:
-                with self.subTest(file=file), tempfile.TemporaryDirectory() as folder:
-                    self.assertEqual(ran("run", script=script.encode(), cwd=folder)[1].decode(), answers)
-                    shown += 1
-        self.assertGreater(shown, 0)
+        self.texts = {page: text_of(page) for page in PAGES}
 
     def test_notes_on_refused_lines(self):
         shown = re.findall(
@@ -220,22 +263,6 @@ class Documents(unittest.TestCase):
                 self.assertEqual(ran("run", "--explain", script=script.encode(), cwd=folder)[2].decode(), notes)
         self.assertEqual(len(shown), 1)
 
-    def test_each_error(self):
-        """Each example of the table of errors is answered so, and all errors of a command are in the table."""
-        section = self.texts["docs/SCRIPT.md"].partition("\n## Errors\n")[2].partition("\n### ")[0]
-        rows = re.findall(r"^\| `([a-z-]+)` \| [^|]+ \| (?:`(.*?)` )?\| [^|]*\|$", section, re.M)
-        with tempfile.TemporaryDirectory() as folder:
-            os.mkdir(os.path.join(folder, "folder"))
-            with open(os.path.join(folder, "bad"), "wb") as it:
-                it.write(b"bad")
-            ran("run", script=b"add a 1\nadd a 3\ndump deep\n", cwd=folder)
-            for name, example in rows:
-                with self.subTest(name=name):
-                    wanted = b"error %s\n" % name.encode() if example else b""
-                    self.assertEqual(ran("run", "--depth", "1", script=example.encode(), cwd=folder)[1], wanted)
-        self.assertEqual({name for name, example in rows if not example}, {"memory", "line"})
-        self.assertEqual({name for name, _ in rows}, {"syntax", "line"}.union(*model.ERRORS.values()))
-
     def test_what_other_commands_print(self):
         shown = re.findall(r"```text\n\$ (printf .*\| \./s2calc .*)\n((?:.*\n)*?)```", self.texts["docs/SCRIPT.md"])
         for command, text in shown:
@@ -245,19 +272,6 @@ class Documents(unittest.TestCase):
                                       stdout=subprocess.PIPE, check=True, timeout=60)
                 self.assertEqual(done.stdout, text)
         self.assertEqual(len(shown), 1)
-
-    def test_calls_pictures_and_usage_faults(self):
-        shown = 0
-        for words, text in re.findall(r"```text\n\$ \./s2calc ([^<\n]*)\n(.*?)```", self.texts["docs/SCRIPT.md"], re.S):
-            words, _, rest = words.partition(" | ")
-            status, out, error = launched(*shlex.split(words), cwd=TOP)
-            with self.subTest(words=words):
-                if rest:
-                    out = subprocess.run(rest, shell=True, input=out, stdout=subprocess.PIPE, check=True).stdout
-                self.assertEqual((out + error).decode(), text)
-                self.assertEqual(status, 2 if error else 0)
-                shown += 1
-        self.assertEqual(shown, 5)
 
     def test_each_option(self):
         """The page has each option that the help has."""

@@ -6,16 +6,58 @@ import subprocess
 import tempfile
 import unittest
 
+import pytest
+
 from process import FACE, PROGRAM, ran, ran_in_pieces
 from test_sessions import change, session
 
 
-class Explanations(unittest.TestCase):
-    SCRIPT = b"cell zz\n\nadd a 1\n" + b"undo\n" * 1000
-    ANSWERS = b"error cell\n" + FACE + b"ok 1 0\n" + b"error nothing\n" * 999
-    FIRST = b"line 1: error cell: 'zz' is not a cell (a token or a debug text)\n"
-    NOTES = FIRST + b"".join(b"line %d: error nothing: there is nothing to undo or redo\n" % n for n in range(5, 1004))
+SCRIPT = b"cell zz\n\nadd a 1\n" + b"undo\n" * 1000
+ANSWERS = b"error cell\n" + FACE + b"ok 1 0\n" + b"error nothing\n" * 999
+FIRST = b"line 1: error cell: 'zz' is not a cell (a token or a debug text)\n"
+NOTES = FIRST + b"".join(b"line %d: error nothing: there is nothing to undo or redo\n" % n for n in range(5, 1004))
 
+
+def explained(script, **how):
+    """The status, the answers and what standard error got, which is a pipe unless another is given."""
+    how.setdefault("stderr", subprocess.PIPE)
+    words = [PROGRAM, "run", "--explain"]
+    done = subprocess.run(words, input=script, stdout=subprocess.PIPE, timeout=60, **how)
+    return done.returncode, done.stdout, done.stderr
+
+
+LONG = b"line: the line has more than 4096 bytes: write several shorter lines\n"
+ODD = {
+    "bytes that don't print": (b"add a " + bytes(range(1, 9)),
+                               b"cell: '" + b"".join(b"\\x%02x" % n for n in range(1, 9)) + b"' is not a cell"),
+    "quotes, a backslash and a CR": (b"add a \xff'\"\\\r", b"cell: '\\xff\\'\\\"\\\\' is not a cell"),
+    "4,090 such bytes": (b"add a " + b"\xff" * 4090, b"cell: '" + b"\\xff" * 4090 + b"' is not a cell"),
+    "the longest line": (b"x" * 4096, b"syntax: '" + b"x" * 4096 + b"' is not a command\n"),
+    "a byte more": (b"x" * 4097, LONG),
+    "a long comment": (b"#" * 70000, LONG),
+}
+
+
+@pytest.mark.parametrize("line,reason", ODD.values(), ids=ODD)
+def test_lines_of_odd_bytes_and_lengths(line, reason):
+    status, _, notes = explained(line)
+    assert (status, notes.count(b"\n")) == (1, 1)
+    assert notes[: len(reason) + 14] == b"line 1: error " + reason
+
+
+@pytest.mark.parametrize("size", [*range(0, 200, 13), 1000, 10000])
+def test_standard_error_fills_up(size, tmp_path):
+    def small_files():
+        signal.signal(signal.SIGXFSZ, signal.SIG_IGN)
+        resource.setrlimit(resource.RLIMIT_FSIZE, (size, size))
+
+    file = tmp_path / "notes"
+    with open(file, "wb") as notes:
+        status, answers, _ = explained(SCRIPT, stderr=notes, preexec_fn=small_files)
+    assert (status, answers, file.read_bytes()) == (1, ANSWERS, NOTES[:size])
+
+
+class Explanations(unittest.TestCase):
     # A line for each refusal that needs no failure, lines without an answer, and answered lines.
     EACH = {
         b"# a comment": (),
@@ -59,73 +101,40 @@ class Explanations(unittest.TestCase):
             for size in (1, 7):
                 self.assertEqual(ran_in_pieces(script, size, *words[1:]), (1, answers, notes))
 
-    def explained(self, script, **how):
-        """The status, the answers and what standard error got, which is a pipe unless another is given."""
-        how.setdefault("stderr", subprocess.PIPE)
-        words = [PROGRAM, "run", "--explain"]
-        done = subprocess.run(words, input=script, stdout=subprocess.PIPE, timeout=60, **how)
-        return done.returncode, done.stdout, done.stderr
-
     def test_each_refused_line_has_a_note(self):
-        self.assertEqual(self.explained(self.SCRIPT), (1, self.ANSWERS, self.NOTES))
-        self.assertEqual(ran("run", script=self.SCRIPT), (1, self.ANSWERS, b""))
+        self.assertEqual(explained(SCRIPT), (1, ANSWERS, NOTES))
+        self.assertEqual(ran("run", script=SCRIPT), (1, ANSWERS, b""))
 
     def test_nothing_is_said_if_nothing_is_refused(self):
-        self.assertEqual(self.explained(b"# a comment\nadd a 1\n"), (0, FACE, b""))
-
-    def test_lines_of_odd_bytes_and_lengths(self):
-        escaped = b"".join(b"\\x%02x" % n for n in range(1, 9))
-        for line, reason in [
-            (b"add a " + bytes(range(1, 9)), b"cell: '" + escaped + b"' is not a cell"),
-            (b"add a \xff'\"\\\r", b"cell: '\\xff\\'\\\"\\\\' is not a cell"),
-            (b"add a " + b"\xff" * 4090, b"cell: '" + b"\\xff" * 4090 + b"' is not a cell"),
-            (b"x" * 4096, b"syntax: '" + b"x" * 4096 + b"' is not a command\n"),
-            (b"x" * 4097, b"line: the line has more than 4096 bytes: write several shorter lines\n"),
-            (b"#" * 70000, b"line: the line has more than 4096 bytes: write several shorter lines\n"),
-        ]:
-            with self.subTest(line=line[:20]):
-                status, _, notes = self.explained(line)
-                self.assertEqual((status, notes.count(b"\n")), (1, 1))
-                self.assertEqual(notes[: len(reason) + 14], b"line 1: error " + reason)
+        self.assertEqual(explained(b"# a comment\nadd a 1\n"), (0, FACE, b""))
 
     def test_a_note_is_there_before_the_next_line_is_typed(self):
         words = [PROGRAM, "run", "--explain"]
         program = subprocess.Popen(words, stdin=subprocess.PIPE, stdout=subprocess.PIPE, stderr=subprocess.PIPE)
         program.stdin.write(b"cell zz\n")
         program.stdin.flush()
-        self.assertEqual(program.stderr.readline(), self.FIRST)
+        self.assertEqual(program.stderr.readline(), FIRST)
         program.kill()
         program.communicate()
 
     def test_standard_error_is_closed(self):
-        status, answers, _ = self.explained(self.SCRIPT, stderr=None, preexec_fn=lambda: os.close(2))
-        self.assertEqual((status, answers), (1, self.ANSWERS))
+        status, answers, _ = explained(SCRIPT, stderr=None, preexec_fn=lambda: os.close(2))
+        self.assertEqual((status, answers), (1, ANSWERS))
 
     def test_standard_error_is_full(self):
         with open("/dev/full", "wb") as full:
-            status, answers, _ = self.explained(self.SCRIPT, stderr=full)
-        self.assertEqual((status, answers), (1, self.ANSWERS))
-
-    def test_standard_error_fills_up(self):
-        for size in [*range(0, 200, 13), 1000, 10000]:
-            def small_files():
-                signal.signal(signal.SIGXFSZ, signal.SIG_IGN)
-                resource.setrlimit(resource.RLIMIT_FSIZE, (size, size))
-
-            with self.subTest(size=size), tempfile.TemporaryFile() as file:
-                status, answers, _ = self.explained(self.SCRIPT, stderr=file, preexec_fn=small_files)
-                file.seek(0)
-                self.assertEqual((status, answers, file.read()), (1, self.ANSWERS, self.NOTES[:size]))
+            status, answers, _ = explained(SCRIPT, stderr=full)
+        self.assertEqual((status, answers), (1, ANSWERS))
 
     def test_the_reader_of_the_notes_goes_away(self):
         reader, writer = os.pipe()
         os.close(reader)
         with os.fdopen(writer, "wb") as gone:
-            status, answers, _ = self.explained(self.SCRIPT, stderr=gone)
-        self.assertEqual((status, answers), (1, self.ANSWERS))
+            status, answers, _ = explained(SCRIPT, stderr=gone)
+        self.assertEqual((status, answers), (1, ANSWERS))
 
     def test_the_name_of_a_failed_stream_comes_after_the_notes(self):
         with open("/dev/full", "wb") as full:
             words = [PROGRAM, "run", "--explain"]
             done = subprocess.run(words, input=b"cell zz\n", stdout=full, stderr=subprocess.PIPE, timeout=60)
-        self.assertEqual((done.returncode, done.stderr), (2, self.FIRST + b"s2calc: output\n"))
+        self.assertEqual((done.returncode, done.stderr), (2, FIRST + b"s2calc: output\n"))

@@ -7,6 +7,8 @@ import tempfile
 import unittest
 from xml.etree import ElementTree
 
+import pytest
+
 from model import calculator as model
 from process import ran
 
@@ -119,20 +121,23 @@ class Fitted(unittest.TestCase):
             self.assertEqual(ran("draw", "--fit", *words)[:2], (2, b""))
 
 
-class Paths(unittest.TestCase):
-    """Where a word is no file's name, the answer stays, and standard error says why and what to write."""
+# Words that are no file's name: the first byte that isn't fit, and what to write instead.
+NOT_NAMES = [("world/France.outer", b"6 is '/'", b"; write --dir 'world/' France.outer"),
+             ("/srv/x", b"1 is '/'", b"; write --dir '/srv/' x"), ("/x", b"1 is '/'", b"; write --dir '/' x"),
+             ("a/b/", b"2 is '/'", b""), ("a b/c", b"2 is ' '", b"; write --dir 'a b/' c"), (".x", b"1 is '.'", b"")]
 
-    def test_notes(self):
-        why = (b" is not a file name (1 to 64 letters, digits, '.', '_' or '-'; it must not begin with '.' or '-'; "
-               b"--dir names the folder): byte ")
-        for word, byte, instead in (("world/France.outer", b"6 is '/'", b"; write --dir 'world/' France.outer"),
-                                    ("/srv/x", b"1 is '/'", b"; write --dir '/srv/' x"),
-                                    ("/x", b"1 is '/'", b"; write --dir '/' x"), ("a/b/", b"2 is '/'", b""),
-                                    ("a b/c", b"2 is ' '", b"; write --dir 'a b/' c"), (".x", b"1 is '.'", b"")):
-            note = b"s2calc: '" + word.encode() + b"'" + why + byte + instead + b"\n"
-            for words in (["check"], ["draw"], ["draw", "--fit"], ["draw", "x"]):
-                with self.subTest(words=words, word=word):
-                    self.assertEqual(ran(*words, word), (1, b"error name\n", note))
-        self.assertEqual(ran("draw", "a/b", "c", "d/e")[2].count(b"\n"), 2)
-        self.assertEqual(ran("draw", *["a/b"] * 1000, "x" * 100_000)[2].count(b"\n"), 1001)
-        self.assertEqual(ran("check", "absent"), (1, b"error missing\n", b""))
+
+@pytest.mark.parametrize("command", ["check", "draw", "draw --fit", "draw x"])
+@pytest.mark.parametrize("word,byte,instead", NOT_NAMES)
+def test_notes(command, word, byte, instead):
+    """Where a word is no file's name, the answer stays, and standard error says why and what to write."""
+    why = (b" is not a file name (1 to 64 letters, digits, '.', '_' or '-'; it must not begin with '.' or '-'; "
+           b"--dir names the folder): byte ")
+    note = b"s2calc: '" + word.encode() + b"'" + why + byte + instead + b"\n"
+    assert ran(*command.split(), word) == (1, b"error name\n", note)
+
+
+def test_notes_on_several_words():
+    assert ran("draw", "a/b", "c", "d/e")[2].count(b"\n") == 2
+    assert ran("draw", *["a/b"] * 1000, "x" * 100_000)[2].count(b"\n") == 1001
+    assert ran("check", "absent") == (1, b"error missing\n", b"")

@@ -24,43 +24,46 @@ OTHERS = {"too-many", "order", "missing", "file", "format", "session", "nothing"
 WHOLE = {"outerof": "outerof b a 4 0 0 1023 0 1023"}
 
 
+def both(*words, **how):
+    """The status, standard output and standard error of the program and of the launcher."""
+    for command, environment in ([PROGRAM], os.environ), ([LAUNCHER], ENVIRONMENT):
+        with tempfile.TemporaryDirectory() as room:
+            done = subprocess.run([*command, *words], cwd=room, env=environment, timeout=60, check=False,
+                                  **{"capture_output": True, **how})
+            yield done.returncode, done.stdout, done.stderr
+
+
+SAME = ["run", "run --explain", "run --prompt", "run --limit=1 --dir . --depth 2 --explain", "run --limit 0",
+        "run --limit", "run --dir", "run --dir=", "run --colour", "run --prompt --prompt", "run --limit -5",
+        "run --lim 5", "cell 64c", "cell X", "cell", "check parks", "check", "check --dir . parks",
+        "draw --cells 1 3/021", "draw --curve --cells 1 -- f", "draw --help", "--version", "-V", "ru", "-- run",
+        "help draw", "help help", "--x", "adds", ".*"]
+
+
+@pytest.mark.parametrize("words", [
+    *(line.split() for line in SAME), [], [""], ["run", "--dir", "no such"], ["cell", " 3/021 "],
+    ["cell", "$(x) `x` *"], ["cell", ""], ["cell", b"\xff"], ["run", "--dir", b"\xff"]], ids=str)
+def test_same_bytes(words):
+    """The launcher adds nothing."""
+    wanted, found = both(*words, input=SCRIPT)
+    assert found == wanted
+
+
+@pytest.mark.parametrize("words", [["run"], ["run", "--explain"], ["cell", "1"]], ids=str)
+@pytest.mark.parametrize("stream", range(3))
+def test_closed_streams(words, stream):
+    wanted, found = both(*words, input=SCRIPT, preexec_fn=lambda: os.close(stream))
+    assert found == wanted
+
+
+def test_output_that_can_not_be_written():
+    with open("/dev/full", "wb") as full:
+        wanted, found = both("run", input=SCRIPT, capture_output=False, stdout=full, stderr=subprocess.PIPE)
+    assert found == wanted
+
+
 class TheProgram(unittest.TestCase):
     """What the launcher adds nothing to."""
-
-    def both(self, *words, **how):
-        """The status, standard output and standard error of the program and of the launcher."""
-        for command, environment in ([PROGRAM], os.environ), ([LAUNCHER], ENVIRONMENT):
-            with tempfile.TemporaryDirectory() as room:
-                done = subprocess.run([*command, *words], cwd=room, env=environment, timeout=60, check=False,
-                                      **{"capture_output": True, **how})
-                yield done.returncode, done.stdout, done.stderr
-
-    def test_same_bytes(self):
-        for line in ("run", "run --explain", "run --prompt", "run --limit=1 --dir . --depth 2 --explain",
-                     "run --limit 0", "run --limit", "run --dir", "run --dir=", "run --colour", "run --prompt --prompt",
-                     "run --limit -5", "run --lim 5", "cell 64c", "cell X", "cell", "check parks", "check",
-                     "check --dir . parks", "draw --cells 1 3/021", "draw --curve --cells 1 -- f", "draw --help",
-                     "--version", "-V", "ru", "-- run", "help draw", "help help", "--x", "adds", ".*"):
-            with self.subTest(line=line):
-                wanted, found = self.both(*line.split(), input=SCRIPT)
-                self.assertEqual(found, wanted)
-        for words in ([], [""], ["run", "--dir", "no such"], ["cell", " 3/021 "], ["cell", "$(x) `x` *"], ["cell", ""],
-                      ["cell", b"\xff"], ["run", "--dir", b"\xff"]):
-            with self.subTest(words=words):
-                wanted, found = self.both(*words, input=SCRIPT)
-                self.assertEqual(found, wanted)
-
-    def test_closed_streams(self):
-        for stream in range(3):
-            for words in ["run"], ["run", "--explain"], ["cell", "1"]:
-                with self.subTest(stream=stream, words=words):
-                    wanted, found = self.both(*words, input=SCRIPT, preexec_fn=lambda closed=stream: os.close(closed))
-                    self.assertEqual(found, wanted)
-
-    def test_output_that_can_not_be_written(self):
-        with open("/dev/full", "wb") as full:
-            wanted, found = self.both("run", input=SCRIPT, capture_output=False, stdout=full, stderr=subprocess.PIPE)
-        self.assertEqual(found, wanted)
 
     def test_no_process_stays_between(self):
         """The process that was started is the program, which waits for the script."""
@@ -94,6 +97,30 @@ class TheProgram(unittest.TestCase):
         self.assertEqual(launched("run", env=missing), (2, b"", b"s2calc: there is no program /dev/null/x\n"))
 
 
+@pytest.mark.parametrize("name,reason", [("absent", "there is no file 'absent'"), (".", "'.' is a folder"),
+                                         ("", "there is no file ''")])
+def test_a_file_that_can_not_be_read(name, reason, tmp_path):
+    assert launched("run", name, cwd=tmp_path) == (2, b"", f"s2calc: input\nerror: {reason}\n".encode())
+
+
+def test_a_minus_is_standard_input(tmp_path):
+    assert launched("run", "-", cwd=tmp_path) == (0, b"", b"")
+
+
+@pytest.mark.parametrize("words,wrong", [
+    (["nope"], "nope"), (["land.outer", "nope", "none"], "nope"), (["--fit", "a", "b"], "a"),
+    (["README.md/"], "README.md/"), (["./land.outer", "./none"], "none"), (["a/x", "b/x"], "a/x"),
+    (["--dir", "/", "land.outer"], "land.outer"), (["--cells", "1", "zz", "2"], "zz"),
+    (["--curve", "--cells", "0/0 ", "*"], "0/0 ")])
+def test_a_picture_that_can_not_be_made(words, wrong):
+    """Standard output stays empty, and standard error has the answer of the program, with the word it is of."""
+    status, out, error = launched("draw", *words, cwd=PICTURES, env=ENVIRONMENT)
+    assert (status, out) == (1, b"")
+    head, _, answer = error.decode().splitlines()[-1].rpartition(": ")
+    assert head == f"s2calc: {wrong}"
+    assert re.fullmatch("error (name|missing|file|format|cell)", answer)
+
+
 class Scripts(unittest.TestCase):
     """Scripts in files and in words."""
 
@@ -123,14 +150,6 @@ class Scripts(unittest.TestCase):
             with open(path, "wb") as it:
                 it.write(SCRIPT)
             self.assertEqual(process.stdout.read(), ran("run", script=SCRIPT, cwd=self.room)[1])
-
-    def test_a_file_that_can_not_be_read(self):
-        for name, reason in (("absent", b"there is no file 'absent'"), (".", b"'.' is a folder"),
-                             ("", b"there is no file ''"), ("-", None)):
-            status, out, error = launched("run", name, **self.how)
-            with self.subTest(name=name):
-                self.assertEqual((status, out), (2 if reason else 0, b""))
-                self.assertEqual(error, b"s2calc: input\nerror: %s\n" % reason if reason else b"")
 
     def test_lines(self):
         for lines in ([b"add a 04"], [b"add a 04\nadd a 0c", b"show a"], [b""], [b"cell $HOME `x` \\ \"'", b"# \\"],
@@ -181,18 +200,7 @@ class Scripts(unittest.TestCase):
                       ["check", "/"]):
             self.assertEqual(launched(*words, cwd=TOP, env=ENVIRONMENT), ran(*words, cwd=TOP), words)
 
-    def test_a_picture_that_can_not_be_made(self):
-        """Standard output stays empty, and standard error has the answer of the program, with the word it is of."""
-        for words, wrong in ((["nope"], "nope"), (["land.outer", "nope", "none"], "nope"), (["--fit", "a", "b"], "a"),
-                             (["README.md/"], "README.md/"), (["./land.outer", "./none"], "none"),
-                             (["a/x", "b/x"], "a/x"), (["--dir", "/", "land.outer"], "land.outer"),
-                             (["--cells", "1", "zz", "2"], "zz"), (["--curve", "--cells", "0/0 ", "*"], "0/0 ")):
-            with self.subTest(words=words):
-                status, out, error = launched("draw", *words, cwd=PICTURES, env=ENVIRONMENT)
-                self.assertEqual((status, out), (1, b""))
-                last = error.decode().splitlines()[-1]
-                self.assertEqual(last.rpartition(": ")[0], f"s2calc: {wrong}")
-                self.assertRegex(last.rpartition(": ")[2], "^error (name|missing|file|format|cell)$")
+    def test_a_picture_that_can_not_be_written(self):
         with open("/dev/full", "wb") as full:
             done = subprocess.run([LAUNCHER, "draw", "land.outer"], cwd=PICTURES, env=ENVIRONMENT, stdout=full,
                                   stderr=subprocess.PIPE, check=False, timeout=60)

@@ -5,7 +5,7 @@ import os
 import tempfile
 import unittest
 
-from model.calculator import LONGEST_LINE, Calculator, file_text, identifier, joined, run_of, token
+from model.calculator import LONGEST_LINE, Calculator, identifier, token
 from process import ran
 
 # Cells of level 6, none beside three siblings: each third one, and each second one.

@@ -11,6 +11,8 @@ import tempfile
 import unittest
 from xml.etree import ElementTree
 
+import pytest
+
 from model import calculator as model
 from process import PROGRAM, TOP, answered, ran
 
@@ -73,6 +75,24 @@ def seen(cells):
     return [cell for n, cell in enumerate(larger) if n == 0 or cell != larger[n - 1]]
 
 
+REFUSED = [("absent", b"missing"), ("short", b"format"), ("folder", b"file"), ("../f", b"name"), ("", b"name")]
+REFUSED_OF_SEVERAL = [("f absent", b"missing"), ("f f short absent", b"format"), ("absent short", b"missing"),
+                      ("f <b>", b"name"), ("absent ../f", b"name"), ("f a&b", b"name"), (" f", b"name")]
+
+
+@pytest.mark.parametrize("names,refusal", REFUSED + REFUSED_OF_SEVERAL)
+def test_refusals_of_files(names, refusal, tmp_path):
+    (tmp_path / "f").write_bytes(struct.pack("<BQQ", 1, 1, model.identifier((0, 1))))
+    (tmp_path / "short").write_bytes(struct.pack("<BQB", 1, 1, 0))
+    (tmp_path / "folder").mkdir()
+    assert answered("draw", "--dir", tmp_path, *names.split(" ")) == (1, b"error " + refusal + b"\n")
+
+
+@pytest.mark.parametrize("words", ["X", "1 3 2", "", "0/4 1"])
+def test_refusals_of_cells(words):
+    assert ran("draw", "--cells", *words.split(" ")) == (1, b"error cell\n", b"")
+
+
 class Pictures(unittest.TestCase):
     """Pictures are read back into the cells that they show."""
 
@@ -103,9 +123,8 @@ class Pictures(unittest.TestCase):
     def test_cells_in_their_order(self):
         for name in (model.token, model.debug):
             for options in ([], ["--curve"]):
-                with self.subTest(name=name, options=options):
-                    cells = self.some_cells(5000, 9)
-                    self.draws([*options, "--cells", *map(name, cells)], cells)
+                cells = self.some_cells(5000, 9)
+                self.draws([*options, "--cells", *map(name, cells)], cells)
         twice = [(1, 3), (1, 3), (0, 5), (1, 3)]
         self.draws(["--cells", *map(model.token, twice), "--curve"], twice)
 
@@ -165,20 +184,9 @@ class Pictures(unittest.TestCase):
         self.overlays([("a", lists[0]), ("none", []), ("a", lists[0])])
         self.overlays([(f"f{k}", [(9, k)]) for k in range(1000)])
 
-    def test_refusals_of_several_files(self):
+    def test_too_many_files(self):
         self.write("f", [(0, 1)])
-        self.write("short", [(0, 1)])
-        with open(os.path.join(self.folder, "short"), "r+b") as file:
-            file.truncate(10)
-        for names, refusal in (
-            (("f", "absent"), b"missing"), (("f", "f", "short", "absent"), b"format"),
-            (("absent", "short"), b"missing"), (("f", "<b>"), b"name"), (("absent", "../f"), b"name"),
-            (("f", "a&b"), b"name"), (("", "f"), b"name"),
-        ):
-            with self.subTest(names=names):
-                self.assertEqual(answered("draw", "--dir", self.folder, *names), (1, b"error " + refusal + b"\n"))
-        many = ["f"] * 65536
-        self.assertEqual(ran("draw", "--dir", self.folder, *many), (1, b"error too-many\n", b""))
+        self.assertEqual(ran("draw", "--dir", self.folder, *["f"] * 65536), (1, b"error too-many\n", b""))
 
     def test_a_million_cells(self):
         # Every second cell of level 9, and then leaves, four in each cell of level 9.
@@ -197,20 +205,6 @@ class Pictures(unittest.TestCase):
             status, out, error = ran("draw", "--dir", self.folder, option, "most", "most")
             self.assertEqual((status, error, out.count(b">most: 1000000 cells<")), (0, b"", 2))
 
-    def test_refusals(self):
-        self.write("short", [(0, 1)])
-        with open(os.path.join(self.folder, "short"), "r+b") as file:
-            file.truncate(10)
-        os.mkdir(os.path.join(self.folder, "folder"))
-        for name, refusal in (
-            ("absent", b"missing"), ("short", b"format"), ("folder", b"file"), ("../f", b"name"), ("", b"name"),
-        ):
-            with self.subTest(name=name):
-                self.assertEqual(answered("draw", "--dir", self.folder, name), (1, b"error " + refusal + b"\n"))
-        for words in (["X"], ["1", "3", "2"], [""], ["0/4", "1"]):
-            with self.subTest(words=words):
-                self.assertEqual(ran("draw", "--cells", *words), (1, b"error cell\n", b""))
-
     def test_out_of_memory(self):
         def little_memory():
             resource.setrlimit(resource.RLIMIT_AS, (64 << 20, 64 << 20))
@@ -224,6 +218,4 @@ class Pictures(unittest.TestCase):
         subprocess.run(["bash", os.path.join(made, "make.sh"), self.folder, PROGRAM], check=True, timeout=60)
         names = [name for name in os.listdir(made) if name.endswith(".svg")]
         self.assertEqual(sorted(names), sorted(os.listdir(self.folder)))
-        for name in names:
-            with self.subTest(name=name):
-                self.assertTrue(filecmp.cmp(os.path.join(made, name), os.path.join(self.folder, name), shallow=False))
+        self.assertEqual(filecmp.cmpfiles(made, self.folder, names, shallow=False), (names, [], []))

@@ -2,8 +2,8 @@
 other commands. crates/test_table and crates/test_script say what the lines of a row mean."""
 import os
 import re
-import tempfile
-import unittest
+
+import pytest
 
 from process import TOP, answered, first_line, ran
 
@@ -98,45 +98,37 @@ def told(status, out, error):
     return [*lines, f"status {status}"]
 
 
-class Scripts(unittest.TestCase):
-    def test_each_has_its_answers(self):
-        for row in rows():
-            if not row.has_failures():
-                with self.subTest(row.title), tempfile.TemporaryDirectory() as folder:
-                    self.answer(row, folder)
+@pytest.mark.parametrize("row", [pytest.param(row, id=row.title) for row in rows() if not row.has_failures()])
+def test_each_has_its_answers(row, tmp_path):
+    for name, content in row.files.items():
+        (tmp_path / name).write_bytes(content)
+    status, answers, error = ran("run", "--dir", tmp_path, *row.words(), script=row.script)
+    assert row.has(answers)
+    assert (status, error) == (int(b"error " in answers), b"")
+    for name, words, wanted in row.calls:
+        if name == "program":
+            assert told(*ran(*words_in(tmp_path, words), script=row.script)) == wanted
+        else:
+            call(name, words, wanted, status, tmp_path)
 
-    def answer(self, row, folder):
-        for name, content in row.files.items():
-            with open(os.path.join(folder, name), "wb") as it:
-                it.write(content)
-        status, answers, error = ran("run", "--dir", folder, *row.words(), script=row.script)
-        self.assertTrue(row.has(answers), answers[-1000:])
-        self.assertEqual((status, error), (int(b"error " in answers), b""))
-        for name, words, wanted in row.calls:
-            if name == "program":
-                self.assertEqual(told(*ran(*words_in(folder, words), script=row.script)), wanted)
-            else:
-                self.call(name, words, wanted, status, folder)
 
-    def call(self, name, words, wanted, status, folder):
-        """Makes a call of a row, if the program has it."""
-        if name == "status":
-            self.assertEqual([str(status)], wanted)
-        elif name == "file":
-            name, _, digits = words.partition(" ")
-            with open(os.path.join(folder, name), "rb") as it:
-                self.assertEqual((it.read(), ["same"]), (bytes_of(digits), wanted))
-        elif name in ("cell", "check"):
-            options = [] if name == "cell" else ["--dir", folder]
-            status, out = answered(name, *options, words)
-            self.assertEqual(out.decode(), wanted[0] + "\n")
-            self.assertEqual(status, {"true": 0, "false": 1}[wanted[1]])
-        elif name == "job" and " " in wanted[0] and wanted[0].split()[0] in ("help", "usage"):
-            status, _, error = ran(*words.split())
-            reason, number = wanted[0].split()
-            self.assertEqual((status, first_line(error)), (int(number), b"s2calc: usage" if reason == "usage" else b""))
+def call(name, words, wanted, status, folder):
+    """Makes a call of a row, if the program has it."""
+    if name == "status":
+        assert [str(status)] == wanted
+    elif name == "file":
+        name, _, digits = words.partition(" ")
+        assert ((folder / name).read_bytes(), ["same"]) == (bytes_of(digits), wanted)
+    elif name in ("cell", "check"):
+        options = [] if name == "cell" else ["--dir", folder]
+        assert answered(name, *options, words) == ({"true": 0, "false": 1}[wanted[1]], wanted[0].encode() + b"\n")
+    elif name == "job" and " " in wanted[0] and wanted[0].split()[0] in ("help", "usage"):
+        status, _, error = ran(*words.split())
+        reason, number = wanted[0].split()
+        assert (status, first_line(error)) == (int(number), b"s2calc: usage" if reason == "usage" else b"")
 
-    def test_rows_are_those_that_the_table_is_said_to_have(self):
-        with open(TABLE, encoding="utf-8") as it:
-            self.assertIn(f"\n$ rows {len(rows())}\n", it.read())
-        self.assertEqual(len({row.title for row in rows()}), len(rows()))
+
+def test_rows_are_those_that_the_table_is_said_to_have():
+    with open(TABLE, encoding="utf-8") as it:
+        assert f"\n$ rows {len(rows())}\n" in it.read()
+    assert len({row.title for row in rows()}) == len(rows())

@@ -7,6 +7,8 @@ import subprocess
 import tempfile
 import unittest
 
+import pytest
+
 from model.calculator import REGISTERS
 from process import PROGRAM, ran
 
@@ -49,6 +51,71 @@ def size_after(program, line, answer, name):
 EXAMPLE = session({"a": ["1"]}, [change("a", [], ["1"])], [change("a", ["1"], ["0c", "14", "1c"])])
 
 
+def refuses(folder, text, name, *words):
+    """A session is refused with this name, and what was there before is still there."""
+    with open(os.path.join(folder, "s"), "wb") as it:
+        it.write(text)
+    script = b"add b 3\nadd b 5\nundo\nrestore s\nhistory\nshow b\n"
+    _, out, error = ran("run", "--dir", folder, *words, script=script)
+    assert (out, error) == (b"ok 0 1\nok 0 1\nok 1 0\nerror " + name + b"\nundo 1 redo 1\n3\nend\n", b"")
+
+
+OTHER_FORMS = {
+    "a byte too few": EXAMPLE[:-1], "a byte too many": EXAMPLE + b"\0", "empty": b"", "a head alone": b"\x73\x01",
+    "a union file without its cell": b"\x01" + number(1),
+}
+
+
+@pytest.mark.parametrize("text", OTHER_FORMS.values(), ids=OTHER_FORMS)
+def test_texts_of_another_form(text, tmp_path):
+    refuses(tmp_path, text, b"session")
+
+
+EMPTY, ONE = session(), session(past=[change("a", ["1"], [])])
+COUNTS = {**{f"empty, at {place}": (EMPTY, place) for place in range(2, len(EMPTY), 8)},
+          "of the change, out": (ONE, len(ONE) - 32), "of the change, in": (ONE, len(ONE) - 16)}
+
+
+@pytest.mark.parametrize("text,place", COUNTS.values(), ids=COUNTS)
+def test_counts_that_no_file_holds(text, place, tmp_path):
+    refuses(tmp_path, text[:place] + number(2 ** 64 - 1) + text[place + 8 :], b"session")
+
+
+@pytest.mark.parametrize("register", [len(REGISTERS), 255])
+def test_registers_that_are_none(register, tmp_path):
+    refuses(tmp_path, session({"a": ["1"]}, [bytes([register]) + cells() + cells("1")]), b"session")
+
+
+THREE = ["0c", "14", "1c"]
+WRONG = {
+    "put what is not there": session({}, [change("a", [], ["1"])]),
+    "take what is not there": session({}, [], [change("a", ["1"], [])]),
+    "put what is there": session({"a": ["1"]}, [], [change("a", [], ["1"])]),
+    "a fourth sibling": session({"a": THREE}, [], [change("a", [], ["04"])]),
+    "a cell inside another": session({"a": ["1"]}, [], [change("a", [], ["04"])]),
+    "taken out twice": session({"a": ["1", "3"]}, [], [change("a", ["1"], []), change("a", ["1"], [])]),
+    "put in twice": session({}, [], [change("a", [], ["1"]), change("a", [], ["1"])]),
+    "nothing": session({}, [], [change("a", [], [])]),
+    "the same out and in": session({"a": ["1"]}, [], [change("a", ["1"], ["1"])]),
+    "not normalised": session({"a": ["04"] + THREE}),
+    "one fits and one does not": session({"a": ["1"]}, [change("b", [], ["1"]), change("a", [], ["1"])]),
+}
+
+
+@pytest.mark.parametrize("text", WRONG.values(), ids=WRONG)
+def test_changes_that_cannot_be_made(text, tmp_path):
+    refuses(tmp_path, text, b"session")
+
+
+THERE_AND_BACK = [change("a", [], ["04", "24", "44"]), change("a", ["04", "24", "44"], [])]
+
+
+@pytest.mark.parametrize("side", ["past", "future"])
+def test_a_list_on_the_way_exceeds_the_limit(side, tmp_path):
+    refuses(tmp_path, session(**{side: THERE_AND_BACK}), b"too-many", "--limit", "2")
+    assert ran("run", "--dir", tmp_path, "--limit", "3", script=b"restore s\n") == (0, b"ok\n", b"")
+
+
 class Sessions(unittest.TestCase):
     def setUp(self):
         self.folder = tempfile.mkdtemp()
@@ -63,12 +130,6 @@ class Sessions(unittest.TestCase):
         self.assertEqual(error, b"")
         return out
 
-    def refuses(self, text, name, *words):
-        """A session is refused with this name, and what was there before is still there."""
-        self.write("s", text)
-        out = self.answers(b"add b 3\nadd b 5\nundo\nrestore s\nhistory\nshow b\n", *words)
-        self.assertEqual(out, b"ok 0 1\nok 0 1\nok 1 0\nerror " + name + b"\nundo 1 redo 1\n3\nend\n")
-
     def dumped(self, script, answers, *words):
         """The file that a script writes, whose answers are given and then `ok` and how far undo and redo reach."""
         self.assertEqual(self.answers(script + b"dump s\nhistory\n", *words), answers)
@@ -79,11 +140,6 @@ class Sessions(unittest.TestCase):
         self.write("e", EXAMPLE)
         text = self.dumped(b"restore e\n", b"ok\nok\nundo 1 redo 1\n", "--limit", "3", "--depth", "2")
         self.assertEqual(text, EXAMPLE)
-
-    def test_texts_of_another_form(self):
-        for text in (EXAMPLE[:-1], EXAMPLE + b"\0", b"", b"\x73\x01", b"\x01" + number(1)):
-            with self.subTest(text=text):
-                self.refuses(text, b"session")
 
     def test_absent_misnamed_and_not_a_file(self):
         os.mkdir(os.path.join(self.folder, "folder"))
@@ -97,58 +153,15 @@ class Sessions(unittest.TestCase):
         self.assertEqual(self.answers(script), answers + b"3\nend\nundo 1 redo 0\n")
         self.assertEqual(os.listdir(self.folder), ["folder"])
 
-    def test_a_list_on_the_way_exceeds_the_limit(self):
-        three = ["04", "24", "44"]
-        there_and_back = [change("a", [], three), change("a", three, [])]
-        for sides in [{"past": there_and_back}, {"future": there_and_back}]:
-            with self.subTest(sides=sides):
-                self.refuses(session(**sides), b"too-many", "--limit", "2")
-                self.assertEqual(self.answers(b"restore s\n", "--limit", "3"), b"ok\n")
-
     def test_ten_thousand_changes_and_one_more(self):
         changes = [change("z", [], ["1"]), change("z", ["1"], [])] * 5000
         self.write("most", session(past=changes))
         restored = b"restore most\nhistory\n" + b"undo\n" * 10001
         answers = b"ok\nundo 10000 redo 0\n" + b"ok 0 1\nok 1 0\n" * 5000 + b"error nothing\n"
         self.assertEqual(self.answers(restored, "--depth", "10000"), answers)
-        self.refuses(session(past=changes), b"too-deep", "--depth", "9999")
-        self.refuses(session({"z": ["1"]}, changes + [change("z", [], ["1"])]), b"session", "--depth", "10000")
-        self.refuses(session(past=changes, future=[change("z", [], ["1"])]), b"session", "--depth", "10000")
-
-    def test_counts_that_no_file_holds(self):
-        empty = session()
-        greatest = number(2 ** 64 - 1)
-        for place in range(2, len(empty), 8):
-            with self.subTest(place=place):
-                self.refuses(empty[:place] + greatest + empty[place + 8 :], b"session")
-        one = session(past=[change("a", ["1"], [])])
-        for place in [len(one) - 32, len(one) - 16]:
-            with self.subTest(place=place):
-                self.refuses(one[:place] + greatest + one[place + 8 :], b"session")
-
-    def test_registers_that_are_none(self):
-        for register in [len(REGISTERS), 255]:
-            with self.subTest(register=register):
-                self.refuses(session({"a": ["1"]}, [bytes([register]) + cells() + cells("1")]), b"session")
-
-    def test_changes_that_cannot_be_made(self):
-        three = ["0c", "14", "1c"]
-        wrong = {
-            "put what is not there": session({}, [change("a", [], ["1"])]),
-            "take what is not there": session({}, [], [change("a", ["1"], [])]),
-            "put what is there": session({"a": ["1"]}, [], [change("a", [], ["1"])]),
-            "a fourth sibling": session({"a": three}, [], [change("a", [], ["04"])]),
-            "a cell inside another": session({"a": ["1"]}, [], [change("a", [], ["04"])]),
-            "taken out twice": session({"a": ["1", "3"]}, [], [change("a", ["1"], []), change("a", ["1"], [])]),
-            "put in twice": session({}, [], [change("a", [], ["1"]), change("a", [], ["1"])]),
-            "nothing": session({}, [], [change("a", [], [])]),
-            "the same out and in": session({"a": ["1"]}, [], [change("a", ["1"], ["1"])]),
-            "not normalised": session({"a": ["04"] + three}),
-            "one fits and one does not": session({"a": ["1"]}, [change("b", [], ["1"]), change("a", [], ["1"])]),
-        }
-        for what, text in wrong.items():
-            with self.subTest(what=what):
-                self.refuses(text, b"session")
+        refuses(self.folder, session(past=changes), b"too-deep", "--depth", "9999")
+        refuses(self.folder, session({"z": ["1"]}, changes + [change("z", [], ["1"])]), b"session", "--depth", "10000")
+        refuses(self.folder, session(past=changes, future=[change("z", [], ["1"])]), b"session", "--depth", "10000")
 
     def test_killed_between_dump_and_restore(self):
         words = [PROGRAM, "run", "--dir", self.folder]
@@ -200,8 +213,8 @@ class Sessions(unittest.TestCase):
         here = sorted(held)[0]
         absent = sorted(set(tokens) - held)[0]
         for wrong in (change("a", [absent], []), change("a", [], [here]), change("a", sorted(held) + ["5"], [])):
-            self.refuses(session({}, [], changes + [wrong]), b"session", *most)
-            self.refuses(session({"a": sorted(held)}, changes, [wrong]), b"session", *most)
+            refuses(self.folder, session({}, [], changes + [wrong]), b"session", *most)
+            refuses(self.folder, session({"a": sorted(held)}, changes, [wrong]), b"session", *most)
 
     def test_a_session_of_large_changes_is_held_twice_at_most(self):
         these, others = (["%010x" % (4 * n + face) for n in range(50000)] for face in (1, 2 ** 37 + 1))

@@ -5,12 +5,78 @@ import struct
 import tempfile
 import unittest
 
+import pytest
+
 from process import FACE, TOP, first_line, ran
 
 with open(os.path.join(TOP, "VERSION"), "rb") as it:
     VERSION = it.read()
 # Nearly as long as the system lets a word be.
 LONG_WORD = "x" * 100_000
+
+
+USAGE = {
+    b"invalid value": ["run --limit 1000001", "run --limit 12345678901234567890123", "run --limit x", "run --limit=",
+                       "run --depth 0"],
+    b"a value is required": ["run --limit", "run --dir", "run --dir=", "check --dir", "draw --cells"],
+    b"cannot be used": ["run --limit 5 --limit 5", "draw f --cells 1", "draw --fit --cells 1", "draw --fit f --curve",
+                        "draw --cells 1 -- f", "draw --dir d --cells 1"],
+    b"unexpected argument": ["run --limit -5", "run --lim 5", "--limit 5 run", "run --colour", "run run", "run x",
+                             "-- run", "cell 1 2", "check f g", "check --limit f", "draw -f", "draw --curves f",
+                             f"run {LONG_WORD}"],
+    b"unrecognized subcommand": ["ru", "RUN", "walk", "", "help foo"],
+    b"requires a subcommand": ["--"],
+    b"required arguments": ["cell", "cell --", "check", "draw", "draw --curve"],
+}
+
+
+@pytest.mark.parametrize("line,reason", [(line, reason) for reason, lines in USAGE.items() for line in lines],
+                         ids=lambda it: it[:50] if isinstance(it, str) else "")
+def test_usage(line, reason):
+    status, out, error = ran(*line.split(" "))
+    assert (status, out, first_line(error)) == (2, b"", b"s2calc: usage")
+    assert reason in error
+
+
+def test_usage_without_a_word():
+    assert ran()[:2] == (2, b"")
+
+
+@pytest.mark.parametrize("words,said", [
+    (["run", "--depth", "10001"], b"invalid value '10001' for '--depth <N>': 10001 is not in 1..=10000"),
+    (["run", "--limit", " 5"], b"invalid value ' 5' for '--limit <N>'"),
+    (["run", "--colour"], b"unexpected argument '--colour'"),
+    (["walk"], b"unrecognized subcommand 'walk'"),
+    (["check"], b"<FILE>"),
+    (["check", b"\xff"], b"invalid UTF-8 was detected in one or more arguments"),
+    (["draw"], b"<FILE|--cells <CELL>...>"),
+    (["draw", "f", "--cells", "1"], b"'[FILE]...' cannot be used with '--cells <CELL>...'"),
+    (["draw", "--dir", "d", "--cells", "1"], b"'--dir <PATH>' cannot be used with '--cells <CELL>...'"),
+])
+def test_usage_faults_name_the_word(words, said):
+    assert said in ran(*words)[2]
+
+
+@pytest.mark.parametrize("line,limit,depth,folder,is_explained", [
+    ("run", 10000, 100, ".", False),
+    ("run --limit 5 --depth=7 --dir x", 5, 7, "x", False),
+    ("run --limit 1000000 --depth 10000 --dir -x", 1000000, 10000, "-x", False),
+    ("run --dir x --limit=1 --explain --depth 1", 1, 1, "x", True),
+    ("run --prompt --dir x --limit=2", 2, 100, "x", True),
+    ("run --limit +5 --depth 007 --dir --limit", 5, 7, "--limit", False),
+    ("run --dir --explain", 10000, 100, "--explain", False),
+])
+def test_options_of_a_run(line, limit, depth, folder, is_explained, tmp_path):
+    (tmp_path / folder).mkdir(exist_ok=True)
+    # As many leaves in a row as a register may have, and one more; more states than are kept.
+    rows = [f"outer b 30 0 0 {length - 1} 0 0\n" for length in (limit, limit + 1)]
+    script = "".join(rows) + "add a 1\nclear a\n" * depth + "history\nsave b f\n"
+    status, out, notes = ran(*line.split(), script=script.encode(), cwd=tmp_path)
+    lines = out.decode().split("\n")
+    assert (status, lines[:2]) == (1, [f"ok 0 {limit}", "error too-many"])
+    assert lines[-3:] == [f"undo {depth} redo 0", "ok", ""]
+    assert {it.name: it.stat().st_size for it in (tmp_path / folder).iterdir()} == {"f": 9 + 8 * limit}
+    assert bool(notes) == is_explained
 
 
 class Statuses(unittest.TestCase):
@@ -25,53 +91,6 @@ class Statuses(unittest.TestCase):
         self.assertEqual(ran("check", "absent"), (1, b"error missing\n", b""))
         self.assertEqual(ran("draw", "absent"), (1, b"error missing\n", b""))
         self.assertEqual(ran("draw", "--cells", "1", "X", "3"), (1, b"error cell\n", b""))
-
-    def test_usage(self):
-        said = {
-            b"invalid value": ["run --limit 1000001", "run --limit 12345678901234567890123", "run --limit x",
-                               "run --limit=", "run --depth 0"],
-            b"a value is required": ["run --limit", "run --dir", "run --dir=", "check --dir", "draw --cells"],
-            b"cannot be used": ["run --limit 5 --limit 5", "draw f --cells 1", "draw --fit --cells 1",
-                                "draw --fit f --curve", "draw --cells 1 -- f",
-                                "draw --dir d --cells 1"],
-            b"unexpected argument": ["run --limit -5", "run --lim 5", "--limit 5 run", "run --colour", "run run",
-                                     "run x", "-- run", "cell 1 2", "check f g", "check --limit f",
-                                     "draw -f", "draw --curves f", f"run {LONG_WORD}"],
-            b"unrecognized subcommand": ["ru", "RUN", "walk", "", "help foo"],
-            b"requires a subcommand": ["--"],
-            b"required arguments": ["cell", "cell --", "check", "draw", "draw --curve"],
-        }
-        for reason, lines in said.items():
-            for line in lines:
-                with self.subTest(line=line):
-                    status, out, error = ran(*line.split(" "))
-                    self.assertEqual((status, out, first_line(error)), (2, b"", b"s2calc: usage"))
-                    self.assertIn(reason, error)
-        self.assertEqual(ran()[:2], (2, b""))
-        self.assertEqual(ran("run", "--limit", " 5")[:2], (2, b""))
-
-    def test_options_of_a_run(self):
-        for line, limit, depth, folder, is_explained in (
-            ("run", 10000, 100, ".", False),
-            ("run --limit 5 --depth=7 --dir x", 5, 7, "x", False),
-            ("run --limit 1000000 --depth 10000 --dir -x", 1000000, 10000, "-x", False),
-            ("run --dir x --limit=1 --explain --depth 1", 1, 1, "x", True),
-            ("run --prompt --dir x --limit=2", 2, 100, "x", True),
-            ("run --limit +5 --depth 007 --dir --limit", 5, 7, "--limit", False),
-            ("run --dir --explain", 10000, 100, "--explain", False),
-        ):
-            with self.subTest(line=line), tempfile.TemporaryDirectory() as room:
-                os.makedirs(os.path.join(room, folder), exist_ok=True)
-                # As many leaves in a row as a register may have, and one more; more states than are kept.
-                rows = [f"outer b 30 0 0 {length - 1} 0 0\n" for length in (limit, limit + 1)]
-                script = "".join(rows) + "add a 1\nclear a\n" * depth + "history\nsave b f\n"
-                status, out, notes = ran(*line.split(), script=script.encode(), cwd=room)
-                lines = out.decode().split("\n")
-                self.assertEqual((status, lines[:2], lines[-3:]),
-                                 (1, [f"ok 0 {limit}", "error too-many"], [f"undo {depth} redo 0", "ok", ""]))
-                files = {it.name: it.stat().st_size for it in os.scandir(os.path.join(room, folder))}
-                self.assertEqual(files, {"f": 9 + 8 * limit})
-                self.assertEqual(bool(notes), is_explained)
 
     def test_words_that_name_a_cell_or_a_file(self):
         refused = (1, b"error cell\n", b"")
@@ -106,20 +125,6 @@ class Statuses(unittest.TestCase):
     def test_version(self):
         for words in (["--version"], ["-V"]):
             self.assertEqual(ran(*words), (0, b"s2calc " + VERSION, b""))
-
-    def test_usage_faults_name_the_word(self):
-        for words, said in (
-            (["run", "--depth", "10001"], b"invalid value '10001' for '--depth <N>': 10001 is not in 1..=10000"),
-            (["run", "--colour"], b"unexpected argument '--colour'"),
-            (["walk"], b"unrecognized subcommand 'walk'"),
-            (["check"], b"<FILE>"),
-            (["check", b"\xff"], b"invalid UTF-8 was detected in one or more arguments"),
-            (["draw"], b"<FILE|--cells <CELL>...>"),
-            (["draw", "f", "--cells", "1"], b"'[FILE]...' cannot be used with '--cells <CELL>...'"),
-            (["draw", "--dir", "d", "--cells", "1"], b"'--dir <PATH>' cannot be used with '--cells <CELL>...'"),
-        ):
-            with self.subTest(words=words):
-                self.assertIn(said, ran(*words)[2])
 
     def test_out_of_memory(self):
         def little_memory():

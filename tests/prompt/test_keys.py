@@ -182,13 +182,12 @@ class Keys(unittest.TestCase):
             ("bc", ["-q"], "2+3", "12" + 2 * LEFT + "7-", "-5", "to exit", "100+5", "105", "quit"),
             ("sqlite3", [], "select 5;", "select 41+;" + LEFT + "1", "42", "", "select 2;", "2", ".quit"),
         ):
-            with self.subTest(command=command):
-                session = self.spawned(command, *words)
-                for keys, shown in ((first, "\n(end|5)\r"), (edited, f"\n{answer}"), (INTERRUPT, re.escape(said)),
-                                    (line, f"\n{other}"), (UP, f"\n{other}")):
-                    session.send(keys if keys == INTERRUPT else keys + "\r")
-                    session.expect(shown)
-                self.assertEqual(self.status(session, leave + "\r"), 0)
+            session = self.spawned(command, *words)
+            for keys, shown in ((first, "\n(end|5)\r"), (edited, f"\n{answer}"), (INTERRUPT, re.escape(said)),
+                                (line, f"\n{other}"), (UP, f"\n{other}")):
+                session.send(keys if keys == INTERRUPT else keys + "\r")
+                session.expect(shown)
+            self.assertEqual(self.status(session, leave + "\r"), 0)
 
     def test_end_after_half_a_line(self):
         session = self.started()

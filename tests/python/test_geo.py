@@ -16,6 +16,7 @@ from fractions import Fraction
 from random import Random
 
 import numpy
+import pytest
 import s2union_geo
 from s2union import Union, from_face_ij, from_token, level, parent, square, tokens
 from s2union_geo import (area, boundary, covering, coverings, interior, leaf, leaves, points, read_geojson,
@@ -62,19 +63,29 @@ class Points(unittest.TestCase):
         self.assertEqual(leaves(longitude, latitude).tolist(), cells)
         self.assertEqual(numpy.array(points(cells)).tolist(), [longitude.tolist(), latitude.tolist()])
 
-    def test_what_is_refused(self):
-        latitude = r"a latitude is from -90 to 90 \(the longitude comes first\): "
-        for x, y, said in (([0, math.nan], [0, 0], "a longitude is from -540 to 540: nan at place 1$"),
-                           ([0, 0], [math.inf, 0], f"{latitude}inf at place 0$"), (0, 91, f"{latitude}91.0$"),
-                           ([1, 2], [1, 2, 3], "2 longitudes and 3 lat"), (35.68, 139.69, f"{latitude}139.69$"),
-                           (541, 0, "a longitude is from -540 to 540: 541.0$")):
-            with self.subTest(said=said), self.assertRaisesRegex(ValueError, said):
-                leaves(x, y)
-        for given in (["1", "2"], [None, None], [True, False]):
-            with self.subTest(given=given), self.assertRaisesRegex(TypeError, "a longitude is a number, not"):
-                leaves(given, [0, 0])
-        with self.assertRaisesRegex(ValueError, "not a cell"):
-            points([2])
+
+LATITUDE = r"a latitude is from -90 to 90 \(the longitude comes first\): "
+
+
+@pytest.mark.parametrize("x,y,said", [
+    ([0, math.nan], [0, 0], "a longitude is from -540 to 540: nan at place 1$"),
+    ([0, 0], [math.inf, 0], f"{LATITUDE}inf at place 0$"), (0, 91, f"{LATITUDE}91.0$"),
+    ([1, 2], [1, 2, 3], "2 longitudes and 3 lat"), (35.68, 139.69, f"{LATITUDE}139.69$"),
+    (541, 0, "a longitude is from -540 to 540: 541.0$")])
+def test_places_that_are_refused(x, y, said):
+    with pytest.raises(ValueError, match=said):
+        leaves(x, y)
+
+
+@pytest.mark.parametrize("given", [["1", "2"], [None, None], [True, False]], ids=str)
+def test_what_is_no_number(given):
+    with pytest.raises(TypeError, match="a longitude is a number, not"):
+        leaves(given, [0, 0])
+
+
+def test_points_of_no_cell():
+    with pytest.raises(ValueError, match="not a cell"):
+        points([2])
 
 
 class Polygons(unittest.TestCase):
@@ -94,13 +105,12 @@ class Polygons(unittest.TestCase):
         cells = leaves(x, y)
         for most, deepest in ((0, 30), (1, 30), (8, 30), (200, 30), (5000, 30), (200, 6), (0, 0)):
             outer, inner = coverings(shape, most, deepest)
-            with self.subTest(most=most, deepest=deepest):
-                self.assertFalse((inside & ~outer.contains_cells(cells)).any())
-                self.assertFalse((inner.contains_cells(cells) & ~inside).any())
-                self.assertTrue(inner <= outer)
-                self.assertLessEqual(len(inner), most)
-                self.assertLessEqual(len(outer), max(most, 6))
-                self.assertLessEqual(max([level(cell) for cell in (*outer, *inner)], default=0), deepest)
+            self.assertFalse((inside & ~outer.contains_cells(cells)).any())
+            self.assertFalse((inner.contains_cells(cells) & ~inside).any())
+            self.assertTrue(inner <= outer)
+            self.assertLessEqual(len(inner), most)
+            self.assertLessEqual(len(outer), max(most, 6))
+            self.assertLessEqual(max([level(cell) for cell in (*outer, *inner)], default=0), deepest)
         self.assertEqual((covering(shape), interior(shape)), coverings(shape))
 
     def test_edges_to_within_a_rounding(self):
@@ -198,34 +208,6 @@ class Polygons(unittest.TestCase):
         a, b, c = numpy.array(places).transpose(1, 0, 2)
         self.assertEqual(crossings._turns(a, b, c).tolist(), wanted)
 
-    def test_what_is_refused(self):
-        for shape, said in ((polygon(SQUARE[:-1]), "polygon 0, ring 0 is open: its last position is not its first"),
-                            (polygon(SQUARE[:2] + SQUARE[:1]), "polygon 0, ring 0 has fewer than four positions"),
-                            (polygon([[0, 0], [10, 10], [10, 0], [0, 10], [0, 0]]), "ring 0 crosses or runs along"),
-                            (polygon([[0, 0], [5, 5], [9, 9], [9, 0], [5, 5], [0, 9], [0, 0]]), "ring 0 crosses or"),
-                            (polygon([[0, 0], [9, 0], [9, 5], [5, 0], [5, -5], [0, 0]]), "ring 0 crosses or runs"),
-                            (polygon([[0, 0], [5, 0], [9, 0], [5, 0], [5, 5], [0, 0]]), "crosses or runs along"),
-                            (polygon([[0, 0], [5, 0], [2, 0], [0, 0]]), "ring 0 crosses or runs along itself"),
-                            (polygon(SQUARE, [[5, 5], [15, 5], [15, 6], [5, 6], [5, 5]]), "rings 0 and 1 cross near"),
-                            (polygon([[0, 0], [1, 91], [1, 0], [0, 0]]), r"ring 0: position 1 is out of range: a "
-                             r"latitude is from -90 to 90 \(the longitude comes first\): \[1.0, 91.0\]"),
-                            (polygon([[0, 0], [math.nan, 1], [1, 0], [0, 0]]), "ring 0: position 1 is out of range: a "
-                             "longitude is from -540 to 540"),
-                            (polygon([[0, 0], ["x", 1], [1, 0], [0, 0]]), "a position is a longitude and a latitude"),
-                            (polygon([[0, 0], [10**400, 1], [1, 0], [0, 0]]), "a position is a longitude and a"),
-                            ({"type": "Point", "coordinates": [0, 0]}, "it is no polygon: 'Point'"),
-                            ({"type": "Polygon"}, "a Polygon has a list of coordinates"), (7, "it is no polygon: int"),
-                            ({"type": "MultiPolygon", "coordinates": [3]}, "polygon 0 has a list of rings"),
-                            ({"type": []}, "it is no polygon: dict"),
-                            (None, "it is no polygon: NoneType"), ("{", "the text is no GeoJSON"),
-                            ("[" * 100000, "the text is no GeoJSON")):
-            with self.subTest(said=said), self.assertRaisesRegex(ValueError, said):
-                coverings(shape)
-        for most, deepest, error in ((-1, 30, ValueError), (10**7, 30, ValueError), (9, 31, ValueError),
-                                     (True, 3, TypeError), ("9", 3, TypeError)):
-            with self.assertRaises(error):
-                covering(polygon(SQUARE), most, deepest)
-
     def test_too_much(self):
         ring = numpy.stack([numpy.linspace(0, 300, 500001), numpy.zeros(500001)], axis=1).tolist()
         with self.assertRaisesRegex(ValueError, "more than 1000000 positions"):
@@ -237,6 +219,43 @@ class Polygons(unittest.TestCase):
             file.truncate(s2union_geo.MOST_BYTES + 1)
             with self.assertRaisesRegex(ValueError, "has more than 268435456 bytes"):
                 read_geojson(file.name)
+
+
+REFUSED = [
+    (polygon(SQUARE[:-1]), "polygon 0, ring 0 is open: its last position is not its first"),
+    (polygon(SQUARE[:2] + SQUARE[:1]), "polygon 0, ring 0 has fewer than four positions"),
+    (polygon([[0, 0], [10, 10], [10, 0], [0, 10], [0, 0]]), "ring 0 crosses or runs along"),
+    (polygon([[0, 0], [5, 5], [9, 9], [9, 0], [5, 5], [0, 9], [0, 0]]), "ring 0 crosses or"),
+    (polygon([[0, 0], [9, 0], [9, 5], [5, 0], [5, -5], [0, 0]]), "ring 0 crosses or runs"),
+    (polygon([[0, 0], [5, 0], [9, 0], [5, 0], [5, 5], [0, 0]]), "crosses or runs along"),
+    (polygon([[0, 0], [5, 0], [2, 0], [0, 0]]), "ring 0 crosses or runs along itself"),
+    (polygon(SQUARE, [[5, 5], [15, 5], [15, 6], [5, 6], [5, 5]]), "rings 0 and 1 cross near"),
+    (polygon([[0, 0], [1, 91], [1, 0], [0, 0]]), r"ring 0: position 1 is out of range: a "
+     r"latitude is from -90 to 90 \(the longitude comes first\): \[1.0, 91.0\]"),
+    (polygon([[0, 0], [math.nan, 1], [1, 0], [0, 0]]), "ring 0: position 1 is out of range: a "
+     "longitude is from -540 to 540"),
+    (polygon([[0, 0], ["x", 1], [1, 0], [0, 0]]), "a position is a longitude and a latitude"),
+    (polygon([[0, 0], [10**400, 1], [1, 0], [0, 0]]), "a position is a longitude and a"),
+    ({"type": "Point", "coordinates": [0, 0]}, "it is no polygon: 'Point'"),
+    ({"type": "Polygon"}, "a Polygon has a list of coordinates"), (7, "it is no polygon: int"),
+    ({"type": "MultiPolygon", "coordinates": [3]}, "polygon 0 has a list of rings"),
+    ({"type": []}, "it is no polygon: dict"),
+    (None, "it is no polygon: NoneType"), ("{", "the text is no GeoJSON"),
+    ("[" * 100000, "the text is no GeoJSON"),
+]
+
+
+@pytest.mark.parametrize("shape,said", REFUSED, ids=[said for _, said in REFUSED])
+def test_shapes_that_are_refused(shape, said):
+    with pytest.raises(ValueError, match=said):
+        coverings(shape)
+
+
+@pytest.mark.parametrize("most,deepest,error", [(-1, 30, ValueError), (10**7, 30, ValueError), (9, 31, ValueError),
+                                                (True, 3, TypeError), ("9", 3, TypeError)])
+def test_limits_that_are_refused(most, deepest, error):
+    with pytest.raises(error):
+        covering(polygon(SQUARE), most, deepest)
 
 
 def turn(a, b, c):
@@ -267,17 +286,16 @@ def crosses_itself(ring):
     return False
 
 
-class Maps(unittest.TestCase):
-    def test_rings(self):
-        """Closed, counterclockwise, not torn at the date line; at a pole there are two corners."""
-        for token, count in (("04", 5), ("0000000000000001", 5), ("64", 5), ("5c", 6), ("b4", 6)):
-            ring, = rings([from_token(token)])
-            area = sum(x * to_y - to_x * y for (x, y), (to_x, to_y) in zip(ring, ring[1:]))
-            with self.subTest(token=token):
-                self.assertEqual((len(ring), ring[0]), (count, ring[-1]))
-                self.assertGreaterEqual(area, 0)
-                self.assertLessEqual(max(abs(corner[0] - ring[0][0]) for corner in ring), 180)
+@pytest.mark.parametrize("token,count", [("04", 5), ("0000000000000001", 5), ("64", 5), ("5c", 6), ("b4", 6)])
+def test_rings(token, count):
+    """Closed, counterclockwise, not torn at the date line; at a pole there are two corners."""
+    ring, = rings([from_token(token)])
+    assert (len(ring), ring[0]) == (count, ring[-1])
+    assert sum(x * to_y - to_x * y for (x, y), (to_x, to_y) in zip(ring, ring[1:])) >= 0
+    assert max(abs(corner[0] - ring[0][0]) for corner in ring) <= 180
 
+
+class Maps(unittest.TestCase):
     def test_there_and_back(self):
         """The polygons of a union's cells, read again, lie in it and are covered by it and its neighbors."""
         union = Union.from_tokens("47e7 47e1 64")
@@ -319,14 +337,13 @@ class Maps(unittest.TestCase):
             wanted = {((i + a, j + b), (i + c, j + d)) for i, j in squares
                       for (x, y), a, b, c, d in (((0, -1), 0, 0, 1, 0), ((1, 0), 1, 0, 1, 1), ((0, 1), 1, 1, 0, 1),
                                                  ((-1, 0), 0, 1, 0, 0)) if (i + x, j + y) not in squares}
-            with self.subTest(union=union.tokens()):
-                found = sides(union)
-                self.assertEqual({tuple((32 - z // (2 * SIDE), 32 + x // (2 * SIDE)) for x, _, z in side)
-                                  for side in found}, wanted)
-                self.assertEqual({side[::-1] for side in sides(~union)}, found)
-                lines = boundary(union)["coordinates"]
-                self.assertTrue(all(line[0] == line[-1] and len(line) == 1 + len({*map(tuple, line)})
-                                    for line in lines))
+            found = sides(union)
+            self.assertEqual({tuple((32 - z // (2 * SIDE), 32 + x // (2 * SIDE)) for x, _, z in side)
+                              for side in found}, wanted)
+            self.assertEqual({side[::-1] for side in sides(~union)}, found)
+            lines = boundary(union)["coordinates"]
+            self.assertTrue(all(line[0] == line[-1] and len(line) == 1 + len({*map(tuple, line)})
+                                for line in lines))
 
     def test_boundaries_around_poles_and_the_whole_sphere(self):
         self.assertEqual(boundary(Union.from_tokens("1 3 5 7 9 b"))["coordinates"], [])
@@ -426,7 +443,7 @@ class Cover(unittest.TestCase):
         self.is_refused("invalid literal for int", [("a", SQUARE)], limits=("x", "3"))
 
     def is_refused(self, wanted, features, **options):
-        with self.subTest(wanted=wanted), contextlib.redirect_stdout(io.StringIO()) as out:
+        with contextlib.redirect_stdout(io.StringIO()) as out:
             error = main(self.words(features, **options))
             self.assertEqual((error[:len(f"s2union_geo: {wanted}")], out.getvalue()), (f"s2union_geo: {wanted}", ""))
             self.assertEqual((sorted(os.listdir(self.above)), os.listdir(self.folder)),

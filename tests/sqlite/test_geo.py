@@ -2,10 +2,13 @@
 
 S2UNION_SQLITE is the path of the extension for unions, beside which it lies."""
 
+import contextlib
 import math
 import os
 import sqlite3
 import unittest
+
+import pytest
 
 from model.places import MIDDLES, POINTS
 from test_sqlite import NO_CELLS
@@ -13,12 +16,35 @@ from test_sqlite import NO_CELLS
 EXTENSION = os.path.join(os.path.dirname(os.environ["S2UNION_SQLITE"]), "mod_s2union_geo.so")
 
 
+def opened():
+    """A database with the extension."""
+    db = sqlite3.connect(":memory:")
+    db.enable_load_extension(True)
+    db.load_extension(EXTENSION)
+    return db
+
+
+LONGITUDE, LATITUDE = "s2: a longitude is a number from -540 to 540: ", "s2: a latitude is a number from -90 to 90: "
+
+
+@pytest.mark.parametrize("call,values,wanted", [
+    ("s2_leaf_at(0, 91)", (), LATITUDE + "91"), ("s2_leaf_at(0, ?)", (-90.5,), LATITUDE + "-90.5"),
+    ("s2_leaf_at(?, 0)", (math.inf,), LONGITUDE + "Inf"), ("s2_leaf_at(541, 0)", (), LONGITUDE + "541"),
+    ("s2_leaf_at('2', 0)", (), LONGITUDE + "'2'"), ("s2_leaf_at(0, x'00')", (), LATITUDE + "a BLOB of length 1"),
+    ("s2_longitude(2)", (), "s2: not a cell: 2"), ("s2_latitude('zz')", (), "s2: not a cell: 'zz'"),
+    ("s2_latitude(?)", (50 * "é",), f"s2: not a cell: '{40 * 'é'}'"),
+    ("s2_latitude('0/4')", (), "s2: not a cell: '0/4'"), ("s2_latitude(1.5)", (), "s2: not a cell: 1.5"),
+    ("s2_latitude(x'')", (), "s2: not a cell: a BLOB of length 0")])
+def test_what_is_refused(call, values, wanted):
+    with contextlib.closing(opened()) as db, pytest.raises(sqlite3.OperationalError) as caught:
+        db.execute(f"SELECT {call}", values).fetchone()
+    assert str(caught.value) == wanted
+
+
 class Points(unittest.TestCase):
     def setUp(self):
-        self.db = sqlite3.connect(":memory:")
+        self.db = opened()
         self.addCleanup(self.db.close)
-        self.db.enable_load_extension(True)
-        self.db.load_extension(EXTENSION)
 
     def said(self, text, *values):
         return self.db.execute(f"SELECT {text}", values).fetchone()
@@ -43,25 +69,6 @@ class Points(unittest.TestCase):
                      "s2_latitude(NULL)"):
             self.assertEqual(self.said(call), (None,))
         self.assertEqual(self.said("s2_leaf_at(?, 1)", math.nan), (None,))  # which SQLite has as NULL
-
-    def test_what_is_refused(self):
-        longitude, latitude = ("s2: a longitude is a number from -540 to 540: ",
-                               "s2: a latitude is a number from -90 to 90: ")
-        for call, values, wanted in (("s2_leaf_at(0, 91)", (), latitude + "91"),
-                                     ("s2_leaf_at(0, ?)", (-90.5,), latitude + "-90.5"),
-                                     ("s2_leaf_at(?, 0)", (math.inf,), longitude + "Inf"),
-                                     ("s2_leaf_at(541, 0)", (), longitude + "541"),
-                                     ("s2_leaf_at('2', 0)", (), longitude + "'2'"),
-                                     ("s2_leaf_at(0, x'00')", (), latitude + "a BLOB of length 1"),
-                                     ("s2_longitude(2)", (), "s2: not a cell: 2"),
-                                     ("s2_latitude('zz')", (), "s2: not a cell: 'zz'"),
-                                     ("s2_latitude(?)", (50 * "é",), f"s2: not a cell: '{40 * 'é'}'"),
-                                     ("s2_latitude('0/4')", (), "s2: not a cell: '0/4'"),
-                                     ("s2_latitude(1.5)", (), "s2: not a cell: 1.5"),
-                                     ("s2_latitude(x'')", (), "s2: not a cell: a BLOB of length 0")):
-            with self.subTest(call=call), self.assertRaises(sqlite3.OperationalError) as caught:
-                self.said(call, *values)
-            self.assertEqual(str(caught.exception), wanted)
 
     def test_cells_that_there_are_not(self):
         """Asked of each function that SQLite lists."""
