@@ -12,7 +12,9 @@ const MOST_FEATURES = 500;
 const MOST_POLYGONS = 200_000;
 /** The degrees between two points of a border. What is straight on the map bends less than 10 m between them. */
 const STEP = 0.25;
-/** The most steps of the edges of all shapes. */
+/** The most steps of the edges of all shapes: with few positions these and some for each, so that work follows text. */
+const STEPS_OF_FEW = 400_000;
+const STEPS_A_POSITION = 4;
 const MOST_STEPS = 4_000_000;
 const STRIPES = 1024;
 const LEAST_LEVEL = 30;
@@ -84,9 +86,13 @@ function checkShapes(all) {
   if (all.filter(hasEdges).length > MOST_SHAPES) {
     throw new Error(`there are more than ${MOST_SHAPES} polygons and lines`);
   }
-  let steps = 0;
-  all.forEach(({lines}) => lines.forEach((line) => line.slice(1).forEach((to, k) => (steps += stepsOf(line[k], to)))));
-  if (steps > MOST_STEPS) throw new Error(`the edges have more than ${MOST_STEPS} steps of ${STEP} degrees`);
+  let [positions, steps] = [0, 0];
+  for (const line of all.flatMap(({lines}) => lines)) {
+    positions += line.length;
+    for (let k = 1; k < line.length; k++) steps += stepsOf(line[k - 1], line[k]);
+  }
+  const most = Math.min(MOST_STEPS, STEPS_OF_FEW + STEPS_A_POSITION * positions);
+  if (steps > most) throw new Error(`the edges have more than ${most} steps of ${STEP} degrees`);
 }
 
 const hasEdges = ({lines}) => lines.some((line) => line.length > 1);
@@ -136,22 +142,29 @@ function distanceTo({from: [ax, ay, az], to: [bx, by, bz]}, [x, y, z]) {
   return lengthOf3(x - ax - part * dx, y - ay - part * dy, z - az - part * dz);
 }
 
-/** A test whether a place is inside of a shape: a line to the north crosses the borders an odd number of times. */
+/**
+ * A test whether a place is inside of a shape: a line to the north crosses the borders an odd number of times. Each
+ * edge is in the stripes of longitude that it crosses; there are so few of these that it is in about five at most.
+ */
 function insideOf({lines, isArea}) {
   if (!isArea) return () => false;
-  const west = lines.flat().reduce((least, [x]) => Math.min(least, x), Infinity);
-  const east = lines.flat().reduce((most, [x]) => Math.max(most, x), -Infinity);
-  const count = Math.min(STRIPES, lines.flat().length);
-  const stripes = Array.from({length: count + 1}, () => []); // by longitude
+  const edges = lines.flatMap((line) => line.slice(1).map((to, k) => [line[k], to].sort(([x], [toX]) => x - toX)));
+  const ends = Float64Array.from(edges.flatMap(([[x, y], [toX, toY]]) => [x, y, toX, toY]));
+  const west = edges.reduce((least, [[x]]) => Math.min(least, x), Infinity);
+  const east = edges.reduce((most, [, [x]]) => Math.max(most, x), -Infinity);
+  const widths = edges.reduce((sum, [[x], [toX]]) => sum + toX - x, 0);
+  const count = Math.ceil(Math.min(STRIPES, edges.length, (4 * edges.length * (east - west)) / (widths || 1)));
+  const stripes = Array.from({length: count + 1}, () => []);
   const stripeOf = (x) => Math.floor(((x - west) / (east - west)) * count);
-  for (const line of lines) {
-    for (let k = 1; k < line.length; k++) {
-      const [a, b] = [line[k - 1], line[k]].sort(([x], [otherX]) => x - otherX);
-      for (let at = stripeOf(a[0]); at <= stripeOf(b[0]); at++) stripes[at].push([a, b]);
-    }
-  }
-  const isOdd = (x, y) => x >= west && x < east && stripes[stripeOf(x)].filter(([[ax, ay], [bx, by]]) =>
-    ax <= x && x < bx && ay + ((x - ax) / (bx - ax)) * (by - ay) > y).length % 2 === 1;
+  edges.forEach(([[x], [toX]], edge) => {
+    for (let at = stripeOf(x); at <= stripeOf(toX); at++) stripes[at].push(4 * edge);
+  });
+  const isNorth = (at, x, y) => {
+    const [fromX, fromY, toX] = [ends[at], ends[at + 1], ends[at + 2]];
+    return fromX <= x && x < toX && fromY + ((x - fromX) / (toX - fromX)) * (ends[at + 3] - fromY) > y;
+  };
+  const isOdd = (x, y) => x >= west && x < east &&
+    stripes[stripeOf(x)].reduce((odd, at) => odd !== isNorth(at, x, y), false);
   return (x, y) => isOdd(x, y) || isOdd(x - 360, y) || isOdd(x + 360, y);
 }
 

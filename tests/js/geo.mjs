@@ -41,8 +41,10 @@ const tests = {
     assert.throws(() => geo.fromGeoJSON({type: "Nothing"}), /no GeoJSON/);
     assert.throws(() => geo.fromGeoJSON("{"), SyntaxError);
     assert.throws(() => geo.fromGeoJSON({type: "Point", coordinates: [0, 91]}), /out of range/);
-    const long = Array.from({length: 1000}, (_, k) => [k % 2 ? 540 : -540, 0]);
-    assert.throws(() => geo.fromGeoJSON({type: "LineString", coordinates: long}), /more than 4000000 steps/);
+    for (const [length, steps] of [[1000, 404_000], [1_000_000, 4_000_000]]) {
+      const coordinates = Array.from({length}, (_, k) => [k % 2 ? 540 : -540, 0]);
+      assert.throws(() => geo.fromGeoJSON({type: "LineString", coordinates}), RegExp(`more than ${steps} steps`));
+    }
     assert.throws(() => geo.fromGeoJSON(polygon, 0), RangeError);
     assert.throws(() => geo.toGeoJSON(CellUnion.fromTokens("1").denormalized(1)), TypeError);
   },
@@ -62,6 +64,14 @@ const tests = {
     });
     assert.ok(sizes[1] < sizes[0]);
     assert.ok(geo.fromGeoJSON(polygon, 50_000).leafCount() < sizes[1]);
+  },
+  "long edges, and many as wide as their polygon, which take no more memory than short ones": () => {
+    const around = Array.from({length: 100}, (_, k) => [k % 2 ? 180 : -180, k / 10]);
+    const line = geo.fromGeoJSON({type: "LineString", coordinates: around}, 50);
+    assert.ok(line.has(geo.fromLngLat(90, 4.95)) && !line.has(geo.fromLngLat(90, 40)));
+    const teeth = Array.from({length: 20_000}, (_, k) => [k % 2 ? 0.25 : 0, k / 2000]);
+    const comb = geo.fromGeoJSON({type: "Polygon", coordinates: [teeth]}, 50);
+    assert.ok(comb.has(geo.fromLngLat(0.1, 5)) && !comb.has(geo.fromLngLat(2, 5)));
   },
   "points are their leaves, and a ring may be open": () => {
     const [first, ...others] = positions.slice(0, 9);
