@@ -53,7 +53,7 @@ pub record Course : Type 0 where
   pub state : History (List ℕ)
 
 -- One course is the beginning of another, or the same: its replies are the first of the other's, it asked for the same
--- files first, and stored the same bytes in them; and with as many replies it has asked for no less, and come to the
+-- files first, and stored the same bytes in them; and with as many replies it has asked for the same, and come to the
 -- same state.
 pub record Begins (one other : Course) : Type 0 where
   pub later : List Reply

@@ -44,8 +44,8 @@ pub fn rect_outer(
 
 /// The inner covering of a rectangle: the answer of `inner`, in time proportional to the number of its cells.
 ///
-/// The rectangle is first rounded inward to the grid of the level; if nothing is left, nothing is looked at. `looks` is
-/// bounded as for `rect_outer`.
+/// The rectangle is first rounded inward to the grid of the level. `looks` is bounded as for `rect_outer`: at most 1 if
+/// nothing is left.
 pub fn rect_inner(
     alloc: Global,
     rect: &FaceRect,

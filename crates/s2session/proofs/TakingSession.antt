@@ -209,7 +209,7 @@ nothing_found b p none few = held_all b p none (λ s spells. nothing (held b) fe
     nothing bytes few s (inl f) = absurd (omega (arith, ap length f.text, few))
     nothing bytes few s (inr u) = absurd (omega (arith, u.file.is.framed.length_is, few))
 
--- what is held at the end is left behind
+-- what was judged of the bytes that came is so of all that were ahead: they spell the session, or no session
 pub answers : {start new : Claim → List ℕ → Type 0} (answer : Result Session ReadFault) →
     Judges Spells start new answer → WasLeft start new (λ bytes. MatchResult answer
     (λ session. Spells bytes (content_of session)) (λ fault. RefusesToRead fault bytes))

@@ -40,7 +40,7 @@ const SECOND: u8 = 1;
 /// and are not both empty. No list has more than 1,000,000 cells, and there are at most 10,000 changes. Whether the
 /// changes can be made one after another is not checked. If the first byte is 1, the bytes are a union file.
 ///
-/// Answers `Form` for all other bytes. One pass over the bytes, as `read_session` makes it.
+/// Answers `Form` for all other bytes, and `Memory` if an allocation fails. One pass over the bytes, as `read_session`.
 pub fn decode_session(alloc: Global, bytes: &[u8]) -> Result<Session, SessionFault>
     ensures found { IfOk result (λ session. Spells bytes.now (content_of session)) }
     ensures content { IfOk result (λ session. IsContent (content_of session)) }
