@@ -67,8 +67,7 @@ pub fn clip_outer(
 }
 
 /// The inner covering of what a union and a rectangle share: the answer of `inner` for a `Clip`. The time
-/// depends on the number of cells of the union and of the answer. If no cell of the level lies in the rectangle,
-/// nothing is looked at. `looks` is bounded as for `clip_outer`.
+/// depends on the number of cells of the union and of the answer. `looks` is bounded as for `clip_outer`.
 ///
 /// Takes memory for as many cells as the union has in the rectangle. `TooMany` is answered as by `outer`.
 pub fn clip_inner(
