@@ -2,9 +2,9 @@
 twice, word for word, functions with many arms, lines of more than 120 characters, hosts of package registries, words
 that the house avoids, habits of tests/docs/prose.py, and proofs that grow. tests/docs/pages.py looks for paths.
 
-UNCITED, DOUBLES, MANY_ARMS, WORDS and PROOFS are the most that may stand: what stood there when this check came, and
-less from time to time. The last line is 'N passed, M failed', where N counts the declarations, the files, the words,
-the pages and the files of proofs. A check that has nothing to look at fails.
+UNCITED, DOUBLES, WORDS and PROOFS are the most that may stand, and MANY_ARMS what may: what stood there when this check
+came, and less from time to time. The last line is 'N passed, M failed', where N counts the declarations, the files, the
+words, the pages and the files of proofs. A check that has nothing to look at fails.
 """
 import collections
 import re
@@ -31,7 +31,11 @@ HOSTS = re.compile(r"\b(?:(?:static\.)?crates[.]io|pypi[.]org|pythonhosted[.]org
 UNCITED = 0
 DOUBLES = 22
 ARMS = 7
-MANY_ARMS = 9
+# The functions that have more arms. Split a function in place of adding it here.
+MANY_ARMS = {"s2calc/src/command_line.rt: arg_of", "s2calc/src/edits.rt: edit_register", "s2calc/src/execute.rt: act",
+             "s2calc/src/notes.rt: put_reason", "s2calc/src/questions.rt: answer_to", "s2calc/src/refusal.rt: name",
+             "s2script/src/misfit.rt: refusal", "s2script/src/misfit_text.rt: put_wanted",
+             "s2script/src/refusal.rt: name"}
 WORDS = {"told": 58, "asked about": 0, "so many": 0, "refused where": 0, "exactly if": 26}
 # Lines of proof, which may only fall; the body of a commit that raises them says why.
 PROOFS = 46_757
@@ -197,8 +201,9 @@ def doubles():
 
 
 def many_arms():
-    """The number of matches in the crates' sources, and those with more than ARMS arms, as 'file: arms of function'."""
-    count, found = 0, []
+    """The number of matches in the crates' sources, and those with more than ARMS arms, if MANY_ARMS lacks their
+    function, as 'file: function has arms'; and those of MANY_ARMS that have no such match."""
+    count, found, large = 0, [], set()
     for name in [name for name in tracked(ROOT) if re.match(r"crates/[^/]+/src/.*\.rt$", name)]:
         text = text_of(name)
         for match in re.finditer(r"^( *).*\bmatch .*\{\n", text, re.M):
@@ -207,8 +212,10 @@ def many_arms():
             arms = len(re.findall(rf"^{match[1]}    (?! ).*=>", body, re.M))
             if arms > ARMS:
                 function = re.findall(r"\bfn (\w+)", text[:match.start()])[-1]
-                found.append(f"{name}: {arms} of {function}")
-    return count, found
+                place = f"{name.removeprefix('crates/')}: {function}"
+                large.add(place)
+                found += [] if place in MANY_ARMS else [f"{place} has {arms}"]
+    return count, found + [f"{place} has not, as MANY_ARMS says" for place in sorted(MANY_ARMS - large)]
 
 
 def long_lines():
@@ -248,11 +255,10 @@ def main():
     double = double if len(double) > DOUBLES else []
     declared, dead = uncited()
     dead = dead if len(dead) > UNCITED else []
-    matches, large = many_arms()
-    large = large if len(large) > MANY_ARMS else []
     return has_wrong({
         "nobody cites it": (declared, dead), "imported for nothing": unused(), "stated before": (counts, double),
-        "more arms than seven": (matches, large), "too long": long_lines(), "names the host of a registry": hosts(),
+        "more arms than seven: split it": many_arms(), "too long": long_lines(),
+        "names the host of a registry": hosts(),
         "avoided": avoided(), "hard to read": prose.habits(), "lines of proof": proofs(),
     })
 
