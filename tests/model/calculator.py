@@ -1,8 +1,8 @@
 """A plain model of the calculator: sets of leaves as runs of numbers, whole earlier tables, no speed.
 
-It is written only from docs/SCRIPT.md, docs/FORMATS.md and docs/STATEMENT.md and shares no other ideas with the
-proved code: a set is a list of runs [first, end) of leaf numbers, ascending and apart; a normal form is computed from
-the set each time it is needed; the history keeps whole tables.
+It is written only from docs/SCRIPT.md, docs/FORMATS.md and the statement that tools/statement makes, and shares no
+other ideas with the proved code: a set is a list of runs [first, end) of leaf numbers, ascending and apart; a normal
+form is computed from the set each time it is needed; the history keeps whole tables.
 """
 import codecs
 import functools

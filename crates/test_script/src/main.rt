@@ -34,7 +34,7 @@
 //! `process` has `program` of `s2process` do a row, over the same reader and writer and the row's files.
 //! `logged` makes a log of a run, over the writer and the shelf of `log`, and says what a `watcher` (an observer) sees.
 //! These readers, writers and observers list their calls by `known`, so that contracts see them. `example` is the
-//! example of README.md.
+//! example of docs/ARCHITECTURE.md.
 #![tactic(auto)]
 
 mod calls;
