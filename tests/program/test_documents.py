@@ -21,9 +21,9 @@ def has_gnu_parallel():
     return said.stdout.startswith(b"GNU parallel")
 
 
-# A kit that proves nothing. While it builds the program, a source changes if $CHANGE says so.
+# A kit that proves nothing. While it builds the program, the source that $CHANGE names changes, if it names one.
 KIT = """#!/bin/sh
-[ -z "$CHANGE" ] || echo >>../s2cell/src/lib.rt
+[ -z "$CHANGE" ] || echo >>"$CHANGE"
 case $1 in run) mkdir -p out && printf '#!/bin/sh\necho proved\n' >out/calculator && chmod 755 out/calculator ;; esac
 """
 # What stands for tools/unproved: it takes its time, and counts its builds.
@@ -60,7 +60,7 @@ class Launcher(unittest.TestCase):
         """Makes a repository of one source in the folder, with a kit, and answers how its commands are run."""
         self.copy("s2calc", "tools/prove", "tools/usage.sh", "tools/sources.sh", "tools/sources.py",
                   "tools/launcher/launcher", "tools/launcher/unbuilt.sh",
-                  "VERSION", "KIT", "crates.txt", "crates/s2cell/src/lib.rt")
+                  "VERSION", "KIT", "HANDLES", "crates.txt", "crates/s2cell/src/lib.rt")
         with open(os.path.join(TOP, "crates.txt"), encoding="utf-8") as it:
             for line in it:
                 os.makedirs(os.path.join(self.room, "crates", re.match(r"\w+", line)[0]), exist_ok=True)
@@ -87,13 +87,13 @@ class Launcher(unittest.TestCase):
         """Then the program is older than its sources, and not the one that is run; until all is proved again. A program
         that isn't older stays, also where no kit is; so does one whose sources were only written anew."""
         how = self.make_repository()
-        for change, answer in ("yes", "unproved\n"), ("", "proved\n"):
+        source = os.path.join(self.room, "crates/s2cell/src/lib.rt")
+        for change, answer in (source, "unproved\n"), ("", "proved\n"):
             how["env"] = self.environment(CHANGE=change)
             subprocess.run(["tools/prove"], check=True, **how)
             done = subprocess.run(["./s2calc", "cell", "1"], check=True, input="", **how)
             self.assertEqual(done.stdout, answer)
         how["env"] = self.environment(has_kit=False)
-        source = os.path.join(self.room, "crates/s2cell/src/lib.rt")
         for change, status in (lambda: None, 0), (lambda: os.utime(source), 0), (lambda: self.write(source, "//\n"), 2):
             change()
             self.assertEqual(subprocess.run(["tools/prove"], check=False, **how).returncode, status)
