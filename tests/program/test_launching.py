@@ -362,6 +362,9 @@ class Identifiers(unittest.TestCase):
                                 (["--add"], b"usage"), (["--add", "ab"], b"usage"), (["--no"], b"usage")):
                 status, out, error = launched("cells", *words, cwd=room)
                 self.assertEqual((status, out, first_line(error)), (2, b"", b"s2calc: " + what))
+            for cell in ("10789722008133304320", "64c", "3/021"):
+                said = f"s2calc: input\nerror: there is no file '{cell}'; for a cell: echo {cell} | s2calc cells\n"
+                self.assertEqual(launched("cells", cell, cwd=room), (2, b"", said.encode()))
         with open("/dev/full", "wb") as full:
             done = subprocess.run([LAUNCHER, "cells"], input=b"1", stdout=full, stderr=subprocess.PIPE, check=False,
                                   timeout=60)

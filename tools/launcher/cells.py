@@ -101,6 +101,8 @@ def lines_of(file):
             yield next(text, "").removeprefix("\xef\xbb\xbf")
             yield from text
     except OSError as error:
+        if isinstance(error, FileNotFoundError) and token(file, True):
+            raise Fault("input", f"there is no file '{file}'; for a cell: echo {file} | s2calc cells") from error
         raise Fault("input", f"{'standard input' if file in (None, '-') else file}: {error.strerror}") from error
 
 
