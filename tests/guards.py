@@ -161,11 +161,6 @@ STEPS = [
     ("survives() { return 0; }; echo '## a' >\"$work/m\"; try_mutants \"$work/m\"", "1 passed, 1 failed"),
     ("survives() { [ -z \"$1\" ]; }; echo '## a' >\"$work/m\"; try_mutants \"$work/m\"", "2 passed, 0 failed"),
     ("survives() { [ -z \"$1\" ]; }; try_mutants /dev/null", "1 passed, 1 failed"),
-    ("calls() { echo s2u_a | has_all_calls \"$work/h\" none; }; echo 's2u_a(' >\"$work/h\"; step a calls",
-     "1 passed, 0 failed"),
-    ("calls() { echo s2u_a | has_all_calls \"$work/h\" none; }; echo 's2u_a(s2u_b(' >\"$work/h\"; step a calls",
-     "0 passed, 1 failed"),
-    ("calls() { echo s2u_a | has_all_calls /dev/null none; }; step a calls", "0 passed, 1 failed"),
 ]
 
 # In which the runner, `module`, is ended, and by which signal: then `holds`, which it runs, has to end too.

@@ -106,12 +106,6 @@ need_library() {
   [ "$failed" -eq 0 ] || finish
 }
 
-has_all_calls() { # HEADER BUT: whether the lines read have each call of a header but those of this pattern
-  local calls
-  calls=$(grep -o '\bs2u_[a-z_]*(' "$1" | tr -d '(' | grep -vxE "$2" | sort -u) && [ -n "$calls" ] &&
-    ! sort -u | comm -23 <(printf '%s\n' "$calls") - | grep .
-}
-
 no_arithmetic() { # FILE
   /usr/bin/python3 "$top/tests/no_arithmetic.py" "$1"
 }

@@ -2,6 +2,7 @@
  * prints the sum so far every 1,000 rounds, and each call of the header is asked in each round. Two libraries that
  * answer alike print the same text. No draw and no call stands among the arguments of a call that another may change:
  * compilers evaluate arguments in different orders. */
+#include "../c/calls.h"
 #include "../c/tests.h"
 #include <inttypes.h>
 
@@ -111,21 +112,14 @@ static void make_unions(void) {
   size_t ends[] = {nx / 2, nx};
   uint64_t many = 0;
   uint32_t modulus = 1 + level % 3;
-  int32_t status = s2u_union(xs, nx, ys, ny, out, room, &len);
-  made(status, out, 8);
-  status = s2u_intersection(xs, nx, ys, ny, out, room, &len);
-  made(status, out, 8);
-  status = s2u_difference(xs, nx, ys, ny, out, room, &len);
-  made(status, out, 8);
-  status = s2u_symmetric_difference(xs, nx, ys, ny, out, room, &len);
-  made(status, out, 8);
-  status = s2u_complement(xs, nx, out, room, &len);
-  made(status, out, 8);
+  int32_t status = S2U_OK;
+#define OF_TWO_UNIONS(call, most) status = s2u_##call(xs, nx, ys, ny, out, room, &len), made(status, out, 8);
+#define OF_A_UNION(call, most) status = s2u_##call(xs, nx, out, room, &len), made(status, out, 8);
+  CALLS_OF_TWO_UNIONS(OF_TWO_UNIONS)
+  CALLS_OF_A_UNION(OF_A_UNION)
   status = s2u_union_of_many(xs, nx, ends, 2, work, 2 * MOST, out, room, &len);
   made(status, out, 8);
   status = s2u_range(s2u_range_min(id), s2u_range_max(other), out, room, &len);
-  made(status, out, 8);
-  status = s2u_ancestors(xs, nx, out, room, &len);
   made(status, out, 8);
   status = s2u_denormalised_len(xs, nx, level, modulus, &many);
   say((uint64_t)status), say(many);

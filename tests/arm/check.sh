@@ -55,10 +55,6 @@ by_musl() { # the shared library, linked again without versions of symbols, and 
     built musl-gcc "$work/usr" by-musl "$work/musl-lib/libs2union.so.1" &&
     LD_LIBRARY_PATH=$work/musl-lib answers by-musl "$work/by-musl" && same by-musl
 }
-all_asked() { # each call of the header but those of a heap and the text of a status
-  grep -o '\bs2u_[a-z_]*' "$tests/answers.c" | has_all_calls "$arm/include/s2union.h" 's2u_heap_.*|s2u_status_text'
-}
-step "each call of the header is asked" all_asked
 step "$rounds rounds of all calls, three times" here
 step "the same answers on both: ARM" there
 step "the same answers with musl, by the static library" with_musl

@@ -69,11 +69,6 @@ fuzzed() { # each call of the header with what libFuzzer makes up, from a fixed 
     "$work/fuzz" -seed=1 -max_len=1200 -len_control=0 -max_total_time="$seconds" -artifact_prefix="$work/found/" \
       || { od -An -tx1 "$work"/found/* | head -40; return 1; }
 }
-all_fuzzed() {
-  { grep -o '\bs2u_[a-z_]*' "$tests/fuzz.c" && sed -n 's/.*\bX(\([a-z_]*\),.*/s2u_\1/p' "$tests/calls.h"; } |
-    has_all_calls "$include/s2union.h" 's2u_(heap_.*|status_text|version)'
-}
-step "the fuzzer knows each call of the header" all_fuzzed
 step "fuzzer, $seconds seconds" fuzzed
 
 # ---- the program of docs/C.md
