@@ -1,6 +1,7 @@
 """What all runs of pytest here share. The last line is 'N passed, M failed', as a part of the tests ends. Files of
 tests that need what a part makes first are left out where the variable isn't set that names it."""
 import os
+import sys
 
 import pytest
 
@@ -9,6 +10,12 @@ MADE = {"test_dask.py": "WORLD", "test_engines.py": "WORLD", "test_servers.py": 
 
 def pytest_ignore_collect(collection_path):
     return True if MADE.get(collection_path.name, "PATH") not in os.environ else None
+
+
+def pytest_collection_modifyitems():
+    program = getattr(sys.modules.get("process"), "PROGRAM", None)
+    if program and not os.path.isfile(program):
+        pytest.exit(f"there is no program {program}: S2CALC names one, such as the release's, dist/s2calc", 1)
 
 
 @pytest.hookimpl(trylast=True)

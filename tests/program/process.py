@@ -6,7 +6,7 @@ import sys
 import threading
 
 TOP = os.path.dirname(os.path.dirname(os.path.dirname(os.path.realpath(__file__))))
-PROGRAM = os.environ.get("S2CALC", os.path.join(TOP, "crates/calculator/out/calculator"))
+PROGRAM = os.path.abspath(os.environ.get("S2CALC", os.path.join(TOP, "crates/calculator/out/calculator")))
 LAUNCHER = os.path.join(TOP, "tools/launcher/launcher")
 sys.path.append(os.path.dirname(LAUNCHER))  # whose modules tests import
 FACE = b"ok 0 1\n"
