@@ -16,6 +16,7 @@ READ = ["tools/calls", "crates/s2union_c/src", "crates/s2union_c/include", "crat
         "bindings/java/calls.h", "bindings/js/core.js", "bindings/js/s2union.d.ts", "bindings/go",
         "bindings/c/s2union.ffi.h",
         "bindings/cpp", "tests/cpp/examples.cc", "tests/c", "tests/arm/answers.c", "docs/FROM_S2.md",
+        "tests/model/vectors.py", "tests/model/edges.py",
         "docs/SQLITE.md", "bindings/sqlite/functions.h",
         "bindings/sqlite/s2union_geo.c", "docs/GO.md", "VERSION", "README.md", "CITATION.cff", "docs/C.md",
         "bindings/rust/Cargo.toml", "bindings/rust/serde/Cargo.toml",
