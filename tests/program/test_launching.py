@@ -41,7 +41,7 @@ SAME = ["run", "run --explain", "run --prompt", "run --limit=1 --dir . --depth 2
 
 
 @pytest.mark.parametrize("words", [
-    *(line.split() for line in SAME), [], [""], ["run", "--dir", "no such"], ["cell", " 3/021 "],
+    *(line.split() for line in SAME), [""], ["run", "--dir", "no such"], ["cell", " 3/021 "],
     ["cell", "$(x) `x` *"], ["cell", ""], ["cell", b"\xff"], ["run", "--dir", b"\xff"]], ids=str)
 def test_same_bytes(words):
     """The launcher adds nothing."""
@@ -215,6 +215,9 @@ class Help(unittest.TestCase):
             own, whole = (said(*words)[1].decode().splitlines() for said in (ran, launched))
             gone = [line for line in own if line not in whole]
             self.assertEqual([line.split()[0] for line in gone], changed)
+        status, out, error = ran()
+        self.assertEqual(launched(), (status, out, error.replace(b", draw, help]", b", draw, cells, help]")))
+        self.assertIn(b", cells, ", launched()[2])
         self.assertEqual(launched("help", "run"), launched("run", "--limit", "5", "-h"))
         self.assertEqual(launched("help", "cell"), launched("cell", "--help"))
         self.assertIn(b"      --explain  Says", launched("help", "cell")[1])
