@@ -84,6 +84,7 @@ char* s2_token(UDF_INIT* it, UDF_ARGS* args, char* result, unsigned long* length
 #define KEEPER(name, kinds)                                                                         \
   BEGUN(name, kinds, 1u << 30)                                                                       \
   void name##_deinit(UDF_INIT* it) { free(it->ptr); }
+
 typedef struct { uint64_t* ids; size_t n; } list;
 
 static int read_list(const UDF_ARGS* args, unsigned k, list* to) {
@@ -116,6 +117,7 @@ static char* written(UDF_INIT* it, const uint64_t* ids, size_t n, unsigned long*
     free(a.ids), free(b.ids), free(out);                                                             \
     return made;                                                                                     \
   }
+
 /* Texts: the tokens of a union, and the union of tokens. */
 KEEPER(s2_tokens, "u")
 char* s2_tokens(UDF_INIT* it, UDF_ARGS* args, char* result, unsigned long* length, flag* is_null, flag* error) {
@@ -132,6 +134,7 @@ char* s2_tokens(UDF_INIT* it, UDF_ARGS* args, char* result, unsigned long* lengt
   *length = len;
   return it->ptr;
 }
+
 KEEPER(s2_normalise, "t")
 char* s2_normalise(UDF_INIT* it, UDF_ARGS* args, char* result, unsigned long* length, flag* is_null, flag* error) {
   (void)result, (void)error;
