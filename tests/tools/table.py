@@ -1,9 +1,8 @@
 """The table of the library's calls, and that a mistake in what is declared is refused: tests/tools/table.py.
 
-First `tools/calls --check`. Then each mistake below is made in a copy of what it reads, and it has to find fault. The
+First `tools/calls --check`. Then each mistake below is made in a copy of the repository, and it has to find fault. The
 last line is 'N passed, M failed'.
 """
-import shutil
 import subprocess
 import sys
 import tempfile
@@ -11,20 +10,9 @@ from pathlib import Path
 from typing import NamedTuple
 
 TOP = Path(__file__).resolve().parents[2]
-READ = ["tools/calls", "crates/s2union_c/src", "crates/s2union_c/include", "crates/s2cover/src/lib.rt",
-        "bindings/rust/src", "bindings/python/s2union", "bindings/java/s2union", "bindings/java/s2union.c",
-        "bindings/java/calls.h", "bindings/js/core.js", "bindings/js/s2union.d.ts", "bindings/go",
-        "bindings/c/s2union.ffi.h",
-        "bindings/cpp", "tests/cpp/examples.cc", "tests/c", "tests/arm/answers.c", "docs/FROM_S2.md",
-        "tests/model/vectors.py", "tests/model/edges.py",
-        "docs/SQLITE.md", "bindings/sqlite/functions.h",
-        "bindings/sqlite/s2union_geo.c", "docs/GO.md", "VERSION", "README.md", "CITATION.cff", "docs/C.md",
-        "bindings/rust/Cargo.toml", "bindings/rust/serde/Cargo.toml",
-        "bindings/r/DESCRIPTION", "bindings/js/package.json", "bindings/postgres/s2union.control",
-        "bindings/postgres/s2union_geo.control", "bindings/postgres/s2union_postgis.control",
-        "bindings/postgres/expected", "docs/SCRIPT.md", "tools/launcher/prompt.py", "tests/model/calculator.py",
-        "crates/s2script/src", "crates/s2script/specs", "crates/s2calc/src", "crates/s2calc/specs/Notes.antt",
-        "crates/s2file/src", "crates/s2edit/src/lib.rt"]
+sys.path.append(str(TOP / "tests"))
+from checks import copy_tracked  # noqa: E402
+
 HEADER = "crates/s2union_c/include/s2union.h"
 
 
@@ -156,20 +144,16 @@ def checked(folder):
     return done.stdout + done.stderr, done.returncode == 0
 
 
-def is_refused(mistake, room):
-    folder = Path(room) / "copy"
-    shutil.rmtree(folder, ignore_errors=True)
-    for name in READ:
-        there = folder / name
-        there.parent.mkdir(parents=True, exist_ok=True)
-        (shutil.copytree if (TOP / name).is_dir() else shutil.copyfile)(TOP / name, there)
-    file = folder / mistake.file
+def is_refused(mistake, copy):
+    """Whether a mistake is found in a copy, in which it doesn't stay."""
+    file = copy / mistake.file
     text = file.read_text(encoding="utf-8")
     if text.count(mistake.old) != 1:
         print(f"can't be made: {mistake.name}: its text is there {text.count(mistake.old)} times")
         return False
     file.write_text(text.replace(mistake.old, mistake.new), encoding="utf-8")
-    said, is_fine = checked(folder)
+    said, is_fine = checked(copy)
+    file.write_text(text, encoding="utf-8")
     if is_fine or " passed, " not in said or mistake.fault not in said:
         print(f"NOT REFUSED: {mistake.name}\n{said}")
         return False
@@ -181,7 +165,8 @@ def main():
     print(said, end="" if is_fine else "\n")
     counts = said.splitlines()[-1].split() if said else ["0", "", "1"]
     with tempfile.TemporaryDirectory() as room:
-        refused = [is_refused(mistake, room) for mistake in MISTAKES]
+        copy_tracked(TOP, room)
+        refused = [is_refused(mistake, Path(room).resolve()) for mistake in MISTAKES]
     passed, failed = int(counts[0]) + sum(refused), int(counts[2]) + refused.count(False)
     print(f"{passed} passed, {failed} failed")
     return failed > 0
