@@ -73,6 +73,10 @@ const tests = {
     const comb = geo.fromGeoJSON({type: "Polygon", coordinates: [teeth]}, 50);
     assert.ok(comb.has(geo.fromLngLat(0.1, 5)) && !comb.has(geo.fromLngLat(2, 5)));
   },
+  "corners just north of the middle of a face": () => {
+    const north = [[100, 80], [0, 80], [-100, 80], [-100, -80], [0, -80], [100, -80]];
+    assert.ok(geo.fromGeoJSON({type: "Polygon", coordinates: [north]}, 50).has(geo.fromLngLat(0, 0)));
+  },
   "points are their leaves, and a ring may be open": () => {
     const [first, ...others] = positions.slice(0, 9);
     const points = {type: "GeometryCollection", geometries: [
