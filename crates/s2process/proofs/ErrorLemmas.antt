@@ -10,7 +10,7 @@ use Rattle.s2calc.specs.Calls.{Call}
 use Rattle.s2calc.proofs.CallLemmas.{all_well_may, all_well_more}
 use Rattle.s2process.specs.declared.errors.TextInMemory.{TextInMemory}
 use Rattle.s2process.specs.declared.writer.ListedWriter.{ListedWriter}
-use Rattle.s2process.specs.StreamCalls.{taken_in, ended_in}
+use Rattle.s2process.specs.StreamCalls.{taken_in, called_in}
 use Rattle.s2process.specs.Listed.{calls_of, taken, called}
 use Rattle.s2process.specs.Ends.{NoneFailed, LastFailed}
 use Rattle.s2process.specs.Errors.{Tells}
@@ -59,7 +59,7 @@ module _ {E : Type 0} (old new : ListedWriter E) where
 
   -- the same of a writer that was not called
   pub given_alone : (text : List ℕ) → calls_of old ≡ [] → TellsMore text old new → Tells text (taken new) (called new)
-  given_alone text none more = given_first text (ap taken_in none) (ap ended_in none) more
+  given_alone text none more = given_first text (ap taken_in none) (ap called_in none) more
 
 -- no text
 pub nothing_given : {E : Type 0} (writer : ListedWriter E) → TellsMore [] writer writer

@@ -7,7 +7,7 @@ use Rattle.s2process.specs.declared.reader.ListedReader.{ListedReader}
 use Rattle.s2process.specs.declared.writer.ListedWriter.{ListedWriter}
 use Rattle.s2process.specs.declared.shelf.ListedShelf.{ListedShelf}
 use Rattle.s2process.specs.declared.witness.Witness.{Witness}
-use Rattle.s2process.specs.StreamCalls.{StreamCall, given_in, taken_in, ended_in, reads_in, found_in}
+use Rattle.s2process.specs.StreamCalls.{StreamCall, given_in, taken_in, called_in, reads_in, found_in}
 
 -- the calls of a reader, in order
 abbrev pub calls_of_reader : {R : Type 0} → ListedReader R → List StreamCall
@@ -31,7 +31,7 @@ taken w = taken_in (calls_of w)
 
 -- how the calls of a writer ended
 abbrev pub called : {W : Type 0} → ListedWriter W → List Call
-called w = ended_in (calls_of w)
+called w = called_in (calls_of w)
 
 -- the calls of a shelf, in order
 abbrev pub calls_of_shelf : {S : Type 0} → ListedShelf S → List StreamCall

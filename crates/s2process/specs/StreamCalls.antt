@@ -45,15 +45,15 @@ taken_by FlushedNot = []
 taken_by (OfShelf call) = []
 
 -- how a call of a writer ended; a write that takes nothing has failed
-abbrev pub ended_by : StreamCall → List Call
-ended_by (Gave others bytes) = []
-ended_by GaveNot = []
-ended_by (Took []) = calls.Failed ∷ []
-ended_by (Took (byte ∷ bytes)) = calls.Wrote ∷ []
-ended_by TookNot = calls.Failed ∷ []
-ended_by Flushed = calls.Flushed ∷ []
-ended_by FlushedNot = calls.Failed ∷ []
-ended_by (OfShelf call) = []
+abbrev pub called_by : StreamCall → List Call
+called_by (Gave others bytes) = []
+called_by GaveNot = []
+called_by (Took []) = calls.Failed ∷ []
+called_by (Took (byte ∷ bytes)) = calls.Wrote ∷ []
+called_by TookNot = calls.Failed ∷ []
+called_by Flushed = calls.Flushed ∷ []
+called_by FlushedNot = calls.Failed ∷ []
+called_by (OfShelf call) = []
 
 -- how many bytes a read gave, or None if it failed
 abbrev pub read_by : StreamCall → List (Option ℕ)
@@ -94,8 +94,8 @@ abbrev pub taken_in : List StreamCall → List ℕ
 taken_in list = flat_map taken_by list
 
 -- how the calls of a writer ended
-abbrev pub ended_in : List StreamCall → List Call
-ended_in list = flat_map ended_by list
+abbrev pub called_in : List StreamCall → List Call
+called_in list = flat_map called_by list
 
 -- what the reads gave
 abbrev pub reads_in : List StreamCall → List (Option ℕ)
