@@ -102,8 +102,8 @@ fn fetch_session<S: Shelf>(alloc: Global, shelf: &mut S, name: &str) -> Result<S
     }
 }
 
-/// The session that was read, or why there is none. The closing of the file has said before that no read of it failed,
-/// but by running out of memory or by an interruption. So `Device` says that 2^64 - 1 reads were interrupted.
+/// The session that was read, or why there is none. `Device` doesn't come here: it says that a read of the file failed,
+/// and then the closing of the file has failed too, which is answered before.
 fn session_of(read: Result<Session, ReadFault>) -> Result<Session, Refusal>
     ensures { ReadAs read result }
 {
