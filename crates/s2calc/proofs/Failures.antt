@@ -91,11 +91,10 @@ count_load r name a c x (inr l) = count_refused name a c l.0 x l.1 l.2
 
 count_write : (P : List ℕ → Type 0) (name : List ℕ) (a c : World) (x : Reply) → WritesFile P name a x c →
     IsCounted a c x
-count_write P name a c x (inl l) = stays a c x (ap is_failure l.0) l.2.2.failures
-count_write P name a c x (inr (inl l)) = rises a c x (ap is_failure l.0) l.2.failed
-count_write P name a c x (inr (inr (answer, kept, inl l))) = stays a c x (ap is_failure answer)
-    (ap (λ (h : Files). h.failures) l)
-count_write P name a c x (inr (inr (answer, kept, inr l))) = stays a c x (ap is_failure answer) l.counted
+count_write P name a c x (kept, inl (bytes, those, inl l)) = stays a c x (ap is_failure l.0) l.1.failures
+count_write P name a c x (kept, inl (bytes, those, inr (inl l))) = rises a c x (ap is_failure l.0) l.1.failed
+count_write P name a c x (kept, inl (bytes, those, inr (inr l))) = stays a c x (ap is_failure l.0) l.1.0.counted
+count_write P name a c x (kept, inr l) = stays a c x (ap is_failure l.0) (ap (λ (h : Files). h.failures) l.1)
 
 -- what the editor refuses is no failure of the shelf
 not_of_shelf : (fault : RestoreFault) → is_of_shelf (refusal_of fault) ≡ false

@@ -185,18 +185,16 @@ module _ (a b c d : World) (x y : Reply) (s : a.state ≡ b.state)
   one_write : (P Q : List ℕ → Type 0) (name : List ℕ) →
       ((bytes others : List ℕ) → P bytes → Q others → bytes ≡ others)
       → WritesFile P name a x c → WritesFile Q name b y d → OneLine a b c d x y
-  one_write P Q name one (inl l) (inl m) =
-      let bytes : m.2.0 ≡ l.2.0 = sym (one l.2.0 m.2.0 l.2.1 m.2.1) in
-      let put : PutsFile b.files d.files name l.2.0 = subst (λ h. PutsFile b.files d.files name h) bytes m.2.2 in
-      record {
-        reply = l.0 ∙ sym m.0;
-        state = l.1 ∙ s ∙ sym m.1;
-        files = inr (inr (name, l.2.0, l.2.2, put));
-      }
-  one_write P Q name one (inl l) (inr (inl m)) = absurd (q.1 m.0)
-  one_write P Q name one (inl l) (inr (inr m)) = absurd (q.0 m.0)
-  one_write P Q name one (inr (inl l)) m = absurd (p.1 l.0)
-  one_write P Q name one (inr (inr l)) m = absurd (p.0 l.0)
+  one_write P Q name one (h, inl (bytes, those, inl l)) (k, inl (others, these, inl m)) =
+      let same : others ≡ bytes = sym (one bytes others those these) in
+      let put : PutsFile b.files d.files name bytes = subst (λ xs. PutsFile b.files d.files name xs) same m.1 in
+      record { reply = l.0 ∙ sym m.0; state = h ∙ s ∙ sym k; files = inr (inr (name, bytes, l.1, put)) }
+  one_write P Q name one (h, inl (bytes, those, inl l)) (k, inl (others, these, inr (inl m))) = absurd (q.1 m.0)
+  one_write P Q name one (h, inl (bytes, those, inl l)) (k, inl (others, these, inr (inr m))) = absurd (q.0 m.0)
+  one_write P Q name one (h, inl (bytes, those, inl l)) (k, inr m) = absurd (q.0 m.0)
+  one_write P Q name one (h, inl (bytes, those, inr (inl l))) m = absurd (p.1 l.0)
+  one_write P Q name one (h, inl (bytes, those, inr (inr l))) m = absurd (p.0 l.0)
+  one_write P Q name one (h, inr l) m = absurd (p.0 l.0)
 
   one_restore : (name : List ℕ) → Restores name a x c → Restores name b y d → OneLine a b c d x y
   one_restore name (inl l) (inl m) =
@@ -476,9 +474,10 @@ record Dumped (name : List ℕ) (a b : World) : Type 0 where
 
 dumped : (name : List ℕ) (a b : World) (x : Reply) → a.files.tells ≡ true → Dumps name a x b → IsPlain x →
     Dumped name a b
-dumped name a b x t (inl l) p = record { bytes = l.2.0; text = l.2.1; there = l.2.2.there t }
-dumped name a b x t (inr (inl l)) p = absurd (p.1 l.0)
-dumped name a b x t (inr (inr l)) p = absurd (p.0 l.0)
+dumped name a b x t (h, inl (bytes, text, inl l)) p = record { bytes = bytes; text = text; there = l.1.there t }
+dumped name a b x t (h, inl (bytes, text, inr (inl l))) p = absurd (p.1 l.0)
+dumped name a b x t (h, inl (bytes, text, inr (inr l))) p = absurd (p.0 l.0)
+dumped name a b x t (h, inr l) p = absurd (p.0 l.0)
 
 -- a file that is taken over is restored
 is_restored : (name bytes : List ℕ) (c d : World) (state : History (List ℕ)) (y : Reply) → c.files.tells ≡ true →

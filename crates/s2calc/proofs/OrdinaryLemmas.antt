@@ -171,9 +171,7 @@ loads_follow r name old new reply o (inr (refusal, none, answer, same)) = stays 
 
 writes_follow : (AreThose : List ℕ → Type 0) (name : List ℕ) (old new : World) (reply : Reply) →
     IsOrdinary old.state → WritesFile AreThose name old reply new → Follows old.state new.state
-writes_follow AreThose name old new reply o (inl h) = stays old.state new.state o h.1
-writes_follow AreThose name old new reply o (inr (inl h)) = stays old.state new.state o h.1
-writes_follow AreThose name old new reply o (inr (inr h)) = stays old.state new.state o h.1
+writes_follow AreThose name old new reply o h = stays old.state new.state o h.0
 
 restores_follow : (name : List ℕ) (old new : World) (reply : Reply) → IsOrdinary old.state →
     Restores name old reply new → Follows old.state new.state

@@ -56,10 +56,11 @@ bytes_in (Failed fault) = []
 -- a line that is answered `ok` stored bytes of this kind, which are those that were found last
 stored : (AreThose : List ℕ → Type 0) (name bytes : List ℕ) (a b : World) →
     WritesFile AreThose name a (Says done_line) b → FoundLast name (Written bytes) b → AreThose bytes
-stored AreThose name bytes a b (inl (answer, same, (others, those, puts))) last =
+stored AreThose name bytes a b (same, inl (others, those, inl (answer, puts))) last =
     subst AreThose (ap bytes_in (found_so a.files name name (Written others) (Written bytes) b last puts.found)) those
-stored AreThose name bytes a b (inr (inl (answer, same, loses))) last = absurd cc
-stored AreThose name bytes a b (inr (inr (answer, same, keeps))) last = absurd cc
+stored AreThose name bytes a b (same, inl (others, those, inr (inl (answer, fails)))) last = absurd cc
+stored AreThose name bytes a b (same, inl (others, those, inr (inr (answer, fails)))) last = absurd cc
+stored AreThose name bytes a b (same, inr (answer, keeps)) last = absurd cc
 
 -- ---- a list
 

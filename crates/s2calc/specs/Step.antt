@@ -1,7 +1,7 @@
 -- What a line may do.
 use Rattle.std.specs.Prelude.{◌≡◌, ℕ, ◌⊎◌, Bool, true, false, List, Option, None, Some, Ok, Err}
-use Rattle.s2shelf.specs.Shelf.{Finds, PutsFile, LosesFile, FailsToPut}
-use Rattle.s2shelf.specs.declared.shelf.ShelfFault.TheVariants.{Memory as NoRoom}
+use Rattle.s2shelf.specs.Shelf.{Files, Finds, PutsFile, FailsToPut}
+use Rattle.s2shelf.specs.declared.shelf.ShelfFault.TheVariants.{Device, Memory as NoRoom}
 use Rattle.s2file.specs.File.{Bytes}
 use Rattle.s2script.specs.declared.command.Command.{Command}
 use Rattle.s2script.specs.declared.command.Command.TheVariants.{Edit, Load, Save, Dump, Restore, Undo, Redo, Ask}
@@ -27,16 +27,20 @@ Loads r name old reply new =
     ⊎ ((refusal : Refusal) × FetchesUnion name old.files (Err refusal) new.files × (reply ≡ Refuses refusal)
     × (new.state ≡ old.state))
 
--- the file becomes bytes of this kind, which says more than that there are such bytes only of a shelf that exposes its
--- contents; or the shelf fails, and the content of that one file is not known; or there is no memory for the bytes, and
--- the shelf isn't asked, or none to store them
+-- the shelf is asked, once, to store the bytes under that name: the file becomes these bytes; or the shelf fails to
+-- store them, and the content of that one file is not known; or there is no memory to store them
+abbrev pub WritesBytes : (name bytes : List ℕ) → Files → Reply → Files → Type 0
+WritesBytes name bytes old reply new =
+    ((reply ≡ Says done_line) × PutsFile old new name bytes)
+    ⊎ ((reply ≡ Refuses FileFailed) × FailsToPut old name bytes new Device)
+    ⊎ ((reply ≡ Refuses Memory) × FailsToPut old name bytes new NoRoom)
+
+-- the shelf is asked to store bytes of this kind; or there is no memory for such bytes, and it isn't asked; the state
+-- stays as it was
 abbrev pub WritesFile : (List ℕ → Type 0) → List ℕ → World → Reply → World → Type 0
-WritesFile AreThose name old reply new =
-    ((reply ≡ Says done_line) × (new.state ≡ old.state)
-    × ((bytes : List ℕ) × AreThose bytes × PutsFile old.files new.files name bytes))
-    ⊎ ((reply ≡ Refuses FileFailed) × (new.state ≡ old.state) × LosesFile old.files new.files name)
-    ⊎ ((reply ≡ Refuses Memory) × (new.state ≡ old.state)
-    × ((new.files ≡ old.files) ⊎ FailsToPut old.files name new.files NoRoom))
+WritesFile AreThose name old reply new = (new.state ≡ old.state)
+    × (((bytes : List ℕ) × AreThose bytes × WritesBytes name bytes old.files reply new.files)
+    ⊎ ((reply ≡ Refuses Memory) × (new.files ≡ old.files)))
 
 -- if nothing fails, the file becomes the text of the register's leaves
 abbrev pub Saves : ℕ → List ℕ → World → Reply → World → Type 0

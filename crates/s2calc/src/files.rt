@@ -1,7 +1,9 @@
 //! Registers and files.
+ghost use Rattle.std.specs.Prelude.{List, ℕ};
 ghost use Rattle.s2calc.specs.Working.Answer.{reply_of};
-ghost use Rattle.s2calc.specs.Step.{Loads, Saves};
+ghost use Rattle.s2calc.specs.Step.{Loads, Saves, WritesBytes};
 ghost use Rattle.s2calc.specs.World.{world};
+ghost use Rattle.s2edit.specs.History.{History};
 
 use crate::answer::Answer;
 use crate::edits::assign;
@@ -44,7 +46,15 @@ pub(crate) fn save<S: Shelf>(
     let Ok(bytes) = encode(alloc, editor.register(register)) else {
         return Answer::Refused(Refusal::Memory);
     };
-    match shelf.put(name.as_str(), bytes.as_slice()) {
+    store(shelf, name, bytes.as_slice())
+}
+
+/// Writes bytes to a file.
+pub(crate) fn store<S: Shelf>(shelf: &mut S, name: &Name<'_>, bytes: &[u8]) -> Answer
+    ensures { (state : History (List ℕ)) → WritesBytes name.now bytes.now (S.files shelf.old) (reply_of result state)
+        (S.files shelf.new) }
+{
+    match shelf.put(name.as_str(), bytes) {
         Ok(()) => Answer::Done,
         Err(ShelfFault::Device) => Answer::Refused(Refusal::File),
         Err(ShelfFault::Memory) => Answer::Refused(Refusal::Memory),

@@ -12,6 +12,7 @@ ghost use Rattle.s2calc.specs.Step.{Dumps, Restores};
 ghost use Rattle.s2calc.specs.World.{world};
 
 use crate::answer::Answer;
+use crate::files::store;
 use crate::refusal::Refusal;
 use s2edit::{Editor, RestoreFault};
 use s2file::Session;
@@ -44,11 +45,7 @@ pub(crate) fn dump<S: Shelf>(
     let Ok(bytes) = session_file(alloc, editor) else {
         return Answer::Refused(Refusal::Memory);
     };
-    match shelf.put(name.as_str(), bytes.as_slice()) {
-        Ok(()) => Answer::Done,
-        Err(ShelfFault::Device) => Answer::Refused(Refusal::File),
-        Err(ShelfFault::Memory) => Answer::Refused(Refusal::Memory),
-    }
+    store(shelf, name, bytes.as_slice())
 }
 
 /// Takes over the registers and the history of a file. Fetches and reads the file first, then checks depth and limit.

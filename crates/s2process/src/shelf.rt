@@ -127,12 +127,13 @@ impl<S: Shelf> Shelf for ListedShelf<S> {
     fn put(&mut self, name: &str, bytes: &[u8]) -> Result<(), ShelfFault>
         ensures below { MatchResult result
             (λ _. PutsFile (S.files self.old.shelf) (S.files self.new.shelf) name.now bytes.now)
-            (λ fault. FailsToPut (S.files self.old.shelf) name.now (S.files self.new.shelf) fault) }
+            (λ fault. FailsToPut (S.files self.old.shelf) name.now bytes.now (S.files self.new.shelf) fault) }
         ensures listed { calls_of_shelf self.new
             ≡ calls_of_shelf self.old ++ OfShelf (put_call name.now bytes.now result) ∷ [] }
         ensures answer { MatchResult result
             (λ _. PutsFile (listed_files S.files self.old) (listed_files S.files self.new) name.now bytes.now)
-            (λ fault. FailsToPut (listed_files S.files self.old) name.now (listed_files S.files self.new) fault) }
+            (λ fault. FailsToPut (listed_files S.files self.old) name.now bytes.now (listed_files S.files self.new)
+            fault) }
     {
         let result = self.shelf.put(name, bytes);
         match result {

@@ -88,14 +88,15 @@ CallsFor (Failed Memory) path calls = (calls ≡ []) ⊎ NotRead path calls
 abbrev pub AsksFor : Files → List ℕ → Finding → Files → Type 0
 AsksFor old name finding new = AsksSystem old new (λ folder. CallsFor finding (path_to folder name))
 
--- a call failed on the file `name`, and the count rose: its content is not known, and every other file stays as it was,
--- if the shelf exposes its contents; it is found that the call failed
-pub record LosesFile (old new : Files) (name : List ℕ) : Type 0 where
+-- storing the bytes in the file `name` failed, and the count rose: its content is not known, and every other file stays
+-- as it was, if the shelf exposes its contents; it is found that the call failed; a folder of the system tried to write
+-- just these bytes, or came not so far
+pub record LosesFile (old new : Files) (name bytes : List ℕ) : Type 0 where
   pub tells : new.tells ≡ old.tells
   pub others : old.tells ≡ true → (other : List ℕ) → other ≢ name → new.at other ≡ old.at other
   pub failed : new.failures ≡ one_more old.failures
   pub found : FindsMore old name (Failed Device) new
-  pub calls : AsksSystem old new (λ folder calls. (bytes : List ℕ) × NotStored (path_to folder name) bytes calls)
+  pub calls : AsksSystem old new (λ folder. NotStored (path_to folder name) bytes)
 
 -- if the shelf exposes its contents, the file `name` holds the bytes and every other file stays as it was; and so does
 -- the count; it is known that these bytes were stored, if what was stored is
@@ -230,8 +231,8 @@ abbrev pub FailsToGet : Files → List ℕ → Files → ShelfFault → Type 0
 FailsToGet old name new fault =
     Fails old name new fault ⊎ ((fault ≡ Memory) × ((content : Option (List ℕ)) × MayFind old name content new))
 
--- a file was not written, which is found: if the fault is `Device`, the count rises and the content of that one file is
--- not known; else no file changes
-abbrev pub FailsToPut : Files → List ℕ → Files → ShelfFault → Type 0
-FailsToPut old name new Device = LosesFile old new name
-FailsToPut old name new Memory = Fails old name new Memory
+-- the bytes were not stored in the file of that name, which is found: if the fault is `Device`, the count rises and the
+-- content of that one file is not known; else no file changes, and the system is asked for nothing
+abbrev pub FailsToPut : Files → (name bytes : List ℕ) → Files → ShelfFault → Type 0
+FailsToPut old name bytes new Device = LosesFile old new name bytes
+FailsToPut old name bytes new Memory = Fails old name new Memory × (new.calls ≡ old.calls)

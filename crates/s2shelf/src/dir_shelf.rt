@@ -236,7 +236,7 @@ impl<R: Files + AllocGlobal> Shelf for DirShelf<R> {
     fn put(&mut self, name: &str, bytes: &[u8]) -> Result<(), ShelfFault>
         ensures answer { MatchResult result
             (λ _. PutsFile (folder_files self.old) (folder_files self.new) name.now bytes.now)
-            (λ fault. FailsToPut (folder_files self.old) name.now (folder_files self.new) fault) }
+            (λ fault. FailsToPut (folder_files self.old) name.now bytes.now (folder_files self.new) fault) }
         ensures written { OnOk result (IsWritten R.File.contents bytes.now) }
         ensures path { folder_path self.new ≡ folder_path self.old }
         ensures calls { Makes (calls_of_folder self.old) (calls_of_folder self.new)

@@ -143,7 +143,7 @@ impl Shelf for MemoryShelf {
     fn put(&mut self, name: &str, bytes: &[u8]) -> Result<(), ShelfFault>
         ensures answer { MatchResult result
             (λ _. PutsFile (files_of self.old) (files_of self.new) name.now bytes.now)
-            (λ fault. FailsToPut (files_of self.old) name.now (files_of self.new) fault) }
+            (λ fault. FailsToPut (files_of self.old) name.now bytes.now (files_of self.new) fault) }
         ensures kept { OnErr result (KeepsFiles (files_of self.old) (files_of self.new)) }
         ensures turn { IsErrOf result ShelfFault.Device ↔ (failing_of self.old ≡ 1) }
         ensures failing { failing_of self.new ≡ failing_of self.old - 1 }

@@ -114,9 +114,10 @@ pub trait Shelf {
 
     /// Overwrites the file of that name, so that it holds exactly these bytes, and they are what was stored; no other
     /// file changes. After `Device` the content of that one file is not known, nothing counts as stored, and the count
-    /// has risen by one. Either is in the list.
+    /// has risen by one; a folder of the system has tried to write these bytes and no others, if it came so far. After
+    /// `Memory` no file has changed, and the system was asked for nothing. Each is in the list.
     fn put(&mut self, name: &str, bytes: &[u8]) -> Result<(), ShelfFault>
         ensures { MatchResult result
             (λ _. PutsFile (files self.old) (files self.new) name.now bytes.now)
-            (λ fault. FailsToPut (files self.old) name.now (files self.new) fault) };
+            (λ fault. FailsToPut (files self.old) name.now bytes.now (files self.new) fault) };
 }

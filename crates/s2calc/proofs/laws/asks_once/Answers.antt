@@ -36,11 +36,10 @@ not_read : (path : List ℕ) (calls : List FileCall) → NotRead path calls → 
 not_read path calls (inl none) = not_opened path calls none
 not_read path calls (inr (bytes, is)) = subst (AllAt path) (sym is) (refl, (refl, (refl, (refl, (refl, tt)))))
 
-not_stored : (path : List ℕ) (calls : List FileCall) → (bytes : List ℕ) × NotStored path bytes calls →
-    AllAt path calls
-not_stored path calls (bytes, inl is) = subst (AllAt path) (sym is) (refl, tt)
-not_stored path calls (bytes, inr (inl is)) = subst (AllAt path) (sym is) (refl, (refl, tt))
-not_stored path calls (bytes, inr (inr is)) = subst (AllAt path) (sym is) (refl, (refl, (refl, (refl, tt))))
+not_stored : (path bytes : List ℕ) (calls : List FileCall) → NotStored path bytes calls → AllAt path calls
+not_stored path bytes calls (inl is) = subst (AllAt path) (sym is) (refl, tt)
+not_stored path bytes calls (inr (inl is)) = subst (AllAt path) (sym is) (refl, (refl, tt))
+not_stored path bytes calls (inr (inr is)) = subst (AllAt path) (sym is) (refl, (refl, (refl, (refl, tt))))
 
 found_at : (f : Finding) (path : List ℕ) (calls : List FileCall) → CallsFor f path calls → AllAt path calls
 found_at NoFile path calls none = not_read path calls none
@@ -112,16 +111,16 @@ module _ (old new : World) (reply : Reply) (before : List Found) (e : old.files.
   loads r name (inr (refusal, inr (bytes, found, refuses), answer, same)) = may_find name (Some bytes) found
 
   writes : (AreThose : List ℕ → Type 0) (name : List ℕ) → WritesFile AreThose name old reply new → Once name
-  writes AreThose name (inl (answer, same, (bytes, those, puts))) = once name (Written bytes) refl puts.found
+  writes AreThose name (same, inl (bytes, those, inl (answer, puts))) = once name (Written bytes) refl puts.found
       puts.calls
-  writes AreThose name (inr (inl (answer, same, loses))) = once_by name (Failed Device) _ refl loses.found
-      loses.calls (λ folder calls. not_stored (path_to folder name) calls)
-  writes AreThose name (inr (inr (answer, same, inl keeps))) = (
+  writes AreThose name (same, inl (bytes, those, inr (inl (answer, loses)))) = once_by name (Failed Device) _ refl
+      loses.found loses.calls (λ folder. not_stored (path_to folder name) bytes)
+  writes AreThose name (same, inl (bytes, those, inr (inr (answer, fails)))) = once name (Failed NoRoom) refl
+      fails.0.found fails.0.calls
+  writes AreThose name (same, inr (answer, keeps)) = (
     inr (answer, ap (λ (h : Files). h.found) keeps ∙ e),
     subst (AsksOnlyFor name old.files) (sym keeps) (refl, makes_none old.files.folder old.files.calls name),
   )
-  writes AreThose name (inr (inr (answer, same, inr fails))) = once name (Failed NoRoom) refl fails.found
-      fails.calls
 
   restores : (name : List ℕ) → Restores name old reply new → Once name
   restores name (inl (bytes, found, restored, answer)) = finds name (Some bytes) found
