@@ -24,3 +24,5 @@ pub mod Turns
 pub mod Watching
 pub mod PartChange
 pub mod Making
+pub mod Splicing
+pub mod Completing

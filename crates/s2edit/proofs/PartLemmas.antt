@@ -52,7 +52,7 @@ no_family : (u : List ℕ) (p : ℕ) → IsLocal u → IsCell p → level_of p <
 no_family u p l g d all = l.unmerged p g d (λ i h. member_had u (child_of p i) (all i h))
 
 -- that a list is local, said of its members
-local_from : (u : List ℕ) → IsAscending u
+pub local_from : (u : List ℕ) → IsAscending u
     → ((c : ℕ) → has u c ≡ true → IsCell c)
     → ((a b x : ℕ) → has u a ≡ true → has u b ≡ true → covers a x ≡ true → covers b x ≡ true → a ≡ b)
     → ((p : ℕ) → IsCell p → level_of p < 30 → ((i : ℕ) → i < 4 → has u (child_of p i) ≡ true) → ⊥)

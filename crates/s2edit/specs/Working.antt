@@ -7,3 +7,4 @@ pub mod Named
 pub mod Following
 pub mod Part
 pub mod InTurn
+pub mod Splice

@@ -16,6 +16,7 @@ mod near;
 mod restore;
 mod session;
 mod sides;
+mod splice;
 
 pub use change::Change;
 pub use editor::{EditFault, Editor};

@@ -1,10 +1,10 @@
-//! Edits by a few named cells: how the change that they make is found near them.
+//! Edits by a few named cells: how the change that they make is found near them. splice.rt has that of one cell.
 //!
-//! What the named cells add or take out concerns only a part of the register's list: the cells near them (near.rt), or
+//! What several cells add or take out concerns only a part of the register's list: the cells near them (near.rt), or
 //! near those that become one cell with them. So the part alone is joined with the named cells, or cut by them. The
 //! change of the part is then the change of the whole list, if it can be made there. That is tested; so a part that was
 //! chosen too small is found out, and the whole list is taken.
-ghost use Rattle.std.specs.Prelude.{◌≡◌, ℕ, Bool, true, ◌<◌, ◌≤◌, ◌||◌, ◌&&◌, not, List, length};
+ghost use Rattle.std.specs.Prelude.{◌≡◌, ℕ, Bool, true, ◌<◌, ◌≤◌, ◌||◌, ◌&&◌, not, List, [], ◌∷◌, length};
 ghost use Rattle.std.specs.Prelude.{Err, IfOk, IfSome, OnOk, OnErr};
 ghost use Rattle.s2list.specs.Union.{has_leaf, IsNormalForm};
 ghost use Rattle.s2list.specs.Sets.{union_of, difference_of};
@@ -19,6 +19,7 @@ ghost use Rattle.s2edit.specs.Working.Named.{Gives};
 use crate::change::Change;
 use crate::editor::{EditFault, Editor, change_register};
 use crate::near::part_near;
+use crate::splice::{adding_cell, removing_cell};
 use crate::{REGISTERS, Register};
 use s2cell::CellId;
 use s2list::{CellList, find_from, first_place};
@@ -50,6 +51,9 @@ impl Editor {
             self.old.limit < length u }
         ensures err { OnErr result (self.new ≡ self.old) }
     {
+        if named.len() == 1 {
+            return self.add_cell(register, named.cells()[0]);
+        }
         let alloc = self.alloc;
         let union = self.register(register);
         let _ = union.cells();
@@ -76,6 +80,9 @@ impl Editor {
             self.old.limit < length u }
         ensures err { OnErr result (self.new ≡ self.old) }
     {
+        if named.len() == 1 {
+            return self.remove_cell(register, named.cells()[0]);
+        }
         let alloc = self.alloc;
         let limit = self.limit;
         let union = self.register(register);
@@ -88,6 +95,39 @@ impl Editor {
             Err(UnionFault::TooMany) => Err(EditFault::TooMany),
             Err(UnionFault::Memory) => Err(EditFault::Memory),
         }
+    }
+
+    /// `add` of one cell.
+    fn add_cell(&mut self, register: Register, cell: CellId) -> Result<(usize, usize), EditFault>
+        ensures ok { OnOk result (Becomes (union_of (has_leaf (list_at self.old.now register)) (has_leaf (cell ∷ [])))
+            register self.old self.new) }
+        ensures numbers { IfOk result (λ n. n ≡ numbers self.old.now self.new.now) }
+        ensures too_many { result ≡ Err EditFault.TooMany → (u : List ℕ) →
+            IsNormalForm (union_of (has_leaf (list_at self.old.now register)) (has_leaf (cell ∷ []))) u →
+            self.old.limit < length u }
+        ensures err { OnErr result (self.new ≡ self.old) }
+    {
+        let union = self.register(register);
+        let _ = union.cells();
+        let change = adding_cell(self.alloc, register, union, cell)?;
+        self.make(change)
+    }
+
+    /// `remove` of one cell.
+    fn remove_cell(&mut self, register: Register, cell: CellId) -> Result<(usize, usize), EditFault>
+        ensures ok { OnOk result (Becomes
+            (difference_of (has_leaf (list_at self.old.now register)) (has_leaf (cell ∷ []))) register
+            self.old self.new) }
+        ensures numbers { IfOk result (λ n. n ≡ numbers self.old.now self.new.now) }
+        ensures too_many { result ≡ Err EditFault.TooMany → (u : List ℕ) →
+            IsNormalForm (difference_of (has_leaf (list_at self.old.now register)) (has_leaf (cell ∷ []))) u →
+            self.old.limit < length u }
+        ensures err { OnErr result (self.new ≡ self.old) }
+    {
+        let union = self.register(register);
+        let _ = union.cells();
+        let change = removing_cell(self.alloc, register, union, cell)?;
+        self.make(change)
     }
 
     /// Makes a change in its register's list, in which it can be made: does what `assign` of the changed list does.
