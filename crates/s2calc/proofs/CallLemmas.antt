@@ -1,10 +1,11 @@
 -- Lemmas on the calls of a reader and of a writer.
 use Rattle.std.proofs.Common.{◌≡◌, ◌∙◌, ◌<◌, ℕ, ◌+◌, List, [], ◌∷◌, ◌++◌, Option, None, Some, refl, sym, ap}
-use Rattle.std.proofs.Common.{append_assoc, append-nil, subst, arith, length, length-append, Result, Ok, Err}
-use Rattle.s2calc.specs.Calls.{Call, Gains, NoneFailed, LastFlushed, LastFailed, AllWell, Wrote, Flushed, Failed}
-use Rattle.s2calc.specs.Reads.{AllGave, ReadsOn, ReadsLast}
+use Rattle.std.proofs.Common.{append_assoc, append-nil, subst, arith, length, length-append, Result, Ok, Err, inl}
+use Rattle.s2calc.specs.Calls.{Call, Gains, Gained, NoneFailed, LastFlushed, LastFailed, AllWell, EndsWith, Wrote}
+use Rattle.s2calc.specs.Calls.{Flushed, Failed}
+use Rattle.s2calc.specs.Reads.{AllGave, ReadsLast, ReadsWell}
 use Rattle.s2calc.specs.Flushing.{FlushedIfOk}
-use Rattle.s2calc.specs.Working.Calls.{FailedIfErr}
+use Rattle.s2calc.specs.Working.Calls.{FailedIfErr, ReadsOn}
 
 pub gains_nil : {A : Type 0} (a : Option (List A)) → Gains a a []
 gains_nil None = tt
@@ -34,56 +35,64 @@ all_well_may may (Wrote ∷ cs) p = all_well_may may cs p
 all_well_may may (Flushed ∷ cs) p = absurd p.0
 all_well_may may (Failed ∷ cs) p = absurd p
 
+-- what was gained may be said otherwise
+pub gained_so : {A : Type 0} {a b : Option (List A)} {P Q : List A → Type 0} → ((more : List A) → P more → Q more) →
+    Gained a b P → Gained a b Q
+gained_so f g = record { more = g.more; gained = g.gained; holds = f g.more g.holds }
+
+-- what was gained first, and then more
+gained_after : {A : Type 0} {a b c : Option (List A)} {P Q R : List A → Type 0} →
+    ((front back : List A) → P front → Q back → R (front ++ back)) → Gained a b P → Gained b c Q → Gained a c R
+gained_after {a = a} {b = b} {c = c} f p q = record {
+  more = p.more ++ q.more;
+  gained = gains_more a b c p.more q.more p.gained q.gained;
+  holds = f p.more q.more p.holds q.holds;
+}
+
+pub ends_may : {last : Call} (may : Type 0) (calls : List Call) → EndsWith last ⊥ calls → EndsWith last may calls
+ends_may may calls e = record { before = e.before; is = e.is; well = all_well_may may e.before e.well }
+
+pub ends_after : {last : Call} (may : Type 0) (front back : List Call) → AllWell may front → EndsWith last may back →
+    EndsWith last may (front ++ back)
+ends_after {last = last} may front back well e = record {
+  before = front ++ e.before;
+  is = ap (λ cs. front ++ cs) e.is ∙ sym (append_assoc front e.before (last ∷ []));
+  well = all_well_more may front e.before well e.well;
+}
+
 pub none_failed_none : (may : Type 0) (a : Option (List Call)) → NoneFailed may a a
-none_failed_none may a = record { calls = []; gained = gains_nil a; well = tt }
+none_failed_none may a = record { more = []; gained = gains_nil a; holds = tt }
 
 pub none_failed_more : (may : Type 0) (a b c : Option (List Call)) → NoneFailed may a b → NoneFailed may b c →
     NoneFailed may a c
-none_failed_more may a b c p q =
-    record {
-      calls = p.calls ++ q.calls;
-      gained = gains_more a b c p.calls q.calls p.gained q.gained;
-      well = all_well_more may p.calls q.calls p.well q.well;
-    }
+none_failed_more may a b c p q = gained_after (all_well_more may) p q
 
 pub none_failed_may : (may : Type 0) (a b : Option (List Call)) → NoneFailed ⊥ a b → NoneFailed may a b
-none_failed_may may a b p = record { calls = p.calls; gained = p.gained; well = all_well_may may p.calls p.well }
+none_failed_may may a b p = gained_so (all_well_may may) p
 
 pub last_failed_may : (may : Type 0) (a b : Option (List Call)) → LastFailed ⊥ a b → LastFailed may a b
-last_failed_may may a b p =
-    record { calls = p.calls; gained = p.gained; well = all_well_may may p.calls p.well }
+last_failed_may may a b p = gained_so (ends_may may) p
 
 pub last_flushed_may : (may : Type 0) (a b : Option (List Call)) → LastFlushed ⊥ a b → LastFlushed may a b
-last_flushed_may may a b p = record { calls = p.calls; gained = p.gained; well = all_well_may may p.calls p.well }
+last_flushed_may may a b p = gained_so (ends_may may) p
 
 pub last_failed_after : (may : Type 0) (a b c : Option (List Call)) → NoneFailed may a b → LastFailed may b c →
     LastFailed may a c
-last_failed_after may a b c p q =
-    record {
-      calls = p.calls ++ q.calls;
-      gained = subst (Gains a c) (sym (append_assoc p.calls q.calls (Failed ∷ [])))
-          (gains_more a b c p.calls (q.calls ++ Failed ∷ []) p.gained q.gained);
-      well = all_well_more may p.calls q.calls p.well q.well;
-    }
+last_failed_after may a b c p q = gained_after (ends_after may) p q
 
 pub last_flushed_after : (may : Type 0) (a b c : Option (List Call)) → NoneFailed may a b → LastFlushed may b c →
     LastFlushed may a c
-last_flushed_after may a b c p q =
-    record {
-      calls = p.calls ++ q.calls;
-      gained = subst (Gains a c) (sym (append_assoc p.calls q.calls (Flushed ∷ [])))
-          (gains_more a b c p.calls (q.calls ++ Flushed ∷ []) p.gained q.gained);
-      well = all_well_more may p.calls q.calls p.well q.well;
-    }
+last_flushed_after may a b c p q = gained_after (ends_after may) p q
+
+-- of a list that isn't known nothing is left to say
+pub unknown_last : (last : Call) (may : Type 0) (a : Option (List Call)) → Gained a None (EndsWith last may)
+unknown_last last may a =
+    record { more = last ∷ []; gained = tt; holds = record { before = []; is = refl; well = tt } }
 
 -- a flush is a call like others, if there may be one
 pub none_failed_flushed : (may : Type 0) (a b : Option (List Call)) → may → LastFlushed may a b → NoneFailed may a b
-none_failed_flushed may a b m p =
-    record {
-      calls = p.calls ++ Flushed ∷ [];
-      gained = p.gained;
-      well = all_well_more may p.calls (Flushed ∷ []) p.well (m, tt);
-    }
+none_failed_flushed may a b m p = gained_so (λ calls e. subst (AllWell may) (sym e.is)
+    (all_well_more may e.before (Flushed ∷ []) e.well (m, tt))) p
 
 -- ---- the calls of a run
 
@@ -103,7 +112,7 @@ flushed_if_ok_may may a b (Ok t) p = last_flushed_may may a b p
 flushed_if_ok_may may a b (Err e) p = last_failed_may may a b p
 
 pub reads_on_none : (a : Option (List (Option ℕ))) → ReadsOn a a 0
-reads_on_none a = record { reads = []; gained = gains_nil a; gave = tt; count = refl }
+reads_on_none a = record { more = []; gained = gains_nil a; holds = (tt, refl) }
 
 all_gave_more : (reads : List (Option ℕ)) (n : ℕ) → AllGave reads → 0 < n → AllGave (reads ++ Some n ∷ [])
 all_gave_more [] n p h = (h, tt)
@@ -113,13 +122,18 @@ all_gave_more (Some m ∷ rs) n p h = (p.0, all_gave_more rs n p.1 h)
 pub reads_on_more : (a b c : Option (List (Option ℕ))) (times later n : ℕ) → ReadsOn a b times →
     Gains b c (Some n ∷ []) → 0 < n → later ≡ times + 1 → ReadsOn a c later
 reads_on_more a b c times later n p g h e =
-    let count = p.count in
+    let count = p.holds.1 in
     record {
-      reads = p.reads ++ Some n ∷ [];
-      gained = gains_more a b c p.reads (Some n ∷ []) p.gained g;
-      gave = all_gave_more p.reads n p.gave h;
-      count = omega (arith, length-append p.reads (Some n ∷ []), count, e);
+      more = p.more ++ Some n ∷ [];
+      gained = gains_more a b c p.more (Some n ∷ []) p.gained g;
+      holds = (
+        all_gave_more p.more n p.holds.0 h,
+        omega (arith, length-append p.more (Some n ∷ []), count, e),
+      );
     }
+
+pub gave_well : {a b : Option (List (Option ℕ))} {times : ℕ} → ReadsOn a b times → Gained a b ReadsWell
+gave_well p = gained_so (λ rs r. inl r.0) p
 
 -- what a read gave is as long as it says
 pub read_is : (a b : Option (List (Option ℕ))) (n : ℕ) (bytes : List ℕ) → n ≡ length bytes →
@@ -127,11 +141,14 @@ pub read_is : (a b : Option (List (Option ℕ))) (n : ℕ) (bytes : List ℕ) �
 read_is a b n bytes e g = subst (λ (k : ℕ). Gains a b (Some k ∷ [])) e g
 
 pub reads_last : (a b c : Option (List (Option ℕ))) (times : ℕ) (last : Option ℕ) → ReadsOn a b times →
-    Gains b c (last ∷ []) → ReadsLast a c last
-reads_last a b c times last p g =
-    record { reads = p.reads; gained = gains_more a b c p.reads (last ∷ []) p.gained g; gave = p.gave }
+    Gains b c (last ∷ []) → Gained a c (ReadsLast last)
+reads_last a b c times last p g = record {
+  more = p.more ++ last ∷ [];
+  gained = gains_more a b c p.more (last ∷ []) p.gained g;
+  holds = record { before = p.more; is = refl; gave = p.holds.0 };
+}
 
 pub reads_end : (a b c : Option (List (Option ℕ))) (times n : ℕ) → ReadsOn a b times → Gains b c (Some n ∷ []) →
-    n ≡ 0 → ReadsLast a c (Some 0)
+    n ≡ 0 → Gained a c (ReadsLast (Some 0))
 reads_end a b c times n p g e = reads_last a b c times (Some 0) p
     (subst (λ (k : ℕ). Gains b c (Some k ∷ [])) e g)

@@ -30,8 +30,9 @@ read_one whole script other None p q = absurd p
 read_one whole script other (Some left) p q = append_cancel_right script other left (sym p ∙ q)
 
 pub one_end_of_input : (old old' new new' : Known) (script out : List ℕ) → SameStart old old' script out →
-    new.input.ahead ≡ new'.input.ahead → (run : Ran old new) (other : Ran old' new') → WholeLines run → WholeLines other
-    → AllPlain run.replies → AllPlain other.replies → SameEnd new new' run.replies other.replies
+    new.input.ahead ≡ new'.input.ahead → (run : Ran old new) (other : Ran old' new') →
+    WholeLines run.script run.did → WholeLines other.script other.did → AllPlain run.did.replies →
+    AllPlain other.did.replies → SameEnd new new' run.did.replies other.did.replies
 one_end_of_input old old' new new' script out start n run other w w' p p' =
     let read : Consumes (Some script) new.input.ahead run.script =
     subst (λ (known : Option (List ℕ)). Consumes known new.input.ahead run.script) start.input run.read.0 in
@@ -40,11 +41,12 @@ one_end_of_input old old' new new' script out start n run other w w' p p' =
     let same : run.script ≡ other.script =
     read_one script run.script other.script new'.input.ahead
     (subst (λ (left : Option (List ℕ)). Consumes (Some script) left run.script) n read) read' in
-    let steps : Steps old.world other.done run.replies new.world =
-    subst (λ (ls : List (List ℕ)). Steps old.world ls run.replies new.world)
-    (w.0 ∙ ap whole_lines same ∙ sym w'.0) run.steps in
-    let one = one_run_of old.world old'.world new.world new'.world other.done run.replies other.replies start.world
-    start.tells steps other.steps p p' in
+    let steps : Steps old.world other.did.done run.did.replies new.world =
+    subst (λ (ls : List (List ℕ)). Steps old.world ls run.did.replies new.world)
+    (w.0 ∙ ap whole_lines same ∙ sym w'.0) run.did.steps in
+    let one = one_run_of old.world old'.world new.world new'.world other.did.done run.did.replies other.did.replies
+    start.world
+    start.tells steps other.did.steps p p' in
     record {
       written = same_written old old' new new' script out start run other w.1 w'.1 one.0;
       replies_are = one.0;
@@ -144,27 +146,30 @@ same_done done other more others e n =
     sym (take_at done more (length done) refl) ∙ ap (take (length done)) e ∙ take_at other others (length done) (sym n)
 
 pub one_end_of_output : (old old' new new' : Known) (script out : List ℕ) → SameStart old old' script out →
-    new.output ≡ new'.output → (run : Ran old new) (other : Ran old' new') → InsideAnswer run → InsideAnswer other
-    → AllPlain run.replies → AllPlain other.replies
-    → SameEnd new new' run.replies other.replies × (run.done ≡ other.done)
+    new.output ≡ new'.output → (run : Ran old new) (other : Ran old' new') →
+    InsideAnswer run.script (IsAtEnd new.input.ahead) run.did →
+    InsideAnswer other.script (IsAtEnd new'.input.ahead) other.did
+    → AllPlain run.did.replies → AllPlain other.did.replies
+    → SameEnd new new' run.did.replies other.did.replies × (run.did.done ≡ other.did.done)
 one_end_of_output old old' new new' script out start n run other s s' p p' =
     let read : Consumes (Some script) new.input.ahead run.script =
     subst (λ (known : Option (List ℕ)). Consumes known new.input.ahead run.script) start.input run.read.0 in
     let read' : Consumes (Some script) new'.input.ahead other.script =
     subst (λ (known : Option (List ℕ)). Consumes known new'.input.ahead other.script) start.input' other.read.0 in
-    let d = read_known script run.script new.input.ahead run.done read s.0 in
-    let d' = read_known script other.script new'.input.ahead other.done read' s'.0 in
+    let d = read_known script run.script new.input.ahead run.did.done read s.0 in
+    let d' = read_known script other.script new'.input.ahead other.did.done read' s'.0 in
     let w = written_is old.output new.output out run.written start.output run.appended in
     let w' = written_is old'.output new'.output out other.written start.output' other.appended in
     let known : Some (out ++ run.written) ≡ Some (out ++ other.written) = sym w ∙ n ∙ w' in
     let longer : out ++ run.written ≡ out ++ other.written = cc in
     let same : other.written ≡ run.written = sym (append_cancel_left out run.written other.written longer) in
-    let one = one_cut old.world old'.world new.world new'.world run.done other.done d.0 d'.0 run.replies other.replies
-    run.written start.world start.tells (d.1 ∙ sym d'.1) run.steps other.steps p p' (cut_off old new run s.1)
-    (subst (λ (b : List ℕ). IsCutOff b other.replies) same (cut_off old' new' other s'.1)) in
-    let count = Steps-lengths old.world new.world run.done run.replies run.steps in
-    let count' = Steps-lengths old'.world new'.world other.done other.replies other.steps in
-    let as_many : length run.done ≡ length other.done = count ∙ ap length one.0 ∙ sym count' in (
+    let one = one_cut old.world old'.world new.world new'.world run.did.done other.did.done d.0 d'.0 run.did.replies
+    other.did.replies
+    run.written start.world start.tells (d.1 ∙ sym d'.1) run.did.steps other.did.steps p p' (cut_off run.did s.1)
+    (subst (λ (b : List ℕ). IsCutOff b other.did.replies) same (cut_off other.did s'.1)) in
+    let count = Steps-lengths old.world new.world run.did.done run.did.replies run.did.steps in
+    let count' = Steps-lengths old'.world new'.world other.did.done other.did.replies other.did.steps in
+    let as_many : length run.did.done ≡ length other.did.done = count ∙ ap length one.0 ∙ sym count' in (
       record { written = n; replies_are = one.0; world = one.1 },
-      same_done run.done other.done d.0 d'.0 (d.1 ∙ sym d'.1) as_many,
+      same_done run.did.done other.did.done d.0 d'.0 (d.1 ∙ sym d'.1) as_many,
     )

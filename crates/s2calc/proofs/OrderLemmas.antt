@@ -17,13 +17,14 @@ use Rattle.s2calc.specs.Replies.{Reply, text_of, texts}
 use Rattle.s2calc.specs.Step.{asks_for_file}
 use Rattle.s2calc.specs.Run.{Steps, Known, Runs, WereReadWhole}
 use Rattle.s2calc.specs.Working.Stands.{Point}
-use Rattle.s2calc.specs.Calls.{Call, Gains, NoneFailed}
+use Rattle.s2calc.specs.Calls.{Call, Flushed, Gains, Gained, AllWell, EndsWith, NoneFailed}
 use Rattle.s2calc.specs.Reads.{Gives, ReadsLast}
 use Rattle.s2calc.specs.Flushing.{FlushedIfOk, Settled}
 use Rattle.s2calc.specs.Working.Stands.{point, Stands, Answered, StandsAfter, Closes}
 use Rattle.s2calc.specs.Moments.{Event, Came, NotCame, LineBegins, LineEnds, Moment, moment, bytes_of, read_of}
 use Rattle.s2calc.specs.Moments.{bytes_read, reads_seen, begun_in, ended_in, Adds, AddsOne}
-use Rattle.s2calc.specs.Order.{HasEnded, AllOut, GoneOut, ReadsWhen, LineWhen, MayCome, EachMay, InOrder, Ordered}
+use Rattle.s2calc.specs.Order.{HasEnded, AllOut, GoneOut, ReadsWhen, LineWhen, MayCome, EachMay, Each, InOrder}
+use Rattle.s2calc.specs.Order.{Ordered}
 use Rattle.s2calc.specs.Working.Seen.{LinesSeen, LineSeen, LineCut, ManySeen, MoreSeen, EndSeen, LastSeen}
 use Rattle.s2calc.specs.Working.Seen.{SeenSoFar}
 use Rattle.s2calc.proofs.CallLemmas.{gains_nil, gains_more, none_failed_more, last_flushed_after, last_failed_after}
@@ -126,70 +127,84 @@ module _ {W S : Type 0} where
 
 -- ---- moments in order
 
+-- what is said of a writer may be said otherwise, and the run had more replies
+module _ {W S : Type 0} {Written Written' : W → List ℕ → Type 0} {Called Called' : W → (List Call → Type 0) → Type 0}
+    (is_sent : W → Type 0) (files : S → Files) (may_flush : Type 0) (start : World)
+    (written : (writer : W) (bytes : List ℕ) → Written writer bytes → Written' writer bytes)
+    (called : (writer : W) (Holds : List Call → Type 0) → Called writer Holds → Called' writer Holds)
+    (all longer more : List Reply) (is : longer ≡ all ++ more) where
+  abbrev out_so : (ls : List (List ℕ)) (writer : W) →
+      AllOut Written Called is_sent files may_flush start all ls writer →
+      AllOut Written' Called' is_sent files may_flush start longer ls writer
+  out_so ls writer out = record {
+    replies = out.replies;
+    later = out.later ++ more;
+    of_run = is ∙ ap (λ rs. rs ++ more) out.of_run ∙ append_assoc out.replies out.later more;
+    now = out.now;
+    steps = out.steps;
+    out = written writer (texts out.replies) out.out;
+    none_failed = called writer (AllWell may_flush) out.none_failed;
+  }
+
+  gone_so : (writer : W) → GoneOut Called is_sent may_flush writer → GoneOut Called' is_sent may_flush writer
+  gone_so writer g =
+      record { sent = g.sent; flushed = λ m. called writer (EndsWith Flushed may_flush) (g.flushed m) }
+
+  reads_so : (past : List (Moment W S)) (m : Moment W S) →
+      ReadsWhen Written Called is_sent files may_flush start all past m →
+      ReadsWhen Written' Called' is_sent files may_flush start longer past m
+  reads_so past m r = record { answers = out_so _ _ r.answers; gone_out = gone_so _ r.gone_out }
+
+  line_so : (past : List (Moment W S)) (m : Moment W S) →
+      LineWhen Written Called is_sent files may_flush start all past m →
+      LineWhen Written' Called' is_sent files may_flush start longer past m
+  line_so past m l = record {
+    before = l.before;
+    line = l.line;
+    begun = l.begun;
+    ended = l.ended;
+    read_whole = l.read_whole;
+    answers = out_so _ _ l.answers;
+    files_are = l.files_are;
+    gone_out = λ h. gone_so _ (l.gone_out h);
+  }
+
+  may_so : (e : Event) (past : List (Moment W S)) (m : Moment W S) →
+      MayCome Written Called is_sent files may_flush start all e past m →
+      MayCome Written' Called' is_sent files may_flush start longer e past m
+  may_so (Came bytes) past m r = reads_so past m r
+  may_so NotCame past m r = reads_so past m r
+  may_so LineBegins past m l = line_so past m l
+  may_so LineEnds past m l = line_so past m l
+
+  pub EachMay-so : (past ms : List (Moment W S)) → EachMay Written Called is_sent files may_flush start all past ms →
+      EachMay Written' Called' is_sent files may_flush start longer past ms
+  EachMay-so past [] p = tt
+  EachMay-so past (m ∷ ms) p = (may_so m.event past m p.0, EachMay-so (past ++ m ∷ []) ms p.1)
+
 module _ {W S : Type 0} (contents : W → Option (List ℕ)) (calls : W → Option (List Call)) (is_sent : W → Type 0)
     (files : S → Files) (may_flush : Type 0) where
   module _ (world : World) (first : W) where
     pub EachMay-append : (all : List Reply) (past ms ns : List (Moment W S)) →
-        EachMay contents calls is_sent files may_flush world first all past ms
-        → EachMay contents calls is_sent files may_flush world first all (past ++ ms) ns
-        → EachMay contents calls is_sent files may_flush world first all past (ms ++ ns)
+        Each contents calls is_sent files may_flush world first all past ms
+        → Each contents calls is_sent files may_flush world first all (past ++ ms) ns
+        → Each contents calls is_sent files may_flush world first all past (ms ++ ns)
     EachMay-append all past [] ns p q =
-        subst (λ (k : List (Moment W S)). EachMay contents calls is_sent files may_flush world first all k ns)
+        subst (λ (k : List (Moment W S)). Each contents calls is_sent files may_flush world first all k ns)
         (append-nil past) q
     EachMay-append all past (m ∷ ms) ns p q = (
       p.0,
       EachMay-append all (past ++ m ∷ []) ms ns p.1
-          (subst (λ (k : List (Moment W S)). EachMay contents calls is_sent files may_flush world first all k ns)
+          (subst (λ (k : List (Moment W S)). Each contents calls is_sent files may_flush world first all k ns)
           (sym (append_assoc past (m ∷ []) ms)) q),
     )
 
     -- the run had more replies
-    module _ (all more : List Reply) where
-      abbrev out_longer : (ls : List (List ℕ)) (writer : W)
-          → AllOut contents calls is_sent files may_flush world first all ls writer
-          → AllOut contents calls is_sent files may_flush world first (all ++ more) ls writer
-      out_longer ls writer out = record {
-        replies = out.replies;
-        later = out.later ++ more;
-        of_run = ap (λ rs. rs ++ more) out.of_run ∙ append_assoc out.replies out.later more;
-        now = out.now;
-        steps = out.steps;
-        out = out.out;
-        none_failed = out.none_failed;
-      }
-
-      reads_longer : (past : List (Moment W S)) (m : Moment W S)
-          → ReadsWhen contents calls is_sent files may_flush world first all past m
-          → ReadsWhen contents calls is_sent files may_flush world first (all ++ more) past m
-      reads_longer past m r = record { answers = out_longer _ _ r.answers; gone_out = r.gone_out }
-
-      line_longer : (past : List (Moment W S)) (m : Moment W S)
-          → LineWhen contents calls is_sent files may_flush world first all past m
-          → LineWhen contents calls is_sent files may_flush world first (all ++ more) past m
-      line_longer past m l = record {
-        before = l.before;
-        line = l.line;
-        begun = l.begun;
-        ended = l.ended;
-        read_whole = l.read_whole;
-        answers = out_longer _ _ l.answers;
-        files_are = l.files_are;
-        gone_out = l.gone_out;
-      }
-
-      may_longer : (e : Event) (past : List (Moment W S)) (m : Moment W S)
-          → MayCome contents calls is_sent files may_flush world first all e past m
-          → MayCome contents calls is_sent files may_flush world first (all ++ more) e past m
-      may_longer (Came bytes) past m r = reads_longer past m r
-      may_longer NotCame past m r = reads_longer past m r
-      may_longer LineBegins past m l = line_longer past m l
-      may_longer LineEnds past m l = line_longer past m l
-
-      EachMay-longer : (past ms : List (Moment W S))
-          → EachMay contents calls is_sent files may_flush world first all past ms
-          → EachMay contents calls is_sent files may_flush world first (all ++ more) past ms
-      EachMay-longer past [] p = tt
-      EachMay-longer past (m ∷ ms) p = (may_longer m.event past m p.0, EachMay-longer (past ++ m ∷ []) ms p.1)
+    EachMay-longer : (all more : List Reply) (past ms : List (Moment W S)) →
+        Each contents calls is_sent files may_flush world first all past ms
+        → Each contents calls is_sent files may_flush world first (all ++ more) past ms
+    EachMay-longer all more past ms p =
+        EachMay-so is_sent files may_flush world (λ w bytes h. h) (λ w Holds h. h) all (all ++ more) more refl past ms p
 
     -- the line was read to its end, and still is
     read_more : (past ms : List (Moment W S)) (ls : List (List ℕ)) → bytes_read ms ≡ [] →
@@ -203,7 +218,7 @@ module _ {W S : Type 0} (contents : W → Option (List ℕ)) (calls : W → Opti
     -- all that was written has gone out
     gone_out : (old new : W) (has_file : Bool) → NoneFailed may_flush (calls first) (calls old) →
         Settled contents calls is_sent may_flush has_file old new → has_file ≡ true
-        → GoneOut calls is_sent may_flush first new
+        → GoneOut (λ writer. Gained (calls first) (calls writer)) is_sent may_flush new
     gone_out old new has_file n s h = record {
       sent = s.sent h;
       flushed = λ m. last_flushed_after may_flush (calls first) (calls old) (calls new) n (s.flushed h m);
@@ -221,8 +236,8 @@ module _ {W S : Type 0} (contents : W → Option (List ℕ)) (calls : W → Opti
         → WereReadWhole (bytes_read past) (HasEnded past) (s.done ++ s.rest ∷ [])
         → LinesSeen (length s.done) past → Appends (contents first) (contents old) (texts replies)
         → NoneFailed may_flush (calls first) (calls old)
-        → LineWhen contents calls is_sent files may_flush start.world first (replies ++ later) past
-        (moment LineBegins mid shelf)
+        → LineWhen (λ w. Appends (contents first) (contents w)) (λ w. Gained (calls first) (calls w)) is_sent files
+        may_flush start.world (replies ++ later) past (moment LineBegins mid shelf)
     begins_here old mid shelf files_are settled first later past whole seen out n =
         let first_begun = seen.0 in
         record {
@@ -252,9 +267,9 @@ module _ {W S : Type 0} (contents : W → Option (List ℕ)) (calls : W → Opti
         → WereReadWhole (bytes_read past) (HasEnded past) (s.done ++ s.rest ∷ [])
         → LinesSeen (length s.done) past → Appends (contents first) (contents old) (texts replies)
         → NoneFailed may_flush (calls first) (calls old)
-        → EachMay contents calls is_sent files may_flush start.world first (replies ++ later) past ms
+        → Each contents calls is_sent files may_flush start.world first (replies ++ later) past ms
     cut_each old shelf ms files_are l first later past whole seen out n = subst (λ (k : List (Moment W S)).
-        EachMay contents calls is_sent files may_flush start.world first (replies ++ later) past k) (sym l.is)
+        Each contents calls is_sent files may_flush start.world first (replies ++ later) past k) (sym l.is)
         (begins_here old l.mid shelf files_are l.settled first later past whole seen out n, tt)
 
   module _ (start : Point) (script : List ℕ) (replies : List Reply) (now new : Point) (progress after : Progress)
@@ -268,8 +283,9 @@ module _ {W S : Type 0} (contents : W → Option (List ℕ)) (calls : W → Opti
         (whole : WereReadWhole (bytes_read past) (HasEnded past) (s.done ++ s.rest ∷ []))
         (seen : LinesSeen (length s.done) past) (out : Appends (contents first) (contents old) (texts replies))
         (n : NoneFailed may_flush (calls first) (calls old)) where
-      ends_here : LineWhen contents calls is_sent files may_flush start.world first (replies ++ a.reply ∷ [])
-          (past ++ moment LineBegins l.mid old_shelf ∷ []) (moment LineEnds writer new_shelf)
+      ends_here : LineWhen (λ w. Appends (contents first) (contents w)) (λ w. Gained (calls first) (calls w)) is_sent
+          files may_flush start.world (replies ++ a.reply ∷ []) (past ++ moment LineBegins l.mid old_shelf ∷ [])
+          (moment LineEnds writer new_shelf)
       ends_here =
           let all_begun = begun_in-append past (moment LineBegins l.mid old_shelf ∷ []) in
           let all_ended = ended_in-append past (moment LineBegins l.mid old_shelf ∷ []) in
@@ -301,9 +317,9 @@ module _ {W S : Type 0} (contents : W → Option (List ℕ)) (calls : W → Opti
             };
           }
 
-      pub line_each : EachMay contents calls is_sent files may_flush start.world first (replies ++ a.reply ∷ []) past ms
+      pub line_each : Each contents calls is_sent files may_flush start.world first (replies ++ a.reply ∷ []) past ms
       line_each = subst (λ (k : List (Moment W S)).
-          EachMay contents calls is_sent files may_flush start.world first (replies ++ a.reply ∷ []) past k)
+          Each contents calls is_sent files may_flush start.world first (replies ++ a.reply ∷ []) past k)
           (sym l.is) (
             begins_here start script replies now progress s old l.mid old_shelf files_old l.settled first
                 (a.reply ∷ []) past whole seen out n,
@@ -390,7 +406,7 @@ module _ {W S : Type 0} (contents : W → Option (List ℕ)) (calls : W → Opti
             ∙ (simp append_assoc) in
             let there : bytes_read (past ++ ms) ≡ script ++ ((seen ++ bytes) ++ 10 ∷ rest) =
             bytes_read-quiet past ms seen_before.none_read ∙ e ∙ (simp append_assoc) in
-            subst (λ (rs : List Reply). EachMay contents calls is_sent files may_flush start.world first rs past
+            subst (λ (rs : List Reply). Each contents calls is_sent files may_flush start.world first rs past
             (ms ++ ns)) (append_assoc replies s.more (a.reply ∷ []))
             (EachMay-append start.world first ((replies ++ s.more) ++ a.reply ∷ []) past ms ns
             (EachMay-longer start.world first (replies ++ s.more) (a.reply ∷ []) past ms
@@ -463,7 +479,7 @@ module _ {W S : Type 0} (contents : W → Option (List ℕ)) (calls : W → Opti
               let there : bytes_read (past ++ ms) ≡ script ++ ((seen ++ bytes) ++ 10 ∷ (more_bytes ++ rest)) =
               bytes_read-quiet past ms m.none_read ∙ e ∙ ap (λ b. (script ++ b) ++ rest) whole
               ∙ (simp append_assoc) in
-              subst (λ (rs : List Reply). EachMay contents calls is_sent files may_flush start.world first rs past
+              subst (λ (rs : List Reply). Each contents calls is_sent files may_flush start.world first rs past
               (ms ++ ns)) (append_assoc replies s.more (reply ∷ []))
               (EachMay-append start.world first ((replies ++ s.more) ++ reply ∷ []) past ms ns
               (EachMay-longer start.world first (replies ++ s.more) (reply ∷ []) past ms
@@ -611,7 +627,8 @@ module _ {W S : Type 0} (contents : W → Option (List ℕ)) (calls : W → Opti
     -- the run reads where all is out
     pub reads_when : (event : Event) (ms : List (Moment W S)) →
         SeenSoFar contents calls is_sent files may_flush start.world first script replies made_first made_before ms
-        → ReadsWhen contents calls is_sent files may_flush start.world first replies ms (moment event writer shelf)
+        → ReadsWhen (λ w. Appends (contents first) (contents w)) (λ w. Gained (calls first) (calls w)) is_sent files
+        may_flush start.world replies ms (moment event writer shelf)
     reads_when event ms seen =
         let whole : whole_lines (bytes_read ms) ≡ s.done = ap whole_lines seen.read
         ∙ whole_lines_begun script s.done s.rest s.begins s.unbroken in
@@ -656,7 +673,7 @@ module _ {W S : Type 0} (contents : W → Option (List ℕ)) (calls : W → Opti
         record {
           each = EachMay-append start.world first replies [] ms ns seen.each
               (subst (λ (k : List (Moment W S)).
-              EachMay contents calls is_sent files may_flush start.world first replies ms k) (sym e)
+              Each contents calls is_sent files may_flush start.world first replies ms k) (sym e)
               (reads_when NotCame ms seen, tt));
           read = bytes_read-quiet ms ns none ∙ seen.read;
           made = made_more ms ns NotCame seen e made;
@@ -672,10 +689,10 @@ module _ {W S : Type 0} (contents : W → Option (List ℕ)) (calls : W → Opti
       came_bytes : bytes_read ns ≡ bytes
       came_bytes = ap bytes_read e ∙ append-nil bytes
 
-      came_each : EachMay contents calls is_sent files may_flush start.world first replies [] (ms ++ ns)
+      came_each : Each contents calls is_sent files may_flush start.world first replies [] (ms ++ ns)
       came_each = EachMay-append start.world first replies [] ms ns seen.each
           (subst (λ (k : List (Moment W S)).
-          EachMay contents calls is_sent files may_flush start.world first replies ms k) (sym e)
+          Each contents calls is_sent files may_flush start.world first replies ms k) (sym e)
           (reads_when (Came bytes) ms seen, tt))
 
       came_read : bytes_read (ms ++ ns) ≡ script ++ bytes
@@ -791,7 +808,7 @@ module _ {W S : Type 0} (contents : W → Option (List ℕ)) (calls : W → Opti
       (first : W) (output : Option (List ℕ)) (a d : Option (List (Moment W S))) (mid : Option (List Call))
       (result : Result Tally RunFault) →
       Gives old.input new.input script → IsAtEnd new.input.ahead → Appends old.output output (texts replies)
-      → ReadsLast old.reads new.reads (Some 0) → NoneFailed may_flush old.calls mid
+      → Gained old.reads new.reads (ReadsLast (Some 0)) → NoneFailed may_flush old.calls mid
       → Closes may_flush Here (point old.world old.noted) script replies (point new.world new.noted) output new.output
       result → FlushedIfOk may_flush mid new.calls result
       → ((more : List Reply) (begins ends : ℕ) → Here more begins ends → Adds a d (λ ks. InOrder contents calls is_sent

@@ -10,10 +10,11 @@ use Rattle.s2calc.specs.declared.progress.Progress.{Progress}
 use Rattle.s2calc.specs.declared.fault.RunFault.TheVariants.{Input, Output, Memory}
 use Rattle.s2script.specs.Lines.{lines, whole_lines, but_last}
 use Rattle.s2calc.specs.Replies.{Reply, text_of, texts}
+use Rattle.s2calc.specs.World.{World}
 use Rattle.s2calc.specs.Notes.{WritesNotes, notes_of}
-use Rattle.s2calc.specs.Calls.{Gains, NoneFailed, LastFlushed, LastFailed}
+use Rattle.s2calc.specs.Calls.{Call, Gains, Gained, NoneFailed, LastFlushed, LastFailed}
 use Rattle.s2calc.specs.Reads.{ReaderState, Gives, ReadsLast, ReadsStop, ReadsWell}
-use Rattle.s2calc.specs.Run.{Steps, Known, Ran, came_out, BesideFile, Runs}
+use Rattle.s2calc.specs.Run.{Steps, Known, Did, Ran, came_out, Runs}
 use Rattle.s2calc.specs.Working.Stands.{Explains, IsCutOff, point, Stands, StopsIn, Ended}
 use Rattle.s2calc.specs.Working.Stands.{EndsInPart, EndsUnflushed, EndsBefore}
 use Rattle.s2calc.proofs.CallLemmas.{gains_nil, gains_more}
@@ -58,26 +59,54 @@ came_out-some replies (byte ∷ left) h = refl
 -- the last line that was carried out was seen to begin, and also to end if its answer was written and no flush failed
 -- after it
 abbrev pub Fails : {old new : Known} → (List Reply → List ℕ → ℕ → ℕ → Type 0) → Ran old new → Type 0
-Fails Seen ran = (ended : ℕ) × Seen ran.replies ran.script (length ran.done) ended
-    × (((ended ≡ length ran.done) × (ran.left ≡ [])) ⊎ (ended + 1 ≡ length ran.done))
+Fails Seen ran = (ended : ℕ) × Seen ran.did.replies ran.script (length ran.did.done) ended
+    × (((ended ≡ length ran.did.done) × (ran.did.left ≡ [])) ⊎ (ended + 1 ≡ length ran.did.done))
+
+-- an answer that lacks some bytes
+pub cut_off : {start now : World} {written : List ℕ} (did : Did start now written) → 0 < length did.left →
+    IsCutOff written did.replies
+cut_off {written = written} did h =
+    let more = did.all_but_last in
+    record {
+      rest = did.left;
+      beginning = did.texts_are;
+      lacking = h;
+      all_but_last = (
+        more.0,
+        subst (λ rs. written ≡ texts rs ++ more.0) (came_out-some did.replies did.left h) more.1,
+      );
+    }
 
 module _ (old new : Known) where
-  module _ (script : List ℕ) (done : List (List ℕ)) (replies : List Reply) (read : Gives old.input new.input script)
-      (steps : Steps old.world done replies new.world) where
+  -- nothing is missing
+  pub all_out : (ran : Ran old new) → ran.did.left ≡ [] → Appends old.output new.output (texts ran.did.replies)
+  all_out ran e = subst (Appends old.output new.output)
+      (sym (ran.did.texts_are ∙ ap (λ left. ran.written ++ left) e ∙ append-nil ran.written)) ran.appended
+
+  -- what a run did by these reads and calls
+  module _ {P : List (Option ℕ) → Type 0} {Q : List Call → Type 0} (r : Gained old.reads new.reads P)
+      (c : Gained old.calls new.calls Q) (script : List ℕ) (done : List (List ℕ)) (replies : List Reply)
+      (read : Gives old.input new.input script) (steps : Steps old.world done replies new.world) where
     -- all answers were written
     abbrev pub all_came : Appends old.output new.output (texts replies) →
         Explains (point old.world old.noted) (point new.world new.noted) done replies → Ran old new
     all_came w n = record {
       script = script;
-      done = done;
-      replies = replies;
+      reads = r.more;
       written = texts replies;
-      left = [];
+      called = c.more;
+      did = record {
+        done = done;
+        replies = replies;
+        left = [];
+        steps = steps;
+        texts_are = sym (append-nil (texts replies));
+        all_but_last = ([], sym (append-nil (texts replies)));
+      };
       read = read;
-      steps = steps;
+      made = r.gained;
       appended = w;
-      texts_are = sym (append-nil (texts replies));
-      all_but_last = ([], sym (append-nil (texts replies)));
+      called_are = c.gained;
       noted = n;
     }
 
@@ -89,36 +118,23 @@ module _ (old new : Known) where
         let more = k.all_but_last in
         record {
           script = script;
-          done = done;
-          replies = replies;
+          reads = r.more;
           written = bytes;
-          left = k.rest;
+          called = c.more;
+          did = record {
+            done = done;
+            replies = replies;
+            left = k.rest;
+            steps = steps;
+            texts_are = k.beginning;
+            all_but_last = (more.0, subst (λ rs. bytes ≡ texts rs ++ more.0) same more.1);
+          };
           read = read;
-          steps = steps;
+          made = r.gained;
           appended = w;
-          texts_are = k.beginning;
-          all_but_last = (more.0, subst (λ rs. bytes ≡ texts rs ++ more.0) same more.1);
+          called_are = c.gained;
           noted = subst (λ rs. WritesNotes old.noted (notes_of done rs) new.noted) same n;
         }
-
-  -- an answer that lacks some bytes
-  pub cut_off : (ran : Ran old new) → 0 < length ran.left → IsCutOff ran.written ran.replies
-  cut_off ran h =
-      let more = ran.all_but_last in
-      record {
-        rest = ran.left;
-        beginning = ran.texts_are;
-        lacking = h;
-        all_but_last = (
-          more.0,
-          subst (λ rs. ran.written ≡ texts rs ++ more.0) (came_out-some ran.replies ran.left h) more.1,
-        );
-      }
-
-  -- nothing is missing
-  pub all_out : (ran : Ran old new) → ran.left ≡ [] → Appends old.output new.output (texts ran.replies)
-  all_out ran e = subst (Appends old.output new.output)
-      (sym (ran.texts_are ∙ ap (λ left. ran.written ++ left) e ∙ append-nil ran.written)) ran.appended
 
   module _ (may : Type 0) (script : List ℕ) (replies : List Reply) where
     module _ (progress : Progress) (read : Gives old.input new.input script)
@@ -128,24 +144,26 @@ module _ (old new : Known) where
       whole_done = whole_lines_begun script s.done s.rest s.begins s.unbroken
 
       -- the lines that were read whole were carried out
-      abbrev whole : Ran old new
-      whole = all_came script (whole_lines script) replies read
+      abbrev whole : {P : List (Option ℕ) → Type 0} {Q : List Call → Type 0} → Gained old.reads new.reads P →
+          Gained old.calls new.calls Q → Ran old new
+      whole r c = all_came r c script (whole_lines script) replies read
           (subst (λ ls. Steps old.world ls replies new.world) (sym whole_done) s.run) w
           (subst (λ ls. Explains (point old.world old.noted) (point new.world new.noted) ls replies) (sym whole_done)
           s.noted)
 
-      abbrev pub stops_reading : ReadsStop old.reads new.reads → NoneFailed may old.calls new.calls →
+      abbrev pub stops_reading : Gained old.reads new.reads ReadsStop → NoneFailed may old.calls new.calls →
           Runs may old new (Err Input)
-      stops_reading r c = record { ran = whole; ends = ((refl, refl), r, c) }
+      stops_reading r c = record { ran = whole r c; ends = ((refl, refl), r.holds, c.holds); unchanged = tt }
 
       -- a flush before a read failed
-      abbrev pub stops_before_read : may → ReadsWell old.reads new.reads → LastFailed may old.calls new.calls →
+      abbrev pub stops_before_read : may → Gained old.reads new.reads ReadsWell → LastFailed may old.calls new.calls →
           Runs may old new (Err Output)
-      stops_before_read m r c = record { ran = whole; ends = (inr (inr (m, inl (refl, refl))), r, c) }
+      stops_before_read m r c =
+          record { ran = whole r c; ends = (inr (inr (m, inl (refl, refl))), r.holds, c.holds); unchanged = tt }
 
     module _ (Here : List Reply → ℕ → ℕ → Type 0) (Seen : List Reply → List ℕ → ℕ → ℕ → Type 0) where
       -- a line that ends in the chunk stopped the run
-      pub stops_in_chunk : ReadsWell old.reads new.reads → LastFailed may old.calls new.calls
+      pub stops_in_chunk : Gained old.reads new.reads ReadsWell → LastFailed may old.calls new.calls
           → (input : ReaderState) (output : Option (List ℕ)) (chunk : List ℕ) →
           Gives old.input input script → Gives input new.input chunk → Appends old.output output (texts replies)
           → ((more : List Reply) (begins ends : ℕ) → Here more begins ends →
@@ -157,30 +175,17 @@ module _ (old new : Known) where
           let read = Gives-trans old.input input new.input script chunk r q in
           let cut = IsCutOff-after replies s.more s.bytes s.cut_off in (
             record {
-              ran = last_cut (script ++ chunk) s.done (replies ++ s.more) read s.run (texts replies ++ s.bytes)
+              ran = last_cut reads calls (script ++ chunk) s.done (replies ++ s.more) read s.run
+                  (texts replies ++ s.bytes)
                   (Appends-trans old.output output new.output (texts replies) s.bytes w s.written) cut s.noted;
-              ends = (
-                inl ((inl (s.rest, s.begins), cut.lacking), inl (s.rest, s.begins)),
-                reads,
-                calls,
-              );
+              ends = (inl (inl (s.rest, s.begins), cut.lacking), reads.holds, calls.holds);
+              unchanged = tt;
             },
             (s.ended, seen s.more (length s.done) s.ended s.seen, inr s.one_more),
           )
       stops_in_chunk reads calls input output chunk r q w seen (inr f) =
           let s = f.1 in
           let read = Gives-trans old.input input new.input script chunk r q in
-          let ran : Ran old new = all_came (script ++ chunk) s.done (replies ++ s.more) read s.run
-          (Appends-texts old.output output new.output replies s.more w s.written) s.noted in
-          let beside : BesideFile ran = record {
-            before = s.before;
-            line = s.line;
-            read_whole = inl (s.rest, s.begins);
-            ended = inl (s.rest, s.begins);
-            has_file = s.has_file;
-            done_are = s.done_are;
-            none_left = refl;
-          } in
           let which : ((length s.before ≡ length s.done) × ([] ≡ [])) ⊎ (length s.before + 1 ≡ length s.done) =
           elim s.done_are [
             | inl e ↦ inl (ap length (sym e), refl)
@@ -188,14 +193,33 @@ module _ (old new : Known) where
                 let long = ap length e in let one = length-append s.before (s.line ∷ []) in omega (arith, long, one)
                 )
           ] in (
-            record { ran = ran; ends = (inr (inr (f.0, inr beside)), reads, calls) },
+            record {
+              ran = all_came reads calls (script ++ chunk) s.done (replies ++ s.more) read s.run
+                  (Appends-texts old.output output new.output replies s.more w s.written) s.noted;
+              ends = (
+                inr (inr (
+                  f.0,
+                  inr (record {
+                    before = s.before;
+                    line = s.line;
+                    read_whole = inl (s.rest, s.begins);
+                    has_file = s.has_file;
+                    done_are = s.done_are;
+                    none_left = refl;
+                  }),
+                )),
+                reads.holds,
+                calls.holds,
+              );
+              unchanged = tt;
+            },
             (length s.before, seen s.more (length s.done) (length s.before) s.seen, which),
           )
 
       -- the last line or the last flush stopped the run
       pub stops_at_end : (output : Option (List ℕ)) → Gives old.input new.input script → IsAtEnd new.input.ahead →
           Appends old.output output (texts replies)
-          → ReadsLast old.reads new.reads (Some 0) → LastFailed may old.calls new.calls
+          → Gained old.reads new.reads (ReadsLast (Some 0)) → LastFailed may old.calls new.calls
           → ((more : List Reply) (begins ends : ℕ) → Here more begins ends → Seen (replies ++ more) script begins ends)
           → EndsInPart Here (point old.world old.noted) script replies (point new.world new.noted) output new.output
           ⊎ EndsUnflushed Here (point old.world old.noted) script replies (point new.world new.noted) output new.output
@@ -205,9 +229,10 @@ module _ (old new : Known) where
       stops_at_end output read at_end w r c seen (inl s) =
           let cut = IsCutOff-after replies s.more s.bytes s.cut_off in (
             record {
-              ran = last_cut script (lines script) (replies ++ s.more) read s.run (texts replies ++ s.bytes)
+              ran = last_cut r c script (lines script) (replies ++ s.more) read s.run (texts replies ++ s.bytes)
                   (Appends-trans old.output output new.output (texts replies) s.bytes w s.written) cut s.noted;
-              ends = (inl ((inr (refl, at_end), cut.lacking), inr r), inr r, c);
+              ends = (inl (inr (refl, (r.holds, at_end)), cut.lacking), inr r.holds, c.holds);
+              unchanged = tt;
             },
             (s.ended, seen s.more (length (lines script)) s.ended s.seen, inr s.one_more),
           )
@@ -218,26 +243,35 @@ module _ (old new : Known) where
             | inr e ↦ inr e
           ] in (
             record {
-              ran = all_came script (lines script) (replies ++ s.more) read s.run
+              ran = all_came r c script (lines script) (replies ++ s.more) read s.run
                   (Appends-texts old.output output new.output replies s.more w s.written) s.noted;
-              ends = (inr (inl ((refl, at_end, refl), r)), inr r, c);
+              ends = (inr (inl (refl, (r.holds, at_end), refl)), inr r.holds, c.holds);
+              unchanged = tt;
             },
             (s.ended, seen s.more (length (lines script)) s.ended s.seen, which),
           )
       stops_at_end output read at_end w r c seen (inr (inr f)) =
-          let s = f.1 in
-          let ran : Ran old new = all_came script s.before replies read s.run
-          (Appends-kept old.output output new.output (texts replies) w s.kept) s.noted in
-          let beside : BesideFile ran = record {
-            before = s.before;
-            line = s.line;
-            read_whole = inr (s.lines_are, at_end);
-            ended = inr r;
-            has_file = s.has_file;
-            done_are = inl refl;
-            none_left = refl;
-          } in (
-            record { ran = ran; ends = (inr (inr (f.0, inr beside)), inr r, c) },
+          let s = f.1 in (
+            record {
+              ran = all_came r c script s.before replies read s.run
+                  (Appends-kept old.output output new.output (texts replies) w s.kept) s.noted;
+              ends = (
+                inr (inr (
+                  f.0,
+                  inr (record {
+                    before = s.before;
+                    line = s.line;
+                    read_whole = inr (s.lines_are, (r.holds, at_end));
+                    has_file = s.has_file;
+                    done_are = inl refl;
+                    none_left = refl;
+                  }),
+                )),
+                inr r.holds,
+                c.holds,
+              );
+              unchanged = tt;
+            },
             (
               length s.before,
               subst (λ rs. Seen rs script (length s.before) (length s.before)) (append-nil replies)
@@ -251,16 +285,22 @@ module _ (old new : Known) where
       abbrev pub finishes : (tally : Tally) →
           {Seen : List Reply → ℕ → ℕ → Type 0} →
           Ended Seen (point old.world old.noted) script replies (point new.world new.noted) output new.output tally
-          → ReadsLast old.reads new.reads (Some 0) → LastFlushed may old.calls new.calls → Runs may old new (Ok tally)
+          → Gained old.reads new.reads (ReadsLast (Some 0)) → LastFlushed may old.calls new.calls →
+          Runs may old new (Ok tally)
       finishes tally s r c = record {
-        ran = all_came script (lines script) (replies ++ s.more) read s.run
+        ran = all_came r c script (lines script) (replies ++ s.more) read s.run
             (Appends-texts old.output output new.output replies s.more w s.written) s.noted;
-        ends = ((refl, at_end, refl), s.tally_is, r, c);
+        ends = ((refl, (r.holds, at_end), refl), s.tally_is, r.holds, c.holds);
+        unchanged = tt;
       }
 
 -- no memory: nothing has happened
 abbrev pub never_begins : (may : Type 0) (at : Known) → Runs may at at (Err Memory)
 never_begins may at = record {
-  ran = all_came at at [] [] [] (Gives-nil at.input) refl (Appends-nil at.output) (WritesNotes-none at.noted);
-  ends = (refl, refl);
+  ran = all_came at at {P = λ _. Unit {0}} {Q = λ _. Unit {0}}
+      (record { more = []; gained = gains_nil at.reads; holds = tt })
+      (record { more = []; gained = gains_nil at.calls; holds = tt }) [] [] [] (Gives-nil at.input) refl
+      (Appends-nil at.output) (WritesNotes-none at.noted);
+  ends = (refl, refl, refl);
+  unchanged = refl;
 }

@@ -1,7 +1,7 @@
 -- Laws about the definitions.
 use Rattle.std.specs.Prelude.{◌≡◌, ◌≢◌, ℕ, ◌+◌, ◌%◌, ◌^◌, ◌<◌, Bool, true, false, List, [], ◌∷◌}
 use Rattle.std.specs.Prelude.{Option, Some, count_by}
-use Rattle.std.specs.Io.KnownBytes.{Appends, append_known}
+use Rattle.std.specs.Io.KnownBytes.{Appends, IsAtEnd, append_known}
 use Rattle.s2calc.specs.World.{World}
 use Rattle.s2script.specs.Line.{line_of}
 use Rattle.s2script.specs.Lines.{lines}
@@ -14,8 +14,9 @@ use Rattle.s2calc.specs.Run.{Known, Ran, AllLines, Steps}
 -- a run that finishes has answered the lines of all bytes that its reader tells
 abbrev pub TellsWhole : Type 0
 TellsWhole =
-    (old new : Known) (ran : Ran old new) (script : List ℕ) → AllLines ran → old.input.ahead ≡ Some script
-    → Steps old.world (lines script) ran.replies new.world × Appends old.output new.output (texts ran.replies)
+    (old new : Known) (ran : Ran old new) (script : List ℕ) → AllLines ran.script (IsAtEnd new.input.ahead) ran.did
+    → old.input.ahead ≡ Some script → Steps old.world (lines script) ran.did.replies new.world
+    × Appends old.output new.output (texts ran.did.replies)
 
 -- where nothing waits in a buffer, all that was written has reached the writer below
 abbrev pub NothingHeld : Type 0

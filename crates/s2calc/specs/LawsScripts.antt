@@ -6,6 +6,7 @@ use Rattle.s2edit.specs.Session.{IsKept}
 use Rattle.s2file.specs.File.{Bytes, File, HasFault}
 use Rattle.s2file.specs.declared.fault.FileFault.{FileFault}
 use Rattle.std.specs.List.{AllByRecursion}
+use Rattle.std.specs.Io.KnownBytes.{IsAtEnd}
 use Rattle.s2shelf.specs.FileCalls.{path_of, path_to}
 use Rattle.s2shelf.specs.Shelf.{Files, Finding, NoFile, Opened, Holding, Beginning, Written, Failed, Found, is_opening}
 use Rattle.s2shelf.specs.Shelf.{AsksSystem}
@@ -45,9 +46,10 @@ pub record SameEnd (new new' : Known) (replies replies' : List Reply) : Type 0 w
 abbrev pub OneEnd : Type 0
 OneEnd =
     (old old' new new' : Known) (tally tally' : Tally) (script out : List ℕ) → SameStart old old' script out
-    → (run : Ran old new) (other : Ran old' new') → AllLines run → AllLines other → tally ≡ tally_of run.replies →
-    tally' ≡ tally_of other.replies → AllPlain run.replies → AllPlain other.replies
-    → SameEnd new new' run.replies other.replies × (tally ≡ tally')
+    → (run : Ran old new) (other : Ran old' new') → AllLines run.script (IsAtEnd new.input.ahead) run.did →
+    AllLines other.script (IsAtEnd new'.input.ahead) other.did → tally ≡ tally_of run.did.replies →
+    tally' ≡ tally_of other.did.replies → AllPlain run.did.replies → AllPlain other.did.replies
+    → SameEnd new new' run.did.replies other.did.replies × (tally ≡ tally')
 
 -- Two runs that began alike have the same end if the reading of both stopped at the same byte, and no line of either
 -- was answered `error memory` or `error file`.
@@ -55,9 +57,9 @@ abbrev pub OneEndOfInput : Type 0
 OneEndOfInput =
     (old old' new new' : Known) (script out : List ℕ) → SameStart old old' script out →
     new.input.ahead ≡ new'.input.ahead
-    → (run : Ran old new) (other : Ran old' new') → WholeLines run → WholeLines other → AllPlain run.replies →
-    AllPlain other.replies
-    → SameEnd new new' run.replies other.replies
+    → (run : Ran old new) (other : Ran old' new') → WholeLines run.script run.did →
+    WholeLines other.script other.did → AllPlain run.did.replies → AllPlain other.did.replies
+    → SameEnd new new' run.did.replies other.did.replies
 
 -- Two runs that began alike have the same end if the writers of both failed inside an answer, at the same byte, and no
 -- line of either was answered `error memory` or `error file`. Both have carried out the same lines, however the reads
@@ -65,9 +67,10 @@ OneEndOfInput =
 abbrev pub OneEndOfOutput : Type 0
 OneEndOfOutput =
     (old old' new new' : Known) (script out : List ℕ) → SameStart old old' script out → new.output ≡ new'.output
-    → (run : Ran old new) (other : Ran old' new') → InsideAnswer run → InsideAnswer other → AllPlain run.replies →
-    AllPlain other.replies
-    → SameEnd new new' run.replies other.replies × (run.done ≡ other.done)
+    → (run : Ran old new) (other : Ran old' new') → InsideAnswer run.script (IsAtEnd new.input.ahead) run.did →
+    InsideAnswer other.script (IsAtEnd new'.input.ahead) other.did → AllPlain run.did.replies →
+    AllPlain other.did.replies
+    → SameEnd new new' run.did.replies other.did.replies × (run.did.done ≡ other.did.done)
 
 -- What a `load` does with what was found in its line: with bytes, the register gets the leaves of the file that they
 -- are, or they are no file; with the first bytes of a file, which are more than a file of a union can have, they are

@@ -1,4 +1,4 @@
--- The reads of a run.
+-- The reads of a run, and how they ended.
 use Rattle.std.specs.Prelude.{◌≡◌, ◌<◌, ◌-◌, ◌^◌, ℕ, List, [], ◌∷◌, ◌++◌, ◌⊎◌, length, Option, Some, None}
 use Rattle.std.specs.Io.KnownBytes.{Consumes}
 use Rattle.s2calc.specs.Calls.{Gains}
@@ -22,23 +22,16 @@ AllGave [] = Unit {0}
 AllGave (None ∷ reads) = ⊥
 AllGave (Some count ∷ reads) = (0 < count) × AllGave reads
 
--- the reader was read this many times, and each read gave some bytes
-pub record ReadsOn (old new : Option (List (Option ℕ))) (times : ℕ) : Type 0 where
-  pub reads : List (Option ℕ)
-  pub gained : Gains old new reads
-  pub gave : AllGave reads
-  pub count : length reads ≡ times
-
--- some reads gave some bytes each, and then the last read gave this
-pub record ReadsLast (old new : Option (List (Option ℕ))) (last : Option ℕ) : Type 0 where
-  pub reads : List (Option ℕ)
-  pub gained : Gains old new (reads ++ last ∷ [])
-  pub gave : AllGave reads
+-- the last read gave this, and each read before it gave some bytes
+pub record ReadsLast (last : Option ℕ) (reads : List (Option ℕ)) : Type 0 where
+  pub before : List (Option ℕ)
+  pub is : reads ≡ before ++ last ∷ []
+  pub gave : AllGave before
 
 -- the last read failed and all others gave some bytes, or 2^64 - 1 reads all gave some
-abbrev pub ReadsStop : Option (List (Option ℕ)) → Option (List (Option ℕ)) → Type 0
-ReadsStop old new = ReadsLast old new None ⊎ ReadsOn old new (2 ^ 64 - 1)
+abbrev pub ReadsStop : List (Option ℕ) → Type 0
+ReadsStop reads = ReadsLast None reads ⊎ (AllGave reads × (length reads ≡ 2 ^ 64 - 1))
 
 -- no read failed, and none came after one that gave nothing
-abbrev pub ReadsWell : Option (List (Option ℕ)) → Option (List (Option ℕ)) → Type 0
-ReadsWell old new = ((times : ℕ) × ReadsOn old new times) ⊎ ReadsLast old new (Some 0)
+abbrev pub ReadsWell : List (Option ℕ) → Type 0
+ReadsWell reads = AllGave reads ⊎ ReadsLast (Some 0) reads

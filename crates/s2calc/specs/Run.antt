@@ -11,7 +11,7 @@ use Rattle.s2script.specs.Lines.{lines, whole_lines, but_last, BeginsWith}
 use Rattle.s2calc.specs.Replies.{Reply, texts, tally_of}
 use Rattle.s2calc.specs.Notes.{Noted, WritesNotes, notes_of}
 use Rattle.s2calc.specs.Step.{Step, asks_for_file}
-use Rattle.s2calc.specs.Calls.{Call, NoneFailed, LastFlushed, LastFailed}
+use Rattle.s2calc.specs.Calls.{Call, Flushed, Failed, Gains, AllWell, EndsWith}
 use Rattle.s2calc.specs.Reads.{ReaderState, Gives, ReadsLast, ReadsStop, ReadsWell}
 
 -- these lines, carried out one after another, may have these replies
@@ -46,70 +46,81 @@ abbrev pub came_out : List Reply → List ℕ → List Reply
 came_out replies [] = replies
 came_out replies (byte ∷ left) = but_last replies
 
--- What a run did: it read the script, carried out some of its lines, and wrote the texts of their replies except for
--- what is left of the last; and the notes are those on the replies that came out whole.
-pub record Ran (old new : Known) : Type 0 where
-  pub script : List ℕ
+-- What a run did between these two worlds: it carried out some lines, and wrote the texts of their replies except for
+-- what is left of the last.
+pub record Did (start now : World) (written : List ℕ) : Type 0 where
   pub done : List (List ℕ)
   pub replies : List Reply
-  pub written : List ℕ
   pub left : List ℕ
-  pub read : Gives old.input new.input script
-  pub steps : Steps old.world done replies new.world
-  pub appended : Appends old.output new.output written
+  pub steps : Steps start done replies now
   pub texts_are : texts replies ≡ written ++ left
   pub all_but_last : (more : List ℕ) × (written ≡ texts (came_out replies left) ++ more)
-  pub noted : WritesNotes old.noted (notes_of done (came_out replies left)) new.noted
 
 -- The lines are the first of a script's, and were read to their end: each ends in a newline, or they are all lines and
 -- the script has ended, which `Ended` says.
 abbrev pub WereReadWhole : List ℕ → Type 0 → List (List ℕ) → Type 0
 WereReadWhole script Ended ls = ((more : List ℕ) × BeginsWith script ls more) ⊎ ((ls ≡ lines script) × Ended)
 
--- these lines were read to their end: each ends in a newline, or the last read gave nothing
-abbrev pub HaveEnded : Known → Known → List ℕ → List (List ℕ) → Type 0
-HaveEnded old new script ls =
-    ((more : List ℕ) × BeginsWith script ls more) ⊎ ReadsLast old.reads new.reads (Some 0)
+-- A command with a file was read to its end. The lines before it were carried out, or the command too, and exactly
+-- their answers were written. `Ended` says that the script has ended.
+pub record BesideFile (script : List ℕ) (Ended : Type 0) (done : List (List ℕ)) (left : List ℕ) : Type 0 where
+  pub before : List (List ℕ)
+  pub line : List ℕ
+  pub read_whole : WereReadWhole script Ended (before ++ line ∷ [])
+  pub has_file : asks_for_file (line_of line) ≡ true
+  pub done_are : (done ≡ before) ⊎ (done ≡ before ++ line ∷ [])
+  pub none_left : left ≡ []
 
-module _ {old new : Known} where
-  -- the script has ended, all its lines were carried out, and all answers were written
-  abbrev pub AllLines : Ran old new → Type 0
-  AllLines ran = (ran.done ≡ lines ran.script) × IsAtEnd new.input.ahead × (ran.left ≡ [])
-
+module _ {start now : World} {written : List ℕ} (script : List ℕ) where
   -- exactly the lines that were read whole were carried out, and exactly their answers were written
-  abbrev pub WholeLines : Ran old new → Type 0
-  WholeLines ran = (ran.done ≡ whole_lines ran.script) × (ran.left ≡ [])
+  abbrev pub WholeLines : Did start now written → Type 0
+  WholeLines did = (did.done ≡ whole_lines script) × (did.left ≡ [])
 
-  -- the last line that was carried out was read to its end, and some bytes of its answer are missing
-  abbrev pub InsideAnswer : Ran old new → Type 0
-  InsideAnswer ran = WereReadWhole ran.script (IsAtEnd new.input.ahead) ran.done × (0 < length ran.left)
+  -- `Ended` says that the script has ended
+  module _ (Ended : Type 0) where
+    -- the script has ended, all its lines were carried out, and all answers were written
+    abbrev pub AllLines : Did start now written → Type 0
+    AllLines did = (did.done ≡ lines script) × Ended × (did.left ≡ [])
 
-  -- A command with a file was read to its end. The lines before it were carried out, or the command too, and exactly
-  -- their answers were written.
-  pub record BesideFile (ran : Ran old new) : Type 0 where
-    pub before : List (List ℕ)
-    pub line : List ℕ
-    pub read_whole : WereReadWhole ran.script (IsAtEnd new.input.ahead) (before ++ line ∷ [])
-    pub ended : HaveEnded old new ran.script (before ++ line ∷ [])
-    pub has_file : asks_for_file (line_of line) ≡ true
-    pub done_are : (ran.done ≡ before) ⊎ (ran.done ≡ before ++ line ∷ [])
-    pub none_left : ran.left ≡ []
+    -- the last line that was carried out was read to its end, and some bytes of its answer are missing
+    abbrev pub InsideAnswer : Did start now written → Type 0
+    InsideAnswer did = WereReadWhole script Ended did.done × (0 < length did.left)
 
-  -- What a run did that ends with this result, and how its calls ended. After `Output` a write failed inside an answer;
-  -- or a flush failed, the last one, after a read that gave nothing, or, if there are flushes before the end, one
-  -- before a read or beside a command with a file. After `Memory` nothing has changed.
-  abbrev pub EndsAs : Type 0 → Ran old new → Result Tally RunFault → Type 0
-  EndsAs may_flush ran (Ok tally) = AllLines ran × (tally ≡ tally_of ran.replies)
-      × ReadsLast old.reads new.reads (Some 0) × LastFlushed may_flush old.calls new.calls
-  EndsAs may_flush ran (Err Input) = WholeLines ran
-      × ReadsStop old.reads new.reads × NoneFailed may_flush old.calls new.calls
-  EndsAs may_flush ran (Err Output) =
-      ((InsideAnswer ran × HaveEnded old new ran.script ran.done)
-      ⊎ (AllLines ran × ReadsLast old.reads new.reads (Some 0)) ⊎ (may_flush × (WholeLines ran ⊎ BesideFile ran)))
-      × ReadsWell old.reads new.reads × LastFailed may_flush old.calls new.calls
-  EndsAs may_flush ran (Err Memory) = (ran.done ≡ []) × (new ≡ old)
+    -- What a run did with the script, by its result: which lines were carried out, and how its reads and the calls of
+    -- its writer ended. After `Output` a write failed inside an answer; or a flush failed, the last one, or, if there
+    -- are flushes before the end, one before a read or beside a command with a file. After `Memory` nothing was called.
+    abbrev pub Ends : Type 0 → List (Option ℕ) → List Call → Did start now written → Result Tally RunFault → Type 0
+    Ends may_flush reads called did (Ok tally) = AllLines did × (tally ≡ tally_of did.replies)
+        × ReadsLast (Some 0) reads × EndsWith Flushed may_flush called
+    Ends may_flush reads called did (Err Input) = WholeLines did × ReadsStop reads × AllWell may_flush called
+    Ends may_flush reads called did (Err Output) =
+        (InsideAnswer did ⊎ AllLines did ⊎ (may_flush × (WholeLines did ⊎ BesideFile script Ended did.done did.left)))
+        × ReadsWell reads × EndsWith Failed may_flush called
+    Ends may_flush reads called did (Err Memory) = (did.done ≡ []) × (reads ≡ []) × (called ≡ [])
 
--- What a run does, by its result; `may_flush` says whether there are flushes before the end.
+-- What a run did, and what is known of it before and after: by these reads the reader gave the script, and by these
+-- calls the writer took what was written; and the notes are those on the replies that came out whole.
+pub record Ran (old new : Known) : Type 0 where
+  pub script : List ℕ
+  pub reads : List (Option ℕ)
+  pub written : List ℕ
+  pub called : List Call
+  pub did : Did old.world new.world written
+  pub read : Gives old.input new.input script
+  pub made : Gains old.reads new.reads reads
+  pub appended : Appends old.output new.output written
+  pub called_are : Gains old.calls new.calls called
+  pub noted : WritesNotes old.noted (notes_of did.done (came_out did.replies did.left)) new.noted
+
+-- after `Memory` nothing has changed
+abbrev pub Unchanged : Known → Known → Result Tally RunFault → Type 0
+Unchanged old new (Err Memory) = new ≡ old
+Unchanged old new result = Unit {0}
+
+-- What a run does, by its result; `may_flush` says whether there are flushes before the end. Its script has ended if
+-- the last read gave nothing, and then the reader has nothing left.
 pub record Runs (may_flush : Type 0) (old new : Known) (result : Result Tally RunFault) : Type 0 where
   pub ran : Ran old new
-  pub ends : EndsAs may_flush ran result
+  pub ends : Ends ran.script (ReadsLast (Some 0) ran.reads × IsAtEnd new.input.ahead) may_flush ran.reads ran.called
+      ran.did result
+  pub unchanged : Unchanged old new result

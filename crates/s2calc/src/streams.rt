@@ -65,10 +65,12 @@ impl<R: Read> Source for R {
 impl<W: Write> Sink for W {
     ghost contents = { λ stream. W.contents stream };
 
+    #[tactic(auto, using(crate::proofs::CallLemmas::unknown_last))]
     fn write(&mut self, bytes: &[u8]) -> io::Result<usize> {
         Write::write(self, bytes)
     }
 
+    #[tactic(auto, using(crate::proofs::CallLemmas::unknown_last))]
     fn flush(&mut self) -> io::Result<()> {
         Write::flush(self)
     }

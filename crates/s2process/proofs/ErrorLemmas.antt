@@ -7,7 +7,7 @@ use Rattle.std.specs.List.{FoldsTo, concat}
 use Rattle.s2calc.specs.Output.{AppendsPart}
 use Rattle.s2calc.specs.Calls as calls
 use Rattle.s2calc.specs.Calls.{Call}
-use Rattle.s2calc.proofs.CallLemmas.{all_well_may, all_well_more}
+use Rattle.s2calc.proofs.CallLemmas.{all_well_may, all_well_more, ends_may, ends_after}
 use Rattle.s2process.specs.declared.errors.TextInMemory.{TextInMemory}
 use Rattle.s2process.specs.declared.writer.ListedWriter.{ListedWriter}
 use Rattle.s2process.specs.StreamCalls.{taken_in, called_in}
@@ -26,25 +26,21 @@ module _ {E : Type 0} (old new : ListedWriter E) where
       → OnErr result (calls.LastFailed ⊥ (Some (called old)) (Some (called new))) → TellsMore text old new
   text_given text (Ok answer) all part well failed = record {
     bytes = text;
-    calls = well.calls;
+    calls = well.more;
     taken_are = all;
-    called_are = gained_known (called old) (called new) well.calls well.gained;
-    tells = inl (refl, all_well_may (Unit {0}) well.calls well.well);
+    called_are = gained_known (called old) (called new) well.more well.gained;
+    tells = inl (refl, all_well_may (Unit {0}) well.more well.holds);
   }
   text_given text (Err fault) all part well failed = record {
     bytes = part.part;
-    calls = failed.calls ++ calls.Failed ∷ [];
+    calls = failed.more;
     taken_are = part.written;
-    called_are = gained_known (called old) (called new) (failed.calls ++ calls.Failed ∷ []) failed.gained;
+    called_are = gained_known (called old) (called new) failed.more failed.gained;
     tells = inr (
       part.rest,
       part.bytes_are,
       part.lacking,
-      record {
-        before = failed.calls;
-        is = refl;
-        well = all_well_may (Unit {0}) failed.calls failed.well;
-      },
+      ends_may (Unit {0}) failed.more failed.holds,
     );
   }
 
@@ -80,12 +76,7 @@ given_then first text bytes before after well (inr part) = inr (
   part.0,
   ap (λ xs. first ++ xs) part.1 ∙ sym (append_assoc first bytes part.0),
   part.2,
-  record {
-    before = before ++ part.3.before;
-    is = ap (λ (xs : List Call). before ++ xs) part.3.is
-        ∙ sym (append_assoc before part.3.before (calls.Failed ∷ []));
-    well = all_well_more (Unit {0}) before part.3.before well part.3.well;
-  },
+  ends_after (Unit {0}) before after well part.3,
 )
 
 -- of the first text some bytes were not taken, so the other was not given
@@ -106,13 +97,13 @@ module _ {E : Type 0} (old new : ListedWriter E) (first text : List ℕ) where
       → TellsMore (first ++ text) old new
   given_more mid all well more = record {
     bytes = first ++ more.bytes;
-    calls = well.calls ++ more.calls;
+    calls = well.more ++ more.calls;
     taken_are = more.taken_are ∙ ap (λ xs. xs ++ more.bytes) all ∙ append_assoc (taken old) first more.bytes;
     called_are = more.called_are
         ∙ ap (λ (xs : List Call). xs ++ more.calls)
-        (gained_known (called old) (called mid) well.calls well.gained)
-        ∙ append_assoc (called old) well.calls more.calls;
-    tells = given_then first text more.bytes well.calls more.calls (all_well_may (Unit {0}) well.calls well.well)
+        (gained_known (called old) (called mid) well.more well.gained)
+        ∙ append_assoc (called old) well.more more.calls;
+    tells = given_then first text more.bytes well.more more.calls (all_well_may (Unit {0}) well.more well.holds)
         more.tells;
   }
 
@@ -121,18 +112,14 @@ module _ {E : Type 0} (old new : ListedWriter E) (first text : List ℕ) where
       → calls.LastFailed ⊥ (Some (called old)) (Some (called new)) → TellsMore (first ++ text) old new
   given_part part failed = record {
     bytes = part.part;
-    calls = failed.calls ++ calls.Failed ∷ [];
+    calls = failed.more;
     taken_are = part.written;
-    called_are = gained_known (called old) (called new) (failed.calls ++ calls.Failed ∷ []) failed.gained;
-    tells = cut_off first text part.part (failed.calls ++ calls.Failed ∷ []) (
+    called_are = gained_known (called old) (called new) failed.more failed.gained;
+    tells = cut_off first text part.part failed.more (
       part.rest,
       part.bytes_are,
       part.lacking,
-      record {
-        before = failed.calls;
-        is = refl;
-        well = all_well_may (Unit {0}) failed.calls failed.well;
-      },
+      ends_may (Unit {0}) failed.more failed.holds,
     );
   }
 

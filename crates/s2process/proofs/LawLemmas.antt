@@ -12,20 +12,20 @@ use Rattle.s2calc.specs.Calls.{Call}
 use Rattle.s2calc.specs.Moments.{Moment}
 use Rattle.s2calc.specs.Program.{status_of, status_of_refused}
 use Rattle.s2calc.specs.Replies.{is_refusal, texts}
-use Rattle.s2calc.specs.Run.{Steps}
+use Rattle.s2calc.specs.Run.{Steps, Did}
 use Rattle.s2calc.specs.World.{World, world}
 use Rattle.s2process.specs.Laws.{AnswersAll, AllAnswered}
 use Rattle.s2process.specs.Listed.{given, reads, taken, called}
-use Rattle.s2process.specs.Process.{Did, RunsListed}
+use Rattle.s2process.specs.Process.{RunsListed}
 
 none_of : (n : ℕ) → status_of_refused n ≡ 0 → n ≡ 0
 none_of zero e = refl
 none_of (suc n) e = absurd cc
 
 -- what was written, if nothing waits and nothing is left
-pub all_out : {start now : World} {written waiting : List ℕ} (did : Did start now written waiting) → waiting ≡ [] →
-    did.left ≡ [] → written ≡ texts did.replies
-all_out {written = written} {waiting = waiting} did w l =
+pub all_out : {start now : World} (written waiting : List ℕ) (did : Did start now (written ++ waiting)) →
+    waiting ≡ [] → did.left ≡ [] → written ≡ texts did.replies
+all_out written waiting did w l =
     sym (did.texts_are ∙ ap (λ left. (written ++ waiting) ++ left) l
     ∙ ap (λ waits. (written ++ waits) ++ []) w ∙ append-nil (written ++ []) ∙ append-nil written)
 
@@ -45,7 +45,7 @@ answers_all taken called files script reads start now moments below waiting (Ok 
       steps = subst (λ ls. Steps start ls d.replies now) all.0.0 d.steps;
       none_refused = grind (arith, refused);
       to_the_end = all.0.1;
-      all_taken = all_out d all.2 all.0.2;
+      all_taken = all_out (taken below) waiting d runs.none_wait all.0.2;
       flushed = all.3;
     }
 answers_all taken called files script reads start now moments below waiting (Err Input) runs e = absurd cc

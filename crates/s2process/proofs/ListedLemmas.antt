@@ -19,26 +19,26 @@ took_some (suc n) (b ∷ bytes) some more = refl
 pub wrote : (old new : List StreamCall) (bytes : List ℕ) (n : ℕ) → new ≡ old ++ Took (take n bytes) ∷ [] →
     0 < length bytes → 0 < n → NoneFailed ⊥ (Some (called_in old)) (Some (called_in new))
 wrote old new bytes n is some more = record {
-  calls = calls.Wrote ∷ [];
+  more = calls.Wrote ∷ [];
   gained = (
     called_in old,
     refl,
     ap called_in is ∙ snoc called_by old (Took (take n bytes))
         ∙ ap (λ xs. called_in old ++ xs) (took_some n bytes some more),
   );
-  well = tt;
+  holds = tt;
 }
 
 -- a write that took nothing
 pub took_none : (old new : List StreamCall) (bytes : List ℕ) (n : ℕ) → new ≡ old ++ Took (take n bytes) ∷ [] →
     n ≡ 0 → LastFailed ⊥ (Some (called_in old)) (Some (called_in new))
 took_none old new bytes n is none = record {
-  calls = [];
+  more = calls.Failed ∷ [];
   gained = (
     called_in old,
     refl,
     ap called_in is ∙ snoc called_by old (Took (take n bytes))
         ∙ ap (λ (k : ℕ). called_in old ++ called_by (Took (take k bytes))) none,
   );
-  well = tt;
+  holds = record { before = []; is = refl; well = tt };
 }

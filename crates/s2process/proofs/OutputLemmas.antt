@@ -1,6 +1,7 @@
 -- Two runs of one script that find the same in files write alike.
 use Rattle.std.proofs.Common.{◌≡◌, ℕ, ◌⊎◌, inl, inr, List, [], ◌∷◌, ◌++◌, length, Option, Some, Result, Ok, Err, refl}
 use Rattle.std.proofs.Common.{sym, ap, ◌∙◌, subst, append_assoc, append-nil, arith, length-append, drop, ◌+◌, ◌-◌, ◌≤◌}
+use Rattle.std.proofs.Common.{MatchResult}
 use Rattle.std.proofs.lemmas.List.{nil_from_length, take-append-drop}
 use Rattle.std.proofs.lemmas.List.Concat.{flat_map-append}
 use Rattle.s2edit.specs.History.{History}
@@ -13,8 +14,9 @@ use Rattle.s2calc.specs.Calls.{Call}
 use Rattle.s2calc.specs.LawsFound.{Held, Course, Begins}
 use Rattle.s2calc.specs.Notes.{note_of, number_of, notes_from, notes_of}
 use Rattle.s2calc.specs.Program.{status_of}
+use Rattle.s2calc.specs.Reads.{ReadsLast}
 use Rattle.s2calc.specs.Replies.{Reply, text_of, texts, tally_of}
-use Rattle.s2calc.specs.Run.{WereReadWhole, came_out}
+use Rattle.s2calc.specs.Run.{Did, Ends, WereReadWhole, came_out}
 use Rattle.s2calc.specs.World.{World, world}
 use Rattle.s2calc.proofs.CutOffLemmas.{read_lines}
 use Rattle.s2calc.proofs.FoundLemmas.{Takes, one_course}
@@ -22,15 +24,13 @@ use Rattle.s2calc.proofs.LineLemmas.{cut, whole_lines_begun}
 use Rattle.s2calc.proofs.OneRun.{same_heads}
 use Rattle.s2calc.proofs.RunLemmas.{Steps-lengths}
 use Rattle.s2process.specs.declared.ended.Ended.{Ended}
-use Rattle.s2process.specs.Ends.{ReadsLast}
 use Rattle.s2process.specs.Laws.{IsReadOf, OneBegins, RunOf, course_of, WritesAlike, OneOutput}
 use Rattle.s2process.specs.Listed.{given, reads, taken, called}
-use Rattle.s2process.specs.Process.{Did, Ends}
 use Rattle.s2process.proofs.LawLemmas.{all_out}
 
 -- ---- the lines that were carried out are the first of the script
 
-module _ {start now : World} {written waiting : List ℕ} (did : Did start now written waiting)
+module _ {start now : World} {written : List ℕ} (did : Did start now written)
     (whole script : List ℕ) (reads : List (Option ℕ)) (r : IsReadOf whole script reads) where
   abbrev AreFirst : List (List ℕ) → Type 0
   AreFirst ls = (more : List (List ℕ)) × (ls ++ more ≡ lines whole)
@@ -50,14 +50,14 @@ module _ {start now : World} {written waiting : List ℕ} (did : Did start now w
       (line ∷ more, ap (λ ls. ls ++ line ∷ more) e ∙ sym (append_assoc before (line ∷ []) more) ∙ is)
   beside_first before line (more, is) (inr e) = (more, ap (λ ls. ls ++ more) e ∙ is)
 
-  done_first : (called : List Call) (result : Result Tally RunFault) → Ends did script reads called result →
-      AreFirst did.done
+  done_first : (called : List Call) (result : Result Tally RunFault) →
+      Ends script (ReadsLast (Some 0) reads) (Unit {0}) reads called did result → AreFirst did.done
   done_first called (Ok tally) e = were_read did.done (inr (e.0.0, e.0.1))
   done_first called (Err Input) e = whole_first e.0.0
   done_first called (Err Output) (inl i, well, failed) = were_read did.done i.0
   done_first called (Err Output) (inr (inl all), well, failed) = were_read did.done (inr (all.0, all.1))
-  done_first called (Err Output) (inr (inr (inl w)), well, failed) = whole_first w.0
-  done_first called (Err Output) (inr (inr (inr f)), well, failed) =
+  done_first called (Err Output) (inr (inr (_, inl w)), well, failed) = whole_first w.0
+  done_first called (Err Output) (inr (inr (_, inr f)), well, failed) =
       beside_first f.before f.line (were_read (f.before ++ f.line ∷ []) f.read_whole) f.done_are
   done_first called (Err Memory) e = (lines whole, ap (λ ls. ls ++ lines whole) e.0)
 
@@ -80,8 +80,8 @@ turned : (xs ys : List ℕ) → OneBegins xs ys → OneBegins ys xs
 turned xs ys (inl b) = inr b
 turned xs ys (inr b) = inl b
 
-module _ {start now start' now' : World} {written waiting written' waiting' : List ℕ}
-    (did : Did start now written waiting) (did' : Did start' now' written' waiting') where
+module _ {start now start' now' : World} (written waiting written' waiting' : List ℕ)
+    (did : Did start now (written ++ waiting)) (did' : Did start' now' (written' ++ waiting')) where
   written_begins : (later : List Reply) → did'.replies ≡ did.replies ++ later → OneBegins written written'
   written_begins later e =
       one_begins written written' ((waiting ++ did.left) ++ texts later) (waiting' ++ did'.left)
@@ -93,7 +93,8 @@ module _ {start now start' now' : World} {written waiting written' waiting' : Li
   -- the texts of the same replies, of which nothing waits and nothing is left
   written_same : did.replies ≡ did'.replies → waiting ≡ [] → did.left ≡ [] → waiting' ≡ [] → did'.left ≡ [] →
       written ≡ written'
-  written_same e w l w' l' = all_out did w l ∙ ap texts e ∙ sym (all_out did' w' l')
+  written_same e w l w' l' =
+      all_out written waiting did w l ∙ ap texts e ∙ sym (all_out written' waiting' did' w' l')
 
 -- the notes on the first of some lines are the first of their notes
 notes_first : (n : ℕ) (ls more : List (List ℕ)) (rs later : List Reply) → length rs ≤ length ls →
@@ -111,7 +112,7 @@ came_first rs [] = ([], sym (append-nil rs))
 came_first rs (byte ∷ left) = (drop (length rs - 1) rs, sym (take-append-drop (length rs - 1) rs))
 
 -- what was written of a run's notes is the first of the notes of any run that it begins
-noted_first : {start now : World} {written waiting : List ℕ} (did : Did start now written waiting) (notes rest : List ℕ)
+noted_first : {start now : World} {written : List ℕ} (did : Did start now written) (notes rest : List ℕ)
     (all later : List Reply) (more ls : List (List ℕ))
     → notes_of did.done (came_out did.replies did.left) ≡ notes ++ rest → all ≡ did.replies ++ later →
     did.done ++ more ≡ ls → (others : List ℕ) × (notes_of ls all ≡ notes ++ others)
@@ -147,14 +148,20 @@ module _ (R W E F : Type 0) {S : Type 0} (files : S → Files) (opened : S → L
     (held : Held) (start : History (List ℕ)) where
   module _ (ended : Ended R W E F S) (run : RunOf R W E F files opened script held start ended) where
     abbrev did_in : Did (world start (files run.runs.first)) (world run.runs.now (files run.runs.last))
-        (taken ended.streams.output) run.runs.waiting
+        (taken ended.streams.output ++ run.runs.waiting)
     did_in = run.runs.runs.did
 
     abbrev ends_in : (result : Result Tally RunFault) → run.runs.result ≡ result →
-        Ends did_in (given ended.streams.input) (reads ended.streams.input) (called ended.streams.output)
-        result
-    ends_in result e = subst (λ r. Ends did_in (given ended.streams.input) (reads ended.streams.input)
-        (called ended.streams.output) r) e run.runs.runs.ends
+        Ends (given ended.streams.input) (ReadsLast (Some 0) (reads ended.streams.input)) (Unit {0})
+        (reads ended.streams.input) (called ended.streams.output) did_in result
+    ends_in result e = subst (λ r. Ends (given ended.streams.input) (ReadsLast (Some 0) (reads ended.streams.input))
+        (Unit {0}) (reads ended.streams.input) (called ended.streams.output) did_in r) e run.runs.runs.ends
+
+    -- nothing waits after a result that says so
+    none_waits : (result : Result Tally RunFault) → run.runs.result ≡ result →
+        MatchResult result (λ _. run.runs.waiting ≡ []) (λ fault. fault ≡ Input → run.runs.waiting ≡ [])
+    none_waits result e = subst (λ r. MatchResult r (λ _. run.runs.waiting ≡ [])
+        (λ fault. fault ≡ Input → run.runs.waiting ≡ [])) e run.runs.runs.none_wait
 
     takes : Takes held (world start (files run.runs.first)) (world run.runs.now (files run.runs.last)) did_in.done
         (course_of R W E F files opened run)
@@ -184,11 +191,11 @@ module _ (R W E F : Type 0) {S : Type 0} (files : S → Files) (opened : S → L
   module _ (ended ended' : Ended R W E F S) (run : RunOf R W E F files opened script held start ended)
       (other : RunOf R W E F files opened script held start ended') where
     abbrev mine : Did (world start (files run.runs.first)) (world run.runs.now (files run.runs.last))
-        (taken ended.streams.output) run.runs.waiting
+        (taken ended.streams.output ++ run.runs.waiting)
     mine = did_in ended run
 
     abbrev theirs : Did (world start (files other.runs.first)) (world other.runs.now (files other.runs.last))
-        (taken ended'.streams.output) other.runs.waiting
+        (taken ended'.streams.output ++ other.runs.waiting)
     theirs = did_in ended' other
 
     courses : Begins (course_of R W E F files opened run) (course_of R W E F files opened other)
@@ -206,8 +213,8 @@ module _ (R W E F : Type 0) {S : Type 0} (files : S → Files) (opened : S → L
 
     writes : OneBegins (taken ended.streams.output) (taken ended'.streams.output)
     writes = elim courses [
-      | inl b ↦ written_begins mine theirs b.later b.replies
-      | inr b ↦ turned _ _ (written_begins theirs mine b.later b.replies)
+      | inl b ↦ written_begins _ run.runs.waiting _ other.runs.waiting mine theirs b.later b.replies
+      | inr b ↦ turned _ _ (written_begins _ other.runs.waiting _ run.runs.waiting theirs mine b.later b.replies)
     ]
 
     notes : (m m' : List ℕ) (rest rest' : List ℕ) → notes_of mine.done (came_out mine.replies mine.left) ≡ m ++ rest →
@@ -246,7 +253,8 @@ module _ (R W E F : Type 0) {S : Type 0} (files : S → Files) (opened : S → L
           let all = ends_in ended run (Ok tally) e in
           let all' = ends_in ended' other (Ok tally') e' in
           let same = replied (all_read ended run tally e ∙ sym (all_read ended' other tally' e')) in (
-            written_same mine theirs same all.2 all.0.2 all'.2 all'.0.2,
+            written_same _ _ _ _ mine theirs same (none_waits ended run (Ok tally) e) all.0.2
+                (none_waits ended' other (Ok tally') e') all'.0.2,
             ends_same (Ok tally) (Ok tally') e e'
                 (ap (λ (t : Tally). status_of (Ok t)) (all.1 ∙ ap tally_of same ∙ sym all'.1)),
           );
@@ -254,7 +262,8 @@ module _ (R W E F : Type 0) {S : Type 0} (files : S → Files) (opened : S → L
           let all = ends_in ended run (Err Input) e in
           let all' = ends_in ended' other (Err Input) e' in
           let same = replied (all.0.0 ∙ ap whole_lines read ∙ sym all'.0.0) in (
-            written_same mine theirs same all.1 all.0.1 all'.1 all'.0.1,
+            written_same _ _ _ _ mine theirs same (none_waits ended run (Err Input) e refl) all.0.1
+                (none_waits ended' other (Err Input) e' refl) all'.0.1,
             ends_same (Err Input) (Err Input) e e' refl,
           );
     }

@@ -12,9 +12,10 @@ use Rattle.s2calc.specs.Program.{ShowsReply}
 use Rattle.s2calc.proofs.CallLemmas.{last_flushed_may, last_failed_may}
 use Rattle.s2process.specs.declared.writer.ListedWriter.{ListedWriter}
 use Rattle.s2process.specs.StreamCalls.{taken_in, called_in}
+use Rattle.s2process.specs.Ends.{LastFlushed, LastFailed}
 use Rattle.s2process.specs.Listed.{calls_of, taken, called}
 use Rattle.s2process.specs.Program.{Shows}
-use Rattle.s2process.proofs.ProcessLemmas.{last_flushed, last_failed}
+use Rattle.s2process.proofs.ProcessLemmas.{of_all}
 
 -- the parts of what is known of an answer, which not every function has in one
 pub reply_shown : (reply : Reply) (old new : List ℕ) (result : Result Bool RunFault) →
@@ -43,12 +44,12 @@ pub shows : {W : Type 0} (reply : Reply) (old new : ListedWriter W) (result : Re
 shows reply old new (Ok passed) none shown flushed failed = (
   shown.0,
   shown.1 ∙ ap (λ xs. xs ++ text_of reply) (ap taken_in none),
-  last_flushed (called old) (called new) (ap called_in none)
+  of_all (called old) (called new) LastFlushed (ap called_in none)
       (last_flushed_may (Unit {0}) (Some (called old)) (Some (called new)) flushed),
 )
 shows reply old new (Err fault) none shown flushed failed = (
   shown.0,
   lacking (taken old) (taken new) (text_of reply) (ap taken_in none) shown.1,
-  last_failed (called old) (called new) (ap called_in none)
+  of_all (called old) (called new) LastFailed (ap called_in none)
       (last_failed_may (Unit {0}) (Some (called old)) (Some (called new)) failed),
 )

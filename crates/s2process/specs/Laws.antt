@@ -18,6 +18,7 @@ use Rattle.s2calc.specs.Laws.{IsPlain, AllPlain}
 use Rattle.s2calc.specs.LawsFound.{Held, FoundIn, Course, Begins}
 use Rattle.s2calc.specs.LawsStored.{FoundLast, GetsList}
 use Rattle.s2calc.specs.Moments.{Moment}
+use Rattle.s2calc.specs.Reads.{ReadsLast}
 use Rattle.s2calc.specs.Replies.{Reply, Says, texts, is_refusal}
 use Rattle.s2calc.specs.Run.{Steps}
 use Rattle.s2calc.specs.Step.{Step}
@@ -26,7 +27,7 @@ use Rattle.s2calc.specs.World.{World, world}
 use Rattle.s2process.specs.declared.ended.Ended.{Ended}
 use Rattle.s2process.specs.declared.folders.Opening.TheVariants.{Opened}
 use Rattle.s2process.specs.declared.writer.ListedWriter.{ListedWriter}
-use Rattle.s2process.specs.Ends.{LastFlushed, ReadsLast}
+use Rattle.s2process.specs.Ends.{LastFlushed}
 use Rattle.s2process.specs.Listed.{given, reads, taken, called}
 use Rattle.s2process.specs.Program.{RunsScript, RunsFrom}
 

@@ -20,6 +20,7 @@ use Rattle.s2calc.specs.Moments.{Moment}
 use Rattle.s2calc.specs.Overlay.{Overlays}
 use Rattle.s2calc.specs.Program.{cell_reply, status_of, status_of_answer}
 use Rattle.s2calc.specs.Replies.{Reply, Says, text_of, is_refusal}
+use Rattle.s2calc.specs.Run.{Did}
 use Rattle.s2calc.specs.World.{World, world}
 use Rattle.s2process.specs.declared.ended.Ended.{Ended}
 use Rattle.s2process.specs.declared.folders.Opening.TheVariants.{Unopened, Failed, Opened}
@@ -28,7 +29,7 @@ use Rattle.s2process.specs.Ends.{LastFlushed, LastFailed}
 use Rattle.s2process.specs.Errors.{fault_line, fault_line_of, usage_text, misnamed_lines, Tells, IsSaidAfter}
 use Rattle.s2process.specs.Explained.{Explains}
 use Rattle.s2process.specs.Listed.{given, reads, taken, called}
-use Rattle.s2process.specs.Process.{Did, RunsListed}
+use Rattle.s2process.specs.Process.{RunsListed}
 use Rattle.s2process.specs.Streams.{Unread, Unwritten}
 
 -- A writer took these bytes of an answer, by calls that ended so. After `Ok` all of it was taken, and then flushed; the
@@ -88,8 +89,8 @@ module _ {R W E F S : Type 0} (ended : Ended R W E F S) where
   Stops NoMemory = NotBegun × NoneOpened
 
   -- standard error got the notes on what a run did, as far as it took them, and then this text, as far as it took that
-  pub record TellsNotes {start now : World} {written waiting : List ℕ} (did : Did start now written waiting)
-      (text : List ℕ) : Type 0 where
+  pub record TellsNotes {start now : World} {written : List ℕ} (did : Did start now written) (text : List ℕ) :
+      Type 0 where
     pub notes : List ℕ
     pub noted : List Call
     pub stopped : Bool

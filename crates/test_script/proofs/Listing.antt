@@ -15,9 +15,9 @@ gains_map f a (Some xs) x p =
     (map f p.0, ap (option_map (map f)) p.1, ap (map f) p.2 ∙ map-append f p.0 (x ∷ []))
 
 pub has_made : (call : Made) (a b : Option (List Call)) → Gains a b (call_of call ∷ []) → HasMade call a b
-has_made Write a b p = record { calls = call_of Write ∷ []; gained = p; well = tt }
-has_made Flush a b p = record { calls = []; gained = p; well = tt }
-has_made Failure a b p = record { calls = []; gained = p; well = tt }
+has_made Write a b p = record { more = call_of Write ∷ []; gained = p; holds = tt }
+has_made Flush a b p = record { more = _; gained = p; holds = record { before = []; is = refl; well = tt } }
+has_made Failure a b p = record { more = _; gained = p; holds = record { before = []; is = refl; well = tt } }
 
 -- an observer's list has gained one moment
 pub adds_one : {W S : Type 0} (a b : Option (List (Moment W S))) (m : Moment W S) → Gains a b (m ∷ []) →

@@ -9,7 +9,7 @@ use Rattle.s2calc.specs.Calls.{Call, NoneFailed, LastFlushed}
 use Rattle.s2calc.specs.Moments.{LineBegins, LineEnds, Moment, moment, bytes_read, reads_seen}
 use Rattle.s2calc.specs.Flushing.{Settled}
 use Rattle.s2calc.specs.Moments.{begun_in, ended_in}
-use Rattle.s2calc.specs.Order.{HasEnded, EachMay, InOrder}
+use Rattle.s2calc.specs.Order.{HasEnded, Each, InOrder}
 
 -- this many lines have begun, and all of them have ended
 abbrev pub LinesSeen : {W S : Type 0} → ℕ → List (Moment W S) → Type 0
@@ -43,7 +43,7 @@ module _ {W S : Type 0} (contents : W → Option (List ℕ)) (calls : W → Opti
     pub each : (first : W) (past : List (Moment W S)) (rest : List ℕ) → bytes_read past ≡ (script ++ chunk) ++ rest →
         LinesSeen (length (whole_lines script)) past → Appends (contents first) (contents old) (texts replies) →
         NoneFailed may_flush (calls first) (calls old)
-        → EachMay contents calls is_sent files may_flush world first (replies ++ more) past moments
+        → Each contents calls is_sent files may_flush world first (replies ++ more) past moments
 
   -- the moments of all lines that end in the chunk
   abbrev pub MoreSeen : World → List ℕ → List ℕ → List Reply → List Reply → W → List (Moment W S) → Type 0
@@ -62,7 +62,7 @@ module _ {W S : Type 0} (contents : W → Option (List ℕ)) (calls : W → Opti
     pub each : (first : W) (past : List (Moment W S)) → bytes_read past ≡ script → HasEnded past →
         LinesSeen (length (whole_lines script)) past → Appends (contents first) (contents old) (texts replies) →
         NoneFailed may_flush (calls first) (calls old)
-        → EachMay contents calls is_sent files may_flush world first (replies ++ more) past moments
+        → Each contents calls is_sent files may_flush world first (replies ++ more) past moments
 
   -- the moments of a last line that ended
   abbrev pub LastSeen : World → List ℕ → List Reply → List Reply → W → List (Moment W S) → Type 0

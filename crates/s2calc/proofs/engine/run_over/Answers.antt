@@ -1,13 +1,12 @@
-use Rattle.std.proofs.Common.{ℕ, ◌+◌, [], ◌++◌, None, length, take, ap, refl, subst, arith, inl, inr}
+use Rattle.std.proofs.Common.{ℕ, ◌+◌, [], ◌++◌, None, length, take, ap, refl, arith, inl, inr}
 use Rattle.std.proofs.KnownBytes.{Appends-nil, Appends-kept}
 use Rattle.std.proofs.lemmas.Result.{err_from_is_err_and, MatchResult-weaker}
 use Rattle.s2script.specs.Lines.{whole_lines}
-use Rattle.s2calc.specs.Reads.{ReadsOn}
 use Rattle.s2calc.specs.Moments.{Adds}
 use Rattle.s2calc.specs.Order.{InOrder}
 use Rattle.s2calc.specs.Working.Desk.{world_at}
-use Rattle.s2calc.proofs.CallLemmas.{none_failed_none, none_failed_more, last_failed_after}
-use Rattle.s2calc.proofs.CallLemmas.{reads_on_none, reads_on_more, reads_last, reads_end, read_is}
+use Rattle.s2calc.proofs.CallLemmas.{gained_so, none_failed_none, none_failed_more, last_failed_after}
+use Rattle.s2calc.proofs.CallLemmas.{reads_on_none, reads_on_more, reads_last, reads_end, read_is, gave_well}
 use Rattle.s2calc.proofs.DeskLemmas.{SameReferences-trans}
 use Rattle.s2calc.proofs.ReadLemmas.{Gives-nil, Gives-none, Gives-trans, Gives-kept, Appends-texts}
 use Rattle.s2calc.proofs.ReadLemmas.{stops_reading, stops_before_read, stops_in_chunk}
@@ -37,7 +36,7 @@ returns-in_err-in_between-clause-runs g c =
     let p = err_from_is_err_and c.from_residual.result c.from_residual.ensures.1 in
     let f = c.in_err-in_between.ensures.settles in
     rw (p.1, p.2, f.is_output) (
-      stops_before_read _ _ _ i.0 i.1 _ i.2 i.3 (Appends-kept _ _ _ _ i.4 f.kept) f.may (inl (c.loop.counter, i.6))
+      stops_before_read _ _ _ i.0 i.1 _ i.2 i.3 (Appends-kept _ _ _ _ i.4 f.kept) f.may (gave_well i.6)
           (last_failed_after _ _ _ _ i.5 f.failed),
       (length (whole_lines i.0), i.7, inl (refl, refl)),
     )
@@ -82,7 +81,7 @@ returns-in_err-take_in-in-Ok-clause-runs g c =
     (InOrder g.W.Sink.contents g.W.Sink.calls g.F.Flushing.is_sent g.S.Shelf.files g.F.Flushing.may_fail
     (world_at g.S.Shelf.files c.args.desk.now) c.args.desk.now.writer.now rs b begins ends
     (g.O.Reader.Source.reads c.args.reader.now) (g.O.Reader.Source.reads c.read.new.reader)))
-    (inl (c.loop.counter + 1, reads_on_more _ _ _ _ _ _ i.6 c.in-Ok.ensures.call (omega arith) refl))
+    (gave_well (reads_on_more _ _ _ _ _ _ i.6 c.in-Ok.ensures.call (omega arith) refl))
     (last_failed_after _ _ _ _ (none_failed_more _ _ _ _ i.5 gone_out.none_failed) done.calls)
     _ _ _ i.2 (c.in-Ok.ensures.bytes.0, c.in-Ok.ensures.given) (Appends-kept _ _ _ _ i.4 gone_out.kept)
     (λ more begins ends here. InOrder-read g.W.Sink.contents g.W.Sink.calls g.F.Flushing.is_sent g.S.Shelf.files
@@ -108,7 +107,8 @@ returns-in-Err-clause-runs g c =
     let i = c.loop.invariant in
     let gone_out = c.in_ok-in_between.ensures.settles in (
       stops_reading _ _ _ i.0 i.1 _ (Gives-kept _ _ _ i.0 i.2 c.in-Err.ensures.bytes c.in-Err.ensures.given) i.3
-          (Appends-kept _ _ _ _ i.4 gone_out.kept) (inl (reads_last _ _ _ _ None i.6 c.in-Err.ensures.call))
+          (Appends-kept _ _ _ _ i.4 gone_out.kept)
+          (gained_so (λ rs r. inl r) (reads_last _ _ _ _ None i.6 c.in-Err.ensures.call))
           (none_failed_more _ _ _ _ i.5 gone_out.none_failed),
       Adds-trans _ _ _ _ _ _ (λ ms ns seen e. SeenSoFar-failed g.W.Sink.contents g.W.Sink.calls
           g.F.Flushing.is_sent g.S.Shelf.files g.F.Flushing.may_fail _ i.0 i.1 _ _ i.3 _ _ _ _ i.4 i.5 gone_out _ _ _
@@ -141,7 +141,7 @@ returns-in_err-in_between-2-clause-runs g c =
     c.from_residual-in_err-in_between-2.ensures.1 in
     let f = c.in_err-in_between-2.ensures.settles in
     rw (p.1, p.2, f.is_output) (
-      stops_before_read _ _ _ i.0 i.1 _ i.2 i.3 (Appends-kept _ _ _ _ i.4 f.kept) f.may (inl (c.loop.counter, i.6))
+      stops_before_read _ _ _ i.0 i.1 _ i.2 i.3 (Appends-kept _ _ _ _ i.4 f.kept) f.may (gave_well i.6)
           (last_failed_after _ _ _ _ i.5 f.failed),
       (length (whole_lines i.0), i.7, inl (refl, refl)),
     )
@@ -151,8 +151,7 @@ returns-clause-runs g c =
     let i = c.loop.invariant in
     let gone_out = c.in_ok-in_between-2.ensures.settles in (
       stops_reading _ _ _ i.0 i.1 _ i.2 i.3 (Appends-kept _ _ _ _ i.4 gone_out.kept)
-          (inr (subst (λ (times : ℕ). ReadsOn (g.O.Reader.Source.reads c.args.reader.now)
-          (g.O.Reader.Source.reads c.loop.reader) times) (omega arith) i.6))
+          (gained_so (λ rs r. let count = r.1 in inr (r.0, omega (arith, count))) i.6)
           (none_failed_more _ _ _ _ i.5 gone_out.none_failed),
       i.7,
     )

@@ -4,7 +4,8 @@ use Rattle.s2calc.specs.Replies.{Reply, texts}
 use Rattle.s2calc.specs.Working.Desk.{SameReferences, world_at, point_at}
 use Rattle.s2calc.specs.Working.Stands.{Stands}
 use Rattle.s2calc.specs.Calls.{NoneFailed}
-use Rattle.s2calc.specs.Reads.{Gives, input_of, ReadsOn}
+use Rattle.s2calc.specs.Reads.{Gives, input_of}
+use Rattle.s2calc.specs.Working.Calls.{ReadsOn}
 use Rattle.s2calc.specs.Moments.{Adds}
 use Rattle.s2calc.specs.Working.Seen.{SeenSoFar}
 use Rattle.s2calc.proofs.engine.run_over.Given as goal
