@@ -3,9 +3,12 @@ use crate::lines::{option, wanted_of};
 use std::alloc::{AllocError, Global};
 use std::io;
 
+/// What stands before the title of a row.
+const BEFORE_TITLE: &str = "\n## ";
+
 /// What answers the rows of a table.
 pub trait Table {
-    /// Answers a row, whose first line is its title. The answers found are to be equal to those that `wanted_of` gives.
+    /// Answers a row, by the lines below its title. The answers found are to be equal to those that `wanted_of` gives.
     /// Fails if memory runs out.
     fn answers_of(&mut self, alloc: Global, lines: &[&str]) -> Result<Vec<u8>, AllocError>;
 }
@@ -18,43 +21,72 @@ pub fn answer_rows(
     table: &mut impl Table,
 ) -> io::Result<()> {
     let text = io::read_to_string(rt.alloc(), rt.reader())?;
-    let mut lines = Vec::new(rt.alloc());
-    let mut wanted = u64::MAX;
+    answer_all(rt, table, &text)
+}
+
+/// Has each row of a table answered.
+fn answer_all(
+    rt: &(impl Print + AllocGlobal),
+    table: &mut impl Table,
+    text: &str,
+) -> io::Result<()> {
+    let mut rows = text.split(BEFORE_TITLE);
+    let wanted = rows_said(rt.alloc(), rows.next().unwrap_or(""))?;
     let mut met = 0u64;
-    for line in text.lines() {
-        if line.starts_with("## ") {
-            wanted = option(&lines, "rows", wanted);
-            met = met.saturating_add(answer_row(rt, table, &lines)?);
-            lines.clear();
-        }
-        lines.push(line)?;
+    for row in rows {
+        met = met.saturating_add(answer_row(rt, table, row)?);
     }
-    met = met.saturating_add(answer_row(rt, table, &lines)?);
     if met == wanted {
         return println!(rt; "all rows have their answers");
     }
     println!(rt; "{met} rows have their answers")
 }
 
-/// One if the row has its answers, and zero if it has others, which are shown, or if there is no row.
+/// How many rows there are, as the lines before the first say.
+fn rows_said(alloc: Global, head: &str) -> Result<u64, AllocError> {
+    let lines: Vec<&str> = head.lines().collect(alloc)?;
+    Ok(option(&lines, "rows", u64::MAX))
+}
+
+/// One if the row has its answers, and zero if it has others, which are shown.
 fn answer_row(
     rt: &(impl Print + AllocGlobal),
     table: &mut impl Table,
-    lines: &[&str],
+    row: &str,
 ) -> io::Result<u64> {
-    let Some(title) = title_of(lines) else {
-        return Ok(0);
-    };
-    let found = table.answers_of(rt.alloc(), lines)?;
-    if found.as_slice() == wanted_of(rt.alloc(), lines)?.as_slice() {
-        return Ok(1);
+    let (title, text) = row.split_once("\n").unwrap_or((row, ""));
+    match other_answers(rt.alloc(), table, text)? {
+        None => Ok(1),
+        Some(found) => show(rt, title, &found),
     }
-    println!(rt; "other answers: {title}")?;
-    println!(rt; "{}", String::from_utf8_lossy(rt.alloc(), &found)?)?;
-    Ok(0)
 }
 
-/// The title of a row.
-fn title_of<'a>(lines: &[&'a str]) -> Option<&'a str> {
-    lines.first()?.strip_prefix("## ")
+/// The answers found to a row with this text, if they are others than those that stand in it.
+fn other_answers(
+    alloc: Global,
+    table: &mut impl Table,
+    text: &str,
+) -> Result<Option<Vec<u8>>, AllocError> {
+    let lines: Vec<&str> = text.lines().collect(alloc)?;
+    found_and_not_wanted(alloc, table, &lines)
+}
+
+/// The answers found to a row with these lines, if they are others than those that stand in it.
+fn found_and_not_wanted(
+    alloc: Global,
+    table: &mut impl Table,
+    lines: &[&str],
+) -> Result<Option<Vec<u8>>, AllocError> {
+    let wanted = wanted_of(alloc, lines)?;
+    let found = table.answers_of(alloc, lines)?;
+    Ok((found.as_slice() != wanted.as_slice()).then_some(found))
+}
+
+/// Shows the answers found to a row that has others. Zero.
+fn show(rt: &(impl Print + AllocGlobal), title: &str, found: &[u8]) -> io::Result<u64> {
+    println!(rt;
+        "other answers: {title}\n{}",
+        String::from_utf8_lossy(rt.alloc(), found)?
+    )?;
+    Ok(0)
 }

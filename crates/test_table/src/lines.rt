@@ -4,6 +4,9 @@ use std::alloc::{AllocError, Global};
 /// What is between lines that are repeated.
 const BETWEEN: &str = " ; ";
 
+/// How the lines below a title begin that are no answers, beside blank ones.
+const MARKS: [&str; 8] = ["> ", "< ", "* ", "^ ", "$ ", "@ ", "? ", "# "];
+
 /// The number of decimal digits. What is greater than the greatest `u64` is that.
 pub fn number(digits: &str) -> u64 {
     let mut number = 0u64;
@@ -33,15 +36,21 @@ pub fn option(lines: &[&str], name: &str, usual: u64) -> u64 {
 pub fn bytes_of(alloc: Global, digits: &str) -> Result<Vec<u8>, AllocError> {
     let mut bytes = Vec::new(alloc);
     for word in digits.split_whitespace() {
-        let (digits, count) = word.split_once("*").unwrap_or((word, "1"));
-        for _ in 0..number(count) {
-            add_bytes(&mut bytes, digits)?;
-        }
+        add_word(&mut bytes, word)?;
     }
     Ok(bytes)
 }
 
 /// Adds the bytes of one word.
+fn add_word(bytes: &mut Vec<u8>, word: &str) -> Result<(), AllocError> {
+    let (digits, count) = word.split_once("*").unwrap_or((word, "1"));
+    for _ in 0..number(count) {
+        add_bytes(bytes, digits)?;
+    }
+    Ok(())
+}
+
+/// Adds the bytes of pairs of hexadecimal digits.
 fn add_bytes(bytes: &mut Vec<u8>, digits: &str) -> Result<(), AllocError> {
     let mut high = None;
     for byte in digits.as_bytes() {
@@ -72,9 +81,7 @@ pub fn script_of(alloc: Global, lines: &[&str]) -> Result<Vec<u8>, AllocError> {
 /// Adds what a line of a row says of the script.
 fn add_script(script: &mut Vec<u8>, kind: &str, text: &str) -> Result<(), AllocError> {
     if kind == ">" {
-        add_text(script, text)?;
-        script.push(b'\n')?;
-        return Ok(());
+        return add_script_line(script, text);
     }
     if kind == "<" {
         return add_text(script, text);
@@ -88,26 +95,35 @@ fn add_script(script: &mut Vec<u8>, kind: &str, text: &str) -> Result<(), AllocE
     Ok(())
 }
 
+/// Adds a line, in which `\r` at the end is a carriage return.
+fn add_script_line(script: &mut Vec<u8>, text: &str) -> Result<(), AllocError> {
+    add_text(script, text)?;
+    script.extend_from_slice(b"\n")
+}
+
 /// Adds a text, in which `\r` at the end is a carriage return.
 fn add_text(script: &mut Vec<u8>, text: &str) -> Result<(), AllocError> {
-    match text.strip_suffix("\\r") {
-        Some(rest) => {
-            script.extend_from_slice(rest.as_bytes())?;
-            script.push(b'\r')?;
-            Ok(())
-        }
-        None => script.extend_from_slice(text.as_bytes()),
-    }
+    let (rest, end) = match text.strip_suffix("\\r") {
+        Some(rest) => (rest, "\r"),
+        None => (text, ""),
+    };
+    script.extend_from_slice(rest.as_bytes())?;
+    script.extend_from_slice(end.as_bytes())
 }
 
 /// Adds the lines of `N TEXT`, all of them N times.
 fn add_repeated(script: &mut Vec<u8>, text: &str) -> Result<(), AllocError> {
     let (count, texts) = first_word(text);
     for _ in 0..number(count) {
-        for line in texts.split(BETWEEN) {
-            add_text(script, line)?;
-            script.push(b'\n')?;
-        }
+        add_lines(script, texts)?;
+    }
+    Ok(())
+}
+
+/// Adds lines.
+fn add_lines(script: &mut Vec<u8>, texts: &str) -> Result<(), AllocError> {
+    for line in texts.split(BETWEEN) {
+        add_script_line(script, line)?;
     }
     Ok(())
 }
@@ -121,8 +137,7 @@ fn add_long_line(script: &mut Vec<u8>, text: &str) -> Result<(), AllocError> {
         script.push(b'x')?;
     }
     add_end(script, last)?;
-    script.push(b'\n')?;
-    Ok(())
+    script.extend_from_slice(b"\n")
 }
 
 /// Adds the beginning or the end of a long line.
@@ -146,37 +161,26 @@ pub fn wanted_of(alloc: Global, lines: &[&str]) -> Result<Vec<u8>, AllocError> {
 
 /// Whether a line of a row is an answer, or `= N TEXT`.
 fn is_answer(line: &str) -> bool {
-    match line.as_bytes() {
-        [] => false,
-        [
-            b'>' | b'<' | b'*' | b'^' | b'$' | b'@' | b'?' | b'#',
-            b' ',
-            ..
-        ] => false,
-        [b'#', b'#', b' ', ..] => false,
-        _ => true,
+    for mark in MARKS {
+        if line.starts_with(mark) {
+            return false;
+        }
     }
+    !line.is_empty()
 }
 
 /// Adds an answer as often as it is wanted.
 fn add_answer(wanted: &mut Vec<u8>, line: &str) -> Result<(), AllocError> {
-    let Some(counted) = line.strip_prefix("= ") else {
-        return add_line(wanted, line);
-    };
-    let (count, texts) = first_word(counted);
-    for _ in 0..number(count) {
-        for line in texts.split(BETWEEN) {
-            add_line(wanted, line)?;
-        }
+    match line.strip_prefix("= ") {
+        Some(counted) => add_repeated(wanted, counted),
+        None => add_line(wanted, line),
     }
-    Ok(())
 }
 
 /// Adds a line to the answers found. Fails if memory runs out.
 pub fn add_line(found: &mut Vec<u8>, line: &str) -> Result<(), AllocError> {
     found.extend_from_slice(line.as_bytes())?;
-    found.push(b'\n')?;
-    Ok(())
+    found.extend_from_slice(b"\n")
 }
 
 /// The first word of a text, and what follows the blank after it.
