@@ -1,5 +1,7 @@
 -- Texts that are put together piece by piece.
-use Rattle.std.proofs.Common.{◌≡◌, ℕ, zero, suc, ◌<◌, List, [], ◌++◌, Bool, cond, refl, arith, append_assoc, append-nil}
+use Rattle.std.proofs.Common.{◌≡◌, ℕ, zero, suc, ◌+◌, ◌<◌, List, [], ◌∷◌, ◌++◌, length, get_or, take, Bool, cond}
+use Rattle.std.proofs.Common.{refl, ◌∙◌, ap, sym, arith, append_assoc, append-nil}
+use Rattle.std.proofs.lemmas.List.{flat_map_more, take_more}
 use Rattle.std.specs.List.{flat_map}
 use Rattle.std.specs.Fmt.{decimal}
 use Rattle.s2draw.specs.Rectangles.{drawn}
@@ -17,6 +19,14 @@ pub not_noted : (old : List ℕ) {t u : List ℕ} (a d b : List ℕ) {n : ℕ} �
     t ≡ old ++ a ++ d → u ≡ t ++ b → n ≡ 0 → u ≡ old ++ (a ++ d ++ b ++ small_note n)
 unfolding small_note
 not_noted old a d b e1 e2 h = rw (h, e2, e1) (simp (append_assoc, append-nil))
+
+-- one more piece of a list
+pub one_more : (f : ℕ → List ℕ) (old xs : List ℕ) (i d : ℕ) {x : ℕ} {t u : List ℕ} →
+    t ≡ old ++ flat_map f (take i xs) → i < length xs → x ≡ get_or xs i d → u ≡ t ++ f x →
+    u ≡ old ++ flat_map f (take (i + 1) xs)
+one_more f old xs i d {x} e h item e2 =
+    e2 ∙ ap (λ z. z ++ f x) e ∙ flat_map_more f old (take i xs) x
+    ∙ ap (λ z. old ++ flat_map f z) (ap (λ z. take i xs ++ z ∷ []) item ∙ sym (take_more xs i d h))
 
 -- the pieces of a list between two others
 pub around : (f : ℕ → List ℕ) (old : List ℕ) {t u v : List ℕ} (a b : List ℕ) {some all : List ℕ} →

@@ -2,8 +2,9 @@
 ghost use Rattle.std.specs.Prelude.{◌≡◌, ◌≤◌, ◌++◌, ℕ, All, IfOk, [], cond, decimal, not};
 ghost use Rattle.std.specs.List.{count_by};
 ghost use Rattle.s2cell.specs.Cell.{IsCell, level_of};
-ghost use Rattle.s2draw.specs.Rectangles.{can_be_seen, seen, drawn, IsDrawnExactly};
+ghost use Rattle.s2draw.specs.Rectangles.{can_be_seen, seen, IsDrawnExactly};
 ghost use Rattle.s2draw.specs.Picture.{rectangle, middle, small_line, note, line, rectangles, head, picture};
+ghost use Rattle.s2draw.specs.Zoom.{seen_at, shown};
 
 use crate::fixed::{FACES, FOOT, HEAD, LEVELS, STYLE};
 use crate::rectangle::{DEEPEST, rectangle_of};
@@ -22,7 +23,7 @@ pub fn picture(alloc: Global, cells: &[CellId], curve: bool) -> Result<Vec<u8>, 
     // Each rectangle is the square of its cell.
     ensures squares { IfOk result (λ p. (c : ℕ) → IsCell c → IsDrawnExactly (seen c)) }
 {
-    let list = cells_to_draw(alloc, cells)?;
+    let list = cells_to_draw(alloc, DEEPEST, cells)?;
     let mut text = begin(alloc)?;
     put_note(&mut text, cells)?;
     put_rectangles(&mut text, list.as_slice())?;
@@ -42,28 +43,32 @@ fn begin(alloc: Global) -> Result<Vec<u8>, AllocError>
     Ok(text)
 }
 
-/// The cells that are drawn.
-pub(crate) fn cells_to_draw(alloc: Global, cells: &[CellId]) -> Result<Vec<CellId>, AllocError>
-    ensures cells { IfOk result (λ list. list.items ≡ drawn cells.now) }
-    ensures levels { IfOk result (λ list. All (λ c. level_of c ≤ 9) list.items) }
+/// The cells that are drawn, if none may be deeper than this level.
+pub(crate) fn cells_to_draw(
+    alloc: Global,
+    deepest: u8,
+    cells: &[CellId],
+) -> Result<Vec<CellId>, AllocError>
+    ensures cells { IfOk result (λ list. list.items ≡ shown deepest cells.now) }
+    ensures levels { IfOk result (λ list. All (λ c. level_of c ≤ deepest) list.items) }
 {
     let mut list = Vec::with_capacity(alloc, cells.len())?;
     for cell in cells {
-        list.push(cell_to_draw(*cell))?;
+        list.push(cell_to_draw(deepest, *cell))?;
     }
     list.dedup();
     Ok(list)
 }
 
-/// The cell, or its ancestor of the deepest level that is drawn.
-fn cell_to_draw(cell: CellId) -> CellId
-    ensures value { result ≡ seen cell }
-    ensures level { level_of result ≤ 9 }
+/// The cell, or its ancestor of this level if it is deeper.
+fn cell_to_draw(deepest: u8, cell: CellId) -> CellId
+    ensures value { result ≡ seen_at deepest cell }
+    ensures level { level_of result ≤ deepest }
 {
-    if cell.level() <= DEEPEST {
+    if cell.level() <= deepest {
         cell
     } else {
-        cell.parent(DEEPEST)
+        cell.parent(deepest)
     }
 }
 

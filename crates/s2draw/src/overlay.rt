@@ -6,7 +6,7 @@ ghost use Rattle.s2draw.specs.Overlay.{escaped_byte, outline, outlines, legend, 
 
 use crate::fixed::{COLORS, DEEPER, FACES, FOOT, STYLE};
 use crate::image::{cells_to_draw, put, put_curve, put_field};
-use crate::rectangle::rectangle_of;
+use crate::rectangle::{DEEPEST, rectangle_of};
 use s2cell::CellId;
 use std::alloc::{AllocError, Global};
 
@@ -57,7 +57,7 @@ pub fn add_layer(
     // Each rectangle is the square of its cell.
     ensures squares { IfOk result (λ _. (c : ℕ) → IsCell c → IsDrawnExactly (seen c)) }
 {
-    let list = cells_to_draw(alloc, cells)?;
+    let list = cells_to_draw(alloc, DEEPEST, cells)?;
     put_field(text, b"<g class='c", u64::from(index % COLOR_COUNT))?;
     put(text, b"'>\n")?;
     put_outlines(text, list.as_slice())?;

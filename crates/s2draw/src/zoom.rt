@@ -2,12 +2,12 @@
 ghost use Rattle.std.specs.Prelude.{◌≡◌, ◌≤◌, ◌++◌, ◌-◌, ◌*◌, ◌^◌, ℕ, IfOk};
 ghost use Rattle.s2cell.specs.Cell.{IsCell};
 ghost use Rattle.s2draw.specs.Zoom.{IsOnFaces, IsPart, nowhere, grown, all_grown, or_all_faces, with_margin, part_of};
-ghost use Rattle.s2draw.specs.Zoom.{part_around, seen_at, shown, IsShownExactly, box_of, face_box, clipped, window};
+ghost use Rattle.s2draw.specs.Zoom.{part_around, seen_at, IsShownExactly, box_of, face_box, clipped, window};
 ghost use Rattle.s2draw.specs.Zoom.{sides, outline_of, piece, pieces, face_piece, face_pieces, zoom_layer, zoom_head};
 ghost use Rattle.s2draw.specs.Zoom.{zoom_foot, depth_from, longer_side, zoom_size, depth_line};
 
 use crate::fixed::{COLORS, STYLE};
-use crate::image::{put, put_field};
+use crate::image::{cells_to_draw, put, put_field};
 use crate::overlay::{COLOR_COUNT, put_legend};
 use s2cell::CellId;
 use std::alloc::{AllocError, Global};
@@ -222,31 +222,6 @@ impl Part {
                 .saturating_sub(all.top),
         }
     }
-
-    /// The cell, or its ancestor of the deepest level that is drawn.
-    fn seen(self, cell: CellId) -> CellId
-        requires { IsPart self }
-        ensures { result ≡ seen_at self.deepest cell }
-    {
-        if cell.level() <= self.deepest {
-            cell
-        } else {
-            cell.parent(self.deepest)
-        }
-    }
-}
-
-/// The cells that are drawn.
-fn cells_shown(alloc: Global, part: Part, cells: &[CellId]) -> Result<Vec<CellId>, AllocError>
-    requires { IsPart part }
-    ensures { IfOk result (λ list. list.items ≡ shown part.deepest cells.now) }
-{
-    let mut list = Vec::with_capacity(alloc, cells.len())?;
-    for cell in cells {
-        list.push(part.seen(*cell))?;
-    }
-    list.dedup();
-    Ok(list)
 }
 
 /// Adds the outline of a rectangle, if it has something.
@@ -401,7 +376,7 @@ pub fn add_zoomed(
     // Each cell that is drawn has whole units on all sides.
     ensures squares { IfOk result (λ _. (c : ℕ) → IsCell c → IsShownExactly part (seen_at part.deepest c)) }
 {
-    let list = cells_shown(alloc, part, cells)?;
+    let list = cells_to_draw(alloc, part.deepest, cells)?;
     put_field(text, b"<g class='c", u64::from(index % COLOR_COUNT))?;
     put(text, b"'>\n")?;
     put_window(text, part)?;

@@ -13,4 +13,4 @@ returns-clause-cells c = rw (
 
 pub returns-clause-levels : goal.returns-clause-levels
 returns-clause-levels c = rw (dedup_is _ _ _ c.dedup.ensures.filtered)
-    (All-dedup _ (λ k. level_of k ≤ 9) _ c.loop-cell.invariant.1)
+    (All-dedup _ (λ k. level_of k ≤ c.args.deepest) _ c.loop-cell.invariant.1)

@@ -12,7 +12,7 @@ returns-clause-bytes c =
     IfOk-weaker c.put-3.result _ _
     (λ u q. zoomed_list _ _ _ (window c.args.part) (pieces c.args.part) _
     (λ k. legend 0 k (record { name = c.args.name.now; cells = c.args.cells.now })) _
-    (c.as_slice.ensures.value ∙ c.in_ok-list.ensures) c.in_ok-put_field.ensures c.in_ok-put.ensures
+    (c.as_slice.ensures.value ∙ c.in_ok-list.ensures.cells) c.in_ok-put_field.ensures c.in_ok-put.ensures
     c.in_ok-put_window.ensures c.in_ok-put_pieces.ensures c.in_ok-put-2.ensures c.in_ok-put_legend.ensures q
     (omega arith) (omega arith)) c.put-3.ensures
 
