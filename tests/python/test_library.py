@@ -26,6 +26,7 @@ from types import SimpleNamespace
 from unittest import mock
 
 import docstrings
+import pytest
 from model import unions as model
 import s2union
 from model.random_cells import FACE, Random
@@ -258,174 +259,195 @@ FIRST_FOUR = "0000000000000004"  # the parent of the first four leaves of face 0
 FIRST_AND_LAST = FIRST_FOUR + " 000000000000001c"  # and the last of its siblings
 
 
-class WorkedExamples(unittest.TestCase):
-    """Rows with S2's answers for cells, and rows of unions. Sets are named by their tokens."""
+# Worked examples: rows with S2's answers for cells, and rows of unions. Sets are named by their tokens.
 
-    def test_texts_and_leaves_of_cells(self):
-        for token, debug, level, face, first, last in (
-            ("1", "0/", 0, 0, 0, 1152921504606846975),
-            ("3", "1/", 0, 1, 1152921504606846976, 2305843009213693951),
-            ("5", "2/", 0, 2, 2305843009213693952, 3458764513820540927),
-            ("7", "3/", 0, 3, 3458764513820540928, 4611686018427387903),
-            ("9", "4/", 0, 4, 4611686018427387904, 5764607523034234879),
-            ("b", "5/", 0, 5, 5764607523034234880, 6917529027641081855),
-            ("0c", "0/1", 1, 0, 288230376151711744, 576460752303423487),
-            ("64c", "3/021", 3, 3, 3620894100405878784, 3638908498915360767),
-            ("000000000000003", "0/0000000000000000000000000001", 28, 0, 16, 31),
-            ("0000000000000003", "0/000000000000000000000000000001", 30, 0, 1, 1),
-            ("1fffffffffffffff", "0/333333333333333333333333333333", 30, 0, 1152921504606846975, 1152921504606846975),
-        ):
-            cell = cell_of(token)
-            self.assertEqual((s2union.token(cell), s2union.debug(cell)), (token, debug))
-            self.assertEqual(s2union.from_debug(debug), cell)
-            self.assertEqual((s2union.level(cell), s2union.face(cell)), (level, face))
-            self.assertEqual((s2union.range_min(cell), s2union.range_max(cell)), (2 * first + 1, 2 * last + 1))
-            self.assertEqual((s2union.size(cell), s2union.is_cell(cell)), (last - first + 1, True))
-        self.assertEqual(cell_of("0C00"), cell_of("0c"))
 
-    def test_children(self):
-        for whole, children in (("1", "04 0c 14 1c"), ("04", "01 03 05 07")):
-            cell = cell_of(whole)
-            for place, child in enumerate(map(cell_of, children.split())):
-                self.assertEqual((s2union.child(cell, place), s2union.parent(child)), (child, cell))
-                self.assertEqual((s2union.contains(cell, child), s2union.contains(child, cell)), (True, False))
-                self.assertEqual((s2union.intersects(cell, child), s2union.intersects(child, cell)), (True, True))
-                sibling = s2union.child(cell, (place + 1) % 4)
-                self.assertEqual((s2union.contains(child, sibling), s2union.intersects(child, sibling)), (False, False))
+@pytest.mark.parametrize("token,debug,level,face,first,last", [
+    ("1", "0/", 0, 0, 0, 1152921504606846975),
+    ("3", "1/", 0, 1, 1152921504606846976, 2305843009213693951),
+    ("5", "2/", 0, 2, 2305843009213693952, 3458764513820540927),
+    ("7", "3/", 0, 3, 3458764513820540928, 4611686018427387903),
+    ("9", "4/", 0, 4, 4611686018427387904, 5764607523034234879),
+    ("b", "5/", 0, 5, 5764607523034234880, 6917529027641081855),
+    ("0c", "0/1", 1, 0, 288230376151711744, 576460752303423487),
+    ("64c", "3/021", 3, 3, 3620894100405878784, 3638908498915360767),
+    ("000000000000003", "0/0000000000000000000000000001", 28, 0, 16, 31),
+    ("0000000000000003", "0/000000000000000000000000000001", 30, 0, 1, 1),
+    ("1fffffffffffffff", "0/333333333333333333333333333333", 30, 0, 1152921504606846975, 1152921504606846975),
+])
+def test_texts_and_leaves_of_cells(token, debug, level, face, first, last):
+    cell = cell_of(token)
+    assert (s2union.token(cell), s2union.debug(cell), s2union.from_debug(debug)) == (token, debug, cell)
+    assert (s2union.level(cell), s2union.face(cell)) == (level, face)
+    assert (s2union.range_min(cell), s2union.range_max(cell)) == (2 * first + 1, 2 * last + 1)
+    assert (s2union.size(cell), s2union.is_cell(cell)) == (last - first + 1, True)
 
-    def test_next_cells(self):
-        for before, after in (("1c", "24"), ("04", "0c"), ("1", "3")):
-            self.assertEqual(s2union.next_cell(cell_of(before)), cell_of(after))
-            self.assertEqual(s2union.previous_cell(cell_of(after)), cell_of(before))
-        self.assertIsNone(s2union.next_cell(cell_of("b")))
-        self.assertIsNone(s2union.previous_cell(cell_of("1")))
 
-    def test_common_ancestors(self):
-        for one, other, ancestor in (("05", "07", "04"), ("04", "05", "04"), ("04", "0c", "1"), ("1", "3", None)):
-            one, other = cell_of(one), cell_of(other)
-            want = cell_of(ancestor) if ancestor else None
-            self.assertEqual((s2union.common_ancestor(one, other), s2union.common_ancestor(other, one)), (want, want))
+def test_a_token_in_upper_case_with_zeros():
+    assert cell_of("0C00") == cell_of("0c")
 
-    def test_the_first_leaves_of_an_even_and_of_an_odd_face(self):
-        even = ((0, 0), (1, 0), (1, 1), (0, 1), (0, 2), (0, 3), (1, 3), (1, 2),
-                (2, 2), (2, 3), (3, 3), (3, 2), (3, 1), (2, 1), (2, 0), (3, 0))
-        odd = ((0, 0), (0, 1), (1, 1), (1, 0), (2, 0), (3, 0), (3, 1), (2, 1),
-               (2, 2), (3, 2), (3, 3), (2, 3), (1, 3), (1, 2), (0, 2), (0, 3))
-        for face, places in enumerate((even, odd)):
-            for number, (i, j) in enumerate(places):
-                leaf = 2 * (face * 4**30 + number) + 1
-                self.assertEqual((s2union.square(leaf), s2union.from_face_ij(face, i, j)), ((face, i, j, 1), leaf))
-        self.assertEqual(s2union.from_face_ij(0, LAST, 0), cell_of("1fffffffffffffff"))
 
-    def test_squares(self):
-        for token, square in (
-            ("04", (0, 0, 0, 536870912)),
-            ("0c", (0, 0, 536870912, 536870912)),
-            ("14", (0, 536870912, 536870912, 536870912)),
-            ("1c", (0, 536870912, 0, 536870912)),
-            ("24", (1, 0, 0, 536870912)),
-            ("2c", (1, 536870912, 0, 536870912)),
-            ("34", (1, 536870912, 536870912, 536870912)),
-            ("3c", (1, 0, 536870912, 536870912)),
-            ("1", (0, 0, 0, 1073741824)),
-            ("64c", (3, 268435456, 402653184, 134217728)),
-            ("bfffffffffffffff", (5, 0, 1073741823, 1)),
-        ):
-            self.assertEqual(s2union.square(cell_of(token)), square)
+@pytest.mark.parametrize("whole,children", [("1", "04 0c 14 1c"), ("04", "01 03 05 07")])
+def test_children(whole, children):
+    cell = cell_of(whole)
+    for place, child in enumerate(map(cell_of, children.split())):
+        assert (s2union.child(cell, place), s2union.parent(child)) == (child, cell)
+        assert (s2union.contains(cell, child), s2union.contains(child, cell)) == (True, False)
+        assert (s2union.intersects(cell, child), s2union.intersects(child, cell)) == (True, True)
+        sibling = s2union.child(cell, (place + 1) % 4)
+        assert (s2union.contains(child, sibling), s2union.intersects(child, sibling)) == (False, False)
 
-    def test_siblings_merge_again_and_faces_never(self):
-        for given, normal in NORMAL:
-            self.assertEqual(union_of(given).tokens(), normal.split())
 
-    def test_normalized_lists(self):
-        for tokens, is_normalized in (
-            ("", True),
-            ("1 3 5 7 9 b", True),
-            ("04 0c 14", True),
-            ("04 0c 14 1c", False),
-            ("0c 04", False),
-            ("04 04", False),
-            ("04 1", False),
-        ):
-            cells = [cell_of(token) for token in tokens.split()]
-            if is_normalized:
-                self.assertEqual(list(UnionFile(model.file(cells))), cells)
-            else:
-                self.assertRaises(ValueError, UnionFile, model.file(cells))
+@pytest.mark.parametrize("before,after", [("1c", "24"), ("04", "0c"), ("1", "3")])
+def test_next_cells(before, after):
+    assert s2union.next_cell(cell_of(before)) == cell_of(after)
+    assert s2union.previous_cell(cell_of(after)) == cell_of(before)
 
-    def test_sets_of_leaves(self):
-        for a, b, either, both, less in (
-            ("04 0c", "0c 14", "04 0c 14", "0c", "04"),
-            ("0c 14", "0c", "0c 14", "0c", "14"),
-            ("04 0c 14", "1c", "1", "", "04 0c 14"),
-            ("1", "04 05", "1", "04", "0c 14 1c"),
-            ("", "1", "1", "", ""),
-        ):
-            a, b = union_of(a), union_of(b)
-            self.assertEqual((a | b, a & b, a - b), (union_of(either), union_of(both), union_of(less)))
 
-    def test_a_leaf_leaves_a_face_and_returns(self):
-        face, leaf = union_of("1"), union_of(LEAF)
-        rest = face - leaf
-        self.assertEqual((len(rest), rest.leaf_count()), (90, 4**30 - 1))
-        self.assertEqual((rest | leaf, leaf | rest, rest & leaf), (face, face, Union()))
+def test_the_first_and_the_last_cell():
+    assert s2union.next_cell(cell_of("b")) is None
+    assert s2union.previous_cell(cell_of("1")) is None
 
-    def test_six_faces_without_a_hundred_leaves(self):
-        faces = union_of("1 3 5 7 9 b")
-        leaves = Union(2 * k * 69175290276410818 + 1 for k in range(100))
-        rest = faces - leaves
-        self.assertEqual((len(leaves), rest.leaf_count()), (100, 6917529027641081756))
-        self.assertGreater(len(rest), 1000)
-        self.assertEqual(list(rest), model.normal(model.rest(model.runs(leaves))))
 
-    def test_inclusion_and_shared_leaves(self):
-        for a, b, contains, intersects in HELD:
-            a, b = union_of(a), union_of(b)
-            self.assertEqual((a >= b, a.intersects(b)), (contains, intersects))
-            if len(b) == 1:
-                self.assertEqual((b[0] in a, a.intersects_cell(b[0])), (contains, intersects))
+@pytest.mark.parametrize("one,other,ancestor", [("05", "07", "04"), ("04", "05", "04"), ("04", "0c", "1"),
+                                                ("1", "3", None)])
+def test_common_ancestors(one, other, ancestor):
+    one, other = cell_of(one), cell_of(other)
+    want = cell_of(ancestor) if ancestor else None
+    assert (s2union.common_ancestor(one, other), s2union.common_ancestor(other, one)) == (want, want)
 
-    def test_ranges_across_faces(self):
-        four = "0000000000000003 0000000000000005 0000000000000007 0000000000000009"
-        for first, last, range_, leaves in (
-            ("1", "b", "1 3 5 7 9 b", 6 * 4**30),
-            ("0000000000000003", "0000000000000009", four, 4),
-            ("1c", "24", "1c 24", 4**30 // 2),
-        ):
-            made = Union.from_range(cell_of(first), cell_of(last))
-            self.assertEqual((made.tokens(), made.leaf_count()), (range_.split(), leaves))
 
-    def test_levels_that_are_wanted(self):
-        for tokens, least, modulus, want in CUT:
-            found = union_of(tokens).denormalised(least, modulus)
-            self.assertEqual([s2union.token(cell) for cell in found], want.split())
-        face = union_of("1")
-        self.assertEqual((len(face.denormalised(9)), len(face.denormalised(10))), (4**9, 4**10))
-        with self.assertRaisesRegex(ValueError, f"too many cells: {4**30}$"):
-            face.denormalised(30, most=0)
-        self.assertEqual(len(face.denormalised(3, most=64)), 64)
-        self.assertRaisesRegex(ValueError, "too many cells: 64$", face.denormalised, 3, most=63)
+@pytest.mark.parametrize("face,places", [
+    (0, "00 10 11 01 02 03 13 12 22 23 33 32 31 21 20 30"), (1, "00 01 11 10 20 30 31 21 22 32 33 23 13 12 02 03")])
+def test_the_first_leaves_of_an_even_and_of_an_odd_face(face, places):
+    for number, (i, j) in enumerate(map(int, place) for place in places.split()):
+        leaf = 2 * (face * 4**30 + number) + 1
+        assert (s2union.square(leaf), s2union.from_face_ij(face, i, j)) == ((face, i, j, 1), leaf)
 
-    def test_coverings(self):
-        for rectangle, level, inner, most, want in (
-            ((0, 0, 2, 0, 0), 29, False, 9, FIRST_AND_LAST),
-            ((0, 0, 2, 0, 0), 29, True, 9, ""),
-            ((0, 0, 1, 0, 1), 30, True, 9, FIRST_FOUR),
-            ((0, 0, LAST, 0, LAST), 1, False, 1, "1"),  # the limit is that of merged cells
-        ):
-            self.assertEqual(Union.covering(*rectangle, level, inner, most).tokens(), want.split())
-        self.assertRaises(ValueError, Union.covering, 0, 0, LAST, 0, 0, 1, most=1)
-        leaf = union_of("0000000000000003")
-        self.assertEqual((leaf.outer(29).tokens(), leaf.inner(29).tokens()), ([FIRST_FOUR], []))
-        for wrong in ((6, 0, 0, 0, 0), (0, 1, 0, 0, 0), (0, 0, 0, 3, 2), (0, 0, LAST + 1, 0, 0),
-                      (0, 0, 0, 0, LAST + 1)):
-            self.assertRaises(ValueError, Union.covering, *wrong, 30)
-            self.assertRaises(ValueError, leaf.outer, 30, rectangle=wrong)
-        self.assertRaises(ValueError, leaf.inner, 30, rectangle=(0, 0, 0, 0))
-        self.assertRaises(TypeError, leaf.inner, 30, rectangle=7)
-        self.assertRaises(TypeError, leaf.outer, 30, rectangle=(0, 0, 0, 0, 0.5))
-        self.assertEqual(leaf.outer(29, rectangle=(0, 0, 2, 0, 2)).tokens(), [FIRST_FOUR])
-        self.assertEqual(leaf.outer(29, rectangle=[0, 0, 0, 0, 0]).tokens(), [])
+
+def test_the_last_leaf_of_a_face():
+    assert s2union.from_face_ij(0, LAST, 0) == cell_of("1fffffffffffffff")
+
+
+@pytest.mark.parametrize("token,square", [
+    ("04", (0, 0, 0, 536870912)), ("0c", (0, 0, 536870912, 536870912)),
+    ("14", (0, 536870912, 536870912, 536870912)), ("1c", (0, 536870912, 0, 536870912)),
+    ("24", (1, 0, 0, 536870912)), ("2c", (1, 536870912, 0, 536870912)),
+    ("34", (1, 536870912, 536870912, 536870912)), ("3c", (1, 0, 536870912, 536870912)),
+    ("1", (0, 0, 0, 1073741824)), ("64c", (3, 268435456, 402653184, 134217728)),
+    ("bfffffffffffffff", (5, 0, 1073741823, 1)),
+])
+def test_squares(token, square):
+    assert s2union.square(cell_of(token)) == square
+
+
+@pytest.mark.parametrize("given,normal", NORMAL)
+def test_siblings_merge_again_and_faces_never(given, normal):
+    assert union_of(given).tokens() == normal.split()
+
+
+@pytest.mark.parametrize("tokens", ["", "1 3 5 7 9 b", "04 0c 14"])
+def test_normalized_lists(tokens):
+    cells = [cell_of(token) for token in tokens.split()]
+    assert list(UnionFile(model.file(cells))) == cells
+
+
+@pytest.mark.parametrize("tokens", ["04 0c 14 1c", "0c 04", "04 04", "04 1"])
+def test_lists_that_are_not_normalized(tokens):
+    with pytest.raises(ValueError):
+        UnionFile(model.file([cell_of(token) for token in tokens.split()]))
+
+
+@pytest.mark.parametrize("a,b,either,both,less", [
+    ("04 0c", "0c 14", "04 0c 14", "0c", "04"), ("0c 14", "0c", "0c 14", "0c", "14"),
+    ("04 0c 14", "1c", "1", "", "04 0c 14"), ("1", "04 05", "1", "04", "0c 14 1c"), ("", "1", "1", "", ""),
+])
+def test_sets_of_leaves(a, b, either, both, less):
+    a, b = union_of(a), union_of(b)
+    assert (a | b, a & b, a - b) == (union_of(either), union_of(both), union_of(less))
+
+
+def test_a_leaf_leaves_a_face_and_returns():
+    face, leaf = union_of("1"), union_of(LEAF)
+    rest = face - leaf
+    assert (len(rest), rest.leaf_count()) == (90, 4**30 - 1)
+    assert (rest | leaf, leaf | rest, rest & leaf) == (face, face, Union())
+
+
+def test_six_faces_without_a_hundred_leaves():
+    faces = union_of("1 3 5 7 9 b")
+    leaves = Union(2 * k * 69175290276410818 + 1 for k in range(100))
+    rest = faces - leaves
+    assert (len(leaves), rest.leaf_count()) == (100, 6917529027641081756)
+    assert len(rest) > 1000
+    assert list(rest) == model.normal(model.rest(model.runs(leaves)))
+
+
+@pytest.mark.parametrize("a,b,contains,intersects", HELD)
+def test_inclusion_and_shared_leaves(a, b, contains, intersects):
+    a, b = union_of(a), union_of(b)
+    assert (a >= b, a.intersects(b)) == (contains, intersects)
+    if len(b) == 1:
+        assert (b[0] in a, a.intersects_cell(b[0])) == (contains, intersects)
+
+
+@pytest.mark.parametrize("first,last,tokens,leaves", [
+    ("1", "b", "1 3 5 7 9 b", 6 * 4**30), ("1c", "24", "1c 24", 4**30 // 2),
+    ("0000000000000003", "0000000000000009",
+     "0000000000000003 0000000000000005 0000000000000007 0000000000000009", 4),
+])
+def test_ranges_across_faces(first, last, tokens, leaves):
+    made = Union.from_range(cell_of(first), cell_of(last))
+    assert (made.tokens(), made.leaf_count()) == (tokens.split(), leaves)
+
+
+@pytest.mark.parametrize("tokens,least,modulus,want", CUT)
+def test_levels_that_are_wanted(tokens, least, modulus, want):
+    assert list(map(s2union.token, union_of(tokens).denormalised(least, modulus))) == want.split()
+
+
+def test_as_many_cells_as_are_wanted():
+    face = union_of("1")
+    assert (len(face.denormalised(9)), len(face.denormalised(10))) == (4**9, 4**10)
+    assert len(face.denormalised(3, most=64)) == 64
+    for level, most, count in ((30, 0, 4**30), (3, 63, 64)):
+        with pytest.raises(ValueError, match=f"too many cells: {count}$"):
+            face.denormalised(level, most=most)
+
+
+@pytest.mark.parametrize("rectangle,level,inner,most,want", [
+    ((0, 0, 2, 0, 0), 29, False, 9, FIRST_AND_LAST), ((0, 0, 2, 0, 0), 29, True, 9, ""),
+    ((0, 0, 1, 0, 1), 30, True, 9, FIRST_FOUR),
+    ((0, 0, LAST, 0, LAST), 1, False, 1, "1"),  # the limit is that of merged cells
+])
+def test_coverings(rectangle, level, inner, most, want):
+    assert Union.covering(*rectangle, level, inner, most).tokens() == want.split()
+
+
+@pytest.mark.parametrize("wrong", [(6, 0, 0, 0, 0), (0, 1, 0, 0, 0), (0, 0, 0, 3, 2), (0, 0, LAST + 1, 0, 0),
+                                   (0, 0, 0, 0, LAST + 1)])
+def test_rectangles_that_are_refused(wrong):
+    with pytest.raises(ValueError):
+        Union.covering(*wrong, 30)
+    with pytest.raises(ValueError):
+        union_of("0000000000000003").outer(30, rectangle=wrong)
+
+
+@pytest.mark.parametrize("wrong,error", [((0, 0, 0, 0), ValueError), (7, TypeError), ((0, 0, 0, 0, 0.5), TypeError)])
+def test_rectangles_that_are_none(wrong, error):
+    with pytest.raises(error):
+        union_of("0000000000000003").outer(30, rectangle=wrong)
+    with pytest.raises(error):
+        union_of("0000000000000003").inner(30, rectangle=wrong)
+
+
+def test_coverings_of_a_leaf():
+    leaf = union_of("0000000000000003")
+    assert (leaf.outer(29).tokens(), leaf.inner(29).tokens()) == ([FIRST_FOUR], [])
+    assert leaf.outer(29, rectangle=(0, 0, 2, 0, 2)).tokens() == [FIRST_FOUR]
+    assert leaf.outer(29, rectangle=[0, 0, 0, 0, 0]).tokens() == []
+    with pytest.raises(ValueError):
+        Union.covering(0, 0, LAST, 0, 0, 1, most=1)
 
 
 @contextlib.contextmanager
