@@ -14,6 +14,7 @@ import unittest
 from array import array
 from pathlib import Path
 
+import pytest
 import s2union
 from s2union import Union, UnionFile
 
@@ -69,26 +70,89 @@ def is_refused(name, words):
     return False
 
 
+OTHER_TYPES = (None, 1.5, object(), [None], 2**64, -1, "xyz", b"123", bytes(16), (), memoryview(bytes(24)))
+
+
+@pytest.mark.parametrize("name", TAKEN)
+def test_each_wrong_word(name):
+    """A word too few or too many, and each word in turn of another type, is an error; and whatever a word is, the call
+    comes back."""
+    words = TAKEN[name]
+    for wrong in [(*words, 1), words[:-1]] if words else [(1,)]:
+        assert is_refused(name, wrong)
+    for place in range(len(words)):
+        for other in OTHER_TYPES:
+            was_refused = is_refused(name, (*words[:place], other, *words[place + 1:]))
+            is_said = name in MAKES_LIST and place == 0  # what a refusal would say may be anything
+            if other is None or type(other) in (float, object):
+                assert was_refused or is_said
+
+
+SAID = [
+    (lambda: s2union.level(2), "not a cell: 0x2"), (lambda: s2union.contains(CELL, 0), "not a cell: 0x0"),
+    (lambda: s2union.contains(2, 0), "not a cell: 0x2"),
+    (lambda: s2union.contains(0, 2), "not a cell: 0x0"),
+    (lambda: s2union.common_ancestor(6, 2), "not a cell: 0x6"),
+    (lambda: s2union.level(True), "a cell is an int, not a bool"),
+    (lambda: s2union.level("1"), NO_TEXT), (lambda: "1" in Union([FACE]), NO_TEXT),
+    (lambda: Union("04 0c"), NO_TEXT), (lambda: Union(["04"]), NO_TEXT),
+    (lambda: s2union.tokens("04"), NO_TEXT), (lambda: Union([FACE]).contains_cells(["04"]), NO_TEXT),
+    (lambda: Union([FACE])["a"], "the place of a cell is an int or a slice, not str"),
+    (lambda: UnionFile(FILE)[1.5], "the place of a cell is an int or a slice, not float"),
+    (lambda: Union([FACE])[9], "there is no cell 9: the union has 1"),
+    (lambda: Union([FACE])[-2**70], f"there is no cell {-2**70}: the union has 1"),
+    (lambda: UnionFile(FILE)[9], "there is no cell 9: the union has 2"),
+    (lambda: Union.of(Union([FACE])), "of takes an iterable of unions, and this is one union, of 1 cells"),
+    (lambda: s2union.from_points(2.35, 48.85, 0),
+     f"a face of each point is wanted: 'float' object is not iterable. {DEGREES}"),
+    (lambda: s2union.from_points([2.35], [48.85], [0]),
+     f"a face of each point is wanted: a face is an int, not float. {DEGREES}"),
+    (lambda: s2union.level(2**64), f"a cell is out of range: {2**64}"),
+    (lambda: s2union.child(CELL, 4), "a child's number is out of range: 4"),
+    (lambda: s2union.from_face_ij(0, 0, 2**30), f"j is out of range: {2**30}"),
+    (lambda: s2union.from_face_ij(6, 0, 0), "a face is out of range: 6"),
+    (lambda: Union.covering(6, 0, 0, 0, 0, 3), "a face is out of range: 6"),
+    (lambda: s2union.parent(2, "x"), "a level is an int, not str"),
+    (lambda: s2union.parent(2, 31), "not a cell: 0x2"),
+    (lambda: s2union.parent(FACE), "a face has no parent: 0x1000000000000000"),
+    (lambda: s2union.parent(FACE, 1), "level 1 is deeper than the cell 1, which is of level 0"),
+    (lambda: s2union.child(1, 0), "a leaf has no children: 0x1"),
+    (lambda: s2union.from_token("é"), "not a cell: 'é'"),
+    (lambda: s2union.from_tokens("1 " + 40 * "x"), f"not a cell: b'{32 * 'x'}' at place 2"),
+    (lambda: s2union.levels(5000 * [FACE] + [2]), "not a cell at place 5000: 0x2"),
+    (lambda: s2union.from_points([0, 0], [1], [2]), "there are not as many of each: 2, 1, 1"),
+    (lambda: s2union.from_token("\ud800"), "not a cell: '\\ud800'"),
+    (lambda: Union([1, 9, 17]).outer(30, most=1), "too many cells: level 30, at most 1 cells"),
+    (lambda: Union.covering(0, 0, 9, 0, 9, 31), "a level is out of range: 31"),
+    (lambda: Union.covering(0, 0, 2**30, 0, 9, 3), f"a coordinate is out of range: {2**30}"),
+    (lambda: Union([FACE]).outer(3, rectangle=(0, 1, 2)), "a rectangle has 5 numbers, not 3"),
+    (lambda: Union.from_range(CELL, 1), f"argument out of range: {CELL:#x} comes after 0x1"),
+    (lambda: Union.from_range(CELL, 2), "not a cell: 0x2"),
+    (lambda: Union([FACE, 2]), "not a cell at place 1: 0x2"),
+    (lambda: Union([FACE]).contains_cells([FACE, 0]), "not a cell at place 1: 0x0"),
+    (lambda: Union([FACE]).denormalised(3, 0), "a modulus is out of range: 0"),
+    (lambda: Union([FACE]).denormalised(3, 4), "a modulus is out of range: 4"),
+]
+
+
+@pytest.mark.parametrize("call,message", SAID, ids=[message for _, message in SAID])
+def test_what_a_refusal_says(call, message):
+    with pytest.raises((ValueError, TypeError, IndexError)) as refusal:
+        call()
+    assert str(refusal.value) == message
+
+
+def test_what_out_of_memory_says():
+    with pytest.raises(MemoryError, match="^s2union: out of memory: what$"):
+        calls.refuse(-2, "what")
+
+
 class Taken(unittest.TestCase):
     def test_each_function_is_asked(self):
         there = {name for name, it in vars(calls).items() if inspect.isbuiltin(it)}
         self.assertEqual(there, {*TAKEN, "refuse"})
         for name, words in TAKEN.items():
             getattr(calls, name)(*words)
-
-    def test_each_wrong_word(self):
-        """A word too few or too many, and each word in turn of another type, is an error; and whatever a word is, the
-        call comes back."""
-        for name, words in TAKEN.items():
-            for wrong in [(*words, 1), words[:-1]] if words else [(1,)]:
-                self.assertTrue(is_refused(name, wrong), (name, wrong))
-            for place, word in enumerate(words):
-                for other in (None, 1.5, object(), [None], 2**64, -1, "xyz", b"123", bytes(16), (),
-                              memoryview(bytes(24))):
-                    was_refused = is_refused(name, (*words[:place], other, *words[place + 1:]))
-                    is_said = name in MAKES_LIST and place == 0  # what a refusal would say may be anything
-                    if other is None or type(other) in (float, object):
-                        self.assertTrue(was_refused or is_said, (name, place, other))
 
     def test_lists_that_are_none(self):
         released, unaligned = memoryview(bytes(8)), memoryview(bytes(17))[1:]
@@ -100,57 +164,6 @@ class Taken(unittest.TestCase):
         for text in ("is bytes or a memoryview, not int", "is bytes or a memoryview, not bytearray"):
             with self.assertRaisesRegex(TypeError, f"a list {text}$"):
                 calls.is_union(3 if "int" in text else bytearray())
-
-    def test_what_a_refusal_says(self):
-        for call, message in (
-                (lambda: s2union.level(2), "not a cell: 0x2"), (lambda: s2union.contains(CELL, 0), "not a cell: 0x0"),
-                (lambda: s2union.contains(2, 0), "not a cell: 0x2"),
-                (lambda: s2union.contains(0, 2), "not a cell: 0x0"),
-                (lambda: s2union.common_ancestor(6, 2), "not a cell: 0x6"),
-                (lambda: s2union.level(True), "a cell is an int, not a bool"),
-                (lambda: s2union.level("1"), NO_TEXT), (lambda: "1" in Union([FACE]), NO_TEXT),
-                (lambda: Union("04 0c"), NO_TEXT), (lambda: Union(["04"]), NO_TEXT),
-                (lambda: s2union.tokens("04"), NO_TEXT), (lambda: Union([FACE]).contains_cells(["04"]), NO_TEXT),
-                (lambda: Union([FACE])["a"], "the place of a cell is an int or a slice, not str"),
-                (lambda: UnionFile(FILE)[1.5], "the place of a cell is an int or a slice, not float"),
-                (lambda: Union([FACE])[9], "there is no cell 9: the union has 1"),
-                (lambda: Union([FACE])[-2**70], f"there is no cell {-2**70}: the union has 1"),
-                (lambda: UnionFile(FILE)[9], "there is no cell 9: the union has 2"),
-                (lambda: Union.of(Union([FACE])), "of takes an iterable of unions, and this is one union, of 1 cells"),
-                (lambda: s2union.from_points(2.35, 48.85, 0),
-                 f"a face of each point is wanted: 'float' object is not iterable. {DEGREES}"),
-                (lambda: s2union.from_points([2.35], [48.85], [0]),
-                 f"a face of each point is wanted: a face is an int, not float. {DEGREES}"),
-                (lambda: s2union.level(2**64), f"a cell is out of range: {2**64}"),
-                (lambda: s2union.child(CELL, 4), "a child's number is out of range: 4"),
-                (lambda: s2union.from_face_ij(0, 0, 2**30), f"j is out of range: {2**30}"),
-                (lambda: s2union.from_face_ij(6, 0, 0), "a face is out of range: 6"),
-                (lambda: Union.covering(6, 0, 0, 0, 0, 3), "a face is out of range: 6"),
-                (lambda: s2union.parent(2, "x"), "a level is an int, not str"),
-                (lambda: s2union.parent(2, 31), "not a cell: 0x2"),
-                (lambda: s2union.parent(FACE), "a face has no parent: 0x1000000000000000"),
-                (lambda: s2union.parent(FACE, 1), "level 1 is deeper than the cell 1, which is of level 0"),
-                (lambda: s2union.child(1, 0), "a leaf has no children: 0x1"),
-                (lambda: s2union.from_token("é"), "not a cell: 'é'"),
-                (lambda: s2union.from_tokens("1 " + 40 * "x"), f"not a cell: b'{32 * 'x'}' at place 2"),
-                (lambda: s2union.levels(5000 * [FACE] + [2]), "not a cell at place 5000: 0x2"),
-                (lambda: s2union.from_points([0, 0], [1], [2]), "there are not as many of each: 2, 1, 1"),
-                (lambda: s2union.from_token("\ud800"), "not a cell: '\\ud800'"),
-                (lambda: Union([1, 9, 17]).outer(30, most=1), "too many cells: level 30, at most 1 cells"),
-                (lambda: Union.covering(0, 0, 9, 0, 9, 31), "a level is out of range: 31"),
-                (lambda: Union.covering(0, 0, 2**30, 0, 9, 3), f"a coordinate is out of range: {2**30}"),
-                (lambda: Union([FACE]).outer(3, rectangle=(0, 1, 2)), "a rectangle has 5 numbers, not 3"),
-                (lambda: Union.from_range(CELL, 1), f"argument out of range: {CELL:#x} comes after 0x1"),
-                (lambda: Union.from_range(CELL, 2), "not a cell: 0x2"),
-                (lambda: Union([FACE, 2]), "not a cell at place 1: 0x2"),
-                (lambda: Union([FACE]).contains_cells([FACE, 0]), "not a cell at place 1: 0x0"),
-                (lambda: Union([FACE]).denormalised(3, 0), "a modulus is out of range: 0"),
-                (lambda: Union([FACE]).denormalised(3, 4), "a modulus is out of range: 4")):
-            with self.assertRaises((ValueError, TypeError, IndexError)) as refusal:
-                call()
-            self.assertEqual(str(refusal.exception), message)
-        with self.assertRaisesRegex(MemoryError, "^s2union: out of memory: what$"):
-            calls.refuse(-2, "what")
 
     def test_an_index_that_raises(self):
         class Wrong:
