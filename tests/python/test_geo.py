@@ -213,7 +213,7 @@ class Polygons(unittest.TestCase):
         with self.assertRaisesRegex(ValueError, "more than 1000000 positions"):
             coverings({"type": "MultiPolygon", "coordinates": [[ring + ring[:1]], [ring + ring[:1]]]})
         comb = [[539 if k % 2 else -539, k / 10 - 60] for k in range(1200)]
-        with self.assertRaisesRegex(ValueError, "more than 4000000 steps"):
+        with self.assertRaisesRegex(ValueError, "more than 404812 steps"):
             covering(polygon([*comb, [-540, 60], [-540, -60], comb[0]]))
         with tempfile.NamedTemporaryFile() as file:
             file.truncate(s2union_geo.MOST_BYTES + 1)

@@ -18,7 +18,8 @@ from .sphere import geographic, on_cube, on_cube_line, sphere
 
 MOST_CELLS = 1_000_000
 STEP = 0.25  # degrees between two points of an edge. What is straight on the map bends less than 10 m between them
-MOST_STEPS = 4_000_000  # of all edges together
+STEPS_OF_FEW, STEPS_A_POSITION = 400_000, 4  # of all edges together, so that the work follows the text
+MOST_STEPS = 4_000_000
 NOISE = 4e-15  # of distances, in radii of the earth
 AT_ONCE = 2_000_000  # pairs that are looked at together
 CHILDREN = numpy.array([(0, 0), (0, 1), (1, 0), (1, 1)])
@@ -77,7 +78,8 @@ def covering(shape: Any, max_cells: int = 200, max_level: int = 30) -> CellUnion
     ValueError
         Something isn't a polygon, a position is out of range, or a ring is open, crosses itself or runs along itself:
         the message has its polygon and ring. Or there are more than ``MOST_POSITIONS`` positions, edges of more than
-        1,000,000 degrees together, or ``MOST_BYTES`` bytes of a text. Or a number of cells or a level is out of range.
+        100,000 degrees and one for each position, or ``MOST_BYTES`` bytes of a text. Or a number of cells or a level is
+        out of range.
     TypeError
         A number of cells or a level is no int.
 
@@ -124,7 +126,8 @@ def interior(shape: Any, max_cells: int = 200, max_level: int = 30) -> CellUnion
     ValueError
         Something isn't a polygon, a position is out of range, or a ring is open, crosses itself or runs along itself:
         the message has its polygon and ring. Or there are more than ``MOST_POSITIONS`` positions, edges of more than
-        1,000,000 degrees together, or ``MOST_BYTES`` bytes of a text. Or a number of cells or a level is out of range.
+        100,000 degrees and one for each position, or ``MOST_BYTES`` bytes of a text. Or a number of cells or a level is
+        out of range.
     TypeError
         A number of cells or a level is no int.
 
@@ -170,7 +173,8 @@ def coverings(shape: Any, max_cells: int = 200, max_level: int = 30) -> tuple[Ce
     ValueError
         Something isn't a polygon, a position is out of range, or a ring is open, crosses itself or runs along itself:
         the message has its polygon and ring. Or there are more than ``MOST_POSITIONS`` positions, edges of more than
-        1,000,000 degrees together, or ``MOST_BYTES`` bytes of a text. Or a number of cells or a level is out of range.
+        100,000 degrees and one for each position, or ``MOST_BYTES`` bytes of a text. Or a number of cells or a level is
+        out of range.
     TypeError
         A number of cells or a level is no int.
 
@@ -193,14 +197,16 @@ def _number(value: Any, most: int, what: str) -> int:
 
 
 def _edges_of(polygons: list[list[Any]]) -> Edges:
-    start, way, slack, number, left = [], [], [], [], MOST_STEPS
+    start, way, slack, number = [], [], [], []
+    positions = sum(len(ring) for rings in polygons for ring in rings)
+    left = most = min(MOST_STEPS, STEPS_OF_FEW + STEPS_A_POSITION * positions)
     for polygon, rings in enumerate(polygons):
         for ring in rings:
             first, last = ring[:-1], ring[1:]
             steps = numpy.maximum(1, numpy.ceil(numpy.abs(last - first).max(axis=1) / STEP)).astype("int64")
             left -= int(steps.sum())
             if left < 0:
-                raise ValueError(f"the edges have more than {MOST_STEPS} steps of {STEP} degrees")
+                raise ValueError(f"the edges have more than {most} steps of {STEP} degrees")
             edge = numpy.repeat(numpy.arange(len(first)), steps)
             step = numpy.arange(len(edge)) - numpy.repeat(numpy.cumsum(steps) - steps, steps)
             across = (last - first)[edge] / steps[edge][:, None]
