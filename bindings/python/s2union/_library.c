@@ -298,9 +298,9 @@ static PyObject* refused_word(const List* text, size_t place) {
   const char* word = (const char*)text->at + place;
   size_t most = text->n - place < 32 ? text->n - place : 32, n = 0;
   while (n < most && !memchr(BLANKS, word[n], sizeof BLANKS - 1)) n++;
-  PyObject* bytes = PyBytes_FromStringAndSize(word, (Py_ssize_t)n);
-  if (bytes) raise_refusal(S2U_NO_CELL, "%s: %R at place %zu", s2u_status_text(S2U_NO_CELL), bytes, place);
-  Py_XDECREF(bytes);
+  PyObject* shown = PyUnicode_DecodeUTF8(word, (Py_ssize_t)n, "backslashreplace");
+  if (shown) raise_refusal(S2U_NO_CELL, "%s: %R at place %zu", s2u_status_text(S2U_NO_CELL), shown, place);
+  Py_XDECREF(shown);
   return NULL;
 }
 
