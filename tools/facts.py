@@ -46,6 +46,7 @@ def versions(text):
     control_form = r"default_version = '(?P<value>.*)'"
     found = [
         ("README.md", r"^Version (?P<value>[\d.]+);", whole),
+        ("docs/SCRIPT.md", r"^s2calc (?P<value>[\d.]+): 'help' for help", whole),
         ("CITATION.cff", r"^version: (?P<value>.*)$", whole),
         ("crates/s2calc/src/command_line.rt", r'\.version\("(?P<value>.*)"\)', whole),
         (cells, r"fn s2u_version\(\) -> u32\n    ensures \{ result ≡ (?P<value>\d+) \}", number),
