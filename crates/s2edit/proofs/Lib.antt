@@ -26,3 +26,4 @@ pub mod PartChange
 pub mod Making
 pub mod Splicing
 pub mod Completing
+pub mod Replacing

@@ -1,7 +1,7 @@
 -- Cells next to each other are taken out of a list, and others put in their place.
 use Rattle.std.proofs.Common.{◌≡◌, ℕ, ◌+◌, ◌-◌, ◌<◌, ◌≤◌, Bool, true, false, not, ◌||◌, ◌&&◌}
-use Rattle.std.proofs.Common.{List, [], ◌∷◌, length, take, drop, get_or, refl, sym, ap, ◌∙◌, subst, inl, inr, ◌⊎◌, arith}
-use Rattle.std.proofs.Common.{Result, Ok, Err, IfOk}
+use Rattle.std.proofs.Common.{List, [], ◌∷◌, length, take, drop, get_or, refl, sym, ap, ◌∙◌, subst, inl, inr, ◌⊎◌}
+use Rattle.std.proofs.Common.{Result, Ok, Err, IfOk, arith}
 use Rattle.std.proofs.Math.Logic.{⊎_elim}
 use Rattle.std.proofs.lemmas.Bool.{cases_lt, false≢true}
 use Rattle.std.proofs.lemmas.Grind.{common_steps, get_or_default_zero}
@@ -33,7 +33,7 @@ use Rattle.s2edit.proofs.PartLemmas.{by_bool, has_member, member_had, leaf_there
 -- ---- the cells of a list between two indexes
 
 module _ (u : List ℕ) (from to : ℕ) (o : from ≤ to) (w : to ≤ length u) where
-  slice_length : length (take (to - from) (drop from u)) ≡ to - from
+  pub slice_length : length (take (to - from) (drop from u)) ≡ to - from
   slice_length = length-take-le (to - from) (drop from u) (omega (arith, length-drop from u))
 
   slice_at : (k d : ℕ) → k < to - from → get_or (take (to - from) (drop from u)) k d ≡ get_or u (from + k) d
@@ -68,6 +68,9 @@ module _ (u : List ℕ) (from to : ℕ) (o : from ≤ to) (w : to ≤ length u) 
       let e : from + (k + 1) ≡ from + k + 1 = omega arith in
       let s : get_or u (from + k) 0 < get_or u (from + k + 1) 0 = up (from + k) (omega (arith, n)) in
       omega (arith, s, slice_at k 0 (omega (arith, n)), slice_at (k + 1) 0 n, ap (λ (j : ℕ). get_or u j 0) e)
+
+at_index : (u : List ℕ) (j : ℕ) → j < length u → has u (get_or u j 0) ≡ true
+at_index u j l = has_member u (get_or u j 0) (j, l, get_or_default_zero u j (get_or u j 0) l)
 
 -- ---- others in their place
 
@@ -146,7 +149,7 @@ no_cells_local : IsLocal []
 no_cells_local = local_from [] tt (λ c h. absurd (false≢true h)) (λ a b x h. absurd (false≢true h))
     (λ p g d all. false≢true (all 0 (omega arith)))
 
-only : (c d : ℕ) → has (c ∷ []) d ≡ true → c ≡ d
+pub only : (c d : ℕ) → has (c ∷ []) d ≡ true → c ≡ d
 only c d h = grind (arith, common_steps, h)
 
 pub one_cell_local : (c : ℕ) → IsCell c → IsLocal (c ∷ [])
@@ -192,6 +195,18 @@ module _ (u : List ℕ) (c from to : ℕ) (local : IsLocal u) (g : IsCell c) (fi
       absurd (omega (arith, a, b)))
       (λ (l : from ≤ to). l)
       (cases_lt to from)
+
+  -- the cells after the run begin after the cell
+  pub run_after : (j : ℕ) → to ≤ j → j < length u → first_leaf c + size_of c ≤ first_leaf (get_or u j 0)
+  run_after j a l =
+      let past = ends_past j last a l in
+      let there : IsCell (get_or u j 0) = local.cells j 0 l in
+      elim (meeting (get_or u j 0) c there g) [
+        | before k ↦ let some = (cell_leaves c g).some in absurd (omega (arith, k, past, some))
+        | after k ↦ k
+        | within k ↦ absurd (omega (arith, k.high, past))
+        | around k ↦ absurd (unheld (get_or u j 0) (at_index u j l) (inside_from_within c (get_or u j 0) k))
+      ]
 
   -- a cell of the list that shares a leaf with the cell is in the run
   pub in_run : (d x : ℕ) → has u d ≡ true → covers d x ≡ true → covers c x ≡ true →
@@ -335,7 +350,9 @@ module _ (u : List ℕ) (c at : ℕ) (local : IsLocal u) (g : IsCell c) (l : at 
 
   -- if it is added, nothing changes
   nothing_out : (d : ℕ) → has (take (at - at) (drop at u)) d ≡ true → ⊥
-  nothing_out d h = let (j, a, b, e) = of_slice u at at (omega arith) (omega (arith, l)) d h in absurd (omega (arith, a, b))
+  nothing_out d h =
+      let (j, a, b, e) = of_slice u at at (omega arith) (omega (arith, l)) d h in
+      absurd (omega (arith, a, b))
 
   still : (u o k : Bool) → (k ≡ true → u ≡ true) → (o ≡ true → ⊥) → (false || (u && not o)) ≡ (u || (k || false))
   still u true k f n = absurd (n refl)
@@ -478,6 +495,12 @@ pub leaves_at : (u : List ℕ) (at h c : ℕ) (put : List ℕ) → at < length u
     → (x : ℕ) → has_leaf put x ≡ (has_leaf (get_or u at 0 ∷ []) x && not (has_leaf (c ∷ []) x))
 leaves_at u at h c put l e leaves x = leaves x
     ∙ ap (λ (k : ℕ). has_leaf (k ∷ []) x && not (has_leaf (c ∷ []) x)) (e ∙ get_or_default_zero u at h l)
+
+-- what follows from two things that are known of a result
+pub ok_both : {X E : Type 0} {P Q R : X → Type 0} (r : Result X E) → IfOk r P → IfOk r Q →
+    ((x : X) → P x → Q x → R x) → IfOk r R
+ok_both (Ok x) p q f = f x p q
+ok_both (Err e) p q f = tt
 
 -- what follows from what is known of a result
 pub ok_then : {X E : Type 0} {P Q : X → Type 0} (r : Result X E) → IfOk r P → ((x : X) → P x → Q x) → IfOk r Q

@@ -183,7 +183,7 @@ next_held {T} r ms i m low is w rest =
     (λ e. rw e (w (grind (arith, common_steps, e)), rest))
     (λ n. rw n rest))
 
-has-append : (xs ys : List ℕ) (c : ℕ) → has (xs ++ ys) c ≡ (has xs c || has ys c)
+pub has-append : (xs ys : List ℕ) (c : ℕ) → has (xs ++ ys) c ≡ (has xs c || has ys c)
 has-append [] ys c = refl
 has-append (x ∷ xs) ys c = grind (arith, common_steps, has-append xs ys c)
 

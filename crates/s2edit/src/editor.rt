@@ -7,6 +7,7 @@ ghost use Rattle.s2union.specs.Apply.{applied, Fits};
 ghost use Rattle.s2edit.specs.History.{untouched, Assigned, sets, undone, redone, numbers, EachList};
 ghost use Rattle.s2edit.specs.Leads.{list_at, table_at, Leads};
 ghost use Rattle.s2edit.specs.Working.Chain.{lists_of, AllRoomy};
+ghost use Rattle.s2edit.specs.Working.Splice.{IsPlaceOf};
 ghost use Rattle.s2edit.specs.declared.editor.EditFault.TheVariants.{Memory};
 
 use crate::change::Change;
@@ -260,6 +261,39 @@ fn are_same(cells: &[CellId], others: &[CellId]) -> bool
     ensures { MatchBool result (cells.now ≡ others.now) (cells.now ≢ others.now) }
 {
     cells == others
+}
+
+/// Takes cells out of a register's list and puts others in. If those that go are next to each other, the index of the
+/// first may be given; then no cell is searched for, and the cells after them are moved.
+pub(crate) fn change_at(
+    registers: &mut Vec<CellUnion>,
+    spare: &mut CellUnion,
+    place: Option<usize>,
+    register: Register,
+    out: &[CellId],
+    put: &[CellId],
+)
+    requires in_range { register < vec_len registers.old }
+    requires fits { Fits out.now put.now (list_at (lists_of registers.old.items) register) }
+    requires place { IfSome place (IsPlaceOf (record { register = register; out = out.now; put = put.now })
+        (list_at (lists_of registers.old.items) register)) }
+    requires room { length (applied out.now put.now (list_at (lists_of registers.old.items) register))
+        ≤ spare.old.room }
+    requires own_room { (u : Union) → slice_get registers.old.items register ≡ Some u →
+        length (applied out.now put.now (list_at (lists_of registers.old.items) register)) ≤ u.room }
+    ensures table { lists_of registers.new.items ≡ slice_set (lists_of registers.old.items) register
+        (applied out.now put.now (list_at (lists_of registers.old.items) register)) }
+    ensures roomy { (n : ℕ) → AllRoomy n registers.old.items → n ≤ spare.old.room →
+        AllRoomy n registers.new.items × (n ≤ spare.new.room) }
+{
+    let Some(from) = place else {
+        change_register(registers, spare, register, out, put);
+        return;
+    };
+    let at = register.index();
+    let _ = registers[at].len();
+    let to = from + out.len();
+    registers[at].splice(from, to, put);
 }
 
 /// Takes cells out of a register's list and puts others in: in the list's own room, or if the change is spread over

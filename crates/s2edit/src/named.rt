@@ -15,9 +15,10 @@ ghost use Rattle.s2edit.specs.Leads.{list_at};
 ghost use Rattle.s2edit.specs.Named.{Becomes};
 ghost use Rattle.s2edit.specs.Working.Chain.{list_after};
 ghost use Rattle.s2edit.specs.Working.Named.{Gives};
+ghost use Rattle.s2edit.specs.Working.Splice.{IsPlaceOf};
 
 use crate::change::Change;
-use crate::editor::{EditFault, Editor, change_register};
+use crate::editor::{EditFault, Editor, change_at};
 use crate::near::part_near;
 use crate::splice::{adding_cell, removing_cell};
 use crate::{REGISTERS, Register};
@@ -58,7 +59,7 @@ impl Editor {
         let union = self.register(register);
         let _ = union.cells();
         if let Some(change) = adding(alloc, register, union, named)? {
-            return self.make(change);
+            return self.make(change, None);
         }
         let sum = union.union(named)?;
         self.assign(register, sum)
@@ -88,7 +89,7 @@ impl Editor {
         let union = self.register(register);
         let _ = union.cells();
         if let Some(change) = removing(alloc, register, union, named)? {
-            return self.make(change);
+            return self.make(change, None);
         }
         match union.difference_up_to(named, limit) {
             Ok(rest) => self.assign(register, rest),
@@ -109,8 +110,8 @@ impl Editor {
     {
         let union = self.register(register);
         let _ = union.cells();
-        let change = adding_cell(self.alloc, register, union, cell)?;
-        self.make(change)
+        let (change, at) = adding_cell(self.alloc, register, union, cell)?;
+        self.make(change, Some(at))
     }
 
     /// `remove` of one cell.
@@ -126,15 +127,17 @@ impl Editor {
     {
         let union = self.register(register);
         let _ = union.cells();
-        let change = removing_cell(self.alloc, register, union, cell)?;
-        self.make(change)
+        let (change, at) = removing_cell(self.alloc, register, union, cell)?;
+        self.make(change, Some(at))
     }
 
     /// Makes a change in its register's list, in which it can be made: does what `assign` of the changed list does.
-    /// Answers `TooMany` if that list has more than `limit` cells. Takes no memory.
-    fn make(&mut self, change: Change) -> Result<(usize, usize), EditFault>
+    /// If what it takes out is next to each other, the index of the first cell may be given. Answers `TooMany` if the
+    /// changed list has more than `limit` cells. Takes no memory.
+    fn make(&mut self, change: Change, place: Option<usize>) -> Result<(usize, usize), EditFault>
         requires in_range { change.register < REGISTERS }
         requires fits { FitsList change (list_at self.old.now change.register) }
+        requires place { IfSome place (IsPlaceOf change (list_at self.old.now change.register)) }
         ensures ok { OnOk result (Assigned self.old change.register (list_after self.old.now change) self.new) }
         ensures numbers { IfOk result (λ n. n ≡ numbers self.old.now self.new.now) }
         ensures within { OnOk result (length (list_after self.old.now change) ≤ self.old.limit) }
@@ -149,9 +152,10 @@ impl Editor {
         if old.len() - out + put > self.limit {
             return Err(EditFault::TooMany);
         }
-        change_register(
+        change_at(
             &mut self.registers,
             &mut self.spare,
+            place,
             change.register,
             &change.out,
             &change.put,

@@ -13,7 +13,7 @@ ghost use Rattle.s2list.specs.Sets.{union_of, difference_of};
 ghost use Rattle.s2union.specs.Apply.{has};
 ghost use Rattle.s2file.specs.Session.{IsDiff};
 ghost use Rattle.s2edit.specs.Working.Named.{Gives};
-ghost use Rattle.s2edit.specs.Working.Splice.{IsRun, Completes, Siblings, above, child_start};
+ghost use Rattle.s2edit.specs.Working.Splice.{IsRun, IsPlaceOf, Completes, Siblings, above, child_start};
 
 use crate::Register;
 use crate::change::Change;
@@ -33,15 +33,16 @@ pub(crate) struct Run {
     to: usize,
 }
 
-/// The change that adds the leaves of a cell.
+/// The change that adds the leaves of a cell, and the index from which on it is made.
 pub(crate) fn adding_cell(
     alloc: Global,
     register: Register,
     union: &CellUnion,
     cell: CellId,
-) -> Result<Change, AllocError>
-    ensures { IfOk result
-        (Gives (union_of (has_leaf union.now.cells) (has_leaf (cell ∷ []))) register union.now.cells) }
+) -> Result<(Change, usize), AllocError>
+    ensures gives { IfOk result (λ found.
+        Gives (union_of (has_leaf union.now.cells) (has_leaf (cell ∷ []))) register union.now.cells found.0) }
+    ensures place { IfOk result (λ found. IsPlaceOf found.0 union.now.cells found.1) }
 {
     let list = union.cells();
     let from = place_of(list, cell);
@@ -56,15 +57,16 @@ pub(crate) fn adding_cell(
     replacing(alloc, register, list, run.from, run.to, put)
 }
 
-/// The change that takes the leaves of a cell out.
+/// The change that takes the leaves of a cell out, and the index from which on it is made.
 pub(crate) fn removing_cell(
     alloc: Global,
     register: Register,
     union: &CellUnion,
     cell: CellId,
-) -> Result<Change, AllocError>
-    ensures { IfOk result
-        (Gives (difference_of (has_leaf union.now.cells) (has_leaf (cell ∷ []))) register union.now.cells) }
+) -> Result<(Change, usize), AllocError>
+    ensures gives { IfOk result (λ found.
+        Gives (difference_of (has_leaf union.now.cells) (has_leaf (cell ∷ []))) register union.now.cells found.0) }
+    ensures place { IfOk result (λ found. IsPlaceOf found.0 union.now.cells found.1) }
 {
     let list = union.cells();
     let from = place_of(list, cell);
@@ -78,7 +80,7 @@ pub(crate) fn removing_cell(
     replacing(alloc, register, list, run.from, run.to, none)
 }
 
-/// The change that takes the cells of a list from one index to another out, and puts others in.
+/// The change that takes the cells of a list from one index to another out, and puts others in; and the first index.
 fn replacing(
     alloc: Global,
     register: Register,
@@ -86,17 +88,15 @@ fn replacing(
     from: usize,
     to: usize,
     put: Vec<CellId>,
-) -> Result<Change, AllocError>
+) -> Result<(Change, usize), AllocError>
     requires order { (from ≤ to) × (to ≤ length list.now) }
     requires lists { IsDiff (take (to - from) (drop from list.now)) put.items }
-    ensures { IfOk result (λ c. c ≡ record {
-      register = register;
-      out = take (to - from) (drop from list.now);
-      put = put.items;
-    }) }
+    ensures change { IfOk result (λ found. found.0
+        ≡ record { register = register; out = take (to - from) (drop from list.now); put = put.items }) }
+    ensures from { IfOk result (λ found. found.1 ≡ from) }
 {
     let out = Vec::from_slice(alloc, &list[from..to])?;
-    Ok(Change { register, out, put })
+    Ok((Change { register, out, put }, from))
 }
 
 /// How many cells of a list end by the first leaf of a cell.

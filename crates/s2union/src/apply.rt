@@ -87,6 +87,23 @@ impl CellUnion {
         spare.cells = part.cells;
     }
 
+    /// Takes the cells from index `from` to `to` out of the list and puts others in their place, in the list's own
+    /// room, for which it must have it. The result must be normalized.
+    ///
+    /// Looks at no cell, and moves the cells after them once. Takes no memory.
+    pub fn splice(&mut self, from: usize, to: usize, put: &[CellId])
+        requires order { (from ≤ to) × (to ≤ length self.old.cells) }
+        requires local { IsLocal ((take from self.old.cells ++ put.now) ++ drop to self.old.cells) }
+        requires room { length ((take from self.old.cells ++ put.now) ++ drop to self.old.cells) ≤ self.old.room }
+        ensures cells { self.new.cells ≡ (take from self.old.cells ++ put.now) ++ drop to self.old.cells }
+        ensures room { self.old.room ≤ self.new.room }
+    {
+        let none = Vec::new(*self.cells.allocator());
+        let mut list = mem::replace(&mut self.cells, none);
+        replace_part(&mut list, from, to, put);
+        self.cells = list;
+    }
+
     /// Writes this list without `out` and with `put` into another union, which must have room for it and keeps that
     /// room.
     ///

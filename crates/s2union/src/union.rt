@@ -41,7 +41,7 @@ use std::{fmt, slice, vec};
 /// - questions: `contains_cell`, `intersects_cell`, `contains`, `intersects`, `cells_at` (questions.rt), `cursor`
 ///   (cursor.rt)
 /// - set operations: `union`, `intersection`, `difference`, `difference_up_to`, `symmetric_difference` (sets.rt)
-/// - changes: `can_apply`, `apply_into`, `apply` and `copy_from` (apply.rt)
+/// - changes: `can_apply`, `apply_into`, `apply`, `splice` and `copy_from` (apply.rt)
 /// - cut to levels: `denormalized`, `denormalized_len` (denorm.rt)
 #[derive(Drop)]
 pub struct CellUnion {

@@ -1,9 +1,11 @@
 -- Where a cell lies among those of a list, and what takes its place if it is added.
-use Rattle.std.specs.Prelude.{◌≡◌, ◌⊎◌, ◌<◌, ◌+◌, ◌-◌, ◌*◌, ◌/◌, ℕ, true, ◌||◌, List}
+use Rattle.std.specs.Prelude.{◌≡◌, ◌⊎◌, ◌<◌, ◌≤◌, ◌+◌, ◌-◌, ◌*◌, ◌/◌, ℕ, true, ◌||◌, List, ◌++◌, length, take, drop}
 use Rattle.s2cell.specs.Cell.{IsCell, level_of, first_leaf, size_of, parent_of, child_of, covers, IsInside}
 use Rattle.s2list.specs.Packed.{IsPlace}
 use Rattle.s2list.specs.Union.{has_leaf}
 use Rattle.s2union.specs.Apply.{has}
+use Rattle.s2file.specs.Session.{Diff}
+use Rattle.s2edit.specs.Diff.{apply}
 use Rattle.s2edit.specs.declared.splice.Run.{Run}
 
 -- RUN
@@ -13,6 +15,11 @@ pub record IsRun (u : List ℕ) (r : Run) : Type 0 where
   pub first : IsPlace u (first_leaf r.cell) r.from
   pub last : IsPlace u (first_leaf r.cell + size_of r.cell) r.to
   pub unheld : (d : ℕ) → has u d ≡ true → IsInside r.cell d → ⊥
+
+-- what the change takes out is next to each other, from an index on, and what it puts in takes its place
+pub record IsPlaceOf (d : Diff) (u : List ℕ) (at : ℕ) : Type 0 where
+  pub within : at + length d.out ≤ length u
+  pub made : apply d u ≡ (take at u ++ d.put) ++ drop (at + length d.out) u
 
 -- the parent of the cell
 abbrev pub above : ℕ → ℕ

@@ -19,7 +19,8 @@ parent_cell : (c : After-place_among-place) → IsCell c.parent-parent.result
 parent_cell c = subst IsCell (sym (parent_is c)) (above_cell c.args.run.now.cell c.requires.run.is_cell (deep c))
 
 parent_inner : (c : After-place_among-place) → level_of c.parent-parent.result < 30
-parent_inner c = omega (arith, ap level_of (parent_is c), above_shallow c.args.run.now.cell c.requires.run.is_cell (deep c))
+parent_inner c =
+    omega (arith, ap level_of (parent_is c), above_shallow c.args.run.now.cell c.requires.run.is_cell (deep c))
 
 pub place_among-place-requires-clause-parent : goal.place_among-place-requires-clause-parent
 place_among-place-requires-clause-parent c = c.parent-parent.ensures.value

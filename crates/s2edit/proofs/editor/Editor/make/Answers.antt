@@ -1,4 +1,4 @@
-use Rattle.std.proofs.Common.{◌≡◌, ◌≢◌, ◌<◌, ◌≤◌, ◌+◌, ℕ, List, [], ◌∷◌, length, take, slice_get}
+use Rattle.std.proofs.Common.{IfSome, ◌≡◌, ◌≢◌, ◌<◌, ◌≤◌, ◌+◌, ℕ, List, [], ◌∷◌, length, take, slice_get}
 use Rattle.std.proofs.Common.{ap, refl, sym, ◌∙◌, subst, arith, rules}
 use Rattle.std.specs.Vec.{vec_len}
 use Rattle.std.proofs.lemmas.List.{length-map, length-set}
@@ -12,6 +12,7 @@ use Rattle.s2edit.specs.Diff.{FitsList, change_between}
 use Rattle.s2edit.specs.Leads.{list_at}
 use Rattle.s2edit.specs.Chain.{IsLocalWithin}
 use Rattle.s2edit.specs.Working.Change.{diff_inside}
+use Rattle.s2edit.specs.Working.Splice.{IsPlaceOf}
 use Rattle.s2edit.specs.Working.Chain.{lists_of, list_after, table_after, history}
 use Rattle.s2edit.proofs.Tables.{list_read, AllRoomy-get}
 use Rattle.s2edit.proofs.Assigning.{Changes, changes_from, change_leaves, change_within, change_past, change_future}
@@ -80,11 +81,11 @@ returns-then-len-out-clause-too_many c =
     let n = lengths (goal.at.returns-then-len-out-clause-too_many c).After-len in
     omega (arith, n.0, n.1, c.if-len-out.true, ap (λ (k : History (List ℕ)). k.limit) c.self.view_is)
 
-pub change_register-requires : goal.change_register-requires
-change_register-requires c =
+pub change_at-requires : goal.change_at-requires
+change_at-requires c =
     let i = c.self.inside in
     let whole : vec_len i.registers ≡ length i.registers.items = search rules in
-    let n = lengths (goal.at.change_register-requires c).After-len in
+    let n = lengths (goal.at.change_at-requires c).After-len in
     let t : lists_of i.registers.items ≡ c.args.self.now.now =
     ap (λ (k : History (List ℕ)). k.now) c.self.view_is in
     let few : length (list_after (lists_of i.registers.items) c.args.change) ≤ i.limit =
@@ -107,6 +108,10 @@ change_register-requires c =
       fits = subst (λ (d : Diff). FitsList d (list_at (lists_of i.registers.items) d.register)) e
           (fits_here i.limit i.depth i.registers.items i.past.items i.future.items c.args.self.now c.args.change
           c.self.view_is c.self.invariant.count c.self.invariant.registers_within c.requires.in_range c.requires.fits);
+      place = subst (λ (d : Diff). IfSome c.args.place
+          (IsPlaceOf d (list_at (lists_of i.registers.items) d.register))) e
+          (subst (λ (k : List (List ℕ)). IfSome c.args.place
+          (IsPlaceOf c.args.change (list_at k c.args.change.register))) (sym t) c.requires.place);
       room = omega (arith, short, c.self.invariant.spare_roomy);
       own_room = λ u h. omega (
         arith,
@@ -179,14 +184,14 @@ differs c =
           omega (arith, w.if-out-eq0.false, c.len-out.ensures, c.change.inside.out.ok)
     ])
 
-table : (c : goal.After-clear) → lists_of c.change_register.new.registers.items
+table : (c : goal.After-clear) → lists_of c.change_at.new.registers.items
     ≡ table_after (lists_of c.self.inside.registers.items) (change c)
-table c = (rewrites_from c.self.inside.registers.items c.change_register.new.registers.items c.self.inside.spare
-    c.change_register.new.spare (change c) _ _ c.deref.ensures.value c.deref-2.ensures.value
-    c.change_register.ensures.table c.change_register.ensures.roomy).table
+table c = (rewrites_from c.self.inside.registers.items c.change_at.new.registers.items c.self.inside.spare
+    c.change_at.new.spare (change c) _ _ c.deref.ensures.value c.deref-2.ensures.value
+    c.change_at.ensures.table c.change_at.ensures.roomy).table
 
 changes : (c : goal.After-clear) → Changes c.self.inside.depth c.self.inside.registers.items
-    c.change_register.new.registers.items c.self.inside.past.items c.push_front.new.self.items
+    c.change_at.new.registers.items c.self.inside.past.items c.push_front.new.self.items
     c.clear.new.self.items (change c).register
     (list_after (lists_of c.self.inside.registers.items) (change c))
 changes c =
@@ -198,7 +203,7 @@ changes c =
 
 assigned : (c : goal.After-clear) → Assigned c.args.self.now (change c).register
     (list_after (lists_of c.self.inside.registers.items) (change c))
-    (history c.self.inside.limit c.self.inside.depth c.change_register.new.registers.items c.push_front.new.self.items
+    (history c.self.inside.limit c.self.inside.depth c.change_at.new.registers.items c.push_front.new.self.items
     c.clear.new.self.items)
 assigned c =
     let v : List ℕ = list_after (lists_of c.self.inside.registers.items) (change c) in
@@ -213,7 +218,7 @@ assigned c =
 
 pub returns-clause-ok : goal.returns-clause-ok
 returns-clause-ok c =
-    let after = history c.self.inside.limit c.self.inside.depth c.change_register.new.registers.items
+    let after = history c.self.inside.limit c.self.inside.depth c.change_at.new.registers.items
     c.push_front.new.self.items c.clear.new.self.items in
     subst (λ (d : Diff). Assigned c.args.self.now d.register (list_after c.args.self.now.now d) after)
     c.change.view_is
@@ -238,8 +243,8 @@ invariant_of-self c =
     let r : ℕ = (change c).register in
     let v : List ℕ = list_after (lists_of c.self.inside.registers.items) (change c) in
     let us = c.self.inside.registers.items in
-    let us' = c.change_register.new.registers.items in
-    let w = c.change_register.ensures.roomy c.self.inside.limit i.registers_roomy i.spare_roomy in
+    let us' = c.change_at.new.registers.items in
+    let w = c.change_at.ensures.roomy c.self.inside.limit i.registers_roomy i.spare_roomy in
     record {
       limit_bound = i.limit_bound;
       depth_most = i.depth_most;

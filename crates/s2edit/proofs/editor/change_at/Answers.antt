@@ -1,0 +1,44 @@
+use Rattle.std.proofs.Common.{◌≡◌, ◌+◌, ◌<◌, ◌≤◌, ◌++◌, ℕ, List, length, take, drop, slice_get, slice_set, Some}
+use Rattle.std.proofs.Common.{refl, sym, ap, ◌∙◌, arith, rules}
+use Rattle.std.specs.Vec.{vec_len}
+use Rattle.s2list.specs.Union.{Union}
+use Rattle.s2edit.specs.Leads.{list_at}
+use Rattle.s2edit.specs.Working.Chain.{lists_of}
+use Rattle.s2edit.specs.Working.Splice.{IsPlaceOf}
+use Rattle.s2edit.proofs.Tables.{lists_of-set, list_read, read_register, AllRoomy-get, AllRoomy-set}
+use Rattle.s2edit.proofs.editor.change_at.Goals as goal
+
+pub returns-clause-table : goal.returns-clause-table
+returns-clause-table c =
+    let us : List Union = c.args.registers.now.items in
+    let t : List (List ℕ) = lists_of us in
+    let u : Union = c.index_mut.result.now in
+    let made : Union = c.splice.new.self in
+    let from : ℕ = c.in-Some.from in
+    let whole : vec_len c.args.registers.now ≡ length us = search rules in
+    let at = c.index-at.ensures.value in
+    let l : c.index-at.result < length us = omega (arith, at, whole, c.requires.in_range) in
+    let was : list_at t c.args.register ≡ u.cells =
+    list_read us c.index-at.result c.args.register u c.index_mut.ensures.value at l in
+    let place : IsPlaceOf (record {
+      register = c.args.register;
+      out = c.args.out.now;
+      put = c.args.put.now;
+    }) (list_at t c.args.register) from = rw c.in-Some.is at c.requires.place in
+    lists_of-set us c.index-at.result made
+    ∙ ap (λ (k : ℕ). slice_set t k made.cells) at
+    ∙ ap (slice_set t c.args.register) (c.splice.ensures.cells
+    ∙ sym (ap (λ (x : List ℕ). (take from x ++ c.args.put.now) ++ drop (from + length c.args.out.now) x) was)
+    ∙ sym place.made)
+
+pub returns-clause-roomy : goal.returns-clause-roomy
+returns-clause-roomy c n a s =
+    let us : List Union = c.args.registers.now.items in
+    let i : ℕ = c.index-at.result in
+    let whole : vec_len c.args.registers.now ≡ length us = search rules in
+    let l : i < length us = omega (arith, c.index-at.ensures.value, whole, c.requires.in_range) in
+    let was : slice_get us i ≡ Some c.index_mut.result.now =
+    read_register us i i c.index_mut.result.now c.index_mut.ensures.value refl l in
+    let roomy : n ≤ c.splice.new.self.room =
+    omega (arith, AllRoomy-get n us i c.index_mut.result.now a was, c.splice.ensures.room) in
+    (AllRoomy-set n us i c.splice.new.self a roomy, s)
