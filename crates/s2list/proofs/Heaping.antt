@@ -2,6 +2,7 @@
 use Rattle.std.proofs.Common.{◌≡◌, ℕ, ◌+◌, ◌-◌, ◌<◌, ◌≤◌, sym, ◌∙◌, arith, Bool, true, false, ◌||◌}
 use Rattle.std.proofs.Common.{refl, subst, List, []}
 use Rattle.std.proofs.Math.Logic.{⊎_elim}
+use Rattle.std.proofs.Math.Bool.{or-false}
 use Rattle.std.proofs.lemmas.Bool.{cases_lt, false≢true, or_cases, or_right}
 use Rattle.std.proofs.lemmas.Bool.Decides.{nat_tests}
 use Rattle.s2cell.specs.Cell.{first_leaf, size_of}
@@ -14,7 +15,7 @@ use Rattle.s2list.specs.declared.pile.Pile.{Pile}
 use Rattle.s2list.specs.Packed.{FillsGap}
 use Rattle.s2list.specs.Output.{Fills, Writes}
 use Rattle.s2list.proofs.Picking.{Picked, IsGap, picked_fill, fill_leaves, between_ends}
-use Rattle.s2list.proofs.Tiling.{or_false, none_between}
+use Rattle.s2list.proofs.Tiling.{none_between}
 use Rattle.s2list.proofs.Walking.{not_true}
 use Rattle.s2list.proofs.Writing.{Counts, written_normal}
 
@@ -144,7 +145,7 @@ heaping_flush {S} {list} {lo} {hi} {done} new s h f =
           absurd (false≢true (sym last ∙ lies (done - 1) (covers_there p (done - 1) (omega arith) (omega arith)))))
           (λ (b : first_leaf p + size_of p ≤ done). b)
           (cases_lt done (first_leaf p + size_of p));
-      leaves = λ x a. s.leaves x a ∙ sym (filled x) ∙ or_false (has_leaf new x)
+      leaves = λ x a. s.leaves x a ∙ sym (filled x) ∙ sym (or-false (has_leaf new x))
           ∙ sym (rw (none_between done x) refl);
     }
 
@@ -209,7 +210,7 @@ heap_done {S} {Holds} {More} {lo} {hi} {done} {n} counts s none put =
     written_normal S More longer n counts (record { chain = flushed.chain; greatest = flushed.greatest })
     (λ x. ⊎_elim
     (λ (a : x < done + 1).
-    sym (flushed.leaves x a ∙ rw (none_between (done + 1) x) refl ∙ sym (or_false (has_leaf longer x))))
+    sym (flushed.leaves x a ∙ rw (none_between (done + 1) x) refl ∙ or-false (has_leaf longer x)))
     (λ (a : done + 1 ≤ x).
     fill_leaves s.list longer lo hi fills x ∙ pile_free s.list lo hi x s.heap.below order (omega arith)
     ∙ sym (none x (omega arith)))

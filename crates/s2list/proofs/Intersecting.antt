@@ -2,7 +2,7 @@
 use Rattle.std.proofs.Common.{◌≡◌, ℕ, zero, suc, ◌-◌, subst, ◌+◌, ◌<◌, ◌≤◌, refl, sym, ◌∙◌, ap, arith}
 use Rattle.std.proofs.Common.{Bool, true, false, ◌||◌, ◌&&◌, List, [], ◌∷◌, ◌++◌, length, get_or, take, drop}
 use Rattle.std.proofs.Common.{◌⊎◌, inl, inr, max}
-use Rattle.std.proofs.Math.Bool.{and-false, and_comm}
+use Rattle.std.proofs.Math.Bool.{and-false, and_comm, or-false}
 use Rattle.std.proofs.Math.Logic.{⊎_elim, ⊎_swap}
 use Rattle.std.proofs.lemmas.Bool.{and_parts, cases_lt}
 use Rattle.std.proofs.lemmas.Bool.Decides.{nat_tests}
@@ -16,7 +16,6 @@ use Rattle.s2list.specs.Union.{has_leaf, between, IsLocal}
 use Rattle.s2list.specs.Packed.{IsPacked, FirstEndBy}
 use Rattle.s2list.proofs.Checking.{packed_from_local, member_at}
 use Rattle.s2list.proofs.Packing.{read_at}
-use Rattle.s2list.proofs.Tiling.{or_false}
 use Rattle.s2list.proofs.Walking.{Walk, walk_done, walk_more, walk_on, walk_below, ended_more, ended_later, gap}
 use Rattle.s2list.proofs.Walking.{leaf_there}
 use Rattle.s2list.proofs.Picking.{Picked, picked_push, greatest_below}
@@ -49,7 +48,7 @@ next_from i p h g = p.chain i (i + 1) 0 (omega arith) g
 
 pub has_leaf-push : (u : List ℕ) (c x : ℕ) → has_leaf (u ++ c ∷ []) x ≡ (has_leaf u x || covers c x)
 has_leaf-push u c x = list_any-append (λ n. covers n x) u (c ∷ [])
-    ∙ ap (λ v. has_leaf u x || v) (sym (or_false (covers c x)))
+    ∙ ap (λ v. has_leaf u x || v) (or-false (covers c x))
 
 -- a list and a run with one cell more
 pub run_push : (xs list : List ℕ) (i n : ℕ) → i + n < length xs

@@ -2,7 +2,7 @@
 use Rattle.std.proofs.Common.{◌≡◌, ℕ, zero, suc, ◌+◌, ◌-◌, ◌<◌, ◌≤◌, refl, sym, ◌∙◌, ap, arith, Bool, true}
 use Rattle.std.proofs.Common.{false, ◌||◌, List, ◌++◌, length, get_or, take, drop}
 use Rattle.std.proofs.Math.Logic.{⊎_elim}
-use Rattle.std.proofs.lemmas.Bool.{cases_lt, false≢true, or_cases}
+use Rattle.std.proofs.lemmas.Bool.{cases_lt, false≢true, or_cases, or_from}
 use Rattle.std.proofs.lemmas.List.{append-nil, get_or-drop, get_or-take, length-drop, length-take-le}
 use Rattle.std.proofs.lemmas.List.Folds.{list_any-append}
 use Rattle.s2cell.specs.Cell.{IsCell, first_leaf, level_of, parent_of, size_of, covers}
@@ -132,11 +132,6 @@ run_picked S u list i start (suc n) p picked below es within greatest =
     (picked_push S (list ++ take n (drop i u)) (get_or u (i + n) 0) (first_leaf (get_or u (i + n) 0)) before ends
     (omega arith) (greatest (i + n) (omega arith) (omega arith)))
 
-or_none : (a b : Bool) → a ≡ false → b ≡ false → false ≡ ((a || b) || false)
-or_none true b e f = absurd (false≢true (sym e))
-or_none false true e f = absurd (false≢true (sym f))
-or_none false false e f = refl
-
 or_first : (s a b : Bool) → b ≡ false → s ≡ (a || false) → s ≡ ((a || b) || false)
 or_first s a true e f = absurd (false≢true (sym e))
 or_first s true false e f = f
@@ -198,13 +193,14 @@ run_leaves {S} {u} {list} {done} {i} {stop} start x local s r es h =
     (λ (b : end ≤ x).
     let is : end ≡ x = omega arith in
     rw (← is)
-    (r.after ∙ or_none (has_leaf list end) (has_leaf run end) (rw (← is) at (above a))
+    (r.after ∙ sym (or_from (has_leaf list end || has_leaf run end) false
+    (or_from (has_leaf list end) (has_leaf run end) (rw (← is) at (above a))
     (not_true (has_leaf run end) (λ t.
     let l = run_leaf u i n end (omega arith) t in
     let high = l.high in
     let to = l.to in
     let later = ends_later u l.at (stop - 1) p (omega arith) (omega arith) in
-    omega arith))))
+    omega arith))) refl)))
     (cases_lt x end))
     (cases_lt x start)
 

@@ -9,7 +9,7 @@ use Rattle.std.proofs.Math.Bool.{or_comm}
 use Rattle.std.proofs.Math.Logic.{⊎_elim}
 use Rattle.std.proofs.Math.Nat.{div-eq_of_lt-le, mul-suc}
 use Rattle.std.proofs.lemmas.Bool.{cases_lt, cases_order, cond-true, cond-false, lt-ltb, le-ltb, false≢true}
-use Rattle.std.proofs.lemmas.Bool.{and_from, and_parts, cases_Bool, or_cases, or_left, or_right}
+use Rattle.std.proofs.lemmas.Bool.{and_from, and_parts, cases_Bool, not-true, or_cases, or_left, or_right}
 use Rattle.std.proofs.lemmas.Bool.Decides.{nat_tests}
 use Rattle.std.proofs.lemmas.List.{length-append}
 use Rattle.std.proofs.lemmas.List.Edits.{get_or-remove_above, get_or-remove_below, length-remove}
@@ -353,10 +353,6 @@ besides_few y =
     let e = length-map-range_with_len (beside_at y) 0 90 in
     omega arith
 
-not_from : (b : Bool) → not b ≡ true → b ≡ false
-not_from true h = absurd (false≢true h)
-not_from false h = refl
-
 between_there : (lo hi x : ℕ) → lo ≤ x → x < hi → between lo hi x ≡ true
 between_there lo hi x low high = grind (arith, nat_tests)
 
@@ -397,7 +393,7 @@ difference_few xs ys ax ay n =
     let both = length-append xs beside_ys in
     let most = flat_few 90 besides ys besides_few in
     let within = few (xs ++ beside_ys) n (λ d g.
-    let none : IsFree ys d = λ x v. not_from (has_leaf ys x)
+    let none : IsFree ys d = λ x v. not-true (has_leaf ys x)
     (and_parts (has_leaf xs x) (not (has_leaf ys x)) (g.inside x v)).1 in
     ⊎_elim
     (λ (a : Hit (xs ++ beside_ys) d). a)
@@ -528,7 +524,7 @@ complement_few ids all n =
     let within = few (faces 0 6 ++ beside_ids) n (λ d g.
     ⊎_elim
     (λ (deep : 0 < level_of d).
-    let none : IsFree ids d = λ x v. not_from (has_leaf ids x)
+    let none : IsFree ids d = λ x v. not-true (has_leaf ids x)
     (and_parts (between 0 LEAVES x) (not (has_leaf ids x)) (g.inside x v)).1 in
     ⊎_elim
     (λ (near : Near ids d). hit (Contains-append_right (faces 0 6) beside_ids d

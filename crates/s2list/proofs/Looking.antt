@@ -376,9 +376,6 @@ walked_more
           };
     }
 
-zero_of_sum : (far i j : ℕ) → far + i + j ≡ 0 → far ≡ 0
-zero_of_sum far i j h = omega arith
-
 -- and by the sizes of the lists
 few_from : (a b d k last : ℕ) → d ≡ min a b → 0 < d → max a b ≤ (d + 1) * 2 ^ k
     → FewForTurns (a + b) (d + 1) last → last ≤ 42 * d * (1 + k) + 42
@@ -420,8 +417,9 @@ walked_to_end {D} {xs} {ys} {looks} {i} {j} {a} {b} p last more w ea sb ip in_p 
           ⊎_elim (λ (t : 0 < w.turns). let s = w.some_x t in omega arith) (λ (t : w.turns ≤ 0). omega arith)
           (cases_lt 0 w.turns) in
           let begun = w.begun still in
+          let near : w.far ≡ 0 = omega arith in
           let paid : looks * 2 ^ 0 + 2 * 0 ≤ (4 * 0 + 6) * (2 ^ 0 * 0) + 2 * 0 =
-          rw (still, zero_of_sum w.far i j begun) at (w.spent.most 0) in
+          rw (still, near) at (w.spent.most 0) in
           let short : p ≤ i = ⊎_elim (λ (l : j < n). omega arith) (λ (e : p ≡ i). omega arith) end in
           let s = sb 0 (omega arith) (λ z l. absurd (omega arith)) in
           omega arith)

@@ -268,7 +268,7 @@ member_later y ys c (k, l, e) = (suc k, omega arith, e)
 member_first : (y : ℕ) (ys : List ℕ) → Contains (y ∷ ys) y
 member_first y ys = (zero, omega arith, refl)
 
-no_member : (c : ℕ) → Contains [] c → ⊥
+pub no_member : (c : ℕ) → Contains [] c → ⊥
 no_member c (k, l, e) = absurd (omega arith)
 
 rising_rest : (y : ℕ) (ys : List ℕ) → Rising (y ∷ ys) → Rising ys

@@ -11,21 +11,6 @@ use Rattle.s2list.specs.Room.{IsPut}
 pub put_none : (room : List ℕ) → IsPut [] room room 0
 put_none room = record { same_length = refl; len_is = λ h. refl; front = λ h. refl }
 
-pub put_past : (list room out run : List ℕ) (n m count : ℕ) → IsPut list room out n → length run ≡ count →
-    length out < n + count → length out < 2 ^ 64 → (n + count < 2 ^ 64 → m ≡ n + count) →
-    IsPut (list ++ run) room out m
-put_past list room out run n m count p lr h fits more =
-    let len : length (list ++ run) ≡ length list + length run = length-append list run in
-    let s = p.same_length in
-    record {
-      same_length = p.same_length;
-      len_is = λ l.
-          let e : n ≡ length list = p.len_is (omega arith) in
-          let f : m ≡ n + count = more (omega arith) in
-          omega arith;
-      front = λ l. let e : n ≡ length list = p.len_is (omega arith) in absurd (omega arith);
-    }
-
 -- the next number of those that are put is written
 pub item_put : (items more room out : List ℕ) (n k x : ℕ) → n + k < length room → length items ≡ k →
     more ≡ items ++ x ∷ [] → out ≡ (take n room ++ items) ++ drop (n + k) room →

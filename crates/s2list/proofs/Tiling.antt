@@ -1,7 +1,8 @@
 -- The normal form of a gap: at each leaf the largest cell that begins there and fits.
-use Rattle.std.proofs.Common.{◌≡◌, ℕ, ◌+◌, ◌-◌, ◌<◌, ◌≤◌, refl, sym, ◌∙◌, ap, arith, Bool, true, false}
+use Rattle.std.proofs.Common.{◌≡◌, ℕ, ◌+◌, ◌-◌, ◌<◌, ◌≤◌, refl, sym, ◌∙◌, ap, arith, true, false}
 use Rattle.std.proofs.Common.{◌||◌, ◌&&◌, leb, ltb, List, [], ◌∷◌, ◌++◌, append_assoc, ◌⊎◌, inr}
 use Rattle.std.proofs.Math.Logic.{⊎_elim}
+use Rattle.std.proofs.Math.Bool.{or-false}
 use Rattle.std.proofs.lemmas.Bool.{cases_order, or_cases}
 use Rattle.std.proofs.lemmas.Bool.Decides.{nat_tests}
 use Rattle.std.proofs.lemmas.List.Folds.{list_any-append}
@@ -26,10 +27,6 @@ pub record Tiling (old list : List ℕ) (lo hi first : ℕ) : Type 0 where
   pub leaves : (x : ℕ) → has_leaf tiles x ≡ between lo first x
   pub closed : (q : ℕ) → IsCell q → lo ≤ first_leaf q → first_leaf q + size_of q ≤ hi → first_leaf q < first →
       first_leaf q + size_of q ≤ first
-
-pub or_false : (a : Bool) → a ≡ (a || false)
-or_false true = refl
-or_false false = refl
 
 pub none_between : (lo x : ℕ) → between lo lo x ≡ false
 none_between lo x = grind (arith, nat_tests)
@@ -82,7 +79,7 @@ tiling_step old list new lo hi first cell t c f e largest is =
     let some = (cell_leaves cell c).some in
     let added : (x : ℕ) → has_leaf (t.tiles ++ cell ∷ []) x ≡ (has_leaf t.tiles x || covers cell x) =
     λ x. list_any-append (λ (v : ℕ). covers v x) t.tiles (cell ∷ [])
-    ∙ ap (λ v. has_leaf t.tiles x || v) (sym (or_false (covers cell x))) in
+    ∙ ap (λ v. has_leaf t.tiles x || v) (or-false (covers cell x)) in
     record {
       tiles = t.tiles ++ cell ∷ [];
       is = is ∙ ap (λ v. v ++ cell ∷ []) t.is ∙ append_assoc old t.tiles (cell ∷ []);

@@ -1,8 +1,9 @@
 -- The leaves of two lists of cells, put together on a walk along both.
-use Rattle.std.proofs.Common.{◌≡◌, ℕ, ◌+◌, ◌-◌, ◌<◌, ◌≤◌, sym, ◌∙◌, ap, subst, arith, Bool, true, false, ◌||◌}
+use Rattle.std.proofs.Common.{◌≡◌, ℕ, ◌+◌, ◌-◌, ◌<◌, ◌≤◌, ◌∙◌, ap, subst, arith, Bool, false, ◌||◌}
 use Rattle.std.proofs.Common.{max, List, [], length, get_or}
 use Rattle.std.proofs.Math.Logic.{⊎_elim}
-use Rattle.std.proofs.lemmas.Bool.{cases_lt, false≢true, or_left}
+use Rattle.std.proofs.Math.Bool.{or-false}
+use Rattle.std.proofs.lemmas.Bool.{cases_lt, or_from, or_left}
 use Rattle.s2cell.specs.Cell.{first_leaf, size_of}
 use Rattle.s2cell.specs.declared.TheConstants.{LEAVES}
 use Rattle.s2cell.proofs.CellLemmas.{cell_leaves}
@@ -14,7 +15,6 @@ use Rattle.s2list.specs.declared.pile.Pile.{Pile}
 use Rattle.s2list.proofs.Checking.{packed_from_local}
 use Rattle.s2list.proofs.Heaping.{heap_done, heap_less, heap_more, pile_none}
 use Rattle.s2list.proofs.Laying.{ended_run, run_alone, run_past}
-use Rattle.s2list.proofs.Tiling.{or_false}
 use Rattle.s2list.proofs.Walking.{ended_later, ended_more, gap, leaf_there}
 use Rattle.s2list.proofs.Writing.{Counts}
 
@@ -65,14 +65,10 @@ along_done {i = i} {j} {done = done} lx ly s in_x in_y within counts put =
 
 -- ---- of the leaves of either list
 
-pub none_of : (a b : Bool) → a ≡ false → b ≡ false → (a || b) ≡ false
-none_of true b e f = absurd (false≢true (sym e))
-none_of false b e f = f
-
 -- where `ys` has no leaf, the set is that of `xs`
 pub no_other : {S : ℕ → Bool} (xs ys : List ℕ) → ((x : ℕ) → S x ≡ union_of (has_leaf xs) (has_leaf ys) x) →
     (x : ℕ) → has_leaf ys x ≡ false → S x ≡ has_leaf xs x
-no_other xs ys same x none = same x ∙ ap (λ v. has_leaf xs x || v) none ∙ sym (or_false (has_leaf xs x))
+no_other xs ys same x none = same x ∙ ap (λ v. has_leaf xs x || v) none ∙ or-false (has_leaf xs x)
 
 -- the next cell of `xs`, which begins before that of `ys`, brings its leaves
 pub next_brings : {S : ℕ → Bool} {Holds : ℕ → List ℕ → Type 0} {xs ys : List ℕ} {i j : ℕ} {p : Pile} (from next : ℕ) →
@@ -91,7 +87,7 @@ next_brings {S} {Holds} {xs} {ys} {i} {j} {p} from next lx ly same s h before ef
       on = omega arith;
       reach = λ _. omega arith;
       most = λ _. omega arith;
-      before = λ x a b c. same x ∙ none_of (has_leaf xs x) (has_leaf ys x)
+      before = λ x a b c. same x ∙ or_from (has_leaf xs x) (has_leaf ys x)
           (gap i p.hi (first_leaf (get_or xs i 0)) x (packed_from_local xs lx) s.ended_x (λ _. omega arith) a
           (omega arith))
           (gap j p.hi (first_leaf (get_or xs i 0)) x (packed_from_local ys ly) s.ended_y before a (omega arith));

@@ -1,12 +1,12 @@
-//! Lists of cells by their indexes: searches, questions, the step of normalizing, and set operations, written once for
-//! each form that a list may have.
+//! Lists of cells by their indexes: searches, questions, the step of normalizing, cutting to levels, and set
+//! operations, written once for each form that a list may have.
 //!
 //! A cell ends by the leaf `lo` if all its leaves come before that leaf.
 //!
 //! Anything that gives numbers by their indexes is a list of cells (`Cells`): numbers in a slice, the cells of a union,
 //! the bytes of a file at any address. No call copies anything or takes memory; what a set operation writes to
-//! (`Output`) is its caller's. Only `new_end` has a precondition on the numbers. Some calls have one on an index, and a
-//! set operation begins with nothing written. Where that is met, each other call is safe and
+//! (`Output`) is its caller's. Only `new_end` has a precondition on the numbers. Some calls have one on an index or on
+//! levels, and a set operation begins with nothing written. Where that is met, each other call is safe and
 //! returns, whatever the numbers are, and leaves what its output has after what it writes. The answer is exact if they
 //! are the cells of a normalized union; for other numbers it means nothing; `is_union` and `first_wrong` are exact for
 //! all numbers. What counts the looks of a call is a type parameter (`Count`), so that a call that nobody counts has no
@@ -19,6 +19,7 @@ mod appending;
 mod ask;
 mod cells;
 mod complement;
+mod denormalising;
 mod difference;
 mod eight_bytes;
 mod find;
@@ -46,6 +47,7 @@ pub use ask::{
 };
 pub use cells::{CellList, Cells, IdList, Listed, cell_of};
 pub use complement::write_complement;
+pub use denormalising::{Descendants, denormalise};
 pub use difference::write_difference;
 pub use eight_bytes::{NUMBER_SIZE, number, put_number};
 pub use find::{

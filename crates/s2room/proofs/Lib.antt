@@ -1,4 +1,3 @@
 mod Merging
-mod Cutting
 mod Holders
 mod Reaching

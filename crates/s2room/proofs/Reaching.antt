@@ -13,7 +13,7 @@ use Rattle.s2cell.proofs.Leaves.{within_from_inside, nested_from_shared}
 use Rattle.s2list.specs.Union.{ShareSome, has_leaf}
 use Rattle.s2list.specs.Packed.{IsPacked}
 use Rattle.s2list.proofs.Checking.{member_at}
-use Rattle.s2list.proofs.Normal.{leaf_from, leaf_to}
+use Rattle.s2list.proofs.Normal.{leaf_from, leaf_to, no_member}
 use Rattle.s2list.proofs.PackedLocal.{place}
 use Rattle.s2list.specs.Room.{IsPut, PutsOne}
 use Rattle.s2room.specs.Ancestors.{AreHolders, IsHolder, ShareHolder}
@@ -37,9 +37,6 @@ pub record Reached (u : List ℕ) (k from : ℕ) (list : List ℕ) : Type 0 wher
       Contains list c
   pub none : k ≡ 0 → from ≡ 0
   pub end : 0 < k → from ≡ first_leaf (get_or u (k - 1) 0) + size_of (get_or u (k - 1) 0)
-
-no_member : (c : ℕ) → Contains {X = ℕ} [] c → ⊥
-no_member c (k, l, e) = omega arith
 
 pub reached_start : (u : List ℕ) → Reached u 0 0 []
 reached_start u = record {

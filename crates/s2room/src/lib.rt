@@ -2,12 +2,11 @@
 //!
 //! They copy no list and take no memory, and have no precondition on a list: whatever the numbers are, the call is safe
 //! and returns. The result is exact if the numbers are the cells of normalized unions; for other numbers it means
-//! nothing. So it is with `ancestors`, the keys of an index, and with `denormalise`. `normalise` makes a list of cells
-//! a union in place, and `union_of_many` many lists one; all numbers that they are given must be cells.
+//! nothing. So it is with `ancestors`, the keys of an index. `normalise` makes a list of cells a union in place, and
+//! `union_of_many` many lists one; all numbers that they are given must be cells.
 #![tactic(auto)]
 
 mod complement;
-mod denormalising;
 mod difference;
 mod intersection;
 mod keys;
@@ -18,7 +17,6 @@ mod symmetric_difference;
 mod union;
 
 pub use complement::put_complement;
-pub use denormalising::denormalise;
 pub use difference::put_difference;
 pub use intersection::put_intersection;
 pub use keys::ancestors;

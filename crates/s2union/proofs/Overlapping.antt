@@ -1,5 +1,5 @@
 -- The run of a list's cells that share a leaf with a cell.
-use Rattle.std.proofs.Common.{◌≡◌, ℕ, Bool, ◌+◌, ◌-◌, ◌<◌, ◌≤◌, true, false, sym, ◌∙◌, ap, arith, List, length}
+use Rattle.std.proofs.Common.{◌≡◌, ℕ, ◌+◌, ◌-◌, ◌<◌, ◌≤◌, true, false, sym, ◌∙◌, ap, arith, List, length}
 use Rattle.std.proofs.Common.{get_or, take, drop, All}
 use Rattle.std.proofs.Math.Logic.{⊎_elim}
 use Rattle.std.proofs.lemmas.Bool.{cases_Bool, both_ways}
@@ -35,9 +35,6 @@ run_cells u start end cells h k d l =
     let len = run_len u start end h in
     rw (run_at u start end k d (omega arith)) (cells (start + k) d (omega arith))
 
-swapped : (S T : ℕ → Bool) → ShareSome S T → ShareSome T S
-swapped S T (x, a, b) = (x, b, a)
-
 pub run_shares : (u : List ℕ) (c start count end : ℕ) →
     IsRunAt u c start count → end ≡ start + count → All (λ x. ShareSome (covers x) (covers c)) (run u start end)
 run_shares u c start count end r e k d l =
@@ -46,7 +43,8 @@ run_shares u c start count end r e k d l =
     let at = start + k in
     let is : get_or (run u start end) k d ≡ get_or u at 0 = run_at u start end k d (omega arith)
     ∙ grind (arith, gets) in
-    rw is (swapped (covers c) (covers (get_or u at 0)) ((r.members at (omega arith)).0 (omega arith, omega arith)))
+    let (x, a, b) = (r.members at (omega arith)).0 (omega arith, omega arith) in
+    rw is (x, b, a)
 
 pub run_leaves : (u : List ℕ) (c start count end : ℕ) → IsRunAt u c start count →
     end ≡ start + count → (x : ℕ) → covers c x ≡ true → has_leaf (run u start end) x ≡ has_leaf u x

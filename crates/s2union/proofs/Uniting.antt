@@ -1,6 +1,7 @@
 -- The leaves of two lists of cells, merged in order.
 use Rattle.std.proofs.Common.{◌≡◌, ℕ, ◌+◌, ◌-◌, ◌*◌, ◌<◌, ◌≤◌, refl, sym, ◌∙◌, ap, arith, Bool, true}
 use Rattle.std.proofs.Common.{false, ◌||◌, List, length, get_or, take, drop, All, nat_cmp, is_lt}
+use Rattle.std.proofs.Math.Bool.{or_comm}
 use Rattle.std.proofs.lemmas.Bool.Decides.{nat_tests}
 use Rattle.std.proofs.lemmas.List.Elements.{All-weaker}
 use Rattle.std.proofs.lemmas.List.{take_all, take-append-drop, length-drop}
@@ -29,20 +30,14 @@ pub record Uniting (xs ys list : List ℕ) (i j : ℕ) : Type 0 where
   pub start_x : i < length xs → Start list (get_or xs i 0)
   pub start_y : j < length ys → Start list (get_or ys j 0)
 
-or_swap : (a b : Bool) → (a || b) ≡ (b || a)
-or_swap true true = refl
-or_swap true false = refl
-or_swap false true = refl
-or_swap false false = refl
-
 pub or_last : (a b c : Bool) → ((a || b) || c) ≡ ((a || c) || b)
 or_last true b c = refl
-or_last false b c = or_swap b c
+or_last false b c = or_comm b c
 
 pub uniting_swap : {xs ys list : List ℕ} {i j : ℕ} → Uniting xs ys list i j → Uniting ys xs list j i
 uniting_swap {xs} {ys} {i} {j} s = record {
   packed = s.packed;
-  leaves = λ x. s.leaves x ∙ or_swap (has_leaf (take i xs) x) (has_leaf (take j ys) x);
+  leaves = λ x. s.leaves x ∙ or_comm (has_leaf (take i xs) x) (has_leaf (take j ys) x);
   start_x = s.start_y;
   start_y = s.start_x;
 }
@@ -98,7 +93,7 @@ pub uniting_rest_swap : {xs ys list : List ℕ} (new : List ℕ) {i j : ℕ} →
     length xs ≤ i → ((x : ℕ) → has_leaf new x ≡ (has_leaf list x || has_leaf (take (length ys - j) (drop j ys)) x)) →
     (x : ℕ) → has_leaf new x ≡ (has_leaf xs x || has_leaf ys x)
 uniting_rest_swap {xs} {ys} {list} new {i} {j} s within a leaves x =
-    uniting_rest new (uniting_swap s) within a leaves x ∙ or_swap (has_leaf ys x) (has_leaf xs x)
+    uniting_rest new (uniting_swap s) within a leaves x ∙ or_comm (has_leaf ys x) (has_leaf xs x)
 
 pub lt_from_test : (a b : ℕ) (r : Bool) → r ≡ is_lt (nat_cmp a b) → r ≡ true → a < b
 lt_from_test a b r e t = grind (arith, nat_tests)

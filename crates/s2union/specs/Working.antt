@@ -1,6 +1,5 @@
 -- What only private contracts and loops need. No public contract rests on it, so it is no part of the statement:
 -- docs/STATEMENT.md says what is.
-pub mod Denorm
 pub mod Merge
 pub mod Sets
 pub mod Tail

@@ -1,36 +1,32 @@
 //! Unions cut to the levels that a caller wants.
 
 ghost use Rattle.std.specs.Prelude.{◌≡◌, ◌≤◌, ◌<◌, length};
-ghost use Rattle.s2list.specs.Union.{IsLocal};
 ghost use Rattle.s2list.specs.Denorm.{denormalised, IsDenormalised};
-ghost use Rattle.s2union.specs.Working.Denorm.{IsUnderway};
 
 use crate::union::CellUnion;
-use s2cell::{CellId, CutLevels, GREATEST_LEVEL, LEAVES, count_descendants};
+use s2cell::{CellId, CutLevels, GREATEST_LEVEL, LEAVES};
+use s2list::{Descendants, Listed, denormalise};
 use std::marker::Model;
 
 /// The cells of a union, each cut to the level that is wanted: an iterator that borrows the union, holds a few numbers
 /// and takes no memory. A contract sees it as the list of the cells that are still to come.
 #[derive(Drop)]
 pub struct Denorm<'a> {
+    items: Descendants,
+    number: usize,
     cells: &'a [CellId],
     cuts: CutLevels,
-    level: u8,
-    number: u64,
-    count: u64,
 }
 
 impl<'a> Model for Denorm<'a> {
-    ghost use Rattle.std.specs.Prelude.{ℕ, List, drop};
-    ghost use Rattle.s2list.specs.Union.{IsLocal};
+    ghost use Rattle.std.specs.Prelude.{◌≤◌, ◌++◌, ℕ, List, drop, length};
     ghost use Rattle.s2list.specs.Denorm.{denormalised};
-    ghost use Rattle.s2union.specs.Working.Denorm.{IsUnderway};
 
     ghost Value = { List ℕ };
 
-    ghost view = { λ d. drop d.number (denormalised d.cuts.least d.cuts.modulus d.cells.now) };
+    ghost view = { λ d. drop d.number d.items ++ denormalised d.cuts.least d.cuts.modulus d.cells.now };
 
-    ghost invariant = { λ d. IsUnderway d.cells.now d.cuts.least d.cuts.modulus d.level d.number d.count };
+    ghost invariant = { λ d. d.number ≤ length d.items };
 }
 
 impl<'a> Denorm<'a> {
@@ -38,27 +34,13 @@ impl<'a> Denorm<'a> {
     fn over(cells: &'a [CellId], cuts: CutLevels) -> Denorm<'a>
         ensures { result ≡ denormalised cuts.least cuts.modulus cells.now }
     {
-        let (level, count) = first_cut(cells, &cuts);
         Denorm {
+            items: Descendants::none(),
+            number: 0,
             cells,
             cuts,
-            level,
-            number: 0,
-            count,
         }
     }
-}
-
-/// The level that the first cell is cut to, and how many cells of it that gives; zeros if there is none.
-fn first_cut(cells: &[CellId], cuts: &CutLevels) -> (u8, u64)
-    ensures { IsUnderway cells.now cuts.now.least cuts.now.modulus result.0 0 result.1 }
-{
-    if cells.is_empty() {
-        return (0, 0);
-    }
-    let own = cells[0].level();
-    let level = cuts.of(own);
-    (level, count_descendants(own, level))
 }
 
 impl<'a> Iterator for Denorm<'a> {
@@ -71,17 +53,18 @@ impl<'a> Iterator for Denorm<'a> {
     ghost remaining = { item_count (λ items. items) };
 
     fn next(&mut self) -> Option<CellId> {
+        if self.number < self.items.len() {
+            let item = self.items.cell(self.number);
+            self.number += 1;
+            return Some(item);
+        }
         if self.cells.is_empty() {
             return None;
         }
-        let item = self.cells[0].descendant(self.level, self.number);
-        self.number += 1;
-        if self.number == self.count {
-            self.cells = &self.cells[1..];
-            self.number = 0;
-            (self.level, self.count) = first_cut(self.cells, &self.cuts);
-        }
-        Some(item)
+        self.items = Descendants::cut(self.cells[0], &self.cuts);
+        self.cells = &self.cells[1..];
+        self.number = 1;
+        Some(self.items.cell(0))
     }
 }
 
@@ -108,20 +91,6 @@ impl CellUnion {
         requires modulus { modulus ≤ 3 }
         ensures { result ≡ length (denormalised min modulus self.now.cells) }
     {
-        count_items(self.cells(), &CutLevels::new(min, modulus))
+        denormalise(&self.list(), min, modulus, &mut []) as u64
     }
-}
-
-/// How many cells the cells of a local list are cut into.
-fn count_items(cells: &[CellId], cuts: &CutLevels) -> u64
-    requires { IsLocal cells.now }
-    ensures { result ≡ length (denormalised cuts.now.least cuts.now.modulus cells.now) }
-{
-    let mut total = 0;
-    for cell in cells {
-        let own = cell.level();
-        let level = cuts.of(own);
-        total += count_descendants(own, level);
-    }
-    total
 }

@@ -14,8 +14,8 @@ ghost use Rattle.s2union_c.specs.Status.{bad_argument, made, no_cell};
 use crate::results::{bound, put, put_cells, room_status};
 use crate::status::{BAD_ARGUMENT, MADE, NO_CELL, NO_MEMORY};
 use s2cell::CellId;
-use s2list::{IdList, first_wrong};
-use s2room::{ancestors, denormalise, union_of_many};
+use s2list::{IdList, denormalise, first_wrong};
+use s2room::{ancestors, union_of_many};
 use s2union::CellUnion;
 use std::alloc::Global;
 
@@ -146,7 +146,7 @@ pub extern "C" fn s2u_denormalised_len(ids: &[u64], min: u32, modulus: u32, len:
     if !is_cutting(min, modulus) {
         return BAD_ARGUMENT;
     }
-    *len = denormalise(ids, min as u8, modulus as u8, &mut []) as u64;
+    *len = denormalise(&IdList { ids }, min as u8, modulus as u8, &mut []) as u64;
     MADE
 }
 
@@ -170,7 +170,7 @@ pub extern "C" fn s2u_denormalised(
     if !is_cutting(min, modulus) {
         return BAD_ARGUMENT;
     }
-    *len = denormalise(ids, min as u8, modulus as u8, out);
+    *len = denormalise(&IdList { ids }, min as u8, modulus as u8, out);
     room_status(*len, out.len())
 }
 

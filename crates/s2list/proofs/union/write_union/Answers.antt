@@ -1,8 +1,9 @@
 use Rattle.std.proofs.Common.{◌≡◌, ◌<◌, ◌∙◌, length, get_or, refl, ap, arith}
 use Rattle.std.proofs.Math.Bool.{or_comm}
+use Rattle.std.proofs.lemmas.Bool.{or_from}
 use Rattle.s2cell.specs.Cell.{first_leaf}
 use Rattle.s2list.specs.Union.{IsLocal, has_leaf}
-use Rattle.s2list.proofs.Uniting.{along_done, along_none, along_swap, none_of}
+use Rattle.s2list.proofs.Uniting.{along_done, along_none, along_swap}
 use Rattle.s2list.proofs.union.write_union.Given.{Over}
 use Rattle.s2list.proofs.union.write_union.Goals as goal
 use Rattle.s2list.proofs.union.write_union.Goals.{After-first_of-in-loop-i}
@@ -95,6 +96,6 @@ loop-j-preserved g c =
 pub returns-clause-made : goal.returns-clause-made
 returns-clause-made g c lx ly =
     along_done lx ly (c.loop-j.invariant.so_far lx ly) c.loop-j.invariant.done
-    (omega (arith, c.loop-j-test.false, c.len-y_len.ensures)) (λ x. none_of _ _)
+    (omega (arith, c.loop-j-test.false, c.len-y_len.ensures)) (λ x. or_from _ _)
     (λ list. g.met.W.Output.counts list c.args.out.now c.finish.new.out c.in_ok-n.n)
     (λ few list. c.in_ok-n.ensures.put few list c.args.out.now)
