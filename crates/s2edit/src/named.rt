@@ -6,7 +6,7 @@
 //! chosen too small is found out, and the whole list is taken.
 ghost use Rattle.std.specs.Prelude.{◌≡◌, ℕ, Bool, true, ◌<◌, ◌≤◌, ◌||◌, ◌&&◌, not, List, [], ◌∷◌, length};
 ghost use Rattle.std.specs.Prelude.{Err, IfOk, IfSome, OnOk, OnErr};
-ghost use Rattle.s2list.specs.Union.{has_leaf, IsNormalForm};
+ghost use Rattle.s2list.specs.Union.{has_leaf, IsLocal, IsNormalForm};
 ghost use Rattle.s2list.specs.Sets.{union_of, difference_of};
 ghost use Rattle.s2union.specs.Apply.{has};
 ghost use Rattle.s2edit.specs.History.{numbers, Assigned};
@@ -20,18 +20,14 @@ ghost use Rattle.s2edit.specs.Working.Splice.{IsPlaceOf};
 use crate::change::Change;
 use crate::editor::{EditFault, Editor, change_at};
 use crate::near::part_near;
-use crate::splice::{adding_cell, removing_cell};
+use crate::splice::{adding_cell, completed_with, removing_cell};
 use crate::{REGISTERS, Register};
 use s2cell::CellId;
-use s2list::{CellList, find_from, first_place};
 use s2union::{CellUnion, UnionFault};
 use std::alloc::{AllocError, Global};
 
 /// The part is looked for if the register has at least this number of cells for each named one.
 const REGISTER_TO_NAMED: usize = 200;
-
-/// How many cells make a family with another.
-const SIBLINGS: usize = 3;
 
 impl Editor {
     /// Adds the leaves of a union to a register, and answers how many cells were taken out of its list and put in: what
@@ -239,55 +235,14 @@ fn completed_cells(
     alloc: Global,
     list: &[CellId],
     cells: &[CellId],
-) -> Result<Vec<CellId>, AllocError> {
+) -> Result<Vec<CellId>, AllocError>
+    requires { IsLocal list.now }
+{
     let mut complete = Vec::new(alloc);
-    let mut near = 0;
     for cell in cells {
-        let from = first_place(&CellList { cells: list }, near, cell.first_leaf());
-        let first = find_from(&CellList { cells: list }, from, cell.first_leaf());
-        let end = find_from(&CellList { cells: list }, first, cell.end_leaf());
-        complete.push(completed(list, first, end, *cell))?;
-        near = first;
+        complete.push(completed_with(list, *cell))?;
     }
     Ok(complete)
-}
-
-/// The cell that takes the place of one, in which the cells of the list from `first` to `end` lie.
-fn completed(list: &[CellId], first: usize, end: usize, cell: CellId) -> CellId
-    requires { (first ≤ end) × (end ≤ length list.now) }
-{
-    let mut from = first;
-    let mut to = end;
-    let mut level = cell.level();
-    while level > 0 {
-        let (begin, next) = inside(list, from, to, cell.parent(level - 1));
-        if (from - begin) + (next - to) != SIBLINGS {
-            return cell.parent(level);
-        }
-        level -= 1;
-        from = begin;
-        to = next;
-    }
-    cell.parent(0)
-}
-
-/// From which index to which the cells lie in a parent, which holds those from `from` to `to`. Looks at no more than
-/// four before them, and four after.
-fn inside(cells: &[CellId], from: usize, to: usize, parent: CellId) -> (usize, usize)
-    requires { (from ≤ to) × (to ≤ length cells.now) }
-    ensures { (result.0 ≤ from) × (to ≤ result.1) × (result.1 ≤ length cells.now) }
-{
-    let least = parent.range_min();
-    let mut begin = from;
-    while begin > 0 && from - begin <= SIBLINGS && cells[begin - 1] >= least {
-        begin -= 1;
-    }
-    let most = parent.range_max();
-    let mut next = to;
-    while next < cells.len() && next - to <= SIBLINGS && cells[next] <= most {
-        next += 1;
-    }
-    (begin, next)
 }
 
 /// The change that puts new cells in the place of a part of the union's list, if it can be made. `S` is the set of

@@ -134,6 +134,18 @@ fn run_in(list: &[CellId], from: usize, cell: CellId) -> Run
     Run { cell, from, to }
 }
 
+/// The greatest cell that the cells of a list complete with one; that one itself, if a cell of the list holds it.
+pub(crate) fn completed_with(list: &[CellId], cell: CellId) -> CellId
+    requires { IsLocal list.now }
+{
+    let from = place_of(list, cell);
+    if holds_at(list, from, cell) {
+        return cell;
+    }
+    let own = run_in(list, from, cell);
+    completed(list, own).cell
+}
+
 /// The run in the greatest cell that the cells of a list complete with the one of a run.
 fn completed(list: &[CellId], run: Run) -> Run
     requires local { IsLocal list.now }
