@@ -60,7 +60,13 @@ pub fn put(out: &mut [u64], n: usize, id: u64) -> usize
 /// Puts the numbers at the places from `from` to before `to` after the first `n`, if there is room for all of them, and
 /// answers how many they are then.
 #[inline(always)]
-pub(crate) fn put_run<C: Cells>(out: &mut [u64], n: usize, cells: &C, from: usize, to: usize) -> usize
+pub(crate) fn put_run<C: Cells>(
+    out: &mut [u64],
+    n: usize,
+    cells: &C,
+    from: usize,
+    to: usize,
+) -> usize
     requires order { from ≤ to }
     requires within { to ≤ length (C.ids cells.now) }
     ensures len { length out.new ≡ length out.old }
