@@ -17,6 +17,7 @@ pub struct LoggedWriter<'a> {
 }
 
 impl Sink for LoggedWriter<'_> {
+    #[tactic(auto, using(s2calc::proofs::CallLemmas::unknown_last))]
     fn write(&mut self, buf: &[u8]) -> io::Result<usize> {
         match self.log.try_borrow_mut() {
             Ok(mut log) => {
@@ -27,6 +28,7 @@ impl Sink for LoggedWriter<'_> {
         }
     }
 
+    #[tactic(auto, using(s2calc::proofs::CallLemmas::unknown_last))]
     fn flush(&mut self) -> io::Result<()> {
         self.write(b"|")?;
         Ok(())

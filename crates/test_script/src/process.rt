@@ -36,6 +36,7 @@ struct Shared<'a> {
 }
 
 impl Sink for Shared<'_> {
+    #[tactic(auto, using(s2calc::proofs::CallLemmas::unknown_last))]
     fn write(&mut self, buf: &[u8]) -> io::Result<usize> {
         match self.writer.try_borrow_mut() {
             Ok(mut writer) => writer.write(buf),
@@ -43,6 +44,7 @@ impl Sink for Shared<'_> {
         }
     }
 
+    #[tactic(auto, using(s2calc::proofs::CallLemmas::unknown_last))]
     fn flush(&mut self) -> io::Result<()> {
         match self.writer.try_borrow_mut() {
             Ok(mut writer) => writer.flush(),
