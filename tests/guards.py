@@ -1,10 +1,10 @@
 #!/usr/bin/env python3
 """That the tests refuse what they look for, where nothing else would tell: tests/run guards.
 
-Each end of a part that is no good one has to count as a failure in tests/run, and all that it runs ends with it. So
-has each step in tests/steps.sh that fails or checks nothing, each mutant there that isn't found, each check of texts
-that finds something or looks at nothing, each page of SQL with an answer that isn't said, and each line of C that
-computes. Then each mistake below is made in a copy of the repository, and the check beside it, of tests/docs,
+Each end of a part that is no good one has to count as a failure in tests/run, and the part's process group ends with
+it. So has to count each step in tests/steps.sh that fails or checks nothing, each mutant there that isn't found, each
+check of texts that finds something or looks at nothing, each page of SQL with an answer that isn't said, and each line
+of C that computes. Then each mistake below is made in a copy of the repository, and the check beside it, of tests/docs,
 tests/mutants or tools/statement, has to find more than it does without it. tests/tools/table.py does the same for
 tools/calls. The last line is 'N passed, M failed'.
 """

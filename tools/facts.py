@@ -6,6 +6,7 @@ those of docs/SCRIPT.md. The limits are constants of the crates. A file that too
 here.
 """
 import re
+import sys
 import textwrap
 from typing import NamedTuple
 
@@ -127,9 +128,9 @@ def of_commands(table, page):
         Place(SCRIPT, r"^\| `(?P<name>[a-z]+)(?P<form>[^`|]*)` \| .* \|[^|]*\| `[^`]*` \|$",
               {name: {"form": form} for name, form in forms.items()}),
         Place("tools/launcher/prompt.py", r"^COMMANDS = \{\n(?P<lines>(?:    .*\n)*)\}", {"": {"lines": lines}}),
-        Place(similar.format("src/similar.rt"), r'^        b"(?P<names>[^"]*)"',
+        Place(similar.format("src/similar.rt"), r'^        b"(?P<names>add [^"]*)"',
               {"": {"names": in_lines(forms, 10, " " * 10, "\\")}}),
-        Place(similar.format("specs/Similar.antt"), r'^names = words \(codes "(?P<names>[^)]*)"\)',
+        Place(similar.format("specs/Similar.antt"), r'^names = words \(codes "(?P<names>add [^)]*)"\)',
               {"": {"names": in_lines(forms, 22, '    ++ codes "', '"')}}),
     ]
 
@@ -142,8 +143,13 @@ LIMITS = {"LONGEST_LINE": "s2script/src/limits.rt", "MOST_FILE": "s2file/src/uni
 
 def limits(read):
     """The limits by their names, where `read` answers the text of a file."""
-    return {name: int(re.search(rf"const {name}: \w+ = ([\d_]+);", read(f"crates/{file}"))[1])
-            for name, file in LIMITS.items()}
+    found = {}
+    for name, file in LIMITS.items():
+        number = re.search(rf"const {name}: \w+ = ([\d_]+);", read(f"crates/{file}"))
+        if not number:
+            sys.exit(f"crates/{file}: {name} is no plain number there")
+        found[name] = int(number[1])
+    return found
 
 
 def of_limits(of):

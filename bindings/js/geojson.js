@@ -144,7 +144,7 @@ function distanceTo({from: [ax, ay, az], to: [bx, by, bz]}, [x, y, z]) {
 
 /**
  * A test whether a place is inside of a shape: a line to the north crosses the borders an odd number of times. Each
- * edge is in the stripes of longitude that it crosses; there are so few of these that it is in about five at most.
+ * edge is in the stripes of longitude that it crosses. There are so few that an edge is in about five, on average.
  */
 function insideOf({lines, isArea}) {
   if (!isArea) return () => false;

@@ -66,7 +66,7 @@ class Mutant:
     @functools.cached_property
     def verdict(self):
         """The name of the verdict that it is refused: by the program and its tests, or the crate and its rows."""
-        of_program = ["tests/*.py", "tests/program", "tests/model", "tests/peer"]
+        of_program = ["tests/*.py", "tests/program", "tests/model", "tests/peer", "docs/SCRIPT.md"]
         of = [f"crates/{self.crate}/stdin"] if self.crate else of_program
         made_by = ["tests/mutants/mutant_texts.py", "tools/over_gate.py"]
         files = [__file__, *(os.path.join(TOP, name) for name in tracked(TOP, *made_by, *of))]

@@ -35,6 +35,7 @@ def texts_of(module, function):
 
 # Why a line is refused, by the name of its error.
 REASONS = {name: texts_of("Notes", "reason_of")[error] for error, name in texts_of("Refusals", "name_of").items()}
+assert REASONS["memory"] == "out of memory"  # to which no script comes
 
 
 class Refused(Exception):

@@ -66,6 +66,7 @@ class Explanations(unittest.TestCase):
         b"add a 1": (b"ok 0 1",),
         b"load a none": (b"error missing", b"there is no file of that name"),
         b"load a bad": (b"error format", b"the file is not a union file"),
+        b"load a folder": (b"error file", b"the file could not be read or written"),
         b"restore bad": (b"error session", b"the file is not a session file"),
         b"add b 3 5": (
             b"error too-many",
@@ -92,6 +93,7 @@ class Explanations(unittest.TestCase):
             b"line %d: %s: %s\n" % (number, *said) for number, said in enumerate(self.EACH.values(), 1) if len(said) > 1
         )
         with tempfile.TemporaryDirectory() as folder:
+            os.mkdir(os.path.join(folder, "folder"))
             with open(os.path.join(folder, "bad"), "wb") as file:
                 file.write(b"\x02")
             with open(os.path.join(folder, "deep"), "wb") as file:

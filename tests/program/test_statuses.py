@@ -54,7 +54,8 @@ def test_usage_without_a_word():
     (["draw", "--dir", "d", "--cells", "1"], b"'--dir <PATH>' cannot be used with '--cells <CELL>...'"),
 ])
 def test_usage_faults_name_the_word(words, said):
-    assert said in ran(*words)[2]
+    status, out, error = ran(*words)
+    assert (status, out) == (2, b"") and said in error
 
 
 @pytest.mark.parametrize("line,limit,depth,folder,is_explained", [

@@ -215,6 +215,9 @@ class Polygons(unittest.TestCase):
         comb = [[539 if k % 2 else -539, k / 10 - 60] for k in range(1200)]
         with self.assertRaisesRegex(ValueError, "more than 404812 steps"):
             covering(polygon([*comb, [-540, 60], [-540, -60], comb[0]]))
+        wide = numpy.stack([numpy.tile([-539.0, 539.0], 500_000), numpy.linspace(-60, 60, 1_000_000)], axis=1)
+        with self.assertRaisesRegex(ValueError, "more than 4000000 steps"):
+            polygons._edges_of([[wide]])
         with tempfile.NamedTemporaryFile() as file:
             file.truncate(s2union_geo.MOST_BYTES + 1)
             with self.assertRaisesRegex(ValueError, "has more than 268435456 bytes"):

@@ -78,8 +78,8 @@ def covering(shape: Any, max_cells: int = 200, max_level: int = 30) -> CellUnion
     ValueError
         Something isn't a polygon, a position is out of range, or a ring is open, crosses itself or runs along itself:
         the message has its polygon and ring. Or there are more than ``MOST_POSITIONS`` positions, edges of more than
-        100,000 degrees and one for each position, or ``MOST_BYTES`` bytes of a text. Or a number of cells or a level is
-        out of range.
+        100,000 degrees and one for each position, or of 1,000,000, or ``MOST_BYTES`` bytes of a text. Or a number of
+        cells or a level is out of range.
     TypeError
         A number of cells or a level is no int.
 
@@ -126,8 +126,8 @@ def interior(shape: Any, max_cells: int = 200, max_level: int = 30) -> CellUnion
     ValueError
         Something isn't a polygon, a position is out of range, or a ring is open, crosses itself or runs along itself:
         the message has its polygon and ring. Or there are more than ``MOST_POSITIONS`` positions, edges of more than
-        100,000 degrees and one for each position, or ``MOST_BYTES`` bytes of a text. Or a number of cells or a level is
-        out of range.
+        100,000 degrees and one for each position, or of 1,000,000, or ``MOST_BYTES`` bytes of a text. Or a number of
+        cells or a level is out of range.
     TypeError
         A number of cells or a level is no int.
 
@@ -173,8 +173,8 @@ def coverings(shape: Any, max_cells: int = 200, max_level: int = 30) -> tuple[Ce
     ValueError
         Something isn't a polygon, a position is out of range, or a ring is open, crosses itself or runs along itself:
         the message has its polygon and ring. Or there are more than ``MOST_POSITIONS`` positions, edges of more than
-        100,000 degrees and one for each position, or ``MOST_BYTES`` bytes of a text. Or a number of cells or a level is
-        out of range.
+        100,000 degrees and one for each position, or of 1,000,000, or ``MOST_BYTES`` bytes of a text. Or a number of
+        cells or a level is out of range.
     TypeError
         A number of cells or a level is no int.
 
