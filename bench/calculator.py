@@ -93,7 +93,8 @@ def nanoseconds(row, commands, rounds):
 
 
 def prepare():
-    subprocess.run([os.path.join(HERE, "build"), "plain.cc"], check=True, env={**os.environ, "PEER_ALONE": "1"})
+    build = ["bash", os.path.join(HERE, "build.sh"), "plain.cc"]
+    subprocess.run(build, check=True, env={**os.environ, "PEER_ALONE": "1"})
     subprocess.run(["g++", "-std=c++17", "-O2", "-Wall", "-o", path("script"), os.path.join(HERE, "script.cc")],
                    check=True)
     subprocess.run([os.path.join(HERE, "../tools/prove")], check=True)
