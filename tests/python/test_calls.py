@@ -121,6 +121,7 @@ SAID = [
     (lambda: s2union.from_tokens("1 " + 40 * "x"), f"not a cell: '{32 * 'x'}' at place 2"),
     (lambda: s2union.from_tokens("1, Málaga"), "not a cell: 'Málaga' at place 3"),
     (lambda: s2union.from_tokens(31 * "x" + "á"), f"not a cell: '{31 * 'x'}' at place 0"),
+    (lambda: s2union.from_tokens(40 * b"\x80"), "not a cell: '" + 29 * "\\\\x80" + "' at place 0"),
     (lambda: s2union.from_tokens(b"\xff 1"), "not a cell: '\\\\xff' at place 0"),
     (lambda: s2union.levels(5000 * [FACE] + [2]), "not a cell at place 5000: 0x2"),
     (lambda: s2union.from_points([0, 0], [1], [2]), "there are not as many of each: 2, 1, 1"),

@@ -919,7 +919,7 @@ class TheModule(unittest.TestCase):
             for text, place in ((word, 0), (b"04 " + word + b",0c", 3), (b"04\n" + word + b"\t", 3), (word + b"\r", 0)):
                 with self.assertRaises(ValueError) as refusal:
                     Union.from_tokens(text)
-                self.assertEqual(str(refusal.exception), f"not a cell: {word!r} at place {place}")
+                self.assertEqual(str(refusal.exception), f"not a cell: {word.decode()!r} at place {place}")
 
     def test_buffers(self):
         a = Union.from_tokens("04 0c 14")

@@ -298,8 +298,9 @@ static PyObject* refused_word(const List* text, size_t place) {
   const char* word = (const char*)text->at + place;
   size_t most = text->n - place < 32 ? text->n - place : 32, n = 0;
   while (n < most && !memchr(BLANKS, word[n], sizeof BLANKS - 1)) n++;
-  while (n > 0 && place + n < text->n && ((unsigned char)word[n] & 0xC0) == 0x80) n--; /* no character is cut */
-  PyObject* shown = PyUnicode_DecodeUTF8(word, (Py_ssize_t)n, "backslashreplace");
+  size_t least = n < 3 ? 0 : n - 3; /* no character is cut */
+  while (n > least && place + n < text->n && (signed char)word[n] < -64) n--;
+  PyObject* shown = PyUnicode_Decode(word, (Py_ssize_t)n, "utf-8", "backslashreplace");
   if (shown) raise_refusal(S2U_NO_CELL, "%s: %R at place %zu", s2u_status_text(S2U_NO_CELL), shown, place);
   Py_XDECREF(shown);
   return NULL;
