@@ -168,8 +168,7 @@ def main():
         if any(map(verdict, wrong_ends(whole))):
             judge.wrong("a wrong run is judged right")
         # test_script lists the reads of a run, as long as there is memory for that.
-        # the reader of rows can do without some: a list that it collects grows in smaller steps if it has to
-        judge.refuse_each("a run over a shelf in memory", refusing.run_in_memory, spare=7)
+        judge.refuse_each("a run over a shelf in memory", refusing.run_in_memory, spare=1)
         script = b"".join(line + b"\n" for line in NOTED)
         judge.refuse_each(
             "a run with notes",

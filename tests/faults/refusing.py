@@ -74,13 +74,13 @@ class Refusing:
 
 
 def row():
-    """A table for test_script with one row, below a blank line: it has the script, the files, and calls for how the run
-    ended and for each file."""
+    """A table for test_script with one row: it has the script, the files, and calls for how the run ended and for each
+    file."""
     options = [f"$ limit {LIMIT}", f"$ depth {DEPTH}", "$ shown 1"]
     files = [f"@ {name} {content.hex()}" for name, content in FILES.items()]
     lines = ["> " + line.decode().replace("\r", "\\r") for line in LINES]
     calls = ["? ended", *(f"? file {name}" for name in NAMES)]
-    return "\n".join(["", f"## {TITLE}", *options, *files, *lines, *calls, ""]).encode()
+    return "\n".join([f"## {TITLE}", *options, *files, *lines, *calls, ""]).encode()
 
 
 def lines_in(size):

@@ -2,11 +2,12 @@
 use crate::lines::{option, wanted_of};
 use std::alloc::{AllocError, Global};
 use std::io;
+use std::io::Read;
 
-/// What stands before the title of a row.
+/// The beginning of a row, before its title.
 const BEFORE_TITLE: &str = "\n## ";
 
-/// What answers the rows of a table.
+/// Answers the rows of a table.
 pub trait Table {
     /// Answers a row, by the lines below its title. The answers found are to be equal to those that `wanted_of` gives.
     /// Fails if memory runs out.
@@ -20,11 +21,12 @@ pub fn answer_rows(
     rt: &(impl Input + Print + AllocGlobal),
     table: &mut impl Table,
 ) -> io::Result<()> {
-    let text = io::read_to_string(rt.alloc(), rt.reader())?;
+    let mut text = String::from_str(rt.alloc(), "\n")?;
+    rt.reader().read_to_string(&mut text)?;
     answer_all(rt, table, &text)
 }
 
-/// Has each row of a table answered.
+/// Has each row of a table answered, whose text has a newline before its first line.
 fn answer_all(
     rt: &(impl Print + AllocGlobal),
     table: &mut impl Table,
@@ -44,8 +46,16 @@ fn answer_all(
 
 /// How many rows there are, as the lines before the first say.
 fn rows_said(alloc: Global, head: &str) -> Result<u64, AllocError> {
-    let lines: Vec<&str> = head.lines().collect(alloc)?;
-    Ok(option(&lines, "rows", u64::MAX))
+    Ok(option(&lines_of(alloc, head)?, "rows", u64::MAX))
+}
+
+/// The lines of a text. Fails if any allocation fails: a list that `collect` makes can do without some.
+fn lines_of<'a>(alloc: Global, text: &'a str) -> Result<Vec<&'a str>, AllocError> {
+    let mut lines = Vec::new(alloc);
+    for line in text.lines() {
+        lines.push(line)?;
+    }
+    Ok(lines)
 }
 
 /// One if the row has its answers, and zero if it has others, which are shown.
@@ -67,8 +77,7 @@ fn other_answers(
     table: &mut impl Table,
     text: &str,
 ) -> Result<Option<Vec<u8>>, AllocError> {
-    let lines: Vec<&str> = text.lines().collect(alloc)?;
-    found_and_not_wanted(alloc, table, &lines)
+    found_and_not_wanted(alloc, table, &lines_of(alloc, text)?)
 }
 
 /// The answers found to a row with these lines, if they are others than those that stand in it.
