@@ -99,8 +99,9 @@ class UnionFiles(unittest.TestCase):
         steps = (
             ("load a f", "ok 0 1000000"), ("copy b a", "ok 0 1000000"), ("union b a", "ok 0 0"),
             ("intersect b a", "ok 0 0"), ("keep b 1", "ok 0 0"), ("remove b 0000000000000001", "ok 1 0"),
-            ("add b 0000000000000001", "ok 0 1"), ("remove b 1", "ok 1000000 0"), ("undo", "ok 0 1000000"),
-            ("outerof c b 30", "ok 0 1000000"), (f"outerof c b {all_leaves}", "ok 0 0"),
+            ("add b 0000000000000001", "ok 0 1"), ("remove b 0000000000000001 0000000000000005", "ok 2 0"),
+            ("add b 0000000000000001 0000000000000005", "ok 0 2"), ("remove b 1", "ok 1000000 0"),
+            ("undo", "ok 0 1000000"), ("outerof c b 30", "ok 0 1000000"), (f"outerof c b {all_leaves}", "ok 0 0"),
             ("innerof d b 30", "ok 0 1000000"), (f"innerof d b {all_leaves}", "ok 0 0"),
             ("subtract b a", "ok 1000000 0"), ("save a h", "ok"), ("load b h", "ok 0 1000000"), ("dump s", "ok"),
             ("restore s", "ok"), ("undo", "ok 1000000 0"), ("load e g", "ok 0 1000000"), ("union e a", "ok 1000000 11"),
