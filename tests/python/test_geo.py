@@ -12,6 +12,7 @@ import subprocess
 import sys
 import tempfile
 import unittest
+import unittest.mock
 from fractions import Fraction
 from random import Random
 
@@ -190,13 +191,36 @@ class Polygons(unittest.TestCase):
             if len(ring) < 3:
                 continue
             try:
-                crossings.look_for_crossings([numpy.array([*ring, ring[0]], float)], "it")
+                crossings.look_for_crossings([[numpy.array([*ring, ring[0]], float)]])
                 is_refused = False
             except ValueError:
                 is_refused = True
             self.assertEqual(is_refused, crosses_itself(ring), ring)
             counts[is_refused] += 1
         self.assertGreater(min(counts), 300)
+
+    def test_many_polygons_by_a_plain_walk(self):
+        """Of places, some of which have the longitude of a corner, and polygons, some of which go over the date line:
+        which lie inside is what a way to the north says that asks edge by edge."""
+        random = Random(8)
+        shapes = []
+        for _ in range(300):
+            x, y, size = random.choice([0, 179.9, -400, 530]), random.uniform(-80, 80), random.choice([1e-6, 0.5, 9])
+            rings = [[(x + random.random() * size, y + random.random() * size) for _ in range(random.randrange(3, 9))]
+                     for _ in range(random.choice([1, 1, 2]))]
+            shapes.append([numpy.array([*ring, ring[0]]) for ring in rings])
+        asked = numpy.array([random.randrange(300) for _ in range(6000)])
+        corners = numpy.array([random.choice(random.choice(shapes[number]).tolist()) for number in asked])
+        x = (corners[:, 0] + [random.choice([0, 0, 1e-7, 0.1]) for _ in asked] + 540) % 360 - 180
+        y = corners[:, 1] + [random.uniform(-1, 1) for _ in asked]
+        found = polygons._OnMap(shapes).is_inside(asked, x, y).tolist()
+        self.assertEqual(found, [lies_within(shapes[number], *place) for number, *place in zip(asked, x, y)])
+        self.assertGreater(min(sum(found), 6000 - sum(found)), 300)
+
+    def test_polygons_may_overlap(self):
+        other = [[x + 5, y] for x, y in SQUARE]
+        found = interior({"type": "MultiPolygon", "coordinates": [[SQUARE], [SQUARE], [other]]}, 100000, 7)
+        self.assertEqual(found, interior(polygon(SQUARE), 100000, 7) | interior(polygon(other), 100000, 7))
 
     def test_turns_are_exact(self):
         """Of places with few numbers, some of which are tiny, and of places within a rounding of a line."""
@@ -218,6 +242,11 @@ class Polygons(unittest.TestCase):
         wide = numpy.stack([numpy.tile([-539.0, 539.0], 500_000), numpy.linspace(-60, 60, 1_000_000)], axis=1)
         with self.assertRaisesRegex(ValueError, "more than 4000000 steps"):
             polygons._edges_of([[wide]])
+        flower = [place for k in range(9) for place in ([0, 0], [9, k], [9, k + 0.5])]
+        self.assertTrue(covering(polygon([*flower, flower[0]])))
+        for name, said in ("MOST_PAIRS", "too many edges lie beside one another"), ("MOST_NEAR", "too many edges meet"):
+            with unittest.mock.patch.object(crossings, name, 100), self.assertRaisesRegex(ValueError, said):
+                covering(polygon([*flower, flower[0]]))
         with tempfile.NamedTemporaryFile() as file:
             file.truncate(s2union_geo.MOST_BYTES + 1)
             with self.assertRaisesRegex(ValueError, "has more than 268435456 bytes"):
@@ -233,6 +262,8 @@ REFUSED = [
     (polygon([[0, 0], [5, 0], [9, 0], [5, 0], [5, 5], [0, 0]]), "crosses or runs along"),
     (polygon([[0, 0], [5, 0], [2, 0], [0, 0]]), "ring 0 crosses or runs along itself"),
     (polygon(SQUARE, [[5, 5], [15, 5], [15, 6], [5, 6], [5, 5]]), "rings 0 and 1 cross near"),
+    ({"type": "MultiPolygon", "coordinates": [[SQUARE], [SQUARE[::-1], [[5, 5], [15, 5], [15, 6], [5, 6], [5, 5]]]]},
+     "polygon 1: rings 0 and 1 cross near"),
     (polygon([[0, 0], [1, 91], [1, 0], [0, 0]]), r"ring 0: position 1 is out of range: a "
      r"latitude is from -90 to 90 \(the longitude comes first\): \[1.0, 91.0\]"),
     (polygon([[0, 0], [math.nan, 1], [1, 0], [0, 0]]), "ring 0: position 1 is out of range: a "
@@ -268,6 +299,13 @@ def turn(a, b, c):
 
 def lies_on(place, a, b):
     return turn(a, b, place) == 0 and all(min(x, y) <= it <= max(x, y) for it, x, y in zip(place, a, b))
+
+
+def lies_within(rings, x, y):
+    """Whether a way to the north from a place, or from one a turn away, crosses rings an odd number of times."""
+    edges = [sorted((start, end)) for ring in rings for start, end in itertools.pairwise(ring.tolist())]
+    return any(sum(west <= x + turn < east and south + (x + turn - west) / (east - west) * (north - south) > y
+                   for (west, south), (east, north) in edges) % 2 for turn in (-360, 0, 360))
 
 
 def crosses_itself(ring):

@@ -7,8 +7,10 @@ from typing import Any, Iterator, NamedTuple
 
 import numpy
 
-AT_ONCE = 2_000_000  # pairs that are looked at together
-MOST_PAIRS = 200_000_000  # of edges whose ranges overlap
+AT_ONCE = 20_000  # pairs that are looked at together: so few that the processor's caches hold them
+MOST_PAIRS = 200_000_000  # of edges whose ranges overlap, in all polygons together
+MOST_NEAR = 4_000_000  # of edges that meet or nearly do
+WIDE = 4096.0  # degrees, more than a polygon spans: polygons are kept apart by as much
 UNSURE = 1e-12  # a turn whose area is a smaller part of its parts may be rounded to the wrong side
 
 
@@ -20,6 +22,29 @@ class Edges(NamedTuple):
     ring: Any
     follower: Any
     before: Any
+
+
+def portions(counts: Any, most: int) -> Iterator[slice]:
+    """Parts of a list of counts, one after the other: of each the sum is at most this, or it is one count."""
+    before = numpy.append(0, numpy.cumsum(counts))
+    begun = 0
+    while begun < len(counts):
+        end = max(begun + 1, int(numpy.searchsorted(before, before[begun] + most, "right")) - 1)
+        yield slice(begun, end)
+        begun = end
+
+
+def each_of(counts: Any) -> tuple[Any, Any]:
+    """For each of the things that are counted the place of its count, and its own number among them."""
+    of = numpy.repeat(numpy.arange(len(counts)), counts)
+    return of, numpy.arange(len(of)) - (numpy.cumsum(counts) - counts)[of]
+
+
+def ends_of(polygons: list[list[Any]]) -> tuple[Any, Any, Any]:
+    """Where the edges of polygons begin and end, and the number of the polygon of each."""
+    all_rings = [ring for rings in polygons for ring in rings]
+    polygon, _ = each_of(numpy.array([sum(len(ring) - 1 for ring in rings) for rings in polygons]))
+    return numpy.vstack([ring[:-1] for ring in all_rings]), numpy.vstack([ring[1:] for ring in all_rings]), polygon
 
 
 def _turns(a: Any, b: Any, c: Any) -> Any:
@@ -40,50 +65,84 @@ def _turns(a: Any, b: Any, c: Any) -> Any:
     return sign
 
 
-def _pairs(low: Any, high: Any) -> Iterator[Any]:
-    """The pairs of ranges that overlap, by their places, some at once."""
-    order = numpy.argsort(low, kind="stable")
-    ends = numpy.searchsorted(low[order], high[order], "right")
-    counts = ends - numpy.arange(len(order)) - 1
-    before = numpy.append(0, numpy.cumsum(counts))
-    begun = 0
-    while begun < len(order):
-        end = max(begun + 1, int(numpy.searchsorted(before, before[begun] + AT_ONCE, "right")) - 1)
-        first = numpy.repeat(numpy.arange(begun, end), counts[begun:end])
-        second = first + 1 + numpy.arange(len(first)) - (before[first] - before[begun])
-        yield order[first], order[second]
-        begun = end
+def _ranges(low: Any, high: Any, polygon: Any) -> tuple[Any, Any]:
+    """The order of ranges by their polygons and begins, and how many of the following ones each overlaps, or nearly."""
+    order = numpy.lexsort((low, polygon))
+    begins, ends = WIDE * polygon[order] + low[order], WIDE * polygon[order] + high[order]
+    return order, numpy.searchsorted(begins, ends, "right") - numpy.arange(len(order)) - 1
 
 
-def _many(low: Any, high: Any) -> int:
-    order = numpy.argsort(low, kind="stable")
-    return int((numpy.searchsorted(low[order], high[order], "right") - numpy.arange(len(order)) - 1).sum())
+def _pairs(low: Any, high: Any, polygon: Any, start: Any, end: Any) -> Iterator[Any]:
+    """The pairs of edges of a polygon that may meet, by their places, some at once: the ranges of both overlap, along
+    two axes, and neither lies beside the line of the other."""
+    order, counts = _ranges(low[0], high[0], polygon)
+    low, high = low[:, order], high[:, order]
+    lines = _lines_of(start[order].T, end[order].T)
+    for part in portions(counts, AT_ONCE):
+        of, number = each_of(counts[part])
+        a = part.start + of
+        b = a + 1 + number
+        near = (low[1, a] <= high[1, b]) & (low[1, b] <= high[1, a]) & (low[0, b] <= high[0, a])
+        a, b = a[near], b[near]
+        near = _is_close(lines, a, b)
+        a, b = a[near], b[near]
+        near = _is_close(lines, b, a)
+        yield order[a[near]], order[b[near]]
 
 
-def look_for_crossings(rings: list[Any], what: str) -> None:
-    """Refuses a polygon of which a ring crosses itself or runs along itself, or two rings cross."""
-    if not rings:
+def _lines_of(start: Any, end: Any) -> Any:
+    """For each edge four numbers, and its ends. The first two times the coordinates of a place make a number: if that
+    is less than the third or more than the fourth, the place lies beside the line of the edge, whatever was rounded."""
+    x, y = start[1] - end[1], end[0] - start[0]
+    middle, rounded = x * start[0] + y * start[1], 1e-9 * (numpy.abs(x) + numpy.abs(y))
+    return numpy.array([x, y, middle - rounded, middle + rounded, *start, *end])
+
+
+def _is_close(lines: Any, a: Any, b: Any) -> Any:
+    """Whether not both ends of an edge b lie on one side of the line of an edge a."""
+    x, y, low, high = lines[:4].take(a, axis=1)
+    x0, y0, x1, y1 = lines[4:].take(b, axis=1)
+    one, other = x * x0 + y * y0, x * x1 + y * y1
+    return (numpy.minimum(one, other) <= high) & (numpy.maximum(one, other) >= low)
+
+
+def _fewer(low: Any, high: Any, polygon: Any) -> Any:
+    """For each edge the axis along which the ranges of its polygon's edges overlap less often."""
+    sums = []
+    for axis in (0, 1):
+        order, counts = _ranges(low[:, axis], high[:, axis], polygon)
+        sums.append(numpy.bincount(polygon[order], counts))
+    if numpy.minimum(*sums).sum() > MOST_PAIRS:
+        raise ValueError("too many edges lie beside one another to be looked at")
+    return (sums[1] < sums[0]).astype("int64")[polygon]
+
+
+def look_for_crossings(polygons: list[list[Any]]) -> None:
+    """Refuses polygons of which a ring crosses itself or runs along itself, or two rings cross."""
+    sizes = numpy.array([len(ring) - 1 for rings in polygons for ring in rings], "int64")
+    if not sizes.size:
         return
-    start, end = numpy.vstack([ring[:-1] for ring in rings]), numpy.vstack([ring[1:] for ring in rings])
-    sizes = numpy.array([len(ring) - 1 for ring in rings])
-    ring = numpy.repeat(numpy.arange(len(rings)), sizes)
-    last = numpy.cumsum(sizes)[ring] - 1
-    follower = numpy.where(numpy.arange(len(ring)) == last, last + 1 - sizes[ring], numpy.arange(len(ring)) + 1)
+    start, end, polygon = ends_of(polygons)
+    ring, number = each_of(sizes)
+    place = each_of(numpy.array(list(map(len, polygons))))[1][ring]
+    edge = numpy.arange(len(ring))
+    follower = numpy.where(number + 1 == sizes[ring], edge - number, edge + 1)
     edges = Edges(start, end, ring, follower, numpy.argsort(follower))
     low, high = numpy.minimum(start, end), numpy.maximum(start, end)
-    axis = min((0, 1), key=lambda k: _many(low[:, k], high[:, k]))
-    if _many(low[:, axis], high[:, axis]) > MOST_PAIRS:
-        raise ValueError(f"{what}: too many of its edges lie beside one another to be looked at")
-    for a, b in _pairs(low[:, axis], high[:, axis]):
-        near = (low[a, 1 - axis] <= high[b, 1 - axis]) & (low[b, 1 - axis] <= high[a, 1 - axis])
-        a, b = a[near], b[near]
+    axis = _fewer(low, high, polygon)
+    low, high = (it[edge, [axis, 1 - axis]] for it in (low, high))
+    left = MOST_NEAR
+    for a, b in _pairs(low, high, polygon, start, end):
+        left -= len(a)
+        if left < 0:
+            raise ValueError("too many edges meet to be looked at")
         crossed = _meet(edges, a, b)
         if crossed.size:
             one, other = sorted((int(a[crossed[0]]), int(b[crossed[0]])))
-            place = f"near {start[one].tolist()}"
+            what, where = f"polygon {polygon[one]}", f"near {start[one].tolist()}"
             if ring[one] == ring[other]:
-                raise ValueError(f"{what}: ring {ring[one]} crosses or runs along itself {place}")
-            raise ValueError(f"{what}: rings {ring[one]} and {ring[other]} cross {place}")
+                raise ValueError(f"{what}: ring {place[one]} crosses or runs along itself {where}")
+            raise ValueError(f"{what}: rings {place[one]} and {place[other]} cross {where}")
 
 
 def _meet(edges: Edges, a: Any, b: Any) -> Any:

@@ -12,7 +12,7 @@ from typing import Any, NamedTuple
 import numpy
 from s2union import CellUnion, from_points, parents
 
-from .crossings import look_for_crossings
+from .crossings import AT_ONCE, WIDE, each_of, ends_of, look_for_crossings, portions
 from .geojson import polygons_of
 from .sphere import geographic, on_cube, on_cube_line, sphere
 
@@ -21,7 +21,8 @@ STEP = 0.25  # degrees between two points of an edge. What is straight on the ma
 STEPS_OF_FEW, STEPS_A_POSITION = 400_000, 4  # of all edges together, so that the work follows the text
 MOST_STEPS = 4_000_000
 NOISE = 4e-15  # of distances, in radii of the earth
-AT_ONCE = 2_000_000  # pairs that are looked at together
+NARROW = 1e-6  # degrees, more than rounding moves the end of an edge
+MOST_KEPT = 4_000_000  # pairs of squares and edges that an outer covering keeps for an inner one
 CHILDREN = numpy.array([(0, 0), (0, 1), (1, 0), (1, 1)])
 CORNERS = ((0, 0), (0, 1), (1, 0), (1, 1))
 # Of each face the directions of u and v, and that of its middle, as S2 has them.
@@ -31,11 +32,12 @@ AXES = numpy.array([[(0, 1, 0), (0, 0, 1), (1, 0, 0)], [(-1, 0, 0), (0, 0, 1), (
 
 
 class Edges(NamedTuple):
-    """Short edges on the sphere: from where they go and by how much, how far from that the border may be, and the
-    number of the polygon of each."""
+    """Short edges on the sphere: from where they go and by how much, the square of that length (infinite for none), how
+    far from that the border may be, and the number of the polygon of each."""
 
     start: Any
     way: Any
+    square: Any
     slack: Any
     polygon: Any
 
@@ -78,8 +80,8 @@ def covering(shape: Any, max_cells: int = 200, max_level: int = 30) -> CellUnion
     ValueError
         Something isn't a polygon, a position is out of range, or a ring is open, crosses itself or runs along itself:
         the message has its polygon and ring. Or there are more than ``MOST_POSITIONS`` positions, edges of more than
-        100,000 degrees and one for each position, or of 1,000,000, or ``MOST_BYTES`` bytes of a text. Or a number of
-        cells or a level is out of range.
+        100,000 degrees and one for each position, or of 1,000,000, ``MOST_BYTES`` bytes of a text, or too many edges
+        that meet or lie beside one another. Or a number of cells or a level is out of range.
     TypeError
         A number of cells or a level is no int.
 
@@ -126,8 +128,8 @@ def interior(shape: Any, max_cells: int = 200, max_level: int = 30) -> CellUnion
     ValueError
         Something isn't a polygon, a position is out of range, or a ring is open, crosses itself or runs along itself:
         the message has its polygon and ring. Or there are more than ``MOST_POSITIONS`` positions, edges of more than
-        100,000 degrees and one for each position, or of 1,000,000, or ``MOST_BYTES`` bytes of a text. Or a number of
-        cells or a level is out of range.
+        100,000 degrees and one for each position, or of 1,000,000, ``MOST_BYTES`` bytes of a text, or too many edges
+        that meet or lie beside one another. Or a number of cells or a level is out of range.
     TypeError
         A number of cells or a level is no int.
 
@@ -173,8 +175,8 @@ def coverings(shape: Any, max_cells: int = 200, max_level: int = 30) -> tuple[Ce
     ValueError
         Something isn't a polygon, a position is out of range, or a ring is open, crosses itself or runs along itself:
         the message has its polygon and ring. Or there are more than ``MOST_POSITIONS`` positions, edges of more than
-        100,000 degrees and one for each position, or of 1,000,000, or ``MOST_BYTES`` bytes of a text. Or a number of
-        cells or a level is out of range.
+        100,000 degrees and one for each position, or of 1,000,000, ``MOST_BYTES`` bytes of a text, or too many edges
+        that meet or lie beside one another. Or a number of cells or a level is out of range.
     TypeError
         A number of cells or a level is no int.
 
@@ -185,7 +187,7 @@ def coverings(shape: Any, max_cells: int = 200, max_level: int = 30) -> tuple[Ce
     True
     """
     walk = _Walk(shape, max_cells, max_level)
-    return walk.outer(), walk.inner()
+    return walk.outer(MOST_KEPT), walk.inner()
 
 
 def _number(value: Any, most: int, what: str) -> int:
@@ -197,27 +199,22 @@ def _number(value: Any, most: int, what: str) -> int:
 
 
 def _edges_of(polygons: list[list[Any]]) -> Edges:
-    start, way, slack, number = [], [], [], []
+    first, last, polygon = ends_of(polygons)
     positions = sum(len(ring) for rings in polygons for ring in rings)
-    left = most = min(MOST_STEPS, STEPS_OF_FEW + STEPS_A_POSITION * positions)
-    for polygon, rings in enumerate(polygons):
-        for ring in rings:
-            first, last = ring[:-1], ring[1:]
-            steps = numpy.maximum(1, numpy.ceil(numpy.abs(last - first).max(axis=1) / STEP)).astype("int64")
-            left -= int(steps.sum())
-            if left < 0:
-                raise ValueError(f"the edges have more than {most} steps of {STEP} degrees")
-            edge = numpy.repeat(numpy.arange(len(first)), steps)
-            step = numpy.arange(len(edge)) - numpy.repeat(numpy.cumsum(steps) - steps, steps)
-            across = (last - first)[edge] / steps[edge][:, None]
-            here = first[edge] + across * step[:, None]
-            there = numpy.where((step + 1 == steps[edge])[:, None], last[edge], here + across)
-            a, b = sphere(*here.T), sphere(*there.T)
-            start.append(a)
-            way.append(b - a)
-            slack.append(((b - a)**2).sum(axis=0) / 8 + numpy.radians(across[:, 0])**2 / 16 + NOISE)
-            number.append(numpy.full(len(edge), polygon))
-    return Edges(numpy.hstack(start), numpy.hstack(way), numpy.hstack(slack), numpy.hstack(number))
+    most = min(MOST_STEPS, STEPS_OF_FEW + STEPS_A_POSITION * positions)
+    steps = numpy.maximum(1, numpy.ceil(numpy.abs(last - first).max(axis=1, initial=0) / STEP)).astype("int64")
+    if steps.sum() > most:
+        raise ValueError(f"the edges have more than {most} steps of {STEP} degrees")
+    edge, step = each_of(steps)
+    across = (last - first)[edge] / steps[edge][:, None]
+    here = first[edge] + across * step[:, None]
+    there = numpy.where((step + 1 == steps[edge])[:, None], last[edge], here + across)
+    start = sphere(*here.T)
+    way = sphere(*there.T) - start
+    square = (way**2).sum(axis=0)
+    slack = square / 8 + numpy.radians(across[:, 0])**2 / 16 + NOISE
+    square[square == 0] = numpy.inf
+    return Edges(start, way, square, slack, polygon[edge])
 
 
 def _middles(squares: Squares, level: int) -> Any:
@@ -234,33 +231,46 @@ def _middles(squares: Squares, level: int) -> Any:
 
 
 def _sides(squares: Squares, level: int) -> Any:
-    """The planes of the four sides of squares, by their directions outward: four for each, of length 1."""
+    """The planes of the four sides of squares, by their directions outward, of length 1: those of each side."""
     side = 2.0**(30 - level)
     planes = []
     for axis, place in ((0, squares.i), (1, squares.j)):
         across, middle = AXES[squares.face, axis], AXES[squares.face, 2]
         for far, outward in ((0, -1), (1, 1)):
             at = on_cube_line((place + far) * side)[:, None]
-            planes.append(outward * (across - at * middle) / numpy.sqrt(1 + at * at))
+            planes.append((outward * (across - at * middle) / numpy.sqrt(1 + at * at)).T)
     return numpy.array(planes)
 
 
-def _is_inside(rings: list[Any], x: Any, y: Any) -> Any:
-    """Whether a way to the north from each place crosses the rings an odd number of times."""
-    edges = numpy.vstack([numpy.hstack([ring[:-1], ring[1:]]) for ring in rings])
-    edges = numpy.where((edges[:, 0] > edges[:, 2])[:, None], edges[:, [2, 3, 0, 1]], edges)
-    edges = edges[edges[:, 0] < edges[:, 2]]
-    west, south, east, north = edges.T
-    inside = numpy.zeros(len(x), bool)
-    for turn in (-360, 0, 360):
-        within = numpy.flatnonzero((x + turn >= west.min(initial=0)) & (x + turn < east.max(initial=0)))
-        many = max(1, AT_ONCE // max(1, len(west)))
-        for places in numpy.split(within, range(many, len(within), many)):
-            here, height = x[places, None] + turn, y[places, None]
-            crosses = (west <= here) & (here < east)
-            part = numpy.where(crosses, (here - west) / (east - west), 0)
-            inside[places] |= numpy.count_nonzero(crosses & (south + part * (north - south) > height), axis=1) % 2 == 1
-    return inside
+class _OnMap:
+    """The edges of polygons on the map, each from west to east, those of a polygon by their western ends."""
+
+    def __init__(self, polygons: list[list[Any]]) -> None:
+        start, end, polygon = ends_of(polygons)
+        is_west = (start[:, 0] <= end[:, 0])[:, None]
+        edges = numpy.hstack([numpy.where(is_west, start, end), numpy.where(is_west, end, start)])
+        order = numpy.lexsort((edges[:, 0], polygon))
+        self.edges = edges[order].T.copy()
+        self.ends = WIDE * polygon[order] + self.edges[0]
+        self.widest = numpy.zeros(len(polygons))
+        numpy.maximum.at(self.widest, polygon, edges[:, 2] - edges[:, 0])
+
+    def is_inside(self, polygon: Any, x: Any, y: Any) -> Any:
+        """Whether a way to the north from each place crosses the rings of its polygon an odd number of times."""
+        inside = numpy.zeros(len(x), bool)
+        for turn in (-360, 0, 360):
+            place = WIDE * polygon + x + turn  # edges that end to the west of it begin more than the widest before it
+            first = numpy.searchsorted(self.ends, place - self.widest[polygon] - NARROW)
+            counts = numpy.searchsorted(self.ends, place + NARROW, "right") - first
+            for part in portions(counts, AT_ONCE):
+                of, number = each_of(counts[part])
+                here, height = x[part][of] + turn, y[part][of]
+                west, south, east, north = self.edges.take(first[part][of] + number, axis=1)
+                crossed = numpy.flatnonzero((west <= here) & (here < east))
+                west, south, east, north = (end[crossed] for end in (west, south, east, north))
+                is_north = south + (here[crossed] - west) / (east - west) * (north - south) > height[crossed]
+                inside[part] |= numpy.bincount(of[crossed[is_north]], minlength=len(counts[part])) % 2 == 1
+        return inside
 
 
 class _Walk:
@@ -269,18 +279,23 @@ class _Walk:
     def __init__(self, shape: Any, max_cells: int, max_level: int) -> None:
         self.most, self.deepest = _number(max_cells, MOST_CELLS, "max_cells"), _number(max_level, 30, "max_level")
         self.polygons = polygons_of(shape)
-        for number, rings in enumerate(self.polygons):
-            look_for_crossings(rings, f"polygon {number}")
+        look_for_crossings(self.polygons)
         self.polygons = [rings for rings in self.polygons if rings]
-        self.edges = _edges_of(self.polygons) if self.polygons else None
+        if self.polygons:
+            self.edges, self.on_map = _edges_of(self.polygons), _OnMap(self.polygons)
+        self.kept: list[Any] = []
 
     def begin(self) -> Any:
-        """The faces, the cells of those that lie in a polygon, and those at a border with their edges, by pairs."""
+        """The faces, which of them lie in a polygon, and those at a border with their edges, by pairs."""
         faces = Squares(numpy.arange(6), numpy.zeros(6, "int64"), numpy.zeros(6, "int64"))
         count = len(self.edges.slack)
         pairs = numpy.repeat(numpy.arange(6), count), numpy.tile(numpy.arange(count), 6)
-        inside, of, edge = self.divided(faces, 0, *pairs)
-        return faces, [self.ids(faces.at(inside), 0)], of, edge
+        return faces, *self.divided(faces, 0, *pairs)
+
+    def below(self, level: int, squares: Squares, border: Any, of: Any, edge: Any) -> Any:
+        """The same of the children of the squares at the border."""
+        children, pairs, edges = self.children(squares, border, of, edge)
+        return children, *self.divided(children, level, pairs, edges)
 
     def divided(self, squares: Squares, level: int, of: Any, edge: Any) -> Any:
         """Which of the squares lie in a polygon, which are at a border, and with which edges, by pairs."""
@@ -289,32 +304,30 @@ class _Walk:
         near = numpy.zeros(len(of), bool)
         for at in range(0, len(of), AT_ONCE):
             part = slice(at, at + AT_ONCE)
-            near[part] = self.is_near(middle[:, of[part]], radius[of[part]], edge[part])
+            near[part] = self.is_near(middle.take(of[part], axis=1), radius[of[part]], edge[part])
             close = at + numpy.flatnonzero(near[part])
-            near[close] = ~self.is_beyond(sides[:, of[close]], edge[close])
+            near[close] = ~self.is_beyond(sides.take(of[close], axis=2), edge[close])
         known = len(self.polygons)
         lost = numpy.setdiff1d(of * known + self.edges.polygon[edge], of[near] * known + self.edges.polygon[edge[near]])
         inside = numpy.zeros(len(radius), bool)
         x, y = geographic(*middle)
-        for polygon in numpy.unique(lost % known):
-            here = lost[lost % known == polygon] // known
-            inside[here] |= _is_inside(self.polygons[polygon], x[here], y[here])
+        square, polygon = numpy.divmod(lost, known)
+        inside[square[self.on_map.is_inside(polygon, x[square], y[square])]] = True
         left = near & ~inside[of]
         return inside, of[left], edge[left]
 
     def is_near(self, middle: Any, radius: Any, edge: Any) -> Any:
-        start, way = self.edges.start[:, edge], self.edges.way[:, edge]
-        length, along = (way**2).sum(axis=0), ((middle - start) * way).sum(axis=0)
-        part = numpy.clip(numpy.divide(along, length, out=numpy.zeros_like(length), where=length > 0), 0, 1)
-        return numpy.sqrt(((middle - start - part * way)**2).sum(axis=0)) <= radius + self.edges.slack[edge]
+        way, here = self.edges.way.take(edge, axis=1), middle - self.edges.start.take(edge, axis=1)
+        part = numpy.minimum(numpy.maximum((here * way).sum(axis=0) / self.edges.square[edge], 0), 1)
+        return numpy.sqrt(((here - part * way)**2).sum(axis=0)) <= radius + self.edges.slack[edge]
 
     def is_beyond(self, sides: Any, edge: Any) -> Any:
         """Whether an edge lies beyond one of the four sides of a square: both of its ends do, by more than the border
         may be away from it."""
-        start = self.edges.start[:, edge].T
-        end = start + self.edges.way[:, edge].T
+        start = self.edges.start.take(edge, axis=1)
+        end = start + self.edges.way.take(edge, axis=1)
         slack = self.edges.slack[edge]
-        return numpy.any([((side * start).sum(axis=1) > slack) & ((side * end).sum(axis=1) > slack) for side in sides],
+        return numpy.any([((side * start).sum(axis=0) > slack) & ((side * end).sum(axis=0) > slack) for side in sides],
                          axis=0)
 
     def children(self, squares: Squares, border: Any, of: Any, edge: Any) -> Any:
@@ -329,23 +342,27 @@ class _Walk:
         leaves = from_points(squares.face, squares.i << (30 - level), squares.j << (30 - level))
         return numpy.asarray(parents(numpy.asarray(leaves, "uint64"), level), "uint64")
 
-    def outer(self) -> CellUnion:
-        if self.edges is None:
+    def outer(self, keeps: int = 0) -> CellUnion:
+        """It keeps for `inner` the levels at which both have the same squares, as long as these have together no more
+        pairs than `keeps`."""
+        if not self.polygons:
             return CellUnion()
-        squares, found, of, edge = self.begin()
-        border = numpy.unique(of)
+        squares, inside, of, edge = step = self.begin()
+        found, border, is_whole = [self.ids(squares.at(inside), 0)], numpy.unique(of), True
         for level in range(1, self.deepest + 1):
-            below, pairs, edges = self.children(squares, border, of, edge)
-            inside, of, edge = self.divided(below, level, pairs, edges)
-            kept = inside.copy()
-            kept[of] = True
-            counts = kept.reshape(-1, 4).sum(axis=1)
+            is_whole, keeps = is_whole and len(of) <= keeps, keeps - len(of)
+            self.kept += [step] if is_whole else []
+            below, inside, of, edge = step = self.below(level, squares, border, of, edge)
+            needed = inside.copy()
+            needed[of] = True
+            counts = needed.reshape(-1, 4).sum(axis=1)
             room = self.most - sum(map(len, found)) - len(border)
             first = numpy.argsort(counts, kind="stable")  # those that need the fewest cells are divided
             is_divided = numpy.zeros(len(border), bool)
             is_divided[first[numpy.cumsum(counts[first] - 1) <= room]] = True
             found += [self.ids(squares.at(border[~is_divided]), level - 1),
                       self.ids(below.at(inside & numpy.repeat(is_divided, 4)), level)]
+            is_whole = is_whole and bool(is_divided.all())
             goes_on = is_divided[of // 4]
             of, edge = of[goes_on], edge[goes_on]
             squares, border = below, numpy.unique(of)
@@ -354,15 +371,15 @@ class _Walk:
         return CellUnion(numpy.concatenate([*found, self.ids(squares.at(border), self.deepest)]))
 
     def inner(self) -> CellUnion:
-        if self.edges is None:
+        if not self.polygons:
             return CellUnion()
-        squares, found, of, edge = self.begin()
-        border = numpy.unique(of)
+        steps = iter(self.kept)
+        squares, inside, of, edge = next(steps, None) or self.begin()
+        found, border = [self.ids(squares.at(inside), 0)], numpy.unique(of)
         for level in range(1, self.deepest + 1):
             if not len(border) or len(border) > 8 * self.most or sum(map(len, found)) >= self.most:
                 break
-            squares, pairs, edges = self.children(squares, border, of, edge)
-            inside, of, edge = self.divided(squares, level, pairs, edges)
+            squares, inside, of, edge = next(steps, None) or self.below(level, squares, border, of, edge)
             found.append(self.ids(squares.at(inside), level))
             border = numpy.unique(of)
         return CellUnion(numpy.concatenate(found)[:self.most])
