@@ -84,6 +84,15 @@ def test_what_is_no_number(given):
         leaves(given, [0, 0])
 
 
+@pytest.mark.parametrize("given", ["1", "x", b"1", True, None], ids=repr)
+def test_what_is_no_number_alone(given):
+    for place in (given, 0), (0, given):
+        with pytest.raises(TypeError):
+            leaf(*place)
+    with pytest.raises(ValueError, match="polygon 0, ring 0: a position is a longitude and a latitude"):
+        covering(polygon([[0, 0], [1, 0], [1, given], [0, 0]]))
+
+
 def test_points_of_no_cell():
     with pytest.raises(ValueError, match="not a cell"):
         points([2])

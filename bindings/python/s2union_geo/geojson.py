@@ -4,12 +4,13 @@ from __future__ import annotations
 
 import json
 import os
+from itertools import chain
 from typing import Any, Iterator
 
 import numpy
 from s2union import CellUnion, tokens
 
-from .sphere import MOST, geographic, on_cube, range_of, squares_of
+from .sphere import MOST, NO_NUMBERS, geographic, number_of, on_cube, range_of, squares_of
 
 MOST_BYTES = 2**28  # of a text or a file
 MOST_POSITIONS = 1_000_000  # of all rings together
@@ -103,6 +104,9 @@ def _list_of(it: Any, name: str, kind: str) -> list[Any]:
 def _ring_of(ring: Any, what: str) -> Any:
     """The positions of a closed ring, each once, with the first again at the end."""
     try:
+        ring = list(ring)
+        if not NO_NUMBERS.isdisjoint(map(type, chain.from_iterable(ring))):
+            ring = [[number_of(x, what) for x, what in zip(position, MOST)] for position in ring]
         positions = numpy.array([[float(x) for x in position[:2]] for position in ring], "float64").reshape(-1, 2)
     except (TypeError, ValueError, OverflowError):
         raise ValueError(f"{what}: a position is a longitude and a latitude") from None

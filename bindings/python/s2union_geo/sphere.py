@@ -11,6 +11,7 @@ from s2union import from_points, square
 SIDE = 2**30  # of a face, in leaves
 # In degrees. Longitudes of data are from -180 to 180 or from 0 to 360, and rings go on over the date line.
 MOST = {"longitude": 540, "latitude": 90}
+NO_NUMBERS = {str, bytes, bytearray, bool}  # of which Python makes floats all the same
 # The C library's, which S2 takes. The last bit of numpy's own may differ, and on the border of two leaves it matters.
 sine, cosine = (numpy.vectorize(function, otypes="d") for function in (math.sin, math.cos))
 
@@ -19,6 +20,13 @@ def range_of(what: str) -> str:
     """What is said of a longitude or a latitude that is out of range."""
     order = " (the longitude comes first)" if what == "latitude" else ""
     return f"a {what} is from -{MOST[what]} to {MOST[what]}{order}"
+
+
+def number_of(value: Any, what: str) -> float:
+    """A number as a float."""
+    if isinstance(value, tuple(NO_NUMBERS)):
+        raise TypeError(f"a {what} is a number, not {type(value).__name__}: {value!r}")
+    return float(value)
 
 
 def degrees_of(value: Any, what: str) -> Any:
@@ -172,7 +180,7 @@ def leaf(longitude: float, latitude: float) -> int:
     >>> token(leaf(longitude=2.3522, latitude=48.8566))
     '47e66e1d8f8be23b'
     """
-    return int(leaves(float(longitude), float(latitude)))
+    return int(leaves(number_of(longitude, "longitude"), number_of(latitude, "latitude")))
 
 
 def points(cells: Any) -> Any:
