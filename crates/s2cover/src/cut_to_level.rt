@@ -11,7 +11,7 @@ ghost use Rattle.s2cover.specs.Cut.{cells_kept};
 ghost use Rattle.s2cover.specs.Working.Rows.{HasRow};
 
 use s2cell::{CellId, GREATEST_LEVEL};
-use s2list::{Cells, Output, Room, cell_of, end_of, find_from, first_of, put};
+use s2list::{Cells, Output, Room, cell_of, end_of, find_from, first_of, put, put_gap};
 use s2union::{CellUnion, Grown};
 use std::alloc::{AllocError, Global};
 
@@ -92,7 +92,7 @@ fn write_cut<C: Cells, W: Output>(
     let mut first = first_cut(cells, level);
     while i < cells.len() && n <= most {
         let row = row_at(cells, i, first, level);
-        n = out.put_gap(n, row.lo, row.hi)?;
+        n = put_gap(out, n, row.lo, row.hi)?;
         i = row.next;
         first = row.after;
     }

@@ -1,9 +1,9 @@
 -- The normal form of a gap: at each leaf the largest cell that begins there and fits.
 use Rattle.std.proofs.Common.{◌≡◌, ℕ, ◌+◌, ◌-◌, ◌<◌, ◌≤◌, refl, sym, ◌∙◌, ap, arith, true, false}
-use Rattle.std.proofs.Common.{◌||◌, ◌&&◌, leb, ltb, List, [], ◌∷◌, ◌++◌, append_assoc, ◌⊎◌, inr}
+use Rattle.std.proofs.Common.{◌||◌, ◌&&◌, leb, ltb, List, [], ◌∷◌, ◌++◌, append_assoc, append-nil, ◌⊎◌, inl, inr}
 use Rattle.std.proofs.Math.Logic.{⊎_elim}
 use Rattle.std.proofs.Math.Bool.{or-false}
-use Rattle.std.proofs.lemmas.Bool.{cases_order, or_cases}
+use Rattle.std.proofs.lemmas.Bool.{cases_order, false≢true, or_cases}
 use Rattle.std.proofs.lemmas.Bool.Decides.{nat_tests}
 use Rattle.std.proofs.lemmas.List.Folds.{list_any-append}
 use Rattle.s2cell.specs.Cell.{IsCell, level_of, size_of, first_leaf, covers, parent_of}
@@ -14,7 +14,7 @@ use Rattle.s2cell.proofs.Family.{parent_around, parent_larger}
 use Rattle.s2list.specs.Union.{has_leaf, between, IsGreatestIn}
 use Rattle.s2list.specs.Working.Union.{EndsBy}
 use Rattle.s2list.specs.Packed.{FillsGap}
-use Rattle.s2list.proofs.Picking.{Picked, picked_push, picked_normal, between_ends}
+use Rattle.s2list.proofs.Picking.{Picked, picked_none, picked_push, picked_normal, between_ends}
 
 -- `list` is `old` and then the greatest cells between `lo` and `hi` that end by `first`
 pub record Tiling (old list : List ℕ) (lo hi first : ℕ) : Type 0 where
@@ -30,6 +30,19 @@ pub record Tiling (old list : List ℕ) (lo hi first : ℕ) : Type 0 where
 
 pub none_between : (lo x : ℕ) → between lo lo x ≡ false
 none_between lo x = grind (arith, nat_tests)
+
+-- nothing yet
+pub tiling_none : (list : List ℕ) (lo hi : ℕ) → Tiling list list lo hi lo
+tiling_none list lo hi = record {
+  tiles = [];
+  is = sym (append-nil list);
+  picked = picked_none (between lo hi);
+  start = omega arith;
+  reach = inl refl;
+  below = λ x l. absurd (false≢true l);
+  leaves = λ x. sym (none_between lo x);
+  closed = λ q own low high h. absurd (omega arith);
+}
 
 longer : (lo f e x : ℕ) → lo ≤ f → f ≤ e → (between lo f x || between f e x) ≡ between lo e x
 longer lo f e x a b = grind (arith, nat_tests)

@@ -5,4 +5,3 @@ pub mod Packed
 pub mod Search
 pub mod Walk
 pub mod Piles
-pub mod Room

@@ -11,7 +11,7 @@ use crate::ask::begins_at;
 use crate::cells::Cells;
 use crate::find::{end_of, find_from, first_of};
 use crate::looks::Uncounted;
-use crate::output::Copies;
+use crate::output::{Copies, put_gap};
 use std::alloc::AllocError;
 
 /// Writes the leaves of the first union that the second doesn't have, and answers how many cells they are. Stops once
@@ -66,7 +66,7 @@ fn write_difference_by<X: Cells, Y: Cells, W: Copies<X> + Copies<Y>, S: Seek<X, 
         j = in_ys.seek(xs, i, ys, j, j, start);
         if begins_at(ys, j, end, &mut Uncounted) {
             let y = ys.id(j);
-            n = out.put_gap(n, start, first_of(y))?;
+            n = put_gap(out, n, start, first_of(y))?;
             lo = end_of(y).max(start);
             j += 1;
             i = leap_if(end <= lo, xs, i, lo);
@@ -76,7 +76,7 @@ fn write_difference_by<X: Cells, Y: Cells, W: Copies<X> + Copies<Y>, S: Seek<X, 
             lo = end_of(xs.id(next - 1));
             i = next;
         } else {
-            n = out.put_gap(n, start, end)?;
+            n = put_gap(out, n, start, end)?;
             lo = end.max(start);
             i += 1;
         }

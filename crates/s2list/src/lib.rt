@@ -57,7 +57,7 @@ pub use four::{Places, places_of_four, places_of_four_counted};
 pub use gap::{Gap, contains_in_gap, gap_at, gap_of, intersects_in_gap, lies_in_gap};
 pub use intersection::write_intersection;
 pub use looks::{Count, LookedAt, Looks, Uncounted};
-pub use output::{Copies, Output};
+pub use output::{Copies, Output, put_gap};
 pub use room::{Room, put};
 pub use run::cells_at;
 pub use symmetric_difference::write_symmetric_difference;

@@ -7,7 +7,7 @@ ghost use Rattle.s2list.specs.Working.Piles.{Brings, IsRun, PileIn};
 
 use crate::cells::Cells;
 use crate::find::end_of;
-use crate::output::{Copies, Output};
+use crate::output::{Copies, Output, put_gap};
 use s2cell::LEAVES;
 use std::alloc::AllocError;
 
@@ -64,7 +64,7 @@ pub(crate) fn finish<W: Output>(out: &mut W, pile: Pile) -> Result<usize, AllocE
     ensures rest { IfOk result (λ m. (old : W) → W.rest old out.old pile.n → W.rest old out.new m) }
     ensures sure { IfErr result (λ _. W.refuses) }
 {
-    let n = out.put_gap(pile.n, pile.lo, pile.hi)?;
+    let n = put_gap(out, pile.n, pile.lo, pile.hi)?;
     Ok(n)
 }
 

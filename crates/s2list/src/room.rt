@@ -1,11 +1,10 @@
 //! Lists of identifiers that grow at the front of a room. What doesn't fit is counted, and not written.
 ghost use Rattle.std.specs.Prelude.{◌≡◌, ◌+◌, ◌-◌, ◌<◌, ◌≤◌, ◌++◌, ◌∷◌, [], ℕ, List, length, take, drop};
-ghost use Rattle.s2list.specs.Working.Room.{PutsGap};
 ghost use Rattle.s2list.specs.Room.{IsPut, LeavesRest};
 
 use crate::cells::Cells;
 use crate::output::{Copies, Output};
-use s2cell::{CellId, LEAVES};
+use s2cell::CellId;
 use std::alloc::AllocError;
 
 /// A caller's room, into which a set operation writes.
@@ -24,8 +23,9 @@ impl<'a> Output for Room<'a> {
 
     ghost refuses = { ⊥ };
 
-    fn put_gap(&mut self, n: usize, lo: u64, hi: u64) -> Result<usize, AllocError> {
-        Ok(put_gap(self.out, n, lo, hi))
+    #[inline(always)]
+    fn put_cell(&mut self, n: usize, cell: CellId) -> Result<usize, AllocError> {
+        Ok(put(self.out, n, cell.id()))
     }
 
     ghost counts = { λ list old now n put few. put.len_is few };
@@ -82,23 +82,4 @@ pub(crate) fn put_run<C: Cells>(
         return n + count;
     }
     n.saturating_add(count)
-}
-
-/// Puts the normal form of the leaves from `lo` to before `hi` after the first `n` identifiers, as far as there is
-/// room, and answers how many they are then. First comes the largest cell that begins at `lo` and fits, then the
-/// largest that begins after it, and so on.
-fn put_gap(out: &mut [u64], n: usize, lo: u64, hi: u64) -> usize
-    ensures len { length out.new ≡ length out.old }
-    ensures put { (lo < hi → hi ≤ LEAVES) → PutsGap out.old out.new n result lo hi }
-    ensures rest { LeavesRest out.old out.new n result }
-{
-    let end = hi.min(LEAVES);
-    let mut count = n;
-    let mut first = lo;
-    while first < end {
-        let cell = CellId::tile(first, end);
-        count = put(out, count, cell.id());
-        first = cell.end_leaf();
-    }
-    count
 }

@@ -1,15 +1,13 @@
-//! How a difference is made, and how a gap is filled with the largest cells that fit.
+//! How a difference is made.
 ghost use Rattle.std.specs.Prelude.{◌≡◌, ◌≤◌, ◌<◌, ◌&&◌, ℕ, length, []};
 ghost use Rattle.std.specs.Prelude.{IfErr, List, OnOk, not};
 ghost use Rattle.s2list.specs.Union.{IsLocal, IsNormalForm, has_leaf};
 ghost use Rattle.s2list.specs.Sets.{difference_of};
-ghost use Rattle.s2list.specs.Packed.{FillsGap};
 
 use crate::fault::UnionFault;
 use crate::grown::Grown;
-use s2cell::{CellId, LEAVES};
+use s2cell::CellId;
 use s2list::CellList;
-use std::alloc::AllocError;
 
 /// Puts the leaves of `xs` that `ys` doesn't have into an empty list. Stops once it has made more than `limit` cells:
 /// each is in the normal form, so that has more too.
@@ -37,20 +35,4 @@ pub(crate) fn put_difference(
     } else {
         Err(UnionFault::TooMany)
     }
-}
-
-/// Adds the normal form of the leaves from `lo` to before `hi`: the largest cell that begins at `lo` and fits, then the
-/// largest that begins after it, and so on. Takes memory if the list has no room for them; refuses only if there is
-/// none. Then the list has some of these cells. A few steps for each cell.
-pub(crate) fn fill_gap(list: &mut Vec<CellId>, lo: u64, hi: u64) -> Result<(), AllocError>
-    requires { hi ≤ LEAVES }
-    ensures { OnOk result (FillsGap list.old.items list.new.items lo hi) }
-{
-    let mut first = lo;
-    while first < hi {
-        let cell = CellId::tile(first, hi);
-        list.push(cell)?;
-        first = cell.end_leaf();
-    }
-    Ok(())
 }

@@ -1,12 +1,10 @@
 //! A list that grows, to which a set operation writes.
-ghost use Rattle.std.specs.Prelude.{◌≡◌, ◌-◌, ◌<◌, ◌≤◌, ◌++◌, ⊤, ℕ, IfErr, IfOk, List, length, take, drop};
-ghost use Rattle.s2list.specs.Output.{Fills};
+ghost use Rattle.std.specs.Prelude.{◌≡◌, ◌-◌, ◌≤◌, ◌++◌, ◌∷◌, [], ⊤, ℕ, IfErr, IfOk, List, length, take, drop};
 ghost use Rattle.s2union.specs.Grown.{IsGrown};
 ghost use Rattle.s2union.specs.declared.grown.Grown.{Grown};
 
-use crate::difference::fill_gap;
 use crate::sets::extend;
-use s2cell::{CellId, LEAVES};
+use s2cell::CellId;
 use s2list::{CellList, Copies, Output};
 use std::alloc::AllocError;
 
@@ -30,17 +28,16 @@ impl<'a> Output for Grown<'a> {
     ghost refuses = { ⊤ };
 
     #[inline(always)]
-    fn put_gap(&mut self, n: usize, lo: u64, hi: u64) -> Result<usize, AllocError>
+    fn put_cell(&mut self, n: usize, cell: CellId) -> Result<usize, AllocError>
         ensures place { self.new.list.ghost_name ≡ self.old.list.ghost_name }
-        ensures put { IfOk result (λ m. (lo < hi → hi ≤ LEAVES) → (list : List ℕ) (old : Grown)
+        ensures put { IfOk result (λ m. (list : List ℕ) (old : Grown)
             → IsGrown list old.most self.old.most self.old.list.now.items n
-            → Fills (λ l. IsGrown l old.most self.new.most self.new.list.now.items m) list lo hi) }
+            → IsGrown (list ++ cell ∷ []) old.most self.new.most self.new.list.now.items m) }
         ensures rest { IfOk result (λ m. (old : Grown) → ⊤ → ⊤) }
         ensures sure { IfErr result (λ _. ⊤) }
     {
-        let before = self.list.len();
-        fill_gap(self.list, lo, hi.min(LEAVES))?;
-        Ok(n.saturating_add(self.list.len() - before))
+        self.list.push(cell)?;
+        Ok(n.saturating_add(1))
     }
 
     ghost counts = { λ list old now n grown few. grown.len_is few };

@@ -14,10 +14,10 @@ ghost use Rattle.s2cell.specs.Cell.{first_leaf, size_of};
 ghost use Rattle.s2list.specs.Union.{IsLocal, IsNormalForm, IsShortest, has_leaf, between};
 ghost use Rattle.s2list.specs.Count.{count_below};
 
-use crate::difference::fill_gap;
+use crate::grown::Grown;
 use crate::normalising::normalise;
 use s2cell::{CellId, LEAVES};
-use s2list::CellList;
+use s2list::{CellList, put_gap};
 use std::alloc::{AllocError, Global};
 use std::hash::{Hash, Hasher};
 use std::marker::Model;
@@ -104,7 +104,11 @@ impl CellUnion {
         ensures normal { IfOk result (λ u. IsNormalForm (between (first_leaf x) (first_leaf y + size_of y)) u.cells) }
     {
         let mut cells = Vec::new(alloc);
-        fill_gap(&mut cells, x.first_leaf(), y.end_leaf())?;
+        let mut grown = Grown {
+            list: &mut cells,
+            most: usize::MAX,
+        };
+        put_gap(&mut grown, 0, x.first_leaf(), y.end_leaf())?;
         Ok(CellUnion { cells })
     }
 

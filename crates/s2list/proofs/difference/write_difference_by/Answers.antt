@@ -38,7 +38,7 @@ loop-i-preserved-then-begins_at g c =
           ∙ ap first_leaf ry in
           left_jump lx
           (left_taken {next = c.max-lo.result} c.loop-i.lo
-          (λ list. g.W.Output.holds list c.args.out.now c.put_gap.new.self c.in_ok-n.n) lx ly here h there
+          (λ list. g.W.Output.holds list c.args.out.now c.put_gap.new.out c.in_ok-n.n) lx ly here h there
           c.id-x.ensures
           ry c.first_of-first.ensures c.end_of-end.ensures c.first_of.ensures c.end_of.ensures es (omega arith)
           (omega arith) (λ few list. c.in_ok-n.ensures.put few list c.args.out.now))
@@ -88,7 +88,7 @@ loop-i-preserved g c =
           let here = left_on lx ly (c.loop-i.invariant.so_far lx ly) h c.id-x.ensures c.first_of-first.ensures es
           to.within to.ended in
           left_free {next = c.max-lo-else-start-first.result} c.loop-i.lo
-          (λ list. g.W.Output.holds list c.args.out.now c.put_gap-else-start-first.new.self c.in_ok-n-3.n) lx ly here h
+          (λ list. g.W.Output.holds list c.args.out.now c.put_gap-else-start-first.new.out c.in_ok-n-3.n) lx ly here h
           c.id-x.ensures c.first_of-first.ensures c.end_of-end.ensures es
           (λ there. not_before _ _ _ (λ h. (c.begins_at.ensures.answer ly.cells).1 (there, h)) c.if-begins_at.false)
           (omega arith) (λ few list. c.in_ok-n-3.ensures.put few list c.args.out.now);

@@ -2,15 +2,22 @@ use Rattle.std.proofs.Common.{◌≡◌, ◌<◌, ◌≤◌, ◌++◌, ◌∷◌
 use Rattle.std.proofs.Math.Logic.{⊎_elim}
 use Rattle.std.proofs.lemmas.Bool.{cases_lt}
 use Rattle.s2cell.specs.declared.TheConstants.{LEAVES}
-use Rattle.s2list.proofs.Tiling.{tiling_step, tiling_done}
-use Rattle.s2list.proofs.room.put_gap.Goals as goal
+use Rattle.s2list.proofs.Tiling.{tiling_none, tiling_step, tiling_done}
+use Rattle.s2list.proofs.output.put_gap.Goals as goal
+
+pub loop-first-init : goal.loop-first-init
+loop-first-init g c = record {
+  place = refl;
+  rest = λ old h. h;
+  tiled = λ most list old h. (list, tiling_none list c.args.lo c.args.hi, h);
+}
 
 pub loop-first-preserved : goal.loop-first-preserved
-loop-first-preserved c = record {
-  len = c.put-count.ensures.len ∙ c.loop-first.invariant.len;
-  rest = λ room e. c.put-count.ensures.rest room (c.loop-first.invariant.rest room e);
-  tiled = λ list room most p.
-      let (longer, tiling, put) = c.loop-first.invariant.tiled list room most p in
+loop-first-preserved g c = record {
+  place = c.put_cell.ensures.place ∙ c.loop-first.invariant.place;
+  rest = λ old h. c.in_ok-count.ensures.rest old (c.loop-first.invariant.rest old h);
+  tiled = λ most list old h.
+      let (longer, tiling, held) = c.loop-first.invariant.tiled most list old h in
       let cell = c.tile-cell.result in
       let start = tiling.start in
       let within : c.args.hi ≤ LEAVES = most (omega arith) in
@@ -21,16 +28,16 @@ loop-first-preserved c = record {
             (tiling_step list longer (longer ++ cell ∷ []) c.args.lo c.args.hi c.loop-first.first cell tiling
             c.tile-cell.ensures.cell c.tile-cell.ensures.first (omega arith)
             (λ q own at by. c.tile-cell.ensures.largest q own at (omega arith)) refl),
-        rw c.id.ensures.value at (c.put-count.ensures.put longer room put),
+        c.in_ok-count.ensures.put longer old held,
       );
 }
 
 pub returns-clause-put : goal.returns-clause-put
-returns-clause-put c most list room p =
-    let (longer, tiling, put) = c.loop-first.invariant.tiled list room most p in
+returns-clause-put g c most list old h =
+    let (longer, tiling, held) = c.loop-first.invariant.tiled most list old h in
     let start = tiling.start in
     let past : c.args.hi ≤ c.loop-first.first = ⊎_elim
     (λ (h : c.args.lo < c.args.hi). let within = most h in omega arith)
     (λ (h : c.args.hi ≤ c.args.lo). omega arith)
     (cases_lt c.args.lo c.args.hi) in
-    (longer, tiling_done list longer c.args.lo c.args.hi c.loop-first.first tiling past, put)
+    (longer, tiling_done list longer c.args.lo c.args.hi c.loop-first.first tiling past, held)
