@@ -263,6 +263,16 @@ class Keys(unittest.TestCase):
         self.assertEqual(self.answered(session, ""), "")
         self.assertEqual(self.answered(session, "# count b"), "")
 
+    def test_letters_that_the_locale_lacks(self):
+        """They are bytes to readline, and kept as they were typed. The second locale isn't installed."""
+        for locale in "C", "xx_YY.UTF-8":
+            session = self.started(LC_ALL=locale)
+            for keys in "# é", UP:
+                self.assertEqual(self.answered(session, keys, "# \\303\\251"), "")
+            self.assertEqual(self.answered(session, "undo"), "error nothing\n  there is nothing to undo or redo\n")
+        with open(os.path.join(self.room, "state/s2calc/history"), encoding="utf-8") as it:
+            self.assertEqual(it.read(), "# é\nundo\n" * 2)
+
     def test_lines_typed_ahead(self):
         session = self.started()
         session.send("add a 04\rdenorm a 8 1\radd a 0c\rcount a\r")

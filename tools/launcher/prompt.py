@@ -198,10 +198,10 @@ class Keyboard:
         return path
 
     def keep(self, line):
-        last = self.readline.get_current_history_length()
-        if not line.strip() or last and self.readline.get_history_item(last) == line:
+        typed, last = os.fsencode(line), self.readline.get_current_history_length()
+        if not line.strip() or last and os.fsencode(self.readline.get_history_item(last)) == typed:
             return
-        self.readline.add_history(line)
+        self.readline.add_history(typed.decode("ascii", "surrogateescape"))  # the bytes, which any locale takes
         if self.path:
             try:
                 self.readline.append_history_file(1, self.path)
