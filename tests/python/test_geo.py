@@ -407,8 +407,10 @@ class Maps(unittest.TestCase):
     def test_the_command_line(self):
         self.assertEqual(said("leaves", text="2.3522 48.8566 Paris\n\n0 90 North Pole\n").stdout,
                          "47e66e1d8f8be23b\n5000000000000001\n")
-        for words, text, wanted in ((("leaves",), "x 1\n", "s2union_geo: a line begins with a longitude and a lat"),
-                                    (("leaves",), "1 91\n", r"comes first\): 91.0 at place 0\n"),
+        for words, text, wanted in ((("leaves",), "2 3\n\n2,35 4\n", "line 3 has no longitude .*: '2,35 4'\n"),
+                                    (("leaves",), "7\n", "s2union_geo: line 1 has no longitude and latitude at .*'7'"),
+                                    (("leaves",), "1 91\n", r"s2union_geo: line 1: a latitude .*comes first\): 91.0\n"),
+                                    (("leaves",), "\nnan 1\n", "line 2: a longitude is from -540 to 540: nan\n"),
                                     (("geojson", "none"), "", "s2union_geo: .*'none'\n"), ((), "", "Points, polygons"),
                                     (("leaves", "more"), "", "Points, polygons")):
             done = said(*words, text=text)

@@ -18,16 +18,26 @@ from pathlib import Path
 from s2union import CellUnion, tokens
 
 from . import coverings, leaves, read_geojson, to_geojson
+from .sphere import MOST, range_of
 
 NOTHING = {"type": "FeatureCollection", "features": []}
 
 
-def show_leaves():
-    words = [line.split()[:2] for line in sys.stdin if line.strip()]
+def point_of(line, number):
+    """The longitude and the latitude with which a line begins."""
     try:
-        points = [(float(longitude), float(latitude)) for longitude, latitude in words]
+        longitude, latitude = map(float, line.split()[:2])
     except ValueError:
-        raise ValueError("a line begins with a longitude and a latitude") from None
+        raise ValueError(f"line {number} has no longitude and latitude at its beginning, with a blank between them: "
+                         f"{line.strip()[:99]!r}") from None
+    for degrees, (what, most) in zip((longitude, latitude), MOST.items()):
+        if not abs(degrees) <= most:
+            raise ValueError(f"line {number}: {range_of(what)}: {degrees}")
+    return longitude, latitude
+
+
+def show_leaves():
+    points = [point_of(line, number) for number, line in enumerate(sys.stdin, 1) if line.strip()]
     if points:
         print(*tokens(leaves(*zip(*points))), sep="\n")
 
