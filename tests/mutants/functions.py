@@ -2,9 +2,9 @@
 
 Each is tried by the functions that it changes, over the libraries that `rt ci` has just proved. Mutants of different
 functions are made in one copy of the crate and checked together, since what is proved of a function says nothing of the
-text of another. There the functions that they call have a hole in place of a proof, as a proof rests on the statements
-of these alone. A mutant that isn't refused so is checked by itself, with those that it calls; and if it names no
-function, with the whole crate. The next check of the copy begins with what this one proved.
+text of another. There the functions that they call have no body, and a hole in place of a proof, as a proof rests on
+the statements of these alone. A mutant that isn't refused so is checked by itself, with those that it calls; and if it
+names no function, with the whole crate. The next check of the copy begins with what this one proved.
 
 `.ci/run` tries the gravest, which say so. --all tries all. Then, and if mutants are named, their functions have to be
 proved without them, since `rt ci` may not have judged these sources. The last line is 'N passed, M failed'. A mutant
@@ -25,8 +25,8 @@ import sys
 import tempfile
 from pathlib import Path
 
-from mutant_texts import (ALWAYS, FUNCTION, all_functions, files_of_mutants, functions_at, functions_of, make, misfit,
-                          mutants_of)
+from mutant_texts import (ALWAYS, FUNCTION, all_functions, drop_bodies, files_of_mutants, functions_at, functions_of,
+                          make, misfit, mutants_of)
 
 sys.path.insert(0, str(Path(__file__).resolve().parents[2] / "tools"))
 import verdicts  # noqa: E402
@@ -143,7 +143,7 @@ class Copy:
         written = {}
         for words in others:
             written.update(self.put_hole(words))
-        lines = self.checked(together, "--allow-holes", "--short-goals")
+        lines = self.checked(together, "--allow-holes", "--short-goals", taken=others)
         for words in others:
             (self.folder_of(words) / "Proof.antt").unlink()
         restore(written)
@@ -173,11 +173,13 @@ class Copy:
                 return mutant.says(verdict)
         return self.alone(mutant)
 
-    def checked(self, together, *more):
-        """What a check says of the functions of mutants; no lines if it came to no end, or a text can't be read."""
+    def checked(self, together, *more, taken=()):
+        """What a check says of the functions of mutants; no lines if it came to no end, or a text can't be read. The
+        bodies of those that are taken as proved aren't there."""
         originals = {}
         for mutant in together:
             originals = {**(made(mutant, self.folder) or {}), **originals}
+        originals = {**drop_bodies(self.folder, taken), **originals}
         only = [word for mutant in together for function in mutant.functions for word in ("--only", function)]
         _, lines = self.check("--incremental", "proved", *more, *only)
         restore(originals)

@@ -166,6 +166,38 @@ def all_functions(folder):
                    for block, name in blocks if block[4] in homes and not block[3]}
 
 
+def drop_bodies(folder, functions):
+    """Drops the bodies of these functions in a copy of the sources, but for those that constants call, and answers the
+    texts that it has replaced, by their paths. A function is given as `all_functions` has it."""
+    root, originals = Path(folder, "src"), {}
+    texts = {path: path.read_text() for path in sorted(root.rglob("*.rt"))}
+    homes = {kind: modules_of(path.relative_to(root)) for path, text in texts.items() for kind in TYPE.findall(text)}
+    for path, text in texts.items():
+        modules, lines = modules_of(path.relative_to(root)), text.split("\n")
+        for at, (block, name) in reversed(list(enumerate(places_of_lines(text)))):
+            home = (*homes.get(block[4], ()), owner(block)) if block else modules
+            is_one = FN.match(lines[at]) and "const fn" not in lines[at] and (*home, name) in functions
+            if is_one and (body := body_at(lines, at)):
+                lines[body] = ["unreachable!()"]
+        if "\n".join(lines) != text:
+            originals[path] = text
+            path.write_text("\n".join(lines))
+    return originals
+
+
+def body_at(lines, at):
+    """Where in the lines of a source, laid out by `rt fmt`, the body of the function stands that begins at a line, or
+    None if it has none."""
+    indent = re.match(" *", lines[at])[0]
+    for begin in range(at, len(lines)):
+        line = lines[begin]
+        if line == indent + "{" or line.endswith(" {") and (begin == at or line.startswith(indent + ")")):
+            return slice(begin + 1, lines.index(indent + "}", begin))
+        if line.endswith(("{}", ";")) and line.startswith((lines[at], indent + "{}", indent + ")")):
+            return None
+    return None
+
+
 def misfit(mutant, folder):
     """Why a mutant of the folder can't be tried, or None: a line has no meaning, it can't be made, or names a function
     or a test that isn't there."""
