@@ -104,7 +104,7 @@ def commands(table):
 
 def lost_commands(table):
     """Each command of table.rt, with what it lacks there."""
-    forms, arms = commands(table), set(re.findall(r'name == b"(\w+)"', table))
+    forms, arms = commands(table), set(re.findall(r'is\(name, b"(\w+)"', table))
     for name in sorted(arms.union(forms)):
         lacks = "" if name in forms and name in arms else "arm" if name in forms else "line of HELP"
         yield name, f"no {lacks} is there" if lacks else ""

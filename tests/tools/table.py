@@ -50,7 +50,7 @@ MISTAKES = [
             "LONGEST_LINE: usize = 4097;", "calculator.py: not what tools/calls makes"),
     Mistake("a command without a line of the help", "crates/s2script/src/table.rt",
             "  cell CELL                                describes the cell\n", "", "cell: no line of HELP is there"),
-    Mistake("a command without an arm", "crates/s2script/src/table.rt", 'name == b"square"', 'name == SQUARE',
+    Mistake("a command without an arm", "crates/s2script/src/table.rt", 'is(name, b"square")', 'is(name, SQUARE)',
             "square: no arm is there"),
     Mistake("another form of a command", "crates/s2script/src/table.rt", "\n  load r NAME   ", "\n  load s NAME   ",
             "docs/SCRIPT.md: not what tools/calls makes"),

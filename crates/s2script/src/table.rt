@@ -1,5 +1,6 @@
 //! The table of commands: each name, the form of the words after it, and what they ask for.
 ghost use Rattle.std.specs.Prelude.{◌≡◌};
+ghost use Rattle.std.specs.Str.{bytes_eq};
 ghost use Rattle.s2script.specs.declared.command.Command.TheVariants.{Edit as EditOf};
 ghost use Rattle.s2script.specs.declared.command.Question.TheVariants.{Compares};
 ghost use Rattle.s2script.specs.Table.{combination_of, command_of, covering_of, fact_of, file_or_move_of, question_of};
@@ -58,19 +59,19 @@ A line that can't be carried out is answered 'error NAME' and changes no registe
 pub(crate) fn command_of<'a>(name: &'a [u8], words: Words<'a>) -> Result<Command<'a>, Misfit<'a>>
     ensures { result ≡ command_of name.now words.entry }
 {
-    if name == b"add".as_slice() {
+    if is(name, b"add") {
         let (register, cells) = register_and_cells(words)?;
         Ok(edit_of(register, RegisterEdit::Add(cells)))
-    } else if name == b"remove".as_slice() {
+    } else if is(name, b"remove") {
         let (register, cells) = register_and_cells(words)?;
         Ok(edit_of(register, RegisterEdit::Remove(cells)))
-    } else if name == b"keep".as_slice() {
+    } else if is(name, b"keep") {
         let (register, cells) = register_and_cells(words)?;
         Ok(edit_of(register, RegisterEdit::Keep(cells)))
-    } else if name == b"clear".as_slice() {
+    } else if is(name, b"clear") {
         let register = one_register(words)?;
         Ok(edit_of(register, RegisterEdit::Clear))
-    } else if name == b"range".as_slice() {
+    } else if is(name, b"range") {
         let (register, span) = register_and_span(words)?;
         Ok(edit_of(register, RegisterEdit::Range(span)))
     } else {
@@ -84,16 +85,16 @@ pub(crate) fn command_of<'a>(name: &'a [u8], words: Words<'a>) -> Result<Command
 fn combination_of<'a>(name: &'a [u8], words: Words<'a>) -> Result<Command<'a>, Misfit<'a>>
     ensures { result ≡ combination_of name.now words.entry }
 {
-    if name == b"copy".as_slice() {
+    if is(name, b"copy") {
         let (register, other) = two_registers(words)?;
         Ok(edit_of(register, RegisterEdit::Copy(other)))
-    } else if name == b"union".as_slice() {
+    } else if is(name, b"union") {
         let (register, other) = two_registers(words)?;
         Ok(edit_of(register, RegisterEdit::Union(other)))
-    } else if name == b"intersect".as_slice() {
+    } else if is(name, b"intersect") {
         let (register, other) = two_registers(words)?;
         Ok(edit_of(register, RegisterEdit::Intersect(other)))
-    } else if name == b"subtract".as_slice() {
+    } else if is(name, b"subtract") {
         let (register, other) = two_registers(words)?;
         Ok(edit_of(register, RegisterEdit::Subtract(other)))
     } else {
@@ -107,16 +108,16 @@ fn combination_of<'a>(name: &'a [u8], words: Words<'a>) -> Result<Command<'a>, M
 fn covering_of<'a>(name: &'a [u8], words: Words<'a>) -> Result<Command<'a>, Misfit<'a>>
     ensures { result ≡ covering_of name.now words.entry }
 {
-    if name == b"outer".as_slice() {
+    if is(name, b"outer") {
         let (register, level, rect) = register_level_rect(words)?;
         Ok(edit_of(register, RegisterEdit::Outer { level, rect }))
-    } else if name == b"inner".as_slice() {
+    } else if is(name, b"inner") {
         let (register, level, rect) = register_level_rect(words)?;
         Ok(edit_of(register, RegisterEdit::Inner { level, rect }))
-    } else if name == b"outerof".as_slice() {
+    } else if is(name, b"outerof") {
         let (register, other, level, rect) = registers_level_rect(words)?;
         Ok(edit_of(register, RegisterEdit::OuterOf { other, level, rect }))
-    } else if name == b"innerof".as_slice() {
+    } else if is(name, b"innerof") {
         let (register, other, level, rect) = registers_level_rect(words)?;
         Ok(edit_of(register, RegisterEdit::InnerOf { other, level, rect }))
     } else {
@@ -130,22 +131,22 @@ fn covering_of<'a>(name: &'a [u8], words: Words<'a>) -> Result<Command<'a>, Misf
 fn file_or_move_of<'a>(name: &'a [u8], mut words: Words<'a>) -> Result<Command<'a>, Misfit<'a>>
     ensures { result ≡ file_or_move_of name.now words.entry }
 {
-    if name == b"load".as_slice() {
+    if is(name, b"load") {
         let (register, name) = register_and_name(words)?;
         Ok(Command::Load { register, name })
-    } else if name == b"save".as_slice() {
+    } else if is(name, b"save") {
         let (register, name) = register_and_name(words)?;
         Ok(Command::Save { register, name })
-    } else if name == b"dump".as_slice() {
+    } else if is(name, b"dump") {
         let name = one_name(words)?;
         Ok(Command::Dump { name })
-    } else if name == b"restore".as_slice() {
+    } else if is(name, b"restore") {
         let name = one_name(words)?;
         Ok(Command::Restore { name })
-    } else if name == b"undo".as_slice() {
+    } else if is(name, b"undo") {
         words.end()?;
         Ok(Command::Undo)
-    } else if name == b"redo".as_slice() {
+    } else if is(name, b"redo") {
         words.end()?;
         Ok(Command::Redo)
     } else {
@@ -160,25 +161,25 @@ fn file_or_move_of<'a>(name: &'a [u8], mut words: Words<'a>) -> Result<Command<'
 fn question_of<'a>(name: &'a [u8], words: Words<'a>) -> Result<Question, Misfit<'a>>
     ensures { result ≡ question_of name.now words.entry }
 {
-    if name == b"show".as_slice() {
+    if is(name, b"show") {
         let register = one_register(words)?;
         Ok(Question::Show(register))
-    } else if name == b"count".as_slice() {
+    } else if is(name, b"count") {
         let register = one_register(words)?;
         Ok(Question::Count(register))
-    } else if name == b"has".as_slice() {
+    } else if is(name, b"has") {
         let (register, cell) = register_and_cell(words)?;
         Ok(Question::Has { register, cell })
-    } else if name == b"touches".as_slice() {
+    } else if is(name, b"touches") {
         let (register, cell) = register_and_cell(words)?;
         Ok(Question::Touches { register, cell })
-    } else if name == b"covers".as_slice() {
+    } else if is(name, b"covers") {
         let (register, other) = two_registers(words)?;
         Ok(compares(Comparison::Covers, register, other))
-    } else if name == b"meets".as_slice() {
+    } else if is(name, b"meets") {
         let (register, other) = two_registers(words)?;
         Ok(compares(Comparison::Meets, register, other))
-    } else if name == b"denorm".as_slice() {
+    } else if is(name, b"denorm") {
         let (register, least, modulus) = register_level_modulus(words)?;
         Ok(Question::Denorm {
             register,
@@ -196,16 +197,16 @@ fn question_of<'a>(name: &'a [u8], words: Words<'a>) -> Result<Question, Misfit<
 fn fact_of<'a>(name: &'a [u8], mut words: Words<'a>) -> Result<Question, Misfit<'a>>
     ensures { result ≡ fact_of name.now words.entry }
 {
-    if name == b"cell".as_slice() {
+    if is(name, b"cell") {
         let cell = one_cell(words)?;
         Ok(Question::Cell(cell))
-    } else if name == b"at".as_slice() {
+    } else if is(name, b"at") {
         let place = one_place(words)?;
         Ok(Question::At(place))
-    } else if name == b"square".as_slice() {
+    } else if is(name, b"square") {
         let cell = one_cell(words)?;
         Ok(Question::Square(cell))
-    } else if name == b"history".as_slice() {
+    } else if is(name, b"history") {
         words.end()?;
         Ok(Question::History)
     } else {
@@ -229,4 +230,13 @@ fn compares(comparison: Comparison, register: Register, other: Register) -> Ques
         register,
         other,
     }
+}
+
+/// Whether a name is this one. With two calls in each arm, of `as_slice` and `==`, the functions of the table took a
+/// third longer to prove.
+#[inline(always)]
+fn is(name: &[u8], this: &[u8]) -> bool
+    ensures { result ≡ bytes_eq name.now this.now }
+{
+    name == this
 }
