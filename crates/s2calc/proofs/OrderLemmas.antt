@@ -21,7 +21,7 @@ use Rattle.s2calc.specs.Calls.{Call, Flushed, Gains, Gained, AllWell, EndsWith, 
 use Rattle.s2calc.specs.Reads.{Gives, ReadsLast}
 use Rattle.s2calc.specs.Flushing.{FlushedIfOk, Settled}
 use Rattle.s2calc.specs.Working.Stands.{point, Stands, Answered, StandsAfter, Closes}
-use Rattle.s2calc.specs.Moments.{Event, Came, NotCame, LineBegins, LineEnds, Moment, moment, bytes_of, read_of}
+use Rattle.s2calc.specs.Moments.{Event, Came, ReadFailed, LineBegins, LineEnds, Moment, moment, bytes_of, read_of}
 use Rattle.s2calc.specs.Moments.{bytes_read, reads_seen, begun_in, ended_in, Adds, AddsOne}
 use Rattle.s2calc.specs.Order.{HasEnded, AllOut, GoneOut, ReadsWhen, LineWhen, MayCome, EachMay, Each, InOrder}
 use Rattle.s2calc.specs.Order.{Ordered}
@@ -173,7 +173,7 @@ module _ {W S : Type 0} {Written Written' : W → List ℕ → Type 0} {Called C
       MayCome Written Called is_sent files may_flush start all e past m →
       MayCome Written' Called' is_sent files may_flush start longer e past m
   may_so (Came bytes) past m r = reads_so past m r
-  may_so NotCame past m r = reads_so past m r
+  may_so ReadFailed past m r = reads_so past m r
   may_so LineBegins past m l = line_so past m l
   may_so LineEnds past m l = line_so past m l
 
@@ -659,7 +659,7 @@ module _ {W S : Type 0} (contents : W → Option (List ℕ)) (calls : W → Opti
     -- a read failed
     pub SeenSoFar-failed : (ms ns : List (Moment W S)) → Gains made_before made_now (None ∷ []) →
         SeenSoFar contents calls is_sent files may_flush start.world first script replies made_first made_before ms
-        → ns ≡ moment NotCame writer shelf ∷ []
+        → ns ≡ moment ReadFailed writer shelf ∷ []
         → SeenSoFar contents calls is_sent files may_flush start.world first script replies made_first made_now
         (ms ++ ns)
     SeenSoFar-failed ms ns made seen e =
@@ -674,9 +674,9 @@ module _ {W S : Type 0} (contents : W → Option (List ℕ)) (calls : W → Opti
           each = EachMay-append start.world first replies [] ms ns seen.each
               (subst (λ (k : List (Moment W S)).
               Each contents calls is_sent files may_flush start.world first replies ms k) (sym e)
-              (reads_when NotCame ms seen, tt));
+              (reads_when ReadFailed ms seen, tt));
           read = bytes_read-quiet ms ns none ∙ seen.read;
-          made = made_more ms ns NotCame seen e made;
+          made = made_more ms ns ReadFailed seen e made;
           begins = omega (arith, begun, all_begun, first_begun);
           ends = omega (arith, ended, all_ended, first_ended);
         }

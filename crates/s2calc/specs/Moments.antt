@@ -6,40 +6,40 @@ use Rattle.std.specs.Prelude.{Result, Ok, Err}
 -- out; and that it is answered
 pub data Event : Type 0 where
   Came : (bytes : List ℕ) → Event
-  NotCame : Event
+  ReadFailed : Event
   LineBegins : Event
   LineEnds : Event
 
 -- what a read was, by its answer and by what its buffer holds after it
 abbrev pub read_event : {E : Type 0} → Result ℕ E → List ℕ → Event
 read_event (Ok count) buffer = Came (take count buffer)
-read_event (Err error) buffer = NotCame
+read_event (Err error) buffer = ReadFailed
 
 -- the bytes that came
 abbrev pub bytes_of : Event → List ℕ
 bytes_of (Came bytes) = bytes
-bytes_of NotCame = []
+bytes_of ReadFailed = []
 bytes_of LineBegins = []
 bytes_of LineEnds = []
 
 -- what a read gave: a number of bytes, or None if it failed
 abbrev pub read_of : Event → List (Option ℕ)
 read_of (Came bytes) = Some (length bytes) ∷ []
-read_of NotCame = None ∷ []
+read_of ReadFailed = None ∷ []
 read_of LineBegins = []
 read_of LineEnds = []
 
 -- how many lines begin
 abbrev pub begins_of : Event → ℕ
 begins_of (Came bytes) = 0
-begins_of NotCame = 0
+begins_of ReadFailed = 0
 begins_of LineBegins = 1
 begins_of LineEnds = 0
 
 -- how many lines end
 abbrev pub ends_of : Event → ℕ
 ends_of (Came bytes) = 0
-ends_of NotCame = 0
+ends_of ReadFailed = 0
 ends_of LineBegins = 0
 ends_of LineEnds = 1
 

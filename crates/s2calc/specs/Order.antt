@@ -12,13 +12,13 @@ use Rattle.s2calc.specs.Replies.{Reply, texts}
 use Rattle.s2calc.specs.Step.{asks_for_file}
 use Rattle.s2calc.specs.Run.{Steps, Known, Ran, WereReadWhole}
 use Rattle.s2calc.specs.Calls.{Call, Flushed, AllWell, EndsWith, Gains, Gained}
-use Rattle.s2calc.specs.Moments.{Event, Came, NotCame, LineBegins, LineEnds, Moment, bytes_read, ends_of}
+use Rattle.s2calc.specs.Moments.{Event, Came, ReadFailed, LineBegins, LineEnds, Moment, bytes_read, ends_of}
 use Rattle.s2calc.specs.Moments.{reads_seen, begun_in, ended_in, Adds}
 
 -- the lines that are carried out where a line begins or ends: those before it, and then the line too
 abbrev pub done_at : Event → List (List ℕ) → List ℕ → List (List ℕ)
 done_at (Came bytes) before line = before
-done_at NotCame before line = before
+done_at ReadFailed before line = before
 done_at LineBegins before line = before
 done_at LineEnds before line = before ++ line ∷ []
 
@@ -74,7 +74,7 @@ module _ {W S : Type 0} (Written : W → List ℕ → Type 0) (Called : W → (L
   -- this moment may come after those before it
   abbrev pub MayCome : Event → List (Moment W S) → Moment W S → Type 0
   MayCome (Came bytes) past now = ReadsWhen past now
-  MayCome NotCame past now = ReadsWhen past now
+  MayCome ReadFailed past now = ReadsWhen past now
   MayCome LineBegins past now = LineWhen past now
   MayCome LineEnds past now = LineWhen past now
 

@@ -12,29 +12,29 @@ use Rattle.s2shelf.specs.Shelf.{closed}
 -- closed.
 pub data ShelfCall : Type 0 where
   HandedOver : (name : List ℕ) (most : ℕ) (bytes : List ℕ) → ShelfCall
-  HadNone : (name : List ℕ) → ShelfCall
+  Missing : (name : List ℕ) → ShelfCall
   OpenedFile : (name : List ℕ) → ShelfCall
   Stored : (name bytes : List ℕ) → ShelfCall
   Failed : (name : List ℕ) (fault : ShelfFault) → ShelfCall
   ClosedFile : (name bytes : List ℕ) (ended : Bool) → ShelfCall
-  ClosedNot : (name bytes : List ℕ) (fault : ShelfFault) → ShelfCall
+  CloseFailed : (name bytes : List ℕ) (fault : ShelfFault) → ShelfCall
 
 -- what a call was that asked for the first `most` bytes of a file, by its answer
 abbrev pub get_call : {V : Type 0} → (V → List ℕ) → List ℕ → ℕ → Result (Option V) ShelfFault → ShelfCall
-get_call bytes name most (Ok None) = HadNone name
+get_call bytes name most (Ok None) = Missing name
 get_call bytes name most (Ok (Some content)) = HandedOver name most (bytes content)
 get_call bytes name most (Err fault) = Failed name fault
 
 -- what an opening was, by its answer
 abbrev pub open_call : {F : Type 0} → List ℕ → Result (Option F) ShelfFault → ShelfCall
-open_call name (Ok None) = HadNone name
+open_call name (Ok None) = Missing name
 open_call name (Ok (Some file)) = OpenedFile name
 open_call name (Err fault) = Failed name fault
 
 -- what a closing was, by its file and its answer
 abbrev pub close_call : {F : Type 0} → File F → Result (Unit {0}) ShelfFault → ShelfCall
 close_call file (Ok _) = ClosedFile (name_of file) (given file) (has_ended file)
-close_call file (Err fault) = ClosedNot (name_of file) (given file) fault
+close_call file (Err fault) = CloseFailed (name_of file) (given file) fault
 
 -- what a call was that was given bytes to store, by its answer
 abbrev pub put_call : List ℕ → List ℕ → Result (Unit {0}) ShelfFault → ShelfCall
@@ -46,10 +46,10 @@ put_call name bytes (Err fault) = Failed name fault
 abbrev pub found_after : List Found → ShelfCall → List Found
 found_after before (HandedOver name most bytes) =
     record { name = name; finding = finding_begun most (Some bytes) } ∷ before
-found_after before (HadNone name) = record { name = name; finding = NoFile } ∷ before
+found_after before (Missing name) = record { name = name; finding = NoFile } ∷ before
 found_after before (OpenedFile name) = record { name = name; finding = Opened } ∷ before
 found_after before (Stored name bytes) = record { name = name; finding = Written bytes } ∷ before
 found_after before (Failed name fault) = record { name = name; finding = ItFailed fault } ∷ before
 found_after before (ClosedFile name bytes ended) =
     closed (record { name = name; finding = finding_read ended bytes }) before
-found_after before (ClosedNot name bytes fault) = closed (record { name = name; finding = ItFailed fault }) before
+found_after before (CloseFailed name bytes fault) = closed (record { name = name; finding = ItFailed fault }) before

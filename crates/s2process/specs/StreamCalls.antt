@@ -12,77 +12,77 @@ use Rattle.s2calc.specs.Calls.{Call}
 -- shelf
 pub data StreamCall : Type 0 where
   Gave : (others : ℕ) (bytes : List ℕ) → StreamCall
-  GaveNot : StreamCall
+  ReadFailed : StreamCall
   Took : (bytes : List ℕ) → StreamCall
-  TookNot : StreamCall
+  WriteFailed : StreamCall
   Flushed : StreamCall
-  FlushedNot : StreamCall
+  FlushFailed : StreamCall
   OfShelf : (call : ShelfCall) → StreamCall
 
 -- what a read was, by its answer, its room, which isn't 0 if it succeeds, and what its buffer holds after it
 abbrev pub read_call : {E : Type 0} → Result ℕ E → ℕ → List ℕ → StreamCall
 read_call (Ok count) room buffer = Gave (room - 1) (take count buffer)
-read_call (Err error) room buffer = GaveNot
+read_call (Err error) room buffer = ReadFailed
 
 -- what a write was, by its answer and its bytes
 abbrev pub write_call : {E : Type 0} → Result ℕ E → List ℕ → StreamCall
 write_call (Ok count) bytes = Took (take count bytes)
-write_call (Err error) bytes = TookNot
+write_call (Err error) bytes = WriteFailed
 
 -- what a flush was, by its answer
 abbrev pub flush_call : {E : Type 0} → Result (Unit {0}) E → StreamCall
 flush_call (Ok _) = Flushed
-flush_call (Err error) = FlushedNot
+flush_call (Err error) = FlushFailed
 
 -- the bytes that a write took
 abbrev pub taken_by : StreamCall → List ℕ
 taken_by (Gave others bytes) = []
-taken_by GaveNot = []
+taken_by ReadFailed = []
 taken_by (Took bytes) = bytes
-taken_by TookNot = []
+taken_by WriteFailed = []
 taken_by Flushed = []
-taken_by FlushedNot = []
+taken_by FlushFailed = []
 taken_by (OfShelf call) = []
 
 -- how a call of a writer ended; a write that takes nothing has failed
 abbrev pub called_by : StreamCall → List Call
 called_by (Gave others bytes) = []
-called_by GaveNot = []
+called_by ReadFailed = []
 called_by (Took []) = calls.Failed ∷ []
 called_by (Took (byte ∷ bytes)) = calls.Wrote ∷ []
-called_by TookNot = calls.Failed ∷ []
+called_by WriteFailed = calls.Failed ∷ []
 called_by Flushed = calls.Flushed ∷ []
-called_by FlushedNot = calls.Failed ∷ []
+called_by FlushFailed = calls.Failed ∷ []
 called_by (OfShelf call) = []
 
 -- how many bytes a read gave, or None if it failed
 abbrev pub read_by : StreamCall → List (Option ℕ)
 read_by (Gave others bytes) = Some (length bytes) ∷ []
-read_by GaveNot = None ∷ []
+read_by ReadFailed = None ∷ []
 read_by (Took bytes) = []
-read_by TookNot = []
+read_by WriteFailed = []
 read_by Flushed = []
-read_by FlushedNot = []
+read_by FlushFailed = []
 read_by (OfShelf call) = []
 
 -- the bytes that a read gave
 abbrev pub given_by : StreamCall → List ℕ
 given_by (Gave others bytes) = bytes
-given_by GaveNot = []
+given_by ReadFailed = []
 given_by (Took bytes) = []
-given_by TookNot = []
+given_by WriteFailed = []
 given_by Flushed = []
-given_by FlushedNot = []
+given_by FlushFailed = []
 given_by (OfShelf call) = []
 
 -- what is found, newest first, after this was found and then a call made
 abbrev pub found_after : List Found → StreamCall → List Found
 found_after before (Gave others bytes) = before
-found_after before GaveNot = before
+found_after before ReadFailed = before
 found_after before (Took bytes) = before
-found_after before TookNot = before
+found_after before WriteFailed = before
 found_after before Flushed = before
-found_after before FlushedNot = before
+found_after before FlushFailed = before
 found_after before (OfShelf call) = shelf.found_after before call
 
 -- all bytes that the reads gave

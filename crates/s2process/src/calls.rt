@@ -10,14 +10,14 @@ pub(crate) type CallList = GhostList<Call>;
 pub(crate) struct Call;
 
 impl Model for Call {
-    ghost use Rattle.s2process.specs.StreamCalls.{StreamCall, GaveNot};
+    ghost use Rattle.s2process.specs.StreamCalls.{StreamCall, ReadFailed};
     ghost use Rattle.s2process.specs.Working.Coded.{stream_call_coded};
 
     ghost Value = { StreamCall };
 
     ghost coded = { stream_call_coded };
 
-    ghost view = { λ _. GaveNot };
+    ghost view = { λ _. ReadFailed };
 }
 
 /// One call, as it is given to the list.
@@ -26,15 +26,15 @@ pub(crate) enum OneCall<'a> {
     /// A read that gave these bytes; it had room for this many.
     Gave(&'a [u8], usize),
     /// A read that failed.
-    GaveNot,
+    ReadFailed,
     /// A write that took these bytes.
     Took(&'a [u8]),
     /// A write that failed.
-    TookNot,
+    WriteFailed,
     /// A flush.
     Flushed,
     /// A flush that failed.
-    FlushedNot,
+    FlushFailed,
     /// A call of a shelf.
     OfShelf(OneShelfCall<'a>),
 }
@@ -45,7 +45,7 @@ pub(crate) enum OneShelfCall<'a> {
     /// Of the file of this name the first bytes were asked for, this many, and these were handed over.
     HandedOver(&'a str, usize, &'a [u8]),
     /// There is no file of this name.
-    HadNone(&'a str),
+    Missing(&'a str),
     /// The file of this name was opened.
     OpenedFile(&'a str),
     /// These bytes were stored under this name.
@@ -56,7 +56,7 @@ pub(crate) enum OneShelfCall<'a> {
     /// them gave none.
     ClosedFile(&'a GhostList<Piece>, &'a GhostList<Piece>, bool),
     /// The closing of a file that was opened under this name failed, after reads that gave these bytes.
-    ClosedNot(&'a GhostList<Piece>, &'a GhostList<Piece>, ShelfFault),
+    CloseFailed(&'a GhostList<Piece>, &'a GhostList<Piece>, ShelfFault),
 }
 
 impl<'a> Shows<Call> for OneCall<'a> {

@@ -12,14 +12,14 @@ pub(crate) struct OneMoment<W, S> {
 }
 
 impl<W, S> Model for OneMoment<W, S> {
-    ghost use Rattle.s2calc.specs.Moments.{Moment, moment, NotCame};
+    ghost use Rattle.s2calc.specs.Moments.{Moment, moment, ReadFailed};
     ghost use Rattle.s2process.specs.Working.Coded.{moment_coded};
 
     ghost Value = { Moment W S };
 
     ghost coded = { moment_coded W.code S.code };
 
-    ghost view = { λ m. moment NotCame m.writer m.shelf };
+    ghost view = { λ m. moment ReadFailed m.writer m.shelf };
 }
 
 /// What is seen at a moment, as it is given to the list.
@@ -28,7 +28,7 @@ pub(crate) enum Sight<'a> {
     /// A read, and the bytes that it gave.
     Came(&'a [u8]),
     /// A read that failed.
-    NotCame,
+    ReadFailed,
     /// That a line is about to be carried out.
     LineBegins,
     /// That it is answered.

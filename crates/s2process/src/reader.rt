@@ -53,14 +53,14 @@ impl<R: Source> Source for ListedReader<R> {
         ensures call { Gains (Some (reads self.old)) (Some (reads self.new)) (what_came result ∷ []) }
     {
         if buf.is_empty() {
-            self.calls = self.calls.and(&OneCall::GaveNot);
+            self.calls = self.calls.and(&OneCall::ReadFailed);
             return Err(io::Error::from(ErrorKind::InvalidInput));
         }
         let room = buf.len();
         let result = self.reader.read(buf);
         match &result {
             Ok(count) => self.calls = self.calls.and(&OneCall::Gave(&buf[..*count], room)),
-            Err(_) => self.calls = self.calls.and(&OneCall::GaveNot),
+            Err(_) => self.calls = self.calls.and(&OneCall::ReadFailed),
         }
         result
     }

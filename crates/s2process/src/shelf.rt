@@ -63,7 +63,7 @@ impl<S: Shelf> Shelf for ListedShelf<S> {
                 Ok(Some(file))
             }
             Ok(None) => {
-                self.list(OneShelfCall::HadNone(name));
+                self.list(OneShelfCall::Missing(name));
                 Ok(None)
             }
             Err(fault) => {
@@ -90,7 +90,7 @@ impl<S: Shelf> Shelf for ListedShelf<S> {
                 Ok(())
             }
             Err(fault) => {
-                self.list(OneShelfCall::ClosedNot(&name, &given, fault));
+                self.list(OneShelfCall::CloseFailed(&name, &given, fault));
                 Err(fault)
             }
         }
@@ -114,7 +114,7 @@ impl<S: Shelf> Shelf for ListedShelf<S> {
                 Ok(Some(bytes))
             }
             Ok(None) => {
-                self.list(OneShelfCall::HadNone(name));
+                self.list(OneShelfCall::Missing(name));
                 Ok(None)
             }
             Err(fault) => {

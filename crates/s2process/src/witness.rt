@@ -38,7 +38,7 @@ impl<R: Source, W: Sink, S: Shelf> Observer<W, S> for Witness<R, W, S> {
         let result = reader.read(buf);
         match &result {
             Ok(count) => self.list = self.list.and(&(Sight::Came(&buf[..*count]), writer, shelf)),
-            Err(_) => self.list = self.list.and(&(Sight::NotCame, writer, shelf)),
+            Err(_) => self.list = self.list.and(&(Sight::ReadFailed, writer, shelf)),
         }
         result
     }

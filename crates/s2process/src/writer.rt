@@ -56,7 +56,7 @@ impl<W: Sink> Sink for ListedWriter<W> {
         let result = self.writer.write(bytes);
         match &result {
             Ok(count) => self.calls = self.calls.and(&OneCall::Took(&bytes[..*count])),
-            Err(_) => self.calls = self.calls.and(&OneCall::TookNot),
+            Err(_) => self.calls = self.calls.and(&OneCall::WriteFailed),
         }
         result
     }
@@ -73,7 +73,7 @@ impl<W: Sink> Sink for ListedWriter<W> {
         let result = self.writer.flush();
         match &result {
             Ok(()) => self.calls = self.calls.and(&OneCall::Flushed),
-            Err(_) => self.calls = self.calls.and(&OneCall::FlushedNot),
+            Err(_) => self.calls = self.calls.and(&OneCall::FlushFailed),
         }
         result
     }

@@ -1,7 +1,7 @@
 -- What a contract sees of an observer that lists what it sees.
 use Rattle.std.specs.Prelude.{List, Option, map, option_map, Vec}
 use Rattle.std.specs.declared.alloc.Global.{Global}
-use Rattle.s2calc.specs.Moments.{Event, Came, NotCame, LineBegins, LineEnds, Moment, moment}
+use Rattle.s2calc.specs.Moments.{Event, Came, ReadFailed, LineBegins, LineEnds, Moment, moment}
 use Rattle.test_script.specs.declared.watcher.Sight.{Sight}
 use Rattle.test_script.specs.declared.watcher.Sight.TheVariants.{Bytes, NoBytes, Begin, End}
 use Rattle.test_script.specs.declared.watcher.Sighting.{Sighting}
@@ -10,7 +10,7 @@ use Rattle.test_script.specs.Working.Known.{entries}
 -- what was seen, as a contract has it
 abbrev pub event_of : Sight → Event
 event_of (Bytes bytes) = Came bytes.items
-event_of NoBytes = NotCame
+event_of NoBytes = ReadFailed
 event_of Begin = LineBegins
 event_of End = LineEnds
 
