@@ -14,7 +14,7 @@ mod prompt;
 use crate::folders::{SystemFolder, SystemFolders};
 use crate::prompt::PromptingReader;
 use s2calc::{AnswerBuffer, Job, Sink, Source, Stop, job};
-use s2process::{Ended, ListedReader, ListedWriter, Streams, Witness, program};
+use s2process::{Ended, ListedObserver, ListedReader, ListedWriter, Streams, program};
 use std::alloc::Global;
 use std::io::ErrorKind;
 use std::process::ExitCode;
@@ -26,26 +26,26 @@ fn main(rt: HostRuntime) -> ExitCode {
     let input = PromptingReader::new(rt.reader(), rt.stderr(), prompts);
     let streams = Streams::new(input, io::writer(&rt), rt.stderr());
     let folders = SystemFolders { rt: &rt };
-    let mut witness = Witness::new();
-    let ended = calculator(rt.alloc(), asked, streams, folders, &mut witness);
+    let mut observer = ListedObserver::new();
+    let ended = calculator(rt.alloc(), asked, streams, folders, &mut observer);
     ExitCode::from(ended.status)
 }
 
 /// Does what the program is asked for, over streams of which nothing was called, and over the folders of the system.
-/// The witness has seen nothing.
+/// The observer has seen nothing.
 pub fn calculator<'a, R: Source + Drop, W: Sink + Drop, E: Sink + Drop>(
     alloc: Global,
     asked: Result<Job, Stop>,
     streams: Streams<R, W, E>,
     folders: SystemFolders<'a>,
-    witness: &mut Witness<ListedReader<R>, AnswerBuffer<ListedWriter<W>>, SystemFolder<'a>>,
+    observer: &mut ListedObserver<ListedReader<R>, AnswerBuffer<ListedWriter<W>>, SystemFolder<'a>>,
 ) -> Ended<R, W, E, SystemFolders<'a>, SystemFolder<'a>>
     requires range { IfOk asked IsInRange }
     requires nothing_called { AreNew streams }
-    requires nothing_seen { moments_of witness.old ≡ [] }
-    ensures { Does system_files IsMadeAt (moments_of witness.new) result asked }
+    requires nothing_seen { moments_of observer.old ≡ [] }
+    ensures { Does system_files IsMadeAt (moments_of observer.new) result asked }
 {
-    program(alloc, asked, streams, folders, witness)
+    program(alloc, asked, streams, folders, observer)
 }
 
 /// What the words of the command line ask for.

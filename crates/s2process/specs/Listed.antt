@@ -1,4 +1,4 @@
--- What the lists of a reader, a writer, a shelf and a witness hold.
+-- What the lists of a reader, a writer, a shelf and an observer hold.
 use Rattle.std.specs.Prelude.{ℕ, false, List, Option, Some, None}
 use Rattle.s2shelf.specs.Shelf.{Files}
 use Rattle.s2calc.specs.Calls.{Call}
@@ -6,7 +6,7 @@ use Rattle.s2calc.specs.Moments.{Moment}
 use Rattle.s2process.specs.declared.reader.ListedReader.{ListedReader}
 use Rattle.s2process.specs.declared.writer.ListedWriter.{ListedWriter}
 use Rattle.s2process.specs.declared.shelf.ListedShelf.{ListedShelf}
-use Rattle.s2process.specs.declared.witness.Witness.{Witness}
+use Rattle.s2process.specs.declared.observer.ListedObserver.{ListedObserver}
 use Rattle.s2process.specs.StreamCalls.{StreamCall, given_in, taken_in, called_in, reads_in, found_in}
 
 -- the calls of a reader, in order
@@ -53,6 +53,6 @@ listed_files files s = record {
   calls = (files (shelf_below s)).calls;
 }
 
--- the moments that a witness has seen, in order
-abbrev pub moments_of : {R W S : Type 0} → Witness R W S → List (Moment W S)
+-- the moments that an observer has seen, in order
+abbrev pub moments_of : {R W S : Type 0} → ListedObserver R W S → List (Moment W S)
 moments_of w = w.list.entries

@@ -24,7 +24,7 @@ impl<W, S> Model for OneMoment<W, S> {
 
 /// What is seen at a moment, as it is given to the list.
 #[derive(Clone, Copy, Drop)]
-pub(crate) enum Sight<'a> {
+pub(crate) enum OneEvent<'a> {
     /// A read, and the bytes that it gave.
     Came(&'a [u8]),
     /// A read that failed.
@@ -35,7 +35,7 @@ pub(crate) enum Sight<'a> {
     LineEnds,
 }
 
-impl<'a, W, S> Shows<OneMoment<W, S>> for (Sight<'a>, &'a W, &'a S) {
+impl<'a, W, S> Shows<OneMoment<W, S>> for (OneEvent<'a>, &'a W, &'a S) {
     ghost use Rattle.s2calc.specs.Moments.{moment};
     ghost use Rattle.s2process.specs.Working.Shown.{seen};
 

@@ -8,10 +8,10 @@ ghost use Rattle.s2process.specs.Program.{Does, DoesJob, Stops};
 use crate::answers::{FileQuestion, answer_of_files};
 use crate::ended::{Ended, end_answer, end_usage, not_begun};
 use crate::folders::{Folders, Opening};
+use crate::observer::ListedObserver;
 use crate::reader::ListedReader;
 use crate::scripts::run_script;
 use crate::streams::Streams;
-use crate::witness::Witness;
 use crate::writer::ListedWriter;
 use s2calc::{AnswerBuffer, Job, Sink, Source, Stop, cell_answer, draw_cells_answer, say};
 use s2edit::Editor;
@@ -26,15 +26,15 @@ pub fn program<R: Source + Drop, W: Sink + Drop, E: Sink + Drop, F: Folders + Dr
     asked: Result<Job, Stop>,
     streams: Streams<R, W, E>,
     folders: F,
-    witness: &mut Witness<ListedReader<R>, AnswerBuffer<ListedWriter<W>>, F::Folder>,
+    observer: &mut ListedObserver<ListedReader<R>, AnswerBuffer<ListedWriter<W>>, F::Folder>,
 ) -> Ended<R, W, E, F, F::Folder>
     requires range { IfOk asked IsInRange }
     requires nothing_called { AreNew streams }
-    requires nothing_seen { moments_of witness.old ≡ [] }
-    ensures { Does F.Folder.files F.opened (moments_of witness.new) result asked }
+    requires nothing_seen { moments_of observer.old ≡ [] }
+    ensures { Does F.Folder.files F.opened (moments_of observer.new) result asked }
 {
     match asked {
-        Ok(job) => answer(alloc, job, streams, folders, witness),
+        Ok(job) => answer(alloc, job, streams, folders, observer),
         Err(stop) => answer_stop(alloc, stop, streams, folders),
     }
 }
@@ -45,12 +45,12 @@ fn answer<R: Source + Drop, W: Sink + Drop, E: Sink + Drop, F: Folders + Drop>(
     job: Job,
     mut streams: Streams<R, W, E>,
     folders: F,
-    witness: &mut Witness<ListedReader<R>, AnswerBuffer<ListedWriter<W>>, F::Folder>,
+    observer: &mut ListedObserver<ListedReader<R>, AnswerBuffer<ListedWriter<W>>, F::Folder>,
 ) -> Ended<R, W, E, F, F::Folder>
     requires range { IsInRange job }
     requires nothing_called { AreNew streams }
-    requires nothing_seen { moments_of witness.old ≡ [] }
-    ensures { DoesJob F.Folder.files F.opened (moments_of witness.new) result job }
+    requires nothing_seen { moments_of observer.old ≡ [] }
+    ensures { DoesJob F.Folder.files F.opened (moments_of observer.new) result job }
 {
     match job {
         Job::Run {
@@ -67,7 +67,7 @@ fn answer<R: Source + Drop, W: Sink + Drop, E: Sink + Drop, F: Folders + Drop>(
                 explain,
                 streams,
                 folders,
-                witness,
+                observer,
             ),
             Err(_) => not_begun(streams, Opening::Unopened(folders)),
         },

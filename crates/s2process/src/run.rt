@@ -5,8 +5,8 @@ ghost use Rattle.s2process.specs.Listed.{calls_of_reader, given, reads, calls_of
 ghost use Rattle.s2process.specs.Process.{RunsListed};
 ghost use Rattle.s2process.specs.Explained.{Explains};
 
+use crate::observer::ListedObserver;
 use crate::reader::ListedReader;
-use crate::witness::Witness;
 use crate::writer::ListedWriter;
 use s2calc::{AnswerBuffer, NoteWriter, Promptly, RunFault, Sink, Source, Tally, run_with};
 use s2edit::Editor;
@@ -26,22 +26,22 @@ pub fn run_listed<R: Source, W: Sink, S: Shelf, N: Sink>(
     writer: &mut AnswerBuffer<ListedWriter<W>>,
     shelf: &mut S,
     notes: &mut NoteWriter<ListedWriter<N>>,
-    witness: &mut Witness<ListedReader<R>, AnswerBuffer<ListedWriter<W>>, S>,
+    observer: &mut ListedObserver<ListedReader<R>, AnswerBuffer<ListedWriter<W>>, S>,
 ) -> Result<Tally, RunFault>
     requires nothing_read { calls_of_reader reader.old ≡ [] }
     requires nothing_written { calls_of writer.old.writer ≡ [] }
     requires nothing_waits { writer.old.waiting ≡ [] }
     requires no_notes { calls_of notes.old.writer ≡ [] }
-    requires nothing_seen { moments_of witness.old ≡ [] }
+    requires nothing_seen { moments_of observer.old ≡ [] }
     ensures { (runs : RunsListed taken called S.files (given reader.new) (reads reader.new)
-        (world editor.old (S.files shelf.old)) (world editor.new (S.files shelf.new)) (moments_of witness.new)
+        (world editor.old (S.files shelf.old)) (world editor.new (S.files shelf.new)) (moments_of observer.new)
         writer.new.writer writer.new.waiting result)
         × (notes.old.stopped ≡ false →
         Explains runs.did (taken notes.new.writer) (called notes.new.writer) notes.new.stopped)
         × (notes.old.stopped ≡ true → (taken notes.new.writer ≡ []) × (called notes.new.writer ≡ [])) }
 {
     let result = run_with::<_, _, Promptly, _, _>(
-        alloc, editor, reader, writer, shelf, notes, witness,
+        alloc, editor, reader, writer, shelf, notes, observer,
     );
     let _ = writer.waiting_len();
     result

@@ -6,10 +6,10 @@ ghost use Rattle.s2process.specs.Streams.{AreNew};
 
 use crate::ended::{Ended, end_run, not_begun};
 use crate::folders::{Folders, Opening};
+use crate::observer::ListedObserver;
 use crate::reader::ListedReader;
 use crate::run::run_listed;
 use crate::streams::Streams;
-use crate::witness::Witness;
 use crate::writer::ListedWriter;
 use s2calc::{AnswerBuffer, NoteWriter, Sink, Source};
 use s2edit::Editor;
@@ -24,11 +24,11 @@ pub(crate) fn run_script<R: Source + Drop, W: Sink + Drop, E: Sink + Drop, F: Fo
     explain: bool,
     streams: Streams<R, W, E>,
     folders: F,
-    witness: &mut Witness<ListedReader<R>, AnswerBuffer<ListedWriter<W>>, F::Folder>,
+    observer: &mut ListedObserver<ListedReader<R>, AnswerBuffer<ListedWriter<W>>, F::Folder>,
 ) -> Ended<R, W, E, F, F::Folder>
     requires nothing_called { AreNew streams }
-    requires nothing_seen { moments_of witness.old ≡ [] }
-    ensures { MayRunFrom F.Folder.files F.opened (moments_of witness.new) result editor dir.now explain }
+    requires nothing_seen { moments_of observer.old ≡ [] }
+    ensures { MayRunFrom F.Folder.files F.opened (moments_of observer.new) result editor dir.now explain }
 {
     let Ok(folder) = folders.open(dir) else {
         return not_begun(streams, Opening::Failed);
@@ -40,7 +40,7 @@ pub(crate) fn run_script<R: Source + Drop, W: Sink + Drop, E: Sink + Drop, F: Fo
     } = streams;
     match AnswerBuffer::new(alloc, output) {
         Ok(answers) => match NoteWriter::new(alloc, errors, explain) {
-            Ok(notes) => run_over(alloc, editor, folder, input, answers, notes, witness),
+            Ok(notes) => run_over(alloc, editor, folder, input, answers, notes, observer),
             Err(errors) => not_begun(
                 Streams {
                     input,
@@ -70,15 +70,15 @@ fn run_over<R: Source + Drop, W: Sink + Drop, E: Sink + Drop, F: Folders + Drop>
     mut input: ListedReader<R>,
     mut answers: AnswerBuffer<ListedWriter<W>>,
     mut notes: NoteWriter<ListedWriter<E>>,
-    witness: &mut Witness<ListedReader<R>, AnswerBuffer<ListedWriter<W>>, F::Folder>,
+    observer: &mut ListedObserver<ListedReader<R>, AnswerBuffer<ListedWriter<W>>, F::Folder>,
 ) -> Ended<R, W, E, F, F::Folder>
     requires nothing_read { calls_of_reader input ≡ [] }
     requires nothing_written { calls_of answers.writer ≡ [] }
     requires nothing_waits { answers.waiting ≡ [] }
     requires no_notes { calls_of notes.writer ≡ [] }
-    requires nothing_seen { moments_of witness.old ≡ [] }
+    requires nothing_seen { moments_of observer.old ≡ [] }
     ensures { (path : List ℕ) (explains : Bool) → F.opened folder path → notes.stopped ≡ not explains →
-        RunsFrom F.Folder.files F.opened (moments_of witness.new) result editor path explains }
+        RunsFrom F.Folder.files F.opened (moments_of observer.new) result editor path explains }
 {
     let result = run_listed(
         alloc,
@@ -87,7 +87,7 @@ fn run_over<R: Source + Drop, W: Sink + Drop, E: Sink + Drop, F: Folders + Drop>
         &mut answers,
         &mut folder,
         &mut notes,
-        witness,
+        observer,
     );
     let mut errors = notes.into_writer();
     let status = end_run(&result, &mut errors);

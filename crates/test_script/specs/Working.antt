@@ -1,3 +1,3 @@
 pub mod Known
 pub mod Logged
-pub mod Watched
+pub mod Observed

@@ -1,9 +1,9 @@
 //! What a run of a row's script writes, flushes and asks of the shelf, in this order.
 use crate::left::Flushing;
 use crate::log::{LoggedShelf, LoggedWriter};
+use crate::observer::{MemoryObserver, SeenEvent};
 use crate::pieces::Pieces;
 use crate::row::editor_of;
-use crate::watcher::{Sight, Watcher};
 use s2calc::{AnswerBuffer, AtTheEnd, NoNotes, Promptly, Unobserved, run, run_with};
 use std::alloc::{AllocError, Global};
 use std::cell::RefCell;
@@ -36,7 +36,7 @@ pub fn add_seen(
 ) -> Result<(), AllocError> {
     let script = script_of(alloc, lines)?;
     let log = RefCell::new(Vec::new(alloc));
-    let mut watcher = Watcher::new(alloc);
+    let mut observer = MemoryObserver::new(alloc);
     let _ = run_with::<_, _, AtTheEnd, _, _>(
         alloc,
         &mut editor_of(alloc, lines)?,
@@ -44,24 +44,24 @@ pub fn add_seen(
         &mut LoggedWriter { log: &log },
         &mut shelf_with(alloc, &log),
         &mut NoNotes,
-        &mut watcher,
+        &mut observer,
     );
-    let Some(sightings) = watcher.sightings() else {
+    let Some(moments) = observer.moments() else {
         return Err(AllocError);
     };
-    for sighting in sightings {
-        add_sight(alloc, &sighting.sight, found)?;
+    for moment in moments {
+        add_event(alloc, &moment.event, found)?;
     }
     Ok(())
 }
 
 /// Adds a line of what was seen.
-fn add_sight(alloc: Global, sight: &Sight, found: &mut Vec<u8>) -> Result<(), AllocError> {
-    match sight {
-        Sight::Bytes(bytes) => add_line(found, &format!(in alloc; "read {}", bytes.len())?),
-        Sight::NoBytes => add_line(found, "no read"),
-        Sight::Begin => add_line(found, "begin"),
-        Sight::End => add_line(found, "end"),
+fn add_event(alloc: Global, event: &SeenEvent, found: &mut Vec<u8>) -> Result<(), AllocError> {
+    match event {
+        SeenEvent::Came(bytes) => add_line(found, &format!(in alloc; "read {}", bytes.len())?),
+        SeenEvent::ReadFailed => add_line(found, "no read"),
+        SeenEvent::LineBegins => add_line(found, "begin"),
+        SeenEvent::LineEnds => add_line(found, "end"),
     }
 }
 

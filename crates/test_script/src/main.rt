@@ -32,7 +32,7 @@
 //! Modules: `row` has a row answered, `calls` its calls. `failing_runs` and `failing_answers` make each call of a
 //! stream or the shelf fail in turn, over `pieces` (a reader) and `narrow` (a writer), and compare what is `left`.
 //! `process` has `program` of `s2process` do a row, over the same reader and writer and the row's files.
-//! `logged` makes a log of a run, over the writer and the shelf of `log`, and says what a `watcher` (an observer) sees.
+//! `logged` makes a log of a run, over the writer and the shelf of `log`, and says what an `observer` sees.
 //! These readers, writers and observers list their calls by `known`, so that contracts see them. `example` is the
 //! example of docs/ARCHITECTURE.md.
 #![tactic(auto)]
@@ -46,10 +46,10 @@ mod left;
 mod log;
 mod logged;
 mod narrow;
+mod observer;
 mod pieces;
 mod process;
 mod row;
-mod watcher;
 
 use row::Rows;
 use std::io;

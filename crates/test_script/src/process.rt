@@ -6,7 +6,7 @@ use crate::narrow::{Mishap, Narrow};
 use crate::pieces::Pieces;
 use crate::row::shelf_of;
 use s2calc::{Sink, job};
-use s2process::{Folders, ListedShelf, Streams, Witness, program};
+use s2process::{Folders, ListedObserver, ListedShelf, Streams, program};
 use s2shelf::MemoryShelf;
 use std::alloc::{AllocError, Global};
 use std::cell::RefCell;
@@ -102,7 +102,7 @@ pub fn add_process(
         fails_at: failing.among("files"),
     };
     let asked = job(alloc, words_of(alloc, words)?);
-    let ended = program(alloc, asked, streams, folders, &mut Witness::new());
+    let ended = program(alloc, asked, streams, folders, &mut ListedObserver::new());
     add_taken(&output, b"", found)?;
     add_taken(&errors, b"!", found)?;
     add_line(found, &format!(in alloc; "status {}", ended.status)?)

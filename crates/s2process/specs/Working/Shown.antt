@@ -1,4 +1,4 @@
--- What a `OneCall`, a `OneShelfCall` and a `Sight` show.
+-- What a `OneCall`, a `OneShelfCall` and a `OneEvent` show.
 use Rattle.std.specs.Prelude.{◌-◌}
 use Rattle.s2process.specs.ShelfCalls.{ShelfCall, HandedOver, Missing, OpenedFile, Stored, Failed, ClosedFile}
 use Rattle.s2process.specs.ShelfCalls.{CloseFailed}
@@ -8,8 +8,8 @@ use Rattle.s2process.specs.declared.calls.OneCall.{OneCall}
 use Rattle.s2process.specs.declared.calls.OneCall.TheVariants as call
 use Rattle.s2process.specs.declared.calls.OneShelfCall.{OneShelfCall}
 use Rattle.s2process.specs.declared.calls.OneShelfCall.TheVariants as shelf
-use Rattle.s2process.specs.declared.moments.Sight.{Sight}
-use Rattle.s2process.specs.declared.moments.Sight.TheVariants as sight
+use Rattle.s2process.specs.declared.moments.OneEvent.{OneEvent}
+use Rattle.s2process.specs.declared.moments.OneEvent.TheVariants as event
 use Rattle.s2calc.specs.Moments as moments
 use Rattle.s2calc.specs.Moments.{Event, Came, LineBegins, LineEnds}
 
@@ -36,8 +36,8 @@ shown call.FlushFailed = FlushFailed
 shown (call.OfShelf one) = OfShelf (shown_by_shelf one)
 
 -- the event that is seen
-abbrev pub seen : Sight → Event
-seen (sight.Came bytes) = Came bytes.now
-seen sight.ReadFailed = moments.ReadFailed
-seen sight.LineBegins = LineBegins
-seen sight.LineEnds = LineEnds
+abbrev pub seen : OneEvent → Event
+seen (event.Came bytes) = Came bytes.now
+seen event.ReadFailed = moments.ReadFailed
+seen event.LineBegins = LineBegins
+seen event.LineEnds = LineEnds
