@@ -1,4 +1,5 @@
 pub mod Status
+pub mod Coverings
 pub mod Cutting
 pub mod Ends
 pub mod Files

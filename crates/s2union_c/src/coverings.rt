@@ -1,12 +1,13 @@
 //! The coverings of rectangles, of unions, and of what a union and a rectangle share, at one level.
-ghost use Rattle.std.specs.Prelude.{◌≡◌, ◌<◌, ◌≤◌, ◌⊎◌, ℕ, Bool, IfErr, IfOk, IsTrue, List, SomeIff};
+ghost use Rattle.std.specs.Prelude.{◌≡◌, ◌<◌, ◌≤◌, ◌⊎◌, ℕ, IfErr, IfOk, IsTrue, List, SomeIff};
 ghost use Rattle.std.specs.Prelude.{drop, length, min};
 ghost use Rattle.s2cell.specs.Rectangles.{IsRect, rect_set};
 ghost use Rattle.s2list.specs.Union.{IsLocal, IsNormalForm, has_leaf};
 ghost use Rattle.s2list.specs.Room.{PutsUpTo};
 ghost use Rattle.s2cover.specs.Coverings.{TooManyMeans, inner_set, outer_set, clipped};
+ghost use Rattle.s2union_c.specs.Coverings.{Covers, CoversInPlace, HasMoreCells};
 ghost use Rattle.s2union_c.specs.Rectangles.{rect_with};
-ghost use Rattle.s2union_c.specs.Results.{FindsMany, KeepsRest, MadeInPlace, MadeOne, Refused};
+ghost use Rattle.s2union_c.specs.Results.{FindsMany, KeepsRest, MadeOne, Refused};
 ghost use Rattle.s2union_c.specs.Status.{bad_argument, too_many};
 ghost use Rattle.s2union_c.specs.Working.Coverings.{covering_of};
 
@@ -47,10 +48,8 @@ pub extern "C" fn s2u_outer(
     out: &mut [u64],
     len: &mut usize,
 ) -> i32
-    ensures made { let S : ℕ → Bool = outer_set (rect_set (rect_with bounds.now)) level in
-        IsRect (rect_with bounds.now) → level ≤ 30 → MadeOne result (IsNormalForm S) out.old out.new len.new
-        ⊎ (Refused result too_many out.old out.new len.new
-        × ((u : List ℕ) → IsNormalForm S u → min most MOST_COVERING < length u)) }
+    ensures made { IsRect (rect_with bounds.now) → level ≤ 30 → Covers (min most MOST_COVERING)
+        (outer_set (rect_set (rect_with bounds.now)) level) result out.old out.new len.new }
     ensures most { len.new ≤ min most MOST_COVERING }
     ensures argument { (IsRect (rect_with bounds.now) → 30 < level)
         → Refused result bad_argument out.old out.new len.new }
@@ -68,10 +67,8 @@ pub extern "C" fn s2u_inner(
     out: &mut [u64],
     len: &mut usize,
 ) -> i32
-    ensures made { let S : ℕ → Bool = inner_set (rect_set (rect_with bounds.now)) level in
-        IsRect (rect_with bounds.now) → level ≤ 30 → MadeOne result (IsNormalForm S) out.old out.new len.new
-        ⊎ (Refused result too_many out.old out.new len.new
-        × ((u : List ℕ) → IsNormalForm S u → min most MOST_COVERING < length u)) }
+    ensures made { IsRect (rect_with bounds.now) → level ≤ 30 → Covers (min most MOST_COVERING)
+        (inner_set (rect_set (rect_with bounds.now)) level) result out.old out.new len.new }
     ensures most { len.new ≤ min most MOST_COVERING }
     ensures argument { (IsRect (rect_with bounds.now) → 30 < level)
         → Refused result bad_argument out.old out.new len.new }
@@ -89,11 +86,8 @@ pub extern "C" fn s2u_outer_of(
     out: &mut [u64],
     len: &mut usize,
 ) -> i32
-    ensures made { IsLocal ids.now → level ≤ 30 →
-        MadeInPlace result (IsNormalForm (outer_set (has_leaf ids.now) level)) out.old out.new len.new
-        ⊎ (Refused result too_many out.old out.new len.new
-        × ((u : List ℕ) → IsNormalForm (outer_set (has_leaf ids.now) level) u →
-        min most MOST_COVERING < length u)) }
+    ensures made { IsLocal ids.now → level ≤ 30 → CoversInPlace (min most MOST_COVERING)
+        (outer_set (has_leaf ids.now) level) result out.old out.new len.new }
     ensures few { IsLocal ids.now → len.new ≤ length ids.now }
     ensures most { len.new ≤ min most MOST_COVERING }
     ensures any { level ≤ 30 → KeepsRest result out.old out.new len.new
@@ -124,11 +118,8 @@ pub extern "C" fn s2u_inner_of(
     out: &mut [u64],
     len: &mut usize,
 ) -> i32
-    ensures made { IsLocal ids.now → level ≤ 30 →
-        MadeInPlace result (IsNormalForm (inner_set (has_leaf ids.now) level)) out.old out.new len.new
-        ⊎ (Refused result too_many out.old out.new len.new
-        × ((u : List ℕ) → IsNormalForm (inner_set (has_leaf ids.now) level) u →
-        min most MOST_COVERING < length u)) }
+    ensures made { IsLocal ids.now → level ≤ 30 → CoversInPlace (min most MOST_COVERING)
+        (inner_set (has_leaf ids.now) level) result out.old out.new len.new }
     ensures few { IsLocal ids.now → len.new ≤ length ids.now }
     ensures most { len.new ≤ min most MOST_COVERING }
     ensures any { level ≤ 30 → KeepsRest result out.old out.new len.new
@@ -161,11 +152,8 @@ pub extern "C" fn s2u_outer_in(
     out: &mut [u64],
     len: &mut usize,
 ) -> i32
-    ensures made { let S : ℕ → Bool = outer_set (clipped ids.now (rect_with bounds.now)) level in
-        IsLocal ids.now → IsRect (rect_with bounds.now) → level ≤ 30 →
-        MadeOne result (IsNormalForm S) out.old out.new len.new
-        ⊎ (Refused result too_many out.old out.new len.new
-        × ((u : List ℕ) → IsNormalForm S u → min most MOST_COVERING < length u)) }
+    ensures made { IsLocal ids.now → IsRect (rect_with bounds.now) → level ≤ 30 → Covers (min most MOST_COVERING)
+        (outer_set (clipped ids.now (rect_with bounds.now)) level) result out.old out.new len.new }
     ensures any { IsRect (rect_with bounds.now) → level ≤ 30 → MadeOne result IsLocal out.old out.new len.new
         ⊎ Refused result too_many out.old out.new len.new }
     ensures most { len.new ≤ min most MOST_COVERING }
@@ -187,11 +175,8 @@ pub extern "C" fn s2u_inner_in(
     out: &mut [u64],
     len: &mut usize,
 ) -> i32
-    ensures made { let S : ℕ → Bool = inner_set (clipped ids.now (rect_with bounds.now)) level in
-        IsLocal ids.now → IsRect (rect_with bounds.now) → level ≤ 30 →
-        MadeOne result (IsNormalForm S) out.old out.new len.new
-        ⊎ (Refused result too_many out.old out.new len.new
-        × ((u : List ℕ) → IsNormalForm S u → min most MOST_COVERING < length u)) }
+    ensures made { IsLocal ids.now → IsRect (rect_with bounds.now) → level ≤ 30 → Covers (min most MOST_COVERING)
+        (inner_set (clipped ids.now (rect_with bounds.now)) level) result out.old out.new len.new }
     ensures any { IsRect (rect_with bounds.now) → level ≤ 30 → MadeOne result IsLocal out.old out.new len.new
         ⊎ Refused result too_many out.old out.new len.new }
     ensures most { len.new ≤ min most MOST_COVERING }
@@ -214,9 +199,7 @@ fn cover(side: Side, ids: &[u64], level: u8, bound: usize, out: &mut [u64], len:
     requires level { level ≤ 30 }
     requires len { len.old ≡ 0 }
     ensures made { IsLocal ids.now →
-        MadeInPlace result (IsNormalForm (covering_of side level (has_leaf ids.now))) out.old out.new len.new
-        ⊎ (Refused result too_many out.old out.new len.new
-        × ((u : List ℕ) → IsNormalForm (covering_of side level (has_leaf ids.now)) u → bound < length u)) }
+        CoversInPlace bound (covering_of side level (has_leaf ids.now)) result out.old out.new len.new }
     ensures few { IsLocal ids.now → len.new ≤ length ids.now }
     ensures most { len.new ≤ bound }
     ensures any { KeepsRest result out.old out.new len.new ⊎ FindsMany bound result out.old out.new len.new }
@@ -236,8 +219,7 @@ fn cover(side: Side, ids: &[u64], level: u8, bound: usize, out: &mut [u64], len:
 /// Whether the covering has more than `bound` cells.
 fn is_longer(side: Side, ids: &[u64], level: u8, bound: usize) -> bool
     requires { level ≤ 30 }
-    ensures longer { IsLocal ids.now → IsTrue result
-        → (u : List ℕ) → IsNormalForm (covering_of side level (has_leaf ids.now)) u → bound < length u }
+    ensures longer { IsLocal ids.now → IsTrue result → HasMoreCells bound (covering_of side level (has_leaf ids.now)) }
     ensures rest { IsLocal ids.now → (IsTrue result → ⊥)
         → (u : List ℕ) × IsNormalForm (covering_of side level (has_leaf ids.now)) u × (length u ≤ bound) }
 {
@@ -268,10 +250,8 @@ fn cover_rect(
     out: &mut [u64],
     len: &mut usize,
 ) -> i32
-    ensures made { let S : ℕ → Bool = covering_of side level (rect_set (rect_with bounds.now)) in
-        IsRect (rect_with bounds.now) → level ≤ 30 → MadeOne result (IsNormalForm S) out.old out.new len.new
-        ⊎ (Refused result too_many out.old out.new len.new
-        × ((u : List ℕ) → IsNormalForm S u → min most MOST_COVERING < length u)) }
+    ensures made { IsRect (rect_with bounds.now) → level ≤ 30 → Covers (min most MOST_COVERING)
+        (covering_of side level (rect_set (rect_with bounds.now))) result out.old out.new len.new }
     ensures most { len.new ≤ min most MOST_COVERING }
     ensures argument { (IsRect (rect_with bounds.now) → 30 < level)
         → Refused result bad_argument out.old out.new len.new }
@@ -322,11 +302,8 @@ fn cover_in(
     out: &mut [u64],
     len: &mut usize,
 ) -> i32
-    ensures made { let S : ℕ → Bool = covering_of side level (clipped ids.now (rect_with bounds.now)) in
-        IsLocal ids.now → IsRect (rect_with bounds.now) → level ≤ 30 →
-        MadeOne result (IsNormalForm S) out.old out.new len.new
-        ⊎ (Refused result too_many out.old out.new len.new
-        × ((u : List ℕ) → IsNormalForm S u → min most MOST_COVERING < length u)) }
+    ensures made { IsLocal ids.now → IsRect (rect_with bounds.now) → level ≤ 30 → Covers (min most MOST_COVERING)
+        (covering_of side level (clipped ids.now (rect_with bounds.now))) result out.old out.new len.new }
     ensures any { IsRect (rect_with bounds.now) → level ≤ 30 → MadeOne result IsLocal out.old out.new len.new
         ⊎ Refused result too_many out.old out.new len.new }
     ensures most { len.new ≤ min most MOST_COVERING }
