@@ -3,13 +3,13 @@ use Rattle.std.specs.Prelude.{◌≡◌, ℕ, ◌≤◌, ◌⊎◌, ℤ, List, l
 use Rattle.s2file.specs.File.{IsLongFile, IsOtherVersion, IsShortFile}
 use Rattle.s2list.specs.Union.{IsNormalForm, has_leaf}
 use Rattle.s2union_c.specs.Results.{HasNoRoom, Refused}
-use Rattle.s2union_c.specs.Status.{made, no_room, no_memory, short_file, other_version, long_file}
+use Rattle.s2union_c.specs.Status.{made, no_room, no_memory, file_short, file_version, file_trailing}
 
 -- the status tells what is wrong with the frame
 abbrev pub IsFrameFault : List ℕ → ℤ → Type 0
 IsFrameFault bytes status =
-    ((status ≡ short_file) × IsShortFile bytes)
-    ⊎ (((status ≡ other_version) × IsOtherVersion bytes) ⊎ ((status ≡ long_file) × IsLongFile bytes))
+    ((status ≡ file_short) × IsShortFile bytes)
+    ⊎ (((status ≡ file_version) × IsOtherVersion bytes) ⊎ ((status ≡ file_trailing) × IsLongFile bytes))
 
 -- the normal form of the leaves of the cells `ids` is at the front of `new`, which is as `old` after as many numbers as
 -- there are cells; what stands between has no meaning

@@ -26,20 +26,20 @@ abbrev pub too_many : ℤ
 too_many = negsuc 5
 
 -- bytes of the file are missing
-abbrev pub short_file : ℤ
-short_file = negsuc 9
+abbrev pub file_short : ℤ
+file_short = negsuc 9
 
 -- the file's first byte is not 1
-abbrev pub other_version : ℤ
-other_version = negsuc 10
+abbrev pub file_version : ℤ
+file_version = negsuc 10
 
 -- bytes follow the file's last identifier
-abbrev pub long_file : ℤ
-long_file = negsuc 11
+abbrev pub file_trailing : ℤ
+file_trailing = negsuc 11
 
 -- an identifier in the file is not the identifier of a cell
-abbrev pub wrong_cell : ℤ
-wrong_cell = negsuc 12
+abbrev pub file_cell : ℤ
+file_cell = negsuc 12
 
 -- the answer yes to a question
 abbrev pub yes : ℤ

@@ -13,13 +13,13 @@ ghost use Rattle.s2file.specs.Numbers.{numbers_in};
 ghost use Rattle.s2union_c.specs.Files.{Decoded, IsFrameFault};
 ghost use Rattle.s2union_c.specs.Results.{KeepsRest, Made, MadeInPlace, MadeOne, Refused};
 ghost use Rattle.s2union_c.specs.Status.{IsAnswerTo, IsAnswer, IsBit, bad_argument, made, no_cell};
-ghost use Rattle.s2union_c.specs.Status.{no_room, wrong_cell};
+ghost use Rattle.s2union_c.specs.Status.{file_cell, no_room};
 
 use crate::many::answer_cells;
 use crate::results::{bound, put_cells, room_status};
 use crate::status::{
-    BAD_ARGUMENT, LONG_FILE, MADE, NO_CELL, NO_MEMORY, NO_ROOM, OTHER_VERSION, SHORT_FILE,
-    WRONG_CELL, answer,
+    BAD_ARGUMENT, FILE_CELL, FILE_SHORT, FILE_TRAILING, FILE_VERSION, MADE, NO_CELL, NO_MEMORY,
+    NO_ROOM, answer,
 };
 use crate::unions::LEVELS;
 use byteorder::{ByteOrder, LittleEndian};
@@ -64,7 +64,7 @@ pub extern "C" fn s2u_decode(alloc: Global, bytes: &[u8], out: &mut [u64], len: 
     ensures made { IsCellFile bytes.now → Decoded result (file_ids bytes.now) out.old out.new len.new }
     ensures fault { (IsFramed bytes.now → ⊥) → IsFrameFault bytes.now result × (len.new ≡ 0) × (out.new ≡ out.old) }
     ensures wrong { IsFramed bytes.now → (All IsCell (file_ids bytes.now) → ⊥)
-        → Refused result wrong_cell out.old out.new len.new }
+        → Refused result file_cell out.old out.new len.new }
     ensures most { len.new ≤ length (file_ids bytes.now) }
 {
     *len = 0;
@@ -79,7 +79,7 @@ fn decode_numbers(alloc: Global, bytes: &[u8], out: &mut [u64], len: &mut usize)
     requires len { len.old ≡ 0 }
     requires whole { length bytes.now ≡ 8 * length (numbers_in bytes.now) }
     ensures made { All IsCell (numbers_in bytes.now) → Decoded result (numbers_in bytes.now) out.old out.new len.new }
-    ensures wrong { (All IsCell (numbers_in bytes.now) → ⊥) → Refused result wrong_cell out.old out.new len.new }
+    ensures wrong { (All IsCell (numbers_in bytes.now) → ⊥) → Refused result file_cell out.old out.new len.new }
     ensures most { len.new ≤ length (numbers_in bytes.now) }
 {
     let ids = FileIds { bytes };
@@ -87,7 +87,7 @@ fn decode_numbers(alloc: Global, bytes: &[u8], out: &mut [u64], len: &mut usize)
         return put_numbers(bytes, out, len);
     }
     if let Some(_) = first_wrong(&ids) {
-        return WRONG_CELL;
+        return FILE_CELL;
     }
     let n = ids.len();
     if n <= out.len() {
@@ -141,13 +141,13 @@ fn put_normalised(alloc: Global, bytes: &[u8], out: &mut [u64], len: &mut usize)
 pub extern "C" fn s2u_file_check(bytes: &[u8]) -> i32
     ensures answer { IsCellFile bytes.now → IsAnswerTo result (IsLocal (file_ids bytes.now)) }
     ensures fault { (IsFramed bytes.now → ⊥) → IsFrameFault bytes.now result }
-    ensures wrong { IsFramed bytes.now → (All IsCell (file_ids bytes.now) → ⊥) → result ≡ wrong_cell }
+    ensures wrong { IsFramed bytes.now → (All IsCell (file_ids bytes.now) → ⊥) → result ≡ file_cell }
 {
     match bytes_after_head(bytes) {
         Ok(numbers) => {
             let ids = FileIds { bytes: numbers };
             match first_wrong(&ids) {
-                Some(_) => WRONG_CELL,
+                Some(_) => FILE_CELL,
                 None => answer(is_union(&ids)),
             }
         }
@@ -353,8 +353,8 @@ fn bytes_after_head(bytes: &[u8]) -> Result<&[u8], i32>
 {
     match numbers_of(bytes) {
         Ok(numbers) => Ok(numbers),
-        Err(FileFault::Version) => Err(OTHER_VERSION),
-        Err(FileFault::Trailing) => Err(LONG_FILE),
-        Err(_) => Err(SHORT_FILE),
+        Err(FileFault::Version) => Err(FILE_VERSION),
+        Err(FileFault::Trailing) => Err(FILE_TRAILING),
+        Err(_) => Err(FILE_SHORT),
     }
 }

@@ -21,16 +21,16 @@ pub(crate) const BAD_ARGUMENT: i32 = -5;
 pub(crate) const TOO_MANY: i32 = -6;
 
 /// Bytes of the file are missing.
-pub(crate) const SHORT_FILE: i32 = -10;
+pub(crate) const FILE_SHORT: i32 = -10;
 
 /// The file's first byte is not 1.
-pub(crate) const OTHER_VERSION: i32 = -11;
+pub(crate) const FILE_VERSION: i32 = -11;
 
 /// Bytes follow the file's last identifier.
-pub(crate) const LONG_FILE: i32 = -12;
+pub(crate) const FILE_TRAILING: i32 = -12;
 
 /// An identifier in the file is not the identifier of a cell.
-pub(crate) const WRONG_CELL: i32 = -13;
+pub(crate) const FILE_CELL: i32 = -13;
 
 /// The answer to a question.
 pub(crate) fn answer(holds: bool) -> i32
