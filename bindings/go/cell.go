@@ -16,7 +16,7 @@ type CellID uint64
 // CellIDFromToken is the cell of a token, in either case. Since 0.2.
 func CellIDFromToken(token string) (CellID, error) {
 	var id C.uint64_t
-	at, n := placeOfText([]byte(token))
+	at, n := pointerToText([]byte(token))
 	status := C.s2u_from_token(at, n, &id) // on a line of its own: Go leaves open when `id` is read beside a call
 	return CellID(id), refused(status)
 }
@@ -24,7 +24,7 @@ func CellIDFromToken(token string) (CellID, error) {
 // CellIDFromString is the cell of a debug text, such as "4/032212". Since 0.2.
 func CellIDFromString(text string) (CellID, error) {
 	var id C.uint64_t
-	at, n := placeOfText([]byte(text))
+	at, n := pointerToText([]byte(text))
 	status := C.s2u_from_debug(at, n, &id)
 	return CellID(id), refused(status)
 }

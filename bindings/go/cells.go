@@ -21,8 +21,8 @@ type FacePoint = Point
 func Levels(ids []CellID) ([]uint8, error) {
 	levels := make([]uint8, len(ids))
 	var bad C.size_t
-	at, n := place(ids)
-	out, room := placeOfBytes(levels)
+	at, n := pointerTo(ids)
+	out, room := pointerToBytes(levels)
 	answer(C.s2u_levels(at, n, out, room, &bad))
 	return found(levels, ids, bad)
 }
@@ -53,8 +53,8 @@ func RangeMaxes(ids []CellID) ([]CellID, error) {
 func Tokens(ids []CellID) ([]string, error) {
 	fields := make([]byte, C.S2U_MOST_TOKEN*len(ids))
 	var bad C.size_t
-	at, n := place(ids)
-	out, room := placeOfText(fields)
+	at, n := pointerTo(ids)
+	out, room := pointerToText(fields)
 	answer(C.s2u_token_fields(at, n, out, room, &bad))
 	tokens := make([]string, len(ids))
 	for k := range tokens {
@@ -70,10 +70,10 @@ func CellIDsFromTokens(words string) ([]CellID, error) { return named([]byte(wor
 
 // named are the cells that a text names.
 func named(words []byte) ([]CellID, error) {
-	at, n := placeOfText(words)
+	at, n := pointerToText(words)
 	ids := make([]CellID, len(words)/2+1)
 	var length C.size_t
-	out, room := place(ids)
+	out, room := pointerTo(ids)
 	if status := C.s2u_from_tokens(at, n, out, room, &length); status == C.S2U_NO_CELL {
 		return nil, noCellAt(length)
 	} else if status != C.S2U_OK {
@@ -90,7 +90,7 @@ func CellIDsFromPoints(points []Point) ([]CellID, error) {
 		return leaves, nil
 	}
 	var bad C.size_t
-	out, room := place(leaves)
+	out, room := pointerTo(leaves)
 	answer(C.s2u_from_points((*C.s2u_point)(unsafe.Pointer(&points[0])), C.size_t(len(points)), out, room, &bad))
 	if int(bad) < len(points) {
 		return nil, &PlaceError{int(bad), ErrArgument}
@@ -104,8 +104,8 @@ type forEach func(at *C.uint64_t, n C.size_t, out *C.uint64_t, room C.size_t, ba
 func each(ids []CellID, call forEach) ([]CellID, error) {
 	made := make([]CellID, len(ids))
 	var bad C.size_t
-	at, n := place(ids)
-	out, room := place(made)
+	at, n := pointerTo(ids)
+	out, room := pointerTo(made)
 	answer(call(at, n, out, room, &bad))
 	return found(made, ids, bad)
 }

@@ -31,7 +31,7 @@ func (rect Rect) InteriorCovering(level, most int) (CellUnion, error) {
 
 // Covering is the union of the cells of a level that share a leaf with the union, as that of a Rect. Since 0.2.
 func (cu CellUnion) Covering(level, most int) (CellUnion, error) {
-	at, n := place(cu.ids)
+	at, n := pointerTo(cu.ids)
 	return made(len(cu.ids), func(out *C.uint64_t, room C.size_t, length *C.size_t) C.int32_t {
 		return C.s2u_outer_of(at, n, narrowed(level), atLeastZero(most), out, room, length)
 	})
@@ -39,7 +39,7 @@ func (cu CellUnion) Covering(level, most int) (CellUnion, error) {
 
 // InteriorCovering is the union of the cells of a level that lie in the union, as Covering. Since 0.2.
 func (cu CellUnion) InteriorCovering(level, most int) (CellUnion, error) {
-	at, n := place(cu.ids)
+	at, n := pointerTo(cu.ids)
 	return made(len(cu.ids), func(out *C.uint64_t, room C.size_t, length *C.size_t) C.int32_t {
 		return C.s2u_inner_of(at, n, narrowed(level), atLeastZero(most), out, room, length)
 	})
@@ -49,7 +49,7 @@ func (cu CellUnion) InteriorCovering(level, most int) (CellUnion, error) {
 // Covering of a Rect. Only the union's cells near the rectangle are read: those in at most four cells that are less
 // than twice as wide as it is long. Since 1.0.
 func (cu CellUnion) CoveringIn(rect Rect, level, most int) (CellUnion, error) {
-	at, n := place(cu.ids)
+	at, n := pointerTo(cu.ids)
 	corners := rect.corners()
 	return made(64, func(out *C.uint64_t, room C.size_t, length *C.size_t) C.int32_t {
 		return C.s2u_outer_in(at, n, &corners, narrowed(level), atLeastZero(most), out, room, length)
@@ -59,7 +59,7 @@ func (cu CellUnion) CoveringIn(rect Rect, level, most int) (CellUnion, error) {
 // InteriorCoveringIn is the union of the cells of a level that lie in what the union and a rectangle share, as
 // CoveringIn. Since 1.0.
 func (cu CellUnion) InteriorCoveringIn(rect Rect, level, most int) (CellUnion, error) {
-	at, n := place(cu.ids)
+	at, n := pointerTo(cu.ids)
 	corners := rect.corners()
 	return made(64, func(out *C.uint64_t, room C.size_t, length *C.size_t) C.int32_t {
 		return C.s2u_inner_in(at, n, &corners, narrowed(level), atLeastZero(most), out, room, length)

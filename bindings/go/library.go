@@ -99,23 +99,23 @@ func always[T any](made T, err error) T {
 	return made
 }
 
-// place is what the library takes for a list of cells: where it is, and how many it has.
-func place(ids []CellID) (*C.uint64_t, C.size_t) {
+// pointerTo is what the library takes for a list of cells: a pointer, and how many it has.
+func pointerTo(ids []CellID) (*C.uint64_t, C.size_t) {
 	if len(ids) == 0 {
 		return nil, 0
 	}
 	return (*C.uint64_t)(unsafe.Pointer(&ids[0])), C.size_t(len(ids))
 }
 
-func placeOfBytes(bytes []byte) (*C.uint8_t, C.size_t) {
+func pointerToBytes(bytes []byte) (*C.uint8_t, C.size_t) {
 	if len(bytes) == 0 {
 		return nil, 0
 	}
 	return (*C.uint8_t)(unsafe.Pointer(&bytes[0])), C.size_t(len(bytes))
 }
 
-func placeOfText(text []byte) (*C.char, C.size_t) {
-	at, n := placeOfBytes(text)
+func pointerToText(text []byte) (*C.char, C.size_t) {
+	at, n := pointerToBytes(text)
 	return (*C.char)(unsafe.Pointer(at)), n
 }
 
@@ -139,11 +139,11 @@ func atLeastZero(number int) C.size_t {
 func listed(room int, call func(out *C.uint64_t, room C.size_t, length *C.size_t) C.int32_t) ([]CellID, error) {
 	made := make([]CellID, room)
 	var length C.size_t
-	at, n := place(made)
+	at, n := pointerTo(made)
 	status := call(at, n, &length)
 	if status == C.S2U_ROOM {
 		made = make([]CellID, length)
-		at, n = place(made)
+		at, n = pointerTo(made)
 		status = call(at, n, &length)
 	}
 	if status != C.S2U_OK {
@@ -168,7 +168,7 @@ func trimmed(list []CellID) []CellID {
 func text(most int, call func(out *C.char, room C.size_t, length *C.size_t) C.int32_t) []byte {
 	room := make([]byte, most)
 	var length C.size_t
-	at, n := placeOfText(room)
+	at, n := pointerToText(room)
 	answer(call(at, n, &length))
 	return room[:length]
 }

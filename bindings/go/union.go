@@ -132,7 +132,7 @@ func CellUnionFromSymmetricDifference(x, y CellUnion) CellUnion {
 
 // CellUnionFromComplement is the union of the leaves of the sphere that a union doesn't have. Since 1.1.
 func CellUnionFromComplement(x CellUnion) CellUnion {
-	at, n := place(x.ids)
+	at, n := pointerTo(x.ids)
 	return always(made(2*len(x.ids)+leavesOfAFace, func(out *C.uint64_t, room C.size_t, length *C.size_t) C.int32_t {
 		return C.s2u_complement(at, n, out, room, length)
 	}))
@@ -167,26 +167,26 @@ func (cu CellUnion) Equal(other CellUnion) bool { return cu.Compare(other) == 0 
 // Compare is -1, 0 or 1: the order of the lists of cells, cell by cell and then by length, to sort unions by. Which
 // union contains another has nothing to do with it. Since 1.0.
 func (cu CellUnion) Compare(other CellUnion) int {
-	xs, nx := place(cu.ids)
-	ys, ny := place(other.ids)
+	xs, nx := pointerTo(cu.ids)
+	ys, ny := pointerTo(other.ids)
 	return int(C.s2u_compare(xs, nx, ys, ny))
 }
 
 // ContainsCellID is whether the union has all leaves of a cell. It takes log n steps. Since 0.2.
 func (cu CellUnion) ContainsCellID(id CellID) bool {
-	at, n := place(cu.ids)
+	at, n := pointerTo(cu.ids)
 	return answer(C.s2u_contains_cell(at, n, C.uint64_t(id)))
 }
 
 // IntersectsCellID is whether the union has a leaf of a cell. It takes log n steps. Since 0.2.
 func (cu CellUnion) IntersectsCellID(id CellID) bool {
-	at, n := place(cu.ids)
+	at, n := pointerTo(cu.ids)
 	return answer(C.s2u_intersects_cell(at, n, C.uint64_t(id)))
 }
 
 // CellIDsAt is a new list of the cells of the union that share a leaf with a cell. It takes log n steps. Since 0.2.
 func (cu CellUnion) CellIDsAt(id CellID) []CellID {
-	at, n := place(cu.ids)
+	at, n := pointerTo(cu.ids)
 	var first, count C.size_t
 	answer(C.s2u_cells_at(at, n, C.uint64_t(id), &first, &count))
 	return append([]CellID(nil), cu.ids[first:first+count]...)
@@ -195,7 +195,7 @@ func (cu CellUnion) CellIDsAt(id CellID) []CellID {
 // ContainsCellIDs is whether the union has all leaves of each cell in turn. Cells in ascending order are quickest. A
 // PlaceError has the place of the first number that is no cell. Since 0.2.
 func (cu CellUnion) ContainsCellIDs(ids ...CellID) ([]bool, error) {
-	at, n := place(cu.ids)
+	at, n := pointerTo(cu.ids)
 	return asked(ids, func(cells *C.uint64_t, m C.size_t, answers *C.uint8_t, bad *C.size_t) C.int32_t {
 		return C.s2u_contains_cells(at, n, cells, m, answers, m, bad)
 	})
@@ -203,7 +203,7 @@ func (cu CellUnion) ContainsCellIDs(ids ...CellID) ([]bool, error) {
 
 // IntersectsCellIDs is whether the union has a leaf of each cell in turn, as ContainsCellIDs. Since 0.2.
 func (cu CellUnion) IntersectsCellIDs(ids ...CellID) ([]bool, error) {
-	at, n := place(cu.ids)
+	at, n := pointerTo(cu.ids)
 	return asked(ids, func(cells *C.uint64_t, m C.size_t, answers *C.uint8_t, bad *C.size_t) C.int32_t {
 		return C.s2u_intersects_cells(at, n, cells, m, answers, m, bad)
 	})
@@ -211,21 +211,21 @@ func (cu CellUnion) IntersectsCellIDs(ids ...CellID) ([]bool, error) {
 
 // Contains is whether the union has all leaves of another one. Since 0.2.
 func (cu CellUnion) Contains(other CellUnion) bool {
-	xs, nx := place(cu.ids)
-	ys, ny := place(other.ids)
+	xs, nx := pointerTo(cu.ids)
+	ys, ny := pointerTo(other.ids)
 	return answer(C.s2u_contains(xs, nx, ys, ny))
 }
 
 // Intersects is whether two unions share a leaf. Since 0.2.
 func (cu CellUnion) Intersects(other CellUnion) bool {
-	xs, nx := place(cu.ids)
-	ys, ny := place(other.ids)
+	xs, nx := pointerTo(cu.ids)
+	ys, ny := pointerTo(other.ids)
 	return answer(C.s2u_intersects(xs, nx, ys, ny))
 }
 
 // LeafCellsCovered is how many leaves the union has, of 6 * 4^30. Since 0.2.
 func (cu CellUnion) LeafCellsCovered() int64 {
-	at, n := place(cu.ids)
+	at, n := pointerTo(cu.ids)
 	return int64(C.s2u_leaf_count(at, n))
 }
 
@@ -234,7 +234,7 @@ func (cu CellUnion) LeafCellsCovered() int64 {
 // than most cells; a face has 4^30 leaves. So most bounds the memory, which has to be there: Go ends a program that
 // asks for more than there is. ErrMemory: no process has as much. Since 0.2.
 func (cu CellUnion) Denormalize(minLevel, levelMod, most int) ([]CellID, error) {
-	at, n := place(cu.ids)
+	at, n := pointerTo(cu.ids)
 	min, mod := narrowed(minLevel), narrowed(levelMod)
 	var length C.uint64_t
 	if status := C.s2u_denormalised_len(at, n, min, mod, &length); status != C.S2U_OK {
@@ -254,7 +254,7 @@ func (cu CellUnion) Denormalize(minLevel, levelMod, most int) ([]CellID, error) 
 // Ancestors is a new list of the cells and all their ancestors, ascending, each once: the keys of an index. Two unions
 // share a leaf exactly if a cell of one is among the ancestors of the other. Since 0.2.
 func (cu CellUnion) Ancestors() []CellID {
-	at, n := place(cu.ids)
+	at, n := pointerTo(cu.ids)
 	return always(listed(2*len(cu.ids)+30, func(out *C.uint64_t, room C.size_t, length *C.size_t) C.int32_t {
 		return C.s2u_ancestors(at, n, out, room, length)
 	}))
@@ -264,7 +264,7 @@ func (cu CellUnion) Ancestors() []CellID {
 func (cu CellUnion) String() string { return string(cu.tokens()) }
 
 func (cu CellUnion) tokens() []byte {
-	at, n := place(cu.ids)
+	at, n := pointerTo(cu.ids)
 	return text((C.S2U_MOST_TOKEN+1)*len(cu.ids), func(out *C.char, room C.size_t, length *C.size_t) C.int32_t {
 		return C.s2u_tokens(at, n, out, room, length)
 	})
@@ -280,10 +280,10 @@ func (cu *CellUnion) UnmarshalText(words []byte) error { return cu.become(unionN
 // MarshalBinary makes the union file: the bytes that S2's own Encode writes in C++, Go and Java. Equal unions have
 // equal files. Since 0.2.
 func (cu CellUnion) MarshalBinary() ([]byte, error) {
-	at, n := place(cu.ids)
+	at, n := pointerTo(cu.ids)
 	file := make([]byte, sizeOfFile(len(cu.ids)))
 	var length C.size_t
-	out, room := placeOfBytes(file)
+	out, room := pointerToBytes(file)
 	if status := C.s2u_encode(at, n, out, room, &length); status != C.S2U_OK {
 		return nil, Error(status)
 	}
@@ -348,7 +348,7 @@ const firstFace, lastFace CellID = 0x1000000000000000, 0xb000000000000000
 const tooMany = 1 << 44
 
 func isNormalized(ids []CellID) bool {
-	at, n := place(ids)
+	at, n := pointerTo(ids)
 	return answer(C.s2u_is_union(at, n))
 }
 
@@ -363,7 +363,7 @@ func normalized(ids []CellID) (CellUnion, error) {
 
 // normalize normalizes a list in place, and answers how long it has become.
 func normalize(ids []CellID) (int, error) {
-	at, n := place(ids)
+	at, n := pointerTo(ids)
 	var length C.size_t
 	if status := C.s2u_normalise(at, n, &length); status == C.S2U_NO_CELL {
 		return 0, noCellAt(length)
@@ -385,7 +385,7 @@ func unionNamed(words []byte) (CellUnion, error) {
 }
 
 func unmarshalled(file []byte) (CellUnion, error) {
-	at, n := placeOfBytes(file)
+	at, n := pointerToBytes(file)
 	return made(len(file)/8, func(out *C.uint64_t, room C.size_t, length *C.size_t) C.int32_t {
 		return C.s2u_decode(at, n, out, room, length)
 	})
@@ -407,8 +407,8 @@ func made(room int, call func(out *C.uint64_t, room C.size_t, length *C.size_t) 
 // with is the union that a call makes of two.
 func (cu CellUnion) with(other CellUnion, room int, call func(xs *C.uint64_t, nx C.size_t, ys *C.uint64_t, ny C.size_t,
 	out *C.uint64_t, room C.size_t, length *C.size_t) C.int32_t) CellUnion {
-	xs, nx := place(cu.ids)
-	ys, ny := place(other.ids)
+	xs, nx := pointerTo(cu.ids)
+	ys, ny := pointerTo(other.ids)
 	return always(made(room, func(out *C.uint64_t, room C.size_t, length *C.size_t) C.int32_t {
 		return call(xs, nx, ys, ny, out, room, length)
 	}))
@@ -425,8 +425,8 @@ func unionOfMany(unions []CellUnion) CellUnion {
 		ids = append(ids, union.ids...)
 		ends[k] = C.size_t(len(ids))
 	}
-	at, n := place(ids)
-	work, workRoom := place(make([]CellID, 2*count))
+	at, n := pointerTo(ids)
+	work, workRoom := pointerTo(make([]CellID, 2*count))
 	return always(made(count, func(out *C.uint64_t, room C.size_t, length *C.size_t) C.int32_t {
 		return C.s2u_union_of_many(at, n, &ends[0], C.size_t(len(ends)), work, workRoom, out, room, length)
 	}))
@@ -435,8 +435,8 @@ func unionOfMany(unions []CellUnion) CellUnion {
 func asked(ids []CellID, call func(cells *C.uint64_t, m C.size_t, answers *C.uint8_t, bad *C.size_t) C.int32_t) (
 	[]bool, error) {
 	found := make([]byte, len(ids))
-	cells, m := place(ids)
-	answers, _ := placeOfBytes(found)
+	cells, m := pointerTo(ids)
+	answers, _ := pointerToBytes(found)
 	var bad C.size_t
 	if status := call(cells, m, answers, &bad); status == C.S2U_NO_CELL {
 		return nil, noCellAt(bad)
