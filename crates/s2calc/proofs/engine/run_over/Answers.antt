@@ -20,43 +20,44 @@ loop-init g c =
     let new = c.new-progress.ensures in (
       [],
       [],
-      Gives-nil _,
-      Stands-start _ _ new.kept new.tally new.lines,
-      Appends-nil _,
-      none_failed_none _ _,
-      reads_on_none _,
-      Adds-none _ _ (SeenSoFar-start g.W.Sink.contents g.W.Sink.calls g.F.Flushing.is_sent g.S.Shelf.files
-          g.F.Flushing.may_fail _ _ _),
-      (refl, refl, refl, refl, refl),
+      record {
+        read = Gives-nil _;
+        stands = Stands-start _ _ new.kept new.tally new.lines;
+        written = Appends-nil _;
+        none_failed = none_failed_none _ _;
+        reads = reads_on_none _;
+        seen = Adds-none _ _ (SeenSoFar-start g.W.Sink.contents g.W.Sink.calls g.F.Flushing.is_sent g.S.Shelf.files
+            g.F.Flushing.may_fail _ _ _);
+        same = (refl, refl, refl, refl, refl);
+      },
     )
 
 pub returns-in_err-in_between-clause-runs : goal.returns-in_err-in_between-clause-runs
 returns-in_err-in_between-clause-runs g c =
-    let i = c.loop.invariant in
+    let (script, replies, i) = c.loop.invariant in
     let p = err_from_is_err_and c.from_residual.result c.from_residual.ensures.1 in
     let f = c.in_err-in_between.ensures.settles in
     rw (p.1, p.2, f.is_output) (
-      stops_before_read _ _ _ i.0 i.1 _ i.2 i.3 (Appends-kept _ _ _ _ i.4 f.kept) f.may (gave_well i.6)
-          (last_failed_after _ _ _ _ i.5 f.failed),
-      (length (whole_lines i.0), i.7, inl (refl, refl)),
+      stops_before_read _ _ _ script replies _ i.read i.stands (Appends-kept _ _ _ _ i.written f.kept) f.may
+          (gave_well i.reads) (last_failed_after _ _ _ _ i.none_failed f.failed),
+      (length (whole_lines script), i.seen, inl (refl, refl)),
     )
 
 pub returns-in-Ok-eq0-clause-runs : goal.returns-in-Ok-eq0-clause-runs
 returns-in-Ok-eq0-clause-runs g c =
-    let i = c.loop.invariant in
+    let (script, replies, i) = c.loop.invariant in
     let gone_out = c.in_ok-in_between.ensures.settles in
     let read = c.in-Ok-eq0.ensures.bytes in
     let none = c.in-Ok-eq0.field-0-test in
-    let ended = c.finish.ensures.finishes _ i.0 i.1 i.3 in
-    Runs-end g.W.Sink.contents g.W.Sink.calls g.F.Flushing.is_sent g.S.Shelf.files g.F.Flushing.may_fail _ _ _ i.0 i.1 _
-    _ _ _ _ c.finish.result (Gives-none _ _ _ i.0 _ c.in-Ok-eq0.field-0 none i.2
-    (read.0, c.in-Ok-eq0.ensures.given))
-    (read.1 none (omega arith)) (Appends-kept _ _ _ _ i.4 gone_out.kept)
-    (reads_end _ _ _ _ _ i.6 c.in-Ok-eq0.ensures.call none) (none_failed_more _ _ _ _ i.5 gone_out.none_failed) ended
-    c.finish.ensures.calls
+    let ended = c.finish.ensures.finishes _ script replies i.stands in
+    Runs-end g.W.Sink.contents g.W.Sink.calls g.F.Flushing.is_sent g.S.Shelf.files g.F.Flushing.may_fail _ _ _ script
+    replies _ _ _ _ _ c.finish.result (Gives-none _ _ _ script _ c.in-Ok-eq0.field-0 none i.read
+    (read.0, c.in-Ok-eq0.ensures.given)) (read.1 none (omega arith)) (Appends-kept _ _ _ _ i.written gone_out.kept)
+    (reads_end _ _ _ _ _ i.reads c.in-Ok-eq0.ensures.call none)
+    (none_failed_more _ _ _ _ i.none_failed gone_out.none_failed) ended c.finish.ensures.calls
     (λ more begins ends here. InOrder-end g.W.Sink.contents g.W.Sink.calls g.F.Flushing.is_sent g.S.Shelf.files
-    g.F.Flushing.may_fail _ i.0 i.1 _ _ i.3 _ _ _ _ i.4 i.5 gone_out _ _ _ _ _ _ _ _ more begins ends
-    (read_is _ _ _ _ c.in-Ok-eq0.ensures.bound.1 c.in-Ok-eq0.ensures.call) i.7 c.in-Ok-eq0.ensures.moment
+    g.F.Flushing.may_fail _ script replies _ _ i.stands _ _ _ _ i.written i.none_failed gone_out _ _ _ _ _ _ _ _ more
+    begins ends (read_is _ _ _ _ c.in-Ok-eq0.ensures.bound.1 c.in-Ok-eq0.ensures.call) i.seen c.in-Ok-eq0.ensures.moment
     (ap (λ (k : ℕ). take k c.read.new.buf) none) here)
 
 pub returns-in-Ok-eq0-clause-sent : goal.returns-in-Ok-eq0-clause-sent
@@ -65,93 +66,95 @@ returns-in-Ok-eq0-clause-sent g c = MatchResult-weaker c.finish.result c.finish.
 
 pub returns-in-Ok-eq0-clause-same : goal.returns-in-Ok-eq0-clause-same
 returns-in-Ok-eq0-clause-same g c =
-    SameReferences-trans c.args.desk.now c.loop.desk c.finish.new.desk c.loop.invariant.8 c.finish.ensures.same
+    SameReferences-trans c.args.desk.now c.loop.desk c.finish.new.desk c.loop.invariant.2.same c.finish.ensures.same
 
 pub returns-in_err-take_in-in-Ok-clause-runs : goal.returns-in_err-take_in-in-Ok-clause-runs
 returns-in_err-take_in-in-Ok-clause-runs g c =
-    let i = c.loop.invariant in
+    let (script, replies, i) = c.loop.invariant in
     let gone_out = c.in_ok-in_between.ensures.settles in
     let p = err_from_is_err_and c.from_residual-in_err-take_in-in-Ok.result
     c.from_residual-in_err-take_in-in-Ok.ensures.1 in
     let done = c.in_err-take_in-in-Ok.ensures in
-    let stopped = done.takes_in _ i.0 i.1 i.3 in
-    rw (p.1, p.2, stopped.0) (stops_in_chunk _ _ _ i.0 i.1 _
+    let stopped = done.takes_in _ script replies i.stands in
+    rw (p.1, p.2, stopped.0) (stops_in_chunk _ _ _ script replies _
     (λ rs b begins ends. Adds (g.O.Observer.seen c.args.desk.now.observer.now)
     (g.O.Observer.seen c.take_in.new.desk.observer.now)
     (InOrder g.W.Sink.contents g.W.Sink.calls g.F.Flushing.is_sent g.S.Shelf.files g.F.Flushing.may_fail
     (world_at g.S.Shelf.files c.args.desk.now) c.args.desk.now.writer.now rs b begins ends
     (g.O.Reader.Source.reads c.args.reader.now) (g.O.Reader.Source.reads c.read.new.reader)))
-    (gave_well (reads_on_more _ _ _ _ _ _ i.6 c.in-Ok.ensures.call (omega arith) refl))
-    (last_failed_after _ _ _ _ (none_failed_more _ _ _ _ i.5 gone_out.none_failed) done.calls)
-    _ _ _ i.2 (c.in-Ok.ensures.bytes.0, c.in-Ok.ensures.given) (Appends-kept _ _ _ _ i.4 gone_out.kept)
+    (gave_well (reads_on_more _ _ _ _ _ _ i.reads c.in-Ok.ensures.call (omega arith) refl))
+    (last_failed_after _ _ _ _ (none_failed_more _ _ _ _ i.none_failed gone_out.none_failed) done.calls)
+    _ _ _ i.read (c.in-Ok.ensures.bytes.0, c.in-Ok.ensures.given) (Appends-kept _ _ _ _ i.written gone_out.kept)
     (λ more begins ends here. InOrder-read g.W.Sink.contents g.W.Sink.calls g.F.Flushing.is_sent g.S.Shelf.files
-    g.F.Flushing.may_fail _ i.0 i.1 _ _ i.3 _ _ _ _ i.4 i.5 gone_out _ _ _ _ _ _ _ _ more begins ends
-    (read_is _ _ _ _ c.in-Ok.ensures.bound.1 c.in-Ok.ensures.call) i.7 c.in-Ok.ensures.moment here) stopped.1)
+    g.F.Flushing.may_fail _ script replies _ _ i.stands _ _ _ _ i.written i.none_failed gone_out _ _ _ _ _ _ _ _ more
+    begins ends (read_is _ _ _ _ c.in-Ok.ensures.bound.1 c.in-Ok.ensures.call) i.seen c.in-Ok.ensures.moment here)
+    stopped.1)
 
 pub returns-in_err-take_in-in-Ok-clause-sent : goal.returns-in_err-take_in-in-Ok-clause-sent
 returns-in_err-take_in-in-Ok-clause-sent g c =
-    let i = c.loop.invariant in
+    let (script, replies, i) = c.loop.invariant in
     let p = err_from_is_err_and c.from_residual-in_err-take_in-in-Ok.result
     c.from_residual-in_err-take_in-in-Ok.ensures.1 in
     let same = p.2 in
-    let stopped = c.in_err-take_in-in-Ok.ensures.takes_in _ i.0 i.1 i.3 in
-    let is_output = stopped.0 in
+    let (is_output, stopped) = c.in_err-take_in-in-Ok.ensures.takes_in _ script replies i.stands in
     rw p.1 (λ is_input. absurd cc)
 
 pub returns-in_err-take_in-in-Ok-clause-same : goal.returns-in_err-take_in-in-Ok-clause-same
 returns-in_err-take_in-in-Ok-clause-same g c =
-    SameReferences-trans c.args.desk.now c.loop.desk c.take_in.new.desk c.loop.invariant.8 c.take_in.ensures.same
+    SameReferences-trans c.args.desk.now c.loop.desk c.take_in.new.desk c.loop.invariant.2.same c.take_in.ensures.same
 
 pub returns-in-Err-clause-runs : goal.returns-in-Err-clause-runs
 returns-in-Err-clause-runs g c =
-    let i = c.loop.invariant in
+    let (script, replies, i) = c.loop.invariant in
     let gone_out = c.in_ok-in_between.ensures.settles in (
-      stops_reading _ _ _ i.0 i.1 _ (Gives-kept _ _ _ i.0 i.2 c.in-Err.ensures.bytes c.in-Err.ensures.given) i.3
-          (Appends-kept _ _ _ _ i.4 gone_out.kept)
-          (gained_so (λ rs r. inl r) (reads_last _ _ _ _ None i.6 c.in-Err.ensures.call))
-          (none_failed_more _ _ _ _ i.5 gone_out.none_failed),
-      Adds-trans _ _ _ _ _ _ (λ ms ns seen e. SeenSoFar-failed g.W.Sink.contents g.W.Sink.calls
-          g.F.Flushing.is_sent g.S.Shelf.files g.F.Flushing.may_fail _ i.0 i.1 _ _ i.3 _ _ _ _ i.4 i.5 gone_out _ _ _
-          ms ns c.in-Err.ensures.call seen e) i.7 c.in-Err.ensures.moment,
+      stops_reading _ _ _ script replies _ (Gives-kept _ _ _ script i.read c.in-Err.ensures.bytes
+          c.in-Err.ensures.given) i.stands (Appends-kept _ _ _ _ i.written gone_out.kept)
+          (gained_so (λ rs r. inl r) (reads_last _ _ _ _ None i.reads c.in-Err.ensures.call))
+          (none_failed_more _ _ _ _ i.none_failed gone_out.none_failed),
+      Adds-trans _ _ _ _ _ _ (λ ms ns seen e. SeenSoFar-failed g.W.Sink.contents g.W.Sink.calls g.F.Flushing.is_sent
+          g.S.Shelf.files g.F.Flushing.may_fail _ script replies _ _ i.stands _ _ _ _ i.written i.none_failed gone_out
+          _ _ _ ms ns c.in-Err.ensures.call seen e) i.seen c.in-Err.ensures.moment,
     )
 
 pub loop-preserved : goal.loop-preserved
 loop-preserved g c =
-    let i = c.loop.invariant in
+    let (script, replies, i) = c.loop.invariant in
     let gone_out = c.in_ok-in_between.ensures.settles in
     let done = c.in_ok-take_in-in-Ok.ensures in
-    let s = done.takes_in _ i.0 i.1 i.3 in (
-      i.0 ++ take c.in-Ok.count c.read.new.buf,
-      i.1 ++ s.0.more,
-      Gives-trans _ _ _ i.0 _ i.2 (c.in-Ok.ensures.bytes.0, c.in-Ok.ensures.given),
-      s.0.stands,
-      Appends-texts _ _ _ i.1 s.0.more (Appends-kept _ _ _ _ i.4 gone_out.kept) s.0.written,
-      none_failed_more _ _ _ _ (none_failed_more _ _ _ _ i.5 gone_out.none_failed) done.calls,
-      reads_on_more _ _ _ _ _ _ i.6 c.in-Ok.ensures.call (omega arith) refl,
-      InOrder-read g.W.Sink.contents g.W.Sink.calls g.F.Flushing.is_sent g.S.Shelf.files g.F.Flushing.may_fail _ i.0
-          i.1 _ _ i.3 _ _ _ _ i.4 i.5 gone_out _ _ _ _ _ _ _ _ _ _ _
-          (read_is _ _ _ _ c.in-Ok.ensures.bound.1 c.in-Ok.ensures.call) i.7 c.in-Ok.ensures.moment s.1,
-      SameReferences-trans c.args.desk.now c.loop.desk c.take_in.new.desk i.8 c.take_in.ensures.same,
+    let s = done.takes_in _ script replies i.stands in (
+      script ++ take c.in-Ok.count c.read.new.buf,
+      replies ++ s.0.more,
+      record {
+        read = Gives-trans _ _ _ script _ i.read (c.in-Ok.ensures.bytes.0, c.in-Ok.ensures.given);
+        stands = s.0.stands;
+        written = Appends-texts _ _ _ replies s.0.more (Appends-kept _ _ _ _ i.written gone_out.kept) s.0.written;
+        none_failed = none_failed_more _ _ _ _ (none_failed_more _ _ _ _ i.none_failed gone_out.none_failed) done.calls;
+        reads = reads_on_more _ _ _ _ _ _ i.reads c.in-Ok.ensures.call (omega arith) refl;
+        seen = InOrder-read g.W.Sink.contents g.W.Sink.calls g.F.Flushing.is_sent g.S.Shelf.files
+            g.F.Flushing.may_fail _ script replies _ _ i.stands _ _ _ _ i.written i.none_failed gone_out _ _ _ _ _ _ _ _
+            _ _ _ (read_is _ _ _ _ c.in-Ok.ensures.bound.1 c.in-Ok.ensures.call) i.seen c.in-Ok.ensures.moment s.1;
+        same = SameReferences-trans c.args.desk.now c.loop.desk c.take_in.new.desk i.same c.take_in.ensures.same;
+      },
     )
 
 pub returns-in_err-in_between-2-clause-runs : goal.returns-in_err-in_between-2-clause-runs
 returns-in_err-in_between-2-clause-runs g c =
-    let i = c.loop.invariant in
+    let (script, replies, i) = c.loop.invariant in
     let p = err_from_is_err_and c.from_residual-in_err-in_between-2.result
     c.from_residual-in_err-in_between-2.ensures.1 in
     let f = c.in_err-in_between-2.ensures.settles in
     rw (p.1, p.2, f.is_output) (
-      stops_before_read _ _ _ i.0 i.1 _ i.2 i.3 (Appends-kept _ _ _ _ i.4 f.kept) f.may (gave_well i.6)
-          (last_failed_after _ _ _ _ i.5 f.failed),
-      (length (whole_lines i.0), i.7, inl (refl, refl)),
+      stops_before_read _ _ _ script replies _ i.read i.stands (Appends-kept _ _ _ _ i.written f.kept) f.may
+          (gave_well i.reads) (last_failed_after _ _ _ _ i.none_failed f.failed),
+      (length (whole_lines script), i.seen, inl (refl, refl)),
     )
 
 pub returns-clause-runs : goal.returns-clause-runs
 returns-clause-runs g c =
-    let i = c.loop.invariant in
+    let (script, replies, i) = c.loop.invariant in
     let gone_out = c.in_ok-in_between-2.ensures.settles in (
-      stops_reading _ _ _ i.0 i.1 _ i.2 i.3 (Appends-kept _ _ _ _ i.4 gone_out.kept)
-          (gained_so (λ rs r. let count = r.1 in inr (r.0, omega (arith, count))) i.6)
-          (none_failed_more _ _ _ _ i.5 gone_out.none_failed),
-      i.7,
+      stops_reading _ _ _ script replies _ i.read i.stands (Appends-kept _ _ _ _ i.written gone_out.kept)
+          (gained_so (λ rs r. let count = r.1 in inr (r.0, omega (arith, count))) i.reads)
+          (none_failed_more _ _ _ _ i.none_failed gone_out.none_failed),
+      i.seen,
     )
