@@ -161,6 +161,7 @@ impl Editor {
         change_register(
             &mut self.registers,
             &mut self.spare,
+            None,
             change.register,
             &change.put,
             &change.out,
@@ -184,6 +185,7 @@ impl Editor {
         change_register(
             &mut self.registers,
             &mut self.spare,
+            None,
             change.register,
             &change.out,
             &change.put,
@@ -264,8 +266,9 @@ fn are_same(cells: &[CellId], others: &[CellId]) -> bool
 }
 
 /// Takes cells out of a register's list and puts others in. If those that go are next to each other, the index of the
-/// first may be given; then no cell is searched for, and the cells after them are moved.
-pub(crate) fn change_at(
+/// first may be given; then no cell is searched for, and the cells after them are moved. Else the part that changes is
+/// written anew, or if that is most of the list, the list is written in the spare one, which then takes its place.
+pub(crate) fn change_register(
     registers: &mut Vec<CellUnion>,
     spare: &mut CellUnion,
     place: Option<usize>,
@@ -286,37 +289,12 @@ pub(crate) fn change_at(
     ensures roomy { (n : ℕ) → AllRoomy n registers.old.items → n ≤ spare.old.room →
         AllRoomy n registers.new.items × (n ≤ spare.new.room) }
 {
-    let Some(from) = place else {
-        change_register(registers, spare, register, out, put);
+    let at = register.index();
+    if let Some(from) = place {
+        let _ = registers[at].len();
+        registers[at].splice(from, from + out.len(), put);
         return;
-    };
-    let at = register.index();
-    let _ = registers[at].len();
-    let to = from + out.len();
-    registers[at].splice(from, to, put);
-}
-
-/// Takes cells out of a register's list and puts others in: in the list's own room, or if the change is spread over
-/// most of the list, in the spare list, which then takes its place.
-pub(crate) fn change_register(
-    registers: &mut Vec<CellUnion>,
-    spare: &mut CellUnion,
-    register: Register,
-    out: &[CellId],
-    put: &[CellId],
-)
-    requires in_range { register < vec_len registers.old }
-    requires fits { Fits out.now put.now (list_at (lists_of registers.old.items) register) }
-    requires room { length (applied out.now put.now (list_at (lists_of registers.old.items) register))
-        ≤ spare.old.room }
-    requires own_room { (u : Union) → slice_get registers.old.items register ≡ Some u →
-        length (applied out.now put.now (list_at (lists_of registers.old.items) register)) ≤ u.room }
-    ensures table { lists_of registers.new.items ≡ slice_set (lists_of registers.old.items) register
-        (applied out.now put.now (list_at (lists_of registers.old.items) register)) }
-    ensures roomy { (n : ℕ) → AllRoomy n registers.old.items → n ≤ spare.old.room →
-        AllRoomy n registers.new.items × (n ≤ spare.new.room) }
-{
-    let at = register.index();
+    }
     if is_spread(registers[at].cells(), out, put) {
         registers[at].apply_into(out, put, spare);
         exchange(registers, spare, register);

@@ -18,7 +18,7 @@ ghost use Rattle.s2edit.specs.Working.Named.{Gives};
 ghost use Rattle.s2edit.specs.Working.Splice.{IsPlaceOf};
 
 use crate::change::Change;
-use crate::editor::{EditFault, Editor, change_at};
+use crate::editor::{EditFault, Editor, change_register};
 use crate::near::part_near;
 use crate::splice::{adding_cell, completed_with, removing_cell};
 use crate::{REGISTERS, Register};
@@ -148,7 +148,7 @@ impl Editor {
         if old.len() - out + put > self.limit {
             return Err(EditFault::TooMany);
         }
-        change_at(
+        change_register(
             &mut self.registers,
             &mut self.spare,
             place,

@@ -81,11 +81,11 @@ returns-then-len-out-clause-too_many c =
     let n = lengths (goal.at.returns-then-len-out-clause-too_many c).After-len in
     omega (arith, n.0, n.1, c.if-len-out.true, ap (λ (k : History (List ℕ)). k.limit) c.self.view_is)
 
-pub change_at-requires : goal.change_at-requires
-change_at-requires c =
+pub change_register-requires : goal.change_register-requires
+change_register-requires c =
     let i = c.self.inside in
     let whole : vec_len i.registers ≡ length i.registers.items = search rules in
-    let n = lengths (goal.at.change_at-requires c).After-len in
+    let n = lengths (goal.at.change_register-requires c).After-len in
     let t : lists_of i.registers.items ≡ c.args.self.now.now =
     ap (λ (k : History (List ℕ)). k.now) c.self.view_is in
     let few : length (list_after (lists_of i.registers.items) c.args.change) ≤ i.limit =
@@ -184,14 +184,14 @@ differs c =
           omega (arith, w.if-out-eq0.false, c.len-out.ensures, c.change.inside.out.ok)
     ])
 
-table : (c : goal.After-clear) → lists_of c.change_at.new.registers.items
+table : (c : goal.After-clear) → lists_of c.change_register.new.registers.items
     ≡ table_after (lists_of c.self.inside.registers.items) (change c)
-table c = (rewrites_from c.self.inside.registers.items c.change_at.new.registers.items c.self.inside.spare
-    c.change_at.new.spare (change c) _ _ c.deref.ensures.value c.deref-2.ensures.value
-    c.change_at.ensures.table c.change_at.ensures.roomy).table
+table c = (rewrites_from c.self.inside.registers.items c.change_register.new.registers.items c.self.inside.spare
+    c.change_register.new.spare (change c) _ _ c.deref.ensures.value c.deref-2.ensures.value
+    c.change_register.ensures.table c.change_register.ensures.roomy).table
 
 changes : (c : goal.After-clear) → Changes c.self.inside.depth c.self.inside.registers.items
-    c.change_at.new.registers.items c.self.inside.past.items c.push_front.new.self.items
+    c.change_register.new.registers.items c.self.inside.past.items c.push_front.new.self.items
     c.clear.new.self.items (change c).register
     (list_after (lists_of c.self.inside.registers.items) (change c))
 changes c =
@@ -203,7 +203,7 @@ changes c =
 
 assigned : (c : goal.After-clear) → Assigned c.args.self.now (change c).register
     (list_after (lists_of c.self.inside.registers.items) (change c))
-    (history c.self.inside.limit c.self.inside.depth c.change_at.new.registers.items c.push_front.new.self.items
+    (history c.self.inside.limit c.self.inside.depth c.change_register.new.registers.items c.push_front.new.self.items
     c.clear.new.self.items)
 assigned c =
     let v : List ℕ = list_after (lists_of c.self.inside.registers.items) (change c) in
@@ -218,7 +218,7 @@ assigned c =
 
 pub returns-clause-ok : goal.returns-clause-ok
 returns-clause-ok c =
-    let after = history c.self.inside.limit c.self.inside.depth c.change_at.new.registers.items
+    let after = history c.self.inside.limit c.self.inside.depth c.change_register.new.registers.items
     c.push_front.new.self.items c.clear.new.self.items in
     subst (λ (d : Diff). Assigned c.args.self.now d.register (list_after c.args.self.now.now d) after)
     c.change.view_is
@@ -243,8 +243,8 @@ invariant_of-self c =
     let r : ℕ = (change c).register in
     let v : List ℕ = list_after (lists_of c.self.inside.registers.items) (change c) in
     let us = c.self.inside.registers.items in
-    let us' = c.change_at.new.registers.items in
-    let w = c.change_at.ensures.roomy c.self.inside.limit i.registers_roomy i.spare_roomy in
+    let us' = c.change_register.new.registers.items in
+    let w = c.change_register.ensures.roomy c.self.inside.limit i.registers_roomy i.spare_roomy in
     record {
       limit_bound = i.limit_bound;
       depth_most = i.depth_most;
