@@ -17,7 +17,7 @@ use std::marker::Model;
 /// waiting.
 ///
 /// A contract sees both the writer below, with what has reached it, and the bytes that wait. Unlike a `BufWriter`, it
-/// does not retry a failed call, and writes nothing when it is dropped. What a failed call didn't take keeps waiting.
+/// does not retry a failed call, and writes nothing when it is dropped. Bytes that a failed call didn't take wait on.
 #[derive(Drop)]
 pub struct AnswerBuffer<W> {
     writer: W,
@@ -54,7 +54,7 @@ impl<W: Sink + Drop> AnswerBuffer<W> {
 }
 
 impl<W> AnswerBuffer<W> {
-    /// The writer below. What is waiting is lost.
+    /// The writer below. Bytes that wait are lost.
     pub fn into_writer(self) -> W
         ensures { result ≡ self.writer }
     {

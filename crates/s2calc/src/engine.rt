@@ -210,8 +210,8 @@ pub fn run<R: Source, W: Sink, S: Shelf>(
 /// exactly those to the lines that were read whole: in both cases nothing waits. After `Output` what was written is as
 /// [`run`] says; or a flush before a read failed, and then it is exactly the answers to the lines that were read whole;
 /// or a flush before or after a command with a file failed, and then it is exactly the answers to the lines before the
-/// command, or to the command too. What has reached the writer below is all of that but the bytes that wait, at most 64
-/// KiB, which are lost when the buffer is dropped.
+/// command, or to the command too. All of that has reached the writer below, except for the bytes that wait, at most
+/// 64 KiB, which are lost when the buffer is dropped.
 ///
 /// The notes are those on the lines that were carried out, with the replies that they had: one line for each refused
 /// line, with its number, the refusal and the reason. If the output failed inside an answer, there is none on that last

@@ -17,7 +17,7 @@ pub(crate) struct Progress {
 }
 
 impl Progress {
-    /// That of a run that has read nothing.
+    /// The progress of a run that has read nothing.
     pub(crate) fn new() -> Progress
         ensures kept { result.kept ≡ [] }
         ensures tally { result.tally ≡ tally_of [] }

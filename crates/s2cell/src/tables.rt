@@ -2,8 +2,8 @@
 //!
 //! A word of a table has the entries for the four orientations, 16 bits each, that for orientation 0 lowest. So a word
 //! is found without the orientation, and then shifted by sixteen times the orientation. The upper byte of an entry has
-//! what the step leads to, the lower byte the shift for the next word. What is above bit 15 of a shifted word belongs
-//! to other orientations.
+//! what the step leads to, the lower byte the shift for the next word. The bits above bit 15 of a shifted word
+//! belong to other orientations.
 
 ghost use Rattle.std.specs.Prelude.{◌≡◌, ◌/◌, ◌%◌, ◌<◌};
 ghost use Rattle.s2cell.specs.Working.Entries.{IsPlaceEntry, IsLeafEntry, held};

@@ -360,7 +360,7 @@ fn put_depth(text: &mut Vec<u8>, deepest: u8) -> Result<(), AllocError>
 }
 
 /// Adds a list of cells to a picture of a part, over those that are there, and its line of the legend, as `add_layer`
-/// does. What lies outside of the part is left out. Linear; takes some 35 bytes of memory for each cell that is drawn,
+/// does. Leaves outside of the part are left out. Linear; takes some 35 bytes of memory for each cell that is drawn,
 /// and 8 for each cell while it works, or answers `AllocError`. Then the text has a part of it.
 pub fn add_zoomed(
     alloc: Global,

@@ -1,4 +1,4 @@
--- What two ascending lists begin with and end with makes no difference between them.
+-- A common beginning and a common end make no difference between two ascending lists.
 use Rattle.std.proofs.Common.{◌≡◌, ℕ, ◌-◌, Bool, true, false, not, ◌||◌, ◌&&◌, eqb, List, [], ◌∷◌, ◌++◌}
 use Rattle.std.proofs.Common.{length, take, drop, refl, sym, ap, ◌∙◌, subst, arith, length-drop}
 use Rattle.std.proofs.Math.Bool.{or_assoc}

@@ -1,4 +1,4 @@
--- What holds of the tables of lists holds of the tables of sets.
+-- The tables of sets have what holds of the tables of lists.
 use Rattle.std.proofs.Common.{◌≡◌, ℕ, zero, suc, Bool, List, [], ◌∷◌, map, take, slice_get, slice_set, Some, refl, sym}
 use Rattle.std.proofs.Common.{ap, ◌∙◌}
 use Rattle.std.proofs.lemmas.List.{map-set, take-map}

@@ -1,9 +1,9 @@
 //! Edits by a few named cells: how the change that they make is found near them. splice.rt has that of one cell.
 //!
-//! What several cells add or take out concerns only a part of the register's list: the cells near them (near.rt), or
-//! near those that become one cell with them. So the part alone is joined with the named cells, or cut by them. The
-//! change of the part is then the change of the whole list, if it can be made there. That is tested; so a part that was
-//! chosen too small is found out, and the whole list is taken.
+//! An edit by several cells concerns only a part of the register's list: the cells near them (near.rt), or near those
+//! that become one cell with them. So the part alone is joined with the named cells, or cut by them. The change of the
+//! part is then the change of the whole list, if it can be made there. This is tested; so a part that was chosen too
+//! small is found out, and the whole list is taken.
 ghost use Rattle.std.specs.Prelude.{◌≡◌, ℕ, Bool, true, ◌<◌, ◌≤◌, ◌||◌, ◌&&◌, not, List, [], ◌∷◌, length};
 ghost use Rattle.std.specs.Prelude.{Err, IfOk, IfSome, OnOk, OnErr};
 ghost use Rattle.s2list.specs.Union.{has_leaf, IsLocal, IsNormalForm};
@@ -30,8 +30,8 @@ use std::alloc::{AllocError, Global};
 const REGISTER_TO_NAMED: usize = 200;
 
 impl Editor {
-    /// Adds the leaves of a union to a register, and answers how many cells were taken out of its list and put in: what
-    /// `assign` of the union of both does.
+    /// Adds the leaves of a union to a register, as `assign` of the union of both does, and answers how many cells were
+    /// taken out of its list and put in.
     ///
     /// If few cells are named beside the register's, this takes a few searches for each of them, and moves the cells
     /// after them. Takes memory for the part of the list that is near the named cells.
@@ -61,8 +61,8 @@ impl Editor {
         self.assign(register, sum)
     }
 
-    /// Takes the leaves of a union out of a register, and answers how many cells were taken out of its list and put in:
-    /// what `assign` of the difference does. Costs what `add` costs.
+    /// Takes the leaves of a union out of a register, as `assign` of the difference does, and answers how many cells
+    /// were taken out of its list and put in. Costs as much as `add`.
     pub fn remove(
         &mut self,
         register: Register,

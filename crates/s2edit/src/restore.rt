@@ -6,8 +6,8 @@
 //! - **A part.** Whether a change can be made depends on few cells of the list: those that share a leaf with a cell
 //!   that it names, and the siblings of these. So changes are followed in the part of the list that has them
 //!   (parts.rt, and near.rt beside this folder, by which edits find theirs too).
-//! - **Batches.** Some changes at a time are followed in a part of their own. What they all do to this part is one
-//!   change, and that is made in the list (fitting.rt).
+//! - **Batches.** Some changes at a time are followed in a part of their own. All that they do to this part is one
+//!   change, which is made in the list (fitting.rt).
 //!
 //! How long the lists get on the way is counted, not measured (lengths.rt).
 ghost use Rattle.std.specs.Prelude.{◌≡◌, length, map, MatchResult};

@@ -22,14 +22,14 @@ use s2list::{CellList, Uncounted, find_counted, find_from};
 use s2union::CellUnion;
 use std::alloc::{AllocError, Global};
 
-/// The cells of a list in a cell that no cell of the list holds: those from index `from` to `to`.
+/// A cell that no cell of a list holds, and the cells of the list in it: those from index `from` to before `to`.
 #[derive(Drop)]
 pub(crate) struct Run {
     /// The cell.
     cell: CellId,
-    /// How many cells of the list end by its first leaf.
+    /// How many cells of the list lie before it.
     from: usize,
-    /// How many end by its last leaf.
+    /// How many lie before it or in it.
     to: usize,
 }
 
@@ -99,7 +99,7 @@ fn replacing(
     Ok((Change { register, out, put }, from))
 }
 
-/// How many cells of a list end by the first leaf of a cell.
+/// How many cells of a list lie before a cell.
 fn place_of(list: &[CellId], cell: CellId) -> usize
     requires { IsLocal list.now }
     ensures place { IsPlace list.now (first_leaf cell) result }
@@ -108,7 +108,7 @@ fn place_of(list: &[CellId], cell: CellId) -> usize
     find_counted(&CellList { cells: list }, cell.first_leaf(), &mut Uncounted)
 }
 
-/// Whether there is a cell of a list at an index, and it holds a cell.
+/// Whether a list has a cell at an index, and it holds another one.
 fn holds_at(list: &[CellId], at: usize, cell: CellId) -> bool
     ensures { IsTrue result ↔ ((at < length list.now) × IsInside cell (slice_index list.now at)) }
 {
@@ -134,7 +134,7 @@ fn run_in(list: &[CellId], from: usize, cell: CellId) -> Run
     Run { cell, from, to }
 }
 
-/// The greatest cell that the cells of a list complete with one; that one itself, if a cell of the list holds it.
+/// The greatest cell that the cells of a list complete with a cell; this one itself, if a cell of the list holds it.
 pub(crate) fn completed_with(list: &[CellId], cell: CellId) -> CellId
     requires { IsLocal list.now }
 {
@@ -206,7 +206,8 @@ fn place_among(parent: CellId, cell: CellId) -> u8
     place
 }
 
-/// The index of the first child of a parent, if the list has those before one child, which begins at an index.
+/// The index of the first child of a parent, if the list has all children before number `place`. Those end before the
+/// index `at`.
 fn before_all(list: &[CellId], at: usize, parent: CellId, place: u8) -> Option<usize>
     requires local { IsLocal list.now }
     requires inner { level_of parent < 30 }
@@ -232,7 +233,8 @@ fn before_all(list: &[CellId], at: usize, parent: CellId, place: u8) -> Option<u
     Some(from)
 }
 
-/// The index after the last child of a parent, if the list has those after one child, which ends by an index.
+/// The index after the last child of a parent, if the list has all children after number `place`. Those begin at the
+/// index `at`.
 fn after_all(list: &[CellId], at: usize, parent: CellId, place: u8) -> Option<usize>
     requires local { IsLocal list.now }
     requires inner { level_of parent < 30 }

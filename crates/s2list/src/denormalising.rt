@@ -34,7 +34,7 @@ impl Model for Descendants {
 }
 
 impl Descendants {
-    /// None.
+    /// A list of no cells.
     pub fn none() -> Descendants
         ensures { result ≡ [] }
     {
@@ -86,8 +86,8 @@ impl Cells for Descendants {
 
 /// Puts the cells that the cells of a union are cut into at the front of a room, if they fit, and answers how many they
 /// are. Each cell is cut to the least level that is at least its own, is at least `min`, and differs from `min` by a
-/// multiple of `modulus`; to leaves if there is no such level. A number that is not a cell is cut into nothing. Linear
-/// in what is read and written.
+/// multiple of `modulus`; to leaves if there is no such level. `min` is at most 30, and `modulus` 1, 2 or 3. A number
+/// that is not a cell is cut into nothing. Linear in what is read and written.
 pub fn denormalise<C: Cells>(cells: &C, min: u8, modulus: u8, out: &mut [u64]) -> usize
     requires min { min ≤ GREATEST_LEVEL }
     requires some { 0 < modulus }

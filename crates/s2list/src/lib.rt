@@ -9,8 +9,8 @@
 //! levels, and a set operation begins with nothing written. Where that is met, each other call is safe and
 //! returns, whatever the numbers are, and leaves what its output has after what it writes. The answer is exact if they
 //! are the cells of a normalized union; for other numbers it means nothing; `is_union` and `first_wrong` are exact for
-//! all numbers. What counts the looks of a call is a type parameter (`Count`), so that a call that nobody counts has no
-//! code for it.
+//! all numbers. A type parameter (`Count`) counts the looks of a call, so that a call that nobody counts has no code
+//! for it.
 #![tactic(auto)]
 
 mod ahead;

@@ -43,8 +43,8 @@ impl Count for Uncounted {
     fn look(&mut self) {}
 }
 
-/// A list whose numbers are seen only by looks that `K` counts. What is written for any such list and any counter has
-/// no other way to a number: it can't read one, and it has no counter but the one that it is given.
+/// A list whose numbers are seen only by looks that `K` counts. A function that is written for any such list and any
+/// counter has no other way to a number: it can't read one, and it has only the counter that it is given.
 pub trait LookedAt<K: Count>: Listed {
     /// The number at an index, counted.
     fn look(&self, at: usize, count: &mut K) -> u64

@@ -1,4 +1,4 @@
-//! What a set operation writes its cells to: a list that grows, or a room of a caller.
+//! Outputs, to which set operations write their cells: a list that grows, or a room of a caller.
 ghost use Rattle.std.specs.Prelude.{◌≡◌, ◌-◌, ◌^◌, ◌<◌, ◌≤◌, ◌++◌, ◌∷◌, [], ℕ, List, IfErr, IfOk, length, take};
 ghost use Rattle.std.specs.Prelude.{drop};
 ghost use Rattle.s2list.specs.Output.{Fills};
@@ -7,7 +7,7 @@ use crate::cells::Listed;
 use s2cell::{CellId, LEAVES};
 use std::alloc::AllocError;
 
-/// What a set operation writes to. It takes a cell at a time, and runs of the lists that it is made for (`Copies`).
+/// Takes the cells that a set operation writes: one at a time, and runs of the lists that it is made for (`Copies`).
 ///
 /// A call is given how many cells were written before, and answers how many they are then, whether there is room for
 /// them or not. `holds` says which list was written since a moment before, `rest` that what comes after the cells that

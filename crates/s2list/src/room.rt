@@ -1,4 +1,4 @@
-//! Lists of identifiers that grow at the front of a room. What doesn't fit is counted, and not written.
+//! Lists of identifiers that grow at the front of a room. Numbers that don't fit are counted, and not written.
 ghost use Rattle.std.specs.Prelude.{◌≡◌, ◌+◌, ◌-◌, ◌<◌, ◌≤◌, ◌++◌, ◌∷◌, [], ℕ, List, length, take, drop};
 ghost use Rattle.s2list.specs.Room.{IsPut, LeavesRest};
 

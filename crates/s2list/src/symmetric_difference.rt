@@ -12,8 +12,8 @@ use crate::stretch::{rest_of, run_to};
 use std::alloc::AllocError;
 
 /// Writes the leaves that exactly one of two unions has, and answers how many cells they are. One pass over both lists:
-/// each turn passes the cell that ends first, or both if they end together. What only one of them has of its leaves
-/// comes before the other begins, and is added as one interval.
+/// each turn passes the cell that ends first, or both if they end together. The leaves that only one of them has
+/// come before the other begins, and are added as one interval.
 pub fn write_symmetric_difference<X: Cells, Y: Cells, W: Copies<X> + Copies<Y>>(
     xs: &X,
     ys: &Y,

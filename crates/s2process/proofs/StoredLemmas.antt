@@ -1,4 +1,4 @@
--- What a run stored comes back where a run finds it.
+-- Bytes that a run stored come back where a run finds them.
 use Rattle.std.proofs.Common.{◌≡◌, ℕ, List, [], replicate, sym, ◌∙◌, arith}
 use Rattle.s2shelf.specs.Shelf.{Files}
 use Rattle.s2edit.specs.History.{untouched}

@@ -24,8 +24,8 @@ module _ {start now : World} {written : List ℕ} (did : Did start now written) 
   Counts result = (begun_in moments ≡ length did.done) × (ended_in moments ≡ length did.done)
 
 -- What a run did over a reader and a writer that had not been called: `script` is all bytes that the reads gave, and
--- `reads` says how each ended; each of them was seen, and no other. What was written is what the writer took and what
--- waits in the buffer above it, at most `MOST_WAITING` bytes, and none after `Ok` and `Input`. The run ended as its
+-- `reads` says how each ended; each of them was seen, and no other. The writer took what was written, except for the
+-- bytes that wait in the buffer above it: at most `MOST_WAITING`, and none after `Ok` and `Input`. The run ended as its
 -- result says: its script has ended if the last read gave nothing, and there are flushes before the end. Each moment
 -- came where it may.
 pub record RunsListed {V S : Type 0} (taken : V → List ℕ) (called : V → List Call) (files : S → Files)

@@ -10,18 +10,18 @@ pub fn all_answered<R, W, E, F: Folders>()
     ensures { AllAnswered R W E F F.Folder.files F.opened }
 {}
 
-/// What the process writes is fixed by the bytes of its script and by what it finds in files, however the reads are
-/// cut, and wherever a read, a write or a flush fails. Of two runs of one script from one state of the editor, one
-/// carried out the first lines of the other: with the same replies, asking the folder for the same files, and storing
-/// the same bytes in the same files. What the one output took is a beginning of what the other took, and so are the
-/// notes, if both runs explain. Both outputs took the same, and the status is the same, if both runs came to the end,
-/// or if the reads of both stopped at the same byte.
+/// The bytes of its script and those that it finds in files fix what the process writes, however the reads are cut, and
+/// wherever a read, a write or a flush fails. Of two runs of one script from one state of the editor, one carried out
+/// the first lines of the other: with the same replies, asking the folder for the same files, and storing the same
+/// bytes in the same files. The bytes that the one output took are a beginning of those that the other took, and so are
+/// the notes, if both runs explain. Both outputs took the same, and the status is the same, if both runs came to the
+/// end, or if the reads of both stopped at the same byte.
 ///
-/// That is said if no line of either run is answered `error memory` or `error file`, and if both find the same in
-/// files. They do if there is one content, or none, that the folder has to hand over each time that it is asked for a
-/// file: whatever each run reads of it, all of it or a beginning, as a `restore` does that is refused. For a `load`
-/// this content is what it gets, at most a byte more than the longest union file has. The paths of the folders and what
-/// else they hold don't matter.
+/// The law is about runs in which no line is answered `error memory` or `error file`, and which find the same in files.
+/// They do if there is one content, or none, that the folder has to hand over each time that it is asked for a file:
+/// whatever each run reads of it, all of it or a beginning, as a `restore` does that is refused. For a `load` this
+/// content is what it gets, at most a byte more than the longest union file has. The paths of the folders and what else
+/// they hold don't matter.
 pub fn one_output<R, W, E, F: Folders>()
     ensures { OneOutput R W E F F.Folder.files F.opened }
 {}

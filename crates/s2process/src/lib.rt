@@ -2,8 +2,8 @@
 //! proofs read.
 //!
 //! `reader`, `writer` and `shelf` keep a `GhostList` of `calls`, and `observer` one of `moments`; `run` is a run over
-//! these. What the words of the command line ask for is done by `process`: a run of a script (`scripts`), an answer
-//! about files (`answers`), or another one, over the `streams` of a process and one of its `folders`. `errors` is what
+//! these. `process` does what the words of the command line ask for: a run of a script (`scripts`), an answer about
+//! files (`answers`), or another one, over the `streams` of a process and one of its `folders`. `errors` is what
 //! standard error gets, and `ended` how the program ends.
 #![tactic(auto)]
 

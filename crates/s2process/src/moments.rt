@@ -29,9 +29,9 @@ pub(crate) enum OneEvent<'a> {
     Came(&'a [u8]),
     /// A read that failed.
     ReadFailed,
-    /// That a line is about to be carried out.
+    /// A line is about to be carried out.
     LineBegins,
-    /// That it is answered.
+    /// The line is answered.
     LineEnds,
 }
 

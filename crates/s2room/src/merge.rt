@@ -28,7 +28,7 @@ struct Left {
 /// Puts the union that has the leaves of all the cells `ids` at the front of a room, and answers how many cells it has.
 /// `ends` says where lists in `ids` end that ascend, each of which begins where the one before ends. They are merged
 /// in pairs, and the merged lists again, by way of a spare room. A list that does not ascend is sorted first, and short
-/// lists together. Wrong ends cost time, and change nothing else. What the rooms hold besides has no meaning.
+/// lists together. Wrong ends cost time, and change nothing else. The rooms' other numbers have no meaning.
 pub fn union_of_many(ids: &[u64], ends: &[usize], room: &mut [u64], spare: &mut [u64]) -> usize
     requires cells { All IsCell ids.now }
     requires room { length room.old ≡ length ids.now }

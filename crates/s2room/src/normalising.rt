@@ -10,8 +10,8 @@ use s2cell::CellId;
 use s2list::{IdList, cell_of, new_end};
 
 /// Makes the front of a list of cells the union that has their leaves, and answers how many cells that union has. The
-/// cells may be in any order, and one may lie in another. Takes no memory and can't fail. A sort and one pass. What the
-/// list holds after the union has no meaning.
+/// cells may be in any order, and one may lie in another. Takes no memory and can't fail. A sort and one pass. The
+/// numbers after the union have no meaning.
 pub fn normalise(ids: &mut [u64]) -> usize
     requires { All IsCell ids.old }
     ensures { IsNormalisedIn ids.old ids.new result }

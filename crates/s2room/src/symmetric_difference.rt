@@ -8,7 +8,7 @@ use s2list::{Cells, Room, write_symmetric_difference};
 
 /// Puts the leaves that exactly one of two unions has into the room, if there is enough of it, and answers how many
 /// cells they are. One pass over both lists: each turn passes the cell that ends first, or both if they end together.
-/// What only one of them has of its leaves comes before the other begins, and is added as one interval.
+/// The leaves that only one of them has come before the other begins, and are added as one interval.
 pub fn put_symmetric_difference<X: Cells, Y: Cells>(xs: &X, ys: &Y, out: &mut [u64]) -> usize
     ensures len { length out.new ≡ length out.old }
     ensures made { IsLocal (X.ids xs.now) → IsLocal (Y.ids ys.now)

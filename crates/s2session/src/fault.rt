@@ -9,7 +9,7 @@ use thiserror::Error;
 /// Why no session was read.
 #[derive(Clone, Copy, Debug, PartialEq, Eq, Error)]
 pub enum ReadFault {
-    /// What was read is neither a session file nor a union file.
+    /// The bytes that were read are neither a session file nor a union file.
     #[error("the bytes are no session file")]
     Form,
     /// A read failed.

@@ -215,7 +215,7 @@ impl<R: Files + AllocGlobal> Shelf for DirShelf<R> {
         Ok(())
     }
 
-    /// What is handed over was read from the file at `PATH/NAME`, and nothing of another one.
+    /// The bytes that it hands over were read from the file at `PATH/NAME`, and none of them from another one.
     fn get_beginning(&mut self, name: &str, most: usize) -> Result<Option<Vec<u8>>, ShelfFault>
         ensures answer { MatchResult result
             (λ beginning. FindsBeginning (folder_files self.old) name.now most (option_map (λ v. v.items) beginning)

@@ -21,13 +21,13 @@ impl Model for FileEntry {
 /// One call, as it is given to the list.
 #[derive(Clone, Copy, Drop)]
 pub(crate) enum OneFileCall<'a> {
-    /// What lies at this path was asked.
+    /// The system was asked what lies at this path.
     Looked(&'a str),
     /// The file at this path was opened for reading.
     Opened(&'a str),
     /// The opening of what lies at this path failed.
     OpenedNot(&'a str),
-    /// What was opened at this path was asked what it is.
+    /// The system was asked what was opened at this path.
     LookedAgain(&'a str),
     /// Reads of the file that was opened at this path gave these bytes.
     Gave(&'a str, &'a [u8]),

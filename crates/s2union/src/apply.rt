@@ -23,7 +23,7 @@ use std::marker::Model;
 use std::mem;
 
 impl CellUnion {
-    /// An empty union with room for `n` cells, which [`apply`](CellUnion::apply),
+    /// An empty union with room for `n` cells, which [`apply`](CellUnion::apply), [`splice`](CellUnion::splice),
     /// [`apply_into`](CellUnion::apply_into) and [`copy_from`](CellUnion::copy_from) may fill.
     ///
     /// Of the calls on changes this is the only one that takes memory: all that the room needs, at once.
@@ -87,8 +87,9 @@ impl CellUnion {
         spare.cells = part.cells;
     }
 
-    /// Takes the cells from index `from` to `to` out of the list and puts others in their place, in the list's own
-    /// room, for which it must have it. The result must be normalized.
+    /// Takes the cells from index `from` to before `to` out of the list and puts others in their place, in the list's
+    /// own room. `from` must be at most `to`, and `to` at most the length of the list. The result must be normalized,
+    /// and the list must have room for it.
     ///
     /// Looks at no cell, and moves the cells after them once. Takes no memory.
     pub fn splice(&mut self, from: usize, to: usize, put: &[CellId])

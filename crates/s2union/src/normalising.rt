@@ -67,9 +67,8 @@ fn place(cells: &mut Vec<CellId>, n: usize, cell: CellId) -> usize
     }
 }
 
-/// Whether a list of cells is normalized: it ascends, no two cells share a leaf, and no four are
-/// the children of one cell. That is so exactly if it is the normal form of its leaves. Linear.
-/// S2 calls it `IsNormalized`.
+/// Whether a list of cells is normalized: it ascends, no two cells share a leaf, and no four are the children of one
+/// cell. This is so exactly if it is the normal form of its leaves. Linear. S2 calls it `IsNormalized`.
 pub fn is_normalized(cells: &[CellId]) -> bool
     ensures local { IsTrue result ↔ IsLocal cells.now }
     ensures normal { IsTrue result ↔ IsNormalForm (has_leaf cells.now) cells.now }

@@ -4,7 +4,7 @@ use Rattle.s2cell.specs.Cell.{parent_of}
 use Rattle.s2file.specs.File.{IsFramed, file_ids, file_text}
 use Rattle.s2union_c.specs.ManyCells.{HasParent, IsValueOr}
 
--- What `s2u_encode` writes of a list of 64-bit numbers has a file's frame, and the numbers in it are the list.
+-- `s2u_encode` writes a list of 64-bit numbers as bytes that have a file's frame, and the numbers in them are the list.
 abbrev pub HasItsNumbers : List ℕ → Type 0
 HasItsNumbers ids = length ids < 2 ^ 64 → All (λ n. n < 2 ^ 64) ids
     → IsFramed (file_text ids) × (file_ids (file_text ids) ≡ ids)

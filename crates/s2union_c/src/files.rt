@@ -57,8 +57,8 @@ fn write_file(ids: &[u64], out: &mut [u8])
 }
 
 /// The union that a file stands for. The file's cells may be in any order. If they are not a union already, they are
-/// normalized in the room, if it has room for all of them; else in memory of the call. What follows the result, up to
-/// as many numbers as the file has, then has no meaning.
+/// normalized in the room, if it has room for all of them; else in memory of the call. The numbers after the result,
+/// up to as many as the file has, then have no meaning.
 #[unsafe(no_mangle)]
 pub extern "C" fn s2u_decode(alloc: Global, bytes: &[u8], out: &mut [u64], len: &mut usize) -> i32
     ensures made { IsCellFile bytes.now → Decoded result (file_ids bytes.now) out.old out.new len.new }

@@ -40,9 +40,9 @@ pub fn enough_room()
         → len ≤ length room → (next ≡ made) × (again ≡ len) }
 {}
 
-/// What `s2u_decode`, `s2u_outer_of` and `s2u_inner_of` give, `s2u_normalise` gives too: of the numbers of a file,
-/// which are the union as they are if `s2u_file_check` answers 1; of a union's cells, with those of `s2u_parents` in
-/// place of the deeper ones; and of the cells that are not deeper.
+/// `s2u_normalise` gives what `s2u_decode`, `s2u_outer_of` and `s2u_inner_of` give: of the numbers of a file, which are
+/// the union as they are if `s2u_file_check` answers 1; of a union's cells, with those of `s2u_parents` in place of the
+/// deeper ones; and of the cells that are not deeper.
 pub fn by_normalising()
     ensures decoded { (bytes xs : List ℕ) → IsNormalForm (has_leaf (file_ids bytes)) xs
         → (IsLocal (file_ids bytes) → file_ids bytes ≡ xs)

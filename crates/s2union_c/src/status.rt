@@ -2,7 +2,7 @@
 ghost use Rattle.std.specs.Prelude.{◌≡◌, IsTrue};
 ghost use Rattle.s2union_c.specs.Status.{no, yes};
 
-/// What was asked for was made.
+/// The call made what it was asked for.
 pub(crate) const MADE: i32 = 0;
 
 /// The result is longer than the room.

@@ -20,12 +20,12 @@ pub fn numbers_of(text: &str) -> [u64; 5] {
     numbers
 }
 
-/// A number as a coordinate. What is too great for one is the greatest.
+/// A number as a coordinate, or the greatest `u32` if that is less.
 pub fn coordinate(number: u64) -> u32 {
     u32::try_from(number).unwrap_or(u32::MAX)
 }
 
-/// A number as a face or a level. What is too great for a byte is the greatest.
+/// A number as a face or a level, or the greatest byte if that is less.
 pub fn small(number: u64) -> u8 {
     u8::try_from(number).unwrap_or(u8::MAX)
 }

@@ -1,4 +1,4 @@
-//! The example of README.md.
+//! The example of docs/ARCHITECTURE.md.
 use s2cell::CellId;
 use s2union::{CellUnion, normalise};
 use std::alloc::{AllocError, Global};

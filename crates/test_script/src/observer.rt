@@ -16,9 +16,9 @@ pub enum SeenEvent {
     Came(Vec<u8>),
     /// A read that failed.
     ReadFailed,
-    /// That a line is about to be carried out.
+    /// A line is about to be carried out.
     LineBegins,
-    /// That it is answered.
+    /// The line is answered.
     LineEnds,
 }
 

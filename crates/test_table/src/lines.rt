@@ -1,13 +1,13 @@
 //! What the lines of a row say: its script, its options, the bytes of its files, and the answers that it must have.
 use std::alloc::{AllocError, Global};
 
-/// What is between lines that are repeated.
+/// The text between lines that are repeated.
 const BETWEEN: &str = " ; ";
 
 /// How the lines below a title begin that are no answers, beside blank ones.
 const MARKS: [&str; 8] = ["> ", "< ", "* ", "^ ", "$ ", "@ ", "? ", "# "];
 
-/// The number of decimal digits. What is greater than the greatest `u64` is that.
+/// The number of decimal digits, or the greatest `u64` if that is less.
 pub fn number(digits: &str) -> u64 {
     let mut number = 0u64;
     for digit in digits.as_bytes() {

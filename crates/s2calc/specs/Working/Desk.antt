@@ -1,4 +1,4 @@
--- What a run works with lies on its desk. What the functions do that hand the desk on.
+-- The desk of a run, which has all that the run works with, and what the functions do that hand it on.
 use Rattle.std.specs.Prelude.{◌≡◌, ℕ, ◌⊎◌, List, Option, Result, MatchResult}
 use Rattle.s2shelf.specs.Shelf.{Files}
 use Rattle.s2script.specs.Line.{line_of}
