@@ -27,3 +27,4 @@ pub mod Making
 pub mod Splicing
 pub mod Completing
 pub mod Replacing
+pub mod Rest

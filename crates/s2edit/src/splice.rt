@@ -18,8 +18,8 @@ ghost use Rattle.s2edit.specs.Working.Splice.{IsRun, IsPlaceOf, Completes, Sibli
 use crate::Register;
 use crate::change::Change;
 use s2cell::CellId;
-use s2list::{CellList, Uncounted, find_counted, find_from};
-use s2union::CellUnion;
+use s2list::{CellList, Uncounted, find_counted, find_from, put_gap};
+use s2union::{CellUnion, Grown};
 use std::alloc::{AllocError, Global};
 
 /// A cell that no cell of a list holds, and the cells of the list in it: those from index `from` to before `to`.
@@ -71,8 +71,7 @@ pub(crate) fn removing_cell(
     let list = union.cells();
     let from = place_of(list, cell);
     if holds_at(list, from, cell) {
-        let rest = rest_of(alloc, list[from], cell)?;
-        let put = rest.into_cells();
+        let put = rest_of(alloc, list[from], cell)?;
         return replacing(alloc, register, list, from, from + 1, put);
     }
     let run = run_in(list, from, cell);
@@ -257,16 +256,22 @@ fn after_all(list: &[CellId], at: usize, parent: CellId, place: u8) -> Option<us
     Some(to)
 }
 
-/// What is left of a cell without another one in it.
-fn rest_of(alloc: Global, holder: CellId, cell: CellId) -> Result<CellUnion, AllocError>
-    ensures local { IfOk result (λ rest. IsLocal rest.cells) }
+/// The cells that are left of a holder without a cell in it: those before the cell, and those after it. They are the
+/// siblings of the cell and of its parents below the holder, three for each level, and the list has just their room.
+fn rest_of(alloc: Global, holder: CellId, cell: CellId) -> Result<Vec<CellId>, AllocError>
+    requires { IsInside cell holder }
+    ensures local { IfOk result (λ rest. IsLocal rest.items) }
     ensures leaves { IfOk result (λ rest. (x : ℕ) →
-        has_leaf rest.cells x ≡ (has_leaf (holder ∷ []) x && not (has_leaf (cell ∷ []) x))) }
+        has_leaf rest.items x ≡ (has_leaf (holder ∷ []) x && not (has_leaf (cell ∷ []) x))) }
 {
     let _ = (holder.id(), cell.id());
-    let mut whole = Vec::with_capacity(alloc, 1)?;
-    whole.push(holder)?;
-    let mut taken = Vec::with_capacity(alloc, 1)?;
-    taken.push(cell)?;
-    CellUnion::from_normalized(whole).difference(&CellUnion::from_normalized(taken))
+    let levels = usize::from(cell.level() - holder.level());
+    let mut rest = Vec::with_capacity(alloc, 3 * levels)?;
+    let mut grown = Grown {
+        list: &mut rest,
+        most: usize::MAX,
+    };
+    let count = put_gap(&mut grown, 0, holder.first_leaf(), cell.first_leaf())?;
+    put_gap(&mut grown, count, cell.end_leaf(), holder.end_leaf())?;
+    Ok(rest)
 }

@@ -1,5 +1,5 @@
 use Rattle.std.proofs.Common.{◌≡◌, ◌+◌, ◌-◌, ◌<◌, ◌∷◌, ◌&&◌, not, [], ℕ, Bool, List, length}
-use Rattle.std.proofs.Common.{take, drop, get_or, sym, subst}
+use Rattle.std.proofs.Common.{take, drop, get_or, refl, sym, subst}
 use Rattle.s2cell.specs.Cell.{IsInside}
 use Rattle.s2list.specs.Union.{has_leaf, IsLocal}
 use Rattle.s2list.specs.Sets.{difference_of}
@@ -7,7 +7,7 @@ use Rattle.s2file.specs.Session.{IsDiff}
 use Rattle.s2edit.specs.Working.Named.{Gives}
 use Rattle.s2edit.proofs.Replacing.{cut_place, removed_place, found_gives, found_place}
 use Rattle.s2edit.proofs.Splicing.{cut_out, cut_lists, removed, removed_lists, run_order, ok_then, ok_both, leaves_at}
-use Rattle.s2edit.proofs.splice.removing_cell.Goals.{After-into_cells-put, After-new-none}
+use Rattle.s2edit.proofs.splice.removing_cell.Goals.{In_ok-put, After-new-none}
 use Rattle.s2edit.proofs.splice.removing_cell.Goals as goal
 
 -- the leaves of a list without those of a cell
@@ -15,7 +15,7 @@ abbrev rest : ℕ → List ℕ → ℕ → Bool
 rest k u = difference_of (has_leaf u) (has_leaf (k ∷ []))
 
 -- what is left of the cell that holds the other
-module _ (c : After-into_cells-put) where
+module _ (c : In_ok-put) where
   local : IsLocal c.cells-list.result.now
   local = subst IsLocal (sym c.cells-list.ensures.value) c.cells-list.ensures.local
 
@@ -23,42 +23,40 @@ module _ (c : After-into_cells-put) where
       × IsInside c.args.cell (get_or c.cells-list.result.now c.place_of-from.result 0)
   held = c.holds_at.ensures.0 c.if-holds_at.true
 
-  left : (x : ℕ) → has_leaf c.in_ok-rest.rest.cells x
+  left : (x : ℕ) → has_leaf c.in_ok-put.put.items x
       ≡ (has_leaf (get_or c.cells-list.result.now c.place_of-from.result 0 ∷ []) x
       && not (has_leaf (c.args.cell ∷ []) x))
   left = leaves_at c.cells-list.result.now c.place_of-from.result c.index-list-from.result c.args.cell
-      c.in_ok-rest.rest.cells held.0 c.index-list-from.is c.in_ok-rest.ensures.leaves
+      c.in_ok-put.put.items held.0 c.index-list-from.is c.in_ok-put.ensures.leaves
 
   own : Gives (rest c.args.cell c.cells-list.result.now) c.args.register c.cells-list.result.now (record {
     register = c.args.register;
     out = take (c.place_of-from.result + 1 - c.place_of-from.result)
         (drop c.place_of-from.result c.cells-list.result.now);
-    put = c.in_ok-rest.rest.cells;
+    put = c.in_ok-put.put.items;
   })
   own = cut_out c.cells-list.result.now c.args.cell c.place_of-from.result local c.place_of-from.ensures.cell
-      held.0 held.1 c.in_ok-rest.rest.cells c.in_ok-rest.ensures.local left c.args.register
+      held.0 held.1 c.in_ok-put.put.items c.in_ok-put.ensures.local left c.args.register
 
 pub replacing-requires-clause-lists : goal.replacing-requires-clause-lists
 replacing-requires-clause-lists c =
-    let w = (goal.at.replacing-requires-clause-lists c).After-into_cells-put in
-    subst (IsDiff (take (c.place_of-from.result + 1 - c.place_of-from.result)
-    (drop c.place_of-from.result c.cells-list.result.now))) (sym c.into_cells-put.ensures.value)
-    (cut_lists c.cells-list.result.now c.args.cell c.place_of-from.result (local w) c.place_of-from.ensures.cell
-    (held w).0 (held w).1 c.in_ok-rest.rest.cells c.in_ok-rest.ensures.local (left w))
+    let w = (goal.at.replacing-requires-clause-lists c).In_ok-put in
+    cut_lists c.cells-list.result.now c.args.cell c.place_of-from.result (local w) c.place_of-from.ensures.cell
+    (held w).0 (held w).1 c.in_ok-put.put.items c.in_ok-put.ensures.local (left w)
 
 pub returns-then-holds_at-clause-gives : goal.returns-then-holds_at-clause-gives
 returns-then-holds_at-clause-gives c = ok_then c.replacing.result c.replacing.ensures.change
-    (λ f e. found_gives (rest c.args.cell) c.args.register _ _ f.0 _ _ _ c.cells-list.ensures.value
-    c.into_cells-put.ensures.value e (own (goal.at.returns-then-holds_at-clause-gives c).After-into_cells-put))
+    (λ f e. found_gives (rest c.args.cell) c.args.register _ _ f.0 _ _ _ c.cells-list.ensures.value refl
+    e (own (goal.at.returns-then-holds_at-clause-gives c).In_ok-put))
 
 pub returns-then-holds_at-clause-place : goal.returns-then-holds_at-clause-place
 returns-then-holds_at-clause-place c =
-    let w = (goal.at.returns-then-holds_at-clause-place c).After-into_cells-put in
+    let w = (goal.at.returns-then-holds_at-clause-place c).In_ok-put in
     ok_both c.replacing.result c.replacing.ensures.change c.replacing.ensures.from
-    (λ f e g. found_place c.args.register _ _ f.0 _ _ _ _ f.1 c.cells-list.ensures.value
-    c.into_cells-put.ensures.value e g (cut_place c.cells-list.result.now c.place_of-from.result c.args.register
-    (local w) (held w).0 (rest c.args.cell c.cells-list.result.now) c.in_ok-rest.rest.cells c.args.cell
-    c.in_ok-rest.ensures.local (left w) (own w)))
+    (λ f e g. found_place c.args.register _ _ f.0 _ _ _ _ f.1 c.cells-list.ensures.value refl
+    e g (cut_place c.cells-list.result.now c.place_of-from.result c.args.register
+    (local w) (held w).0 (rest c.args.cell c.cells-list.result.now) c.in_ok-put.put.items c.args.cell
+    c.in_ok-put.ensures.local (left w) (own w)))
 
 -- the run in the cell
 module _ (c : After-new-none) where

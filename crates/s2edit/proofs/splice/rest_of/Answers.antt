@@ -1,17 +1,41 @@
-use Rattle.std.proofs.Common.{◌∷◌, ◌++◌, [], ℕ, List, ap, sym, subst, ◌∙◌}
-use Rattle.s2cell.specs.Cell.{level_of, place_of}
-use Rattle.s2list.specs.Union.{IsLocal}
-use Rattle.s2edit.proofs.Splicing.{one_cell_local}
+use Rattle.std.proofs.Common.{◌-◌, ◌^◌, [], arith, refl, rules}
+use Rattle.s2cell.specs.Cell.{IsCell, level_of, place_of}
+use Rattle.s2cell.proofs.Leaves.{within_from_inside}
+use Rattle.s2list.proofs.Lengths.{level_from_within}
+use Rattle.s2edit.proofs.Rest.{rest_leaves, rest_local}
 use Rattle.s2edit.proofs.splice.rest_of.Goals as goal
 
-pub from_normalized-requires : goal.from_normalized-requires
-from_normalized-requires c =
-    subst IsLocal
-    (sym (c.in_ok-push.ensures.items ∙ ap (λ (l : List ℕ). l ++ c.args.holder ∷ []) c.in_ok-whole.ensures.items))
-    (one_cell_local c.args.holder (level_of c.args.holder, place_of c.args.holder, c.id.ensures.cell))
+pub overflow_sub-level : goal.overflow_sub-level
+overflow_sub-level c = rw (c.level.ensures.value, c.level-2.ensures.value)
+    (let held : IsCell c.args.cell = (level_of c.args.cell, place_of c.args.cell, c.id-2.ensures.cell) in
+    level_from_within c.args.cell c.args.holder held
+    (level_of c.args.holder, place_of c.args.holder, c.id.ensures.cell)
+    (within_from_inside c.args.cell c.args.holder held c.requires))
 
-pub from_normalized-requires-2 : goal.from_normalized-requires-2
-from_normalized-requires-2 c =
-    subst IsLocal
-    (sym (c.in_ok-push-2.ensures.items ∙ ap (λ (l : List ℕ). l ++ c.args.cell ∷ []) c.in_ok-taken.ensures.items))
-    (one_cell_local c.args.cell (level_of c.args.cell, place_of c.args.cell, c.id-2.ensures.cell))
+pub returns-clause-leaves : goal.returns-clause-leaves
+returns-clause-leaves c x =
+    let start = c.first_leaf-2.ensures.most in
+    let end = c.end_leaf-2.ensures.most in
+    let one = c.in_ok-count.ensures.put (λ h. omega arith) []
+    (record { list = c.put_gap.new.out.list; most = 2 ^ 64 - 1 })
+    (record { same_most = refl; len_is = λ few. refl; front = λ few. c.in_ok-rest.ensures.items }) in
+    let both = c.in_ok-put_gap.ensures.put (λ h. omega arith) one.0
+    (record { list = c.put_gap.new.out.list; most = 2 ^ 64 - 1 }) one.2 in
+    let leaf = rest_leaves c.args.holder c.args.cell c.first_leaf-2.ensures.own c.requires
+    (c.first_leaf.ensures.value, c.first_leaf-2.ensures.value, c.end_leaf.ensures.value, c.end_leaf-2.ensures.value)
+    one.0 both.0 one.1 both.1 both.2 x in
+    search rules
+
+pub returns-clause-local : goal.returns-clause-local
+returns-clause-local c =
+    let start = c.first_leaf-2.ensures.most in
+    let end = c.end_leaf-2.ensures.most in
+    let one = c.in_ok-count.ensures.put (λ h. omega arith) []
+    (record { list = c.put_gap.new.out.list; most = 2 ^ 64 - 1 })
+    (record { same_most = refl; len_is = λ few. refl; front = λ few. c.in_ok-rest.ensures.items }) in
+    let both = c.in_ok-put_gap.ensures.put (λ h. omega arith) one.0
+    (record { list = c.put_gap.new.out.list; most = 2 ^ 64 - 1 }) one.2 in
+    let local = rest_local c.args.holder c.args.cell c.first_leaf-2.ensures.own c.requires
+    (c.first_leaf.ensures.value, c.first_leaf-2.ensures.value, c.end_leaf.ensures.value, c.end_leaf-2.ensures.value)
+    one.0 both.0 one.1 both.1 both.2 in
+    search rules
