@@ -4,7 +4,7 @@ use Rattle.std.proofs.Common.{leb, ltb, List, [], ◌∷◌, ◌++◌, length, t
 use Rattle.std.proofs.Math.Logic.{⊎_elim}
 use Rattle.std.proofs.lemmas.Bool.{cases_lt}
 use Rattle.std.proofs.lemmas.Bool.Decides.{nat_tests}
-use Rattle.std.proofs.lemmas.List.{get_or-take, length-take-le, get_or_append_left, get_or_push}
+use Rattle.std.proofs.lemmas.List.{get_or-take, length-take-le, get_or_append_left, get_or_push, take-take}
 use Rattle.std.proofs.lemmas.Option.{gets}
 use Rattle.std.proofs.lemmas.List.Elements.{All-push, All-take}
 use Rattle.std.proofs.lemmas.List.Quantifiers.{all_pairs_push}
@@ -220,6 +220,24 @@ merging_done front cell kept last packed m none =
     }
 
 -- an element that was read, at another spelling of its index
+-- what the first `k` become, if the others of the first `n` lie in the cell
+pub merges_more : (ids : List ℕ) (n k : ℕ) {cell kept merged : ℕ} → n ≤ length ids → k ≤ n →
+    Merges (take k ids) cell kept merged →
+    ((x : ℕ) → (has_leaf (take k ids) x || covers cell x) ≡ (has_leaf (take n ids) x || covers cell x)) →
+    Merges (take n ids) cell kept merged
+merges_more ids n k {kept} {merged} h w m same =
+    let long : length (take n ids) ≡ n = length-take-le n ids h in
+    let less : length (take k ids) ≡ k = length-take-le k ids (omega arith) in
+    let within = m.within in
+    let e : take kept (take k ids) ≡ take kept (take n ids) = take-take kept k ids (omega arith)
+    ∙ sym (take-take kept n ids (omega arith)) in
+    record {
+      within = omega arith;
+      packed = rw e at m.packed;
+      leaves = λ x. ap (λ l. has_leaf l x || covers merged x) (sym e) ∙ m.leaves x ∙ same x;
+      start = m.start;
+    }
+
 pub read_at : (u : List ℕ) (i j x : ℕ) → i < length u → j ≡ i → x ≡ get_or u i x → get_or u j 0 ≡ x
 read_at u i j x h e r = let a : get_or u i 0 ≡ get_or u i x = grind (arith, gets) in ap (λ k. get_or u k 0) e ∙ a
     ∙ sym r

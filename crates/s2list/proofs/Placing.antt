@@ -116,7 +116,7 @@ leaving_done front cell kept packed starts cc held l out k d h =
     rw f last)
     (cases_lt k less))
 
--- ---- the loop of `compact`
+-- ---- the loop of `pack`
 
 -- the first i cells of xs are packed into the first n of ys, which has the later ones in place
 pub record Compacting (xs ys : List ℕ) (n i : ℕ) : Type 0 where

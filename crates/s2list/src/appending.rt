@@ -15,62 +15,63 @@ use crate::walk::lies_in;
 use crate::whole::parent_of_family;
 use s2cell::CellId;
 
-/// What packed cells become if a cell is added that comes after them in order of identifiers: how many of them stay,
-/// and the cell that follows these. None if the last of them contains the cell.
-pub fn new_end<C: Cells>(front: &C, cell: CellId) -> Option<(usize, CellId)>
-    requires packed { IsPacked (C.ids front.now) }
-    requires starts { All (λ c. 2 * first_leaf c < cell) (C.ids front.now) }
+/// What the first `n` cells of a list, which are packed, become if a cell is added that comes after them in order of
+/// identifiers: how many of them stay, and the cell that follows these. None if the last of them contains the cell.
+pub fn new_end<C: Cells>(list: &C, n: usize, cell: CellId) -> Option<(usize, CellId)>
+    requires within { n ≤ length (C.ids list.now) }
+    requires packed { IsPacked (take n (C.ids list.now)) }
+    requires starts { All (λ c. 2 * first_leaf c < cell) (take n (C.ids list.now)) }
     ensures cases { MatchOption result
-        ((x : ℕ) → has_leaf (C.ids front.now) x ≡ (has_leaf (C.ids front.now) x || covers cell x))
-        (λ r. Merges (C.ids front.now) cell r.0 r.1) }
+        ((x : ℕ) → has_leaf (take n (C.ids list.now)) x ≡ (has_leaf (take n (C.ids list.now)) x || covers cell x))
+        (λ r. Merges (take n (C.ids list.now)) cell r.0 r.1) }
     ensures starts { IfSome result
-        (λ r. All (λ c. 2 * first_leaf c < cell) (take r.0 (C.ids front.now) ++ r.1 ∷ [])) }
+        (λ r. All (λ c. 2 * first_leaf c < cell) (take r.0 (take n (C.ids list.now)) ++ r.1 ∷ [])) }
 {
     let id = cell.id();
-    let n = front.len();
-    if n > 0 && lies_in(id, front.id(n - 1)) {
+    if n > 0 && lies_in(id, list.id(n - 1)) {
         return None;
     }
-    let kept = outside(front, cell);
-    let (kept, last) = merge_families(front, kept, cell);
+    let kept = outside(list, n, cell);
+    let (kept, last) = merge_families(list, kept, cell);
     Some((kept, last))
 }
 
-/// How many of the packed cells lie outside the cell; these come first.
-fn outside<C: Cells>(front: &C, cell: CellId) -> usize
-    requires packed { IsPacked (C.ids front.now) }
-    requires starts { All (λ c. 2 * first_leaf c < cell) (C.ids front.now) }
+/// How many of the first `n` cells, which are packed, lie outside the cell; these come first.
+fn outside<C: Cells>(list: &C, n: usize, cell: CellId) -> usize
+    requires within { n ≤ length (C.ids list.now) }
+    requires packed { IsPacked (take n (C.ids list.now)) }
+    requires starts { All (λ c. 2 * first_leaf c < cell) (take n (C.ids list.now)) }
     requires is_cell { IsCell cell }
-    requires not_held { 0 < length (C.ids front.now)
-        → IsInside cell (slice_index (C.ids front.now) (length (C.ids front.now) - 1)) → ⊥ }
-    ensures within { result ≤ length (C.ids front.now) }
-    ensures after { All (λ c. EndsBefore c cell) (take result (C.ids front.now)) }
-    ensures leaves { (x : ℕ) → (has_leaf (take result (C.ids front.now)) x || covers cell x)
-        ≡ (has_leaf (C.ids front.now) x || covers cell x) }
+    requires not_held { 0 < n → IsInside cell (slice_index (C.ids list.now) (n - 1)) → ⊥ }
+    ensures within { result ≤ n }
+    ensures after { All (λ c. EndsBefore c cell) (take result (C.ids list.now)) }
+    ensures leaves { (x : ℕ) → (has_leaf (take result (C.ids list.now)) x || covers cell x)
+        ≡ (has_leaf (take n (C.ids list.now)) x || covers cell x) }
 {
     let id = cell.id();
-    let mut kept = front.len();
-    while kept > 0 && lies_in(front.id(kept - 1), id) {
+    let mut kept = n;
+    while kept > 0 && lies_in(list.id(kept - 1), id) {
         kept -= 1;
     }
     kept
 }
 
-/// What the first `from` packed cells become if a cell after all of these is added: only families are merged.
-fn merge_families<C: Cells>(front: &C, from: usize, cell: CellId) -> (usize, CellId)
-    requires packed { IsPacked (C.ids front.now) }
-    requires within { from ≤ length (C.ids front.now) }
-    requires after { All (λ c. EndsBefore c cell) (take from (C.ids front.now)) }
+/// What the first `from` cells, which are packed, become if a cell after all of these is added: only families are
+/// merged.
+fn merge_families<C: Cells>(list: &C, from: usize, cell: CellId) -> (usize, CellId)
+    requires within { from ≤ length (C.ids list.now) }
+    requires packed { IsPacked (take from (C.ids list.now)) }
+    requires after { All (λ c. EndsBefore c cell) (take from (C.ids list.now)) }
     requires is_cell { IsCell cell }
-    ensures { Merges (take from (C.ids front.now)) cell result.0 result.1 }
+    ensures { Merges (take from (C.ids list.now)) cell result.0 result.1 }
 {
     let mut kept = from;
     let mut last = cell;
     while kept >= 3 {
         match parent_of_family(
-            front.id(kept - 3),
-            front.id(kept - 2),
-            front.id(kept - 1),
+            list.id(kept - 3),
+            list.id(kept - 2),
+            list.id(kept - 1),
             last,
         ) {
             Some(parent) => {

@@ -1,12 +1,12 @@
-//! Lists of cells by their indexes: searches, questions, the step of normalizing, cutting to levels, and set
-//! operations, written once for each form that a list may have.
+//! Lists of cells by their indexes: searches, questions, normalizing, cutting to levels, and set operations, written
+//! once for each form that a list may have.
 //!
 //! A cell ends by the leaf `lo` if all its leaves come before that leaf.
 //!
 //! Anything that gives numbers by their indexes is a list of cells (`Cells`): numbers in a slice, the cells of a union,
 //! the bytes of a file at any address. No call copies anything or takes memory; what a set operation writes to
-//! (`Output`) is its caller's. Only `new_end` has a precondition on the numbers. Some calls have one on an index or on
-//! levels, and a set operation begins with nothing written. Where that is met, each other call is safe and
+//! (`Output`) is its caller's. Only `pack` and `new_end` have a precondition on the numbers. Some calls have one on an
+//! index or on levels, and a set operation begins with nothing written. Where that is met, each other call is safe and
 //! returns, whatever the numbers are, and leaves what its output has after what it writes. The answer is exact if they
 //! are the cells of a normalized union; for other numbers it means nothing; `is_union` and `first_wrong` are exact for
 //! all numbers. A type parameter (`Count`) counts the looks of a call, so that a call that nobody counts has no code
@@ -28,6 +28,7 @@ mod gap;
 mod intersection;
 pub mod laws;
 mod looks;
+mod normalising;
 mod output;
 mod pile;
 mod room;
@@ -45,7 +46,7 @@ pub use ask::{
     begins_at, contains_cell, contains_cell_at, contains_cell_at_counted, contains_cell_counted,
     intersects_cell, intersects_cell_at, intersects_cell_at_counted, intersects_cell_counted,
 };
-pub use cells::{CellList, Cells, IdList, Listed, cell_of};
+pub use cells::{CellList, Cells, CellsMut, IdList, Listed, cell_of};
 pub use complement::write_complement;
 pub use denormalising::{Descendants, denormalise};
 pub use difference::write_difference;
@@ -57,6 +58,7 @@ pub use four::{Places, places_of_four, places_of_four_counted};
 pub use gap::{Gap, contains_in_gap, gap_at, gap_of, intersects_in_gap, lies_in_gap};
 pub use intersection::write_intersection;
 pub use looks::{Count, LookedAt, Looks, Uncounted};
+pub use normalising::pack;
 pub use output::{Copies, Output, put_gap};
 pub use room::{Room, put};
 pub use run::cells_at;

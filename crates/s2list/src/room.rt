@@ -1,8 +1,10 @@
-//! Lists of identifiers that grow at the front of a room. Numbers that don't fit are counted, and not written.
-ghost use Rattle.std.specs.Prelude.{◌≡◌, ◌+◌, ◌-◌, ◌<◌, ◌≤◌, ◌++◌, ◌∷◌, [], ℕ, List, length, take, drop};
+//! The room of a caller: a list of identifiers that grows at its front, and the numbers in it. Numbers that don't fit
+//! are counted, and not written.
+ghost use Rattle.std.specs.Prelude.{◌≡◌, ◌+◌, ◌-◌, ◌<◌, ◌≤◌, ◌++◌, ◌∷◌, [], ℕ, All, List, length, take, drop};
+ghost use Rattle.s2cell.specs.Cell.{IsCell};
 ghost use Rattle.s2list.specs.Room.{IsPut, LeavesRest};
 
-use crate::cells::Cells;
+use crate::cells::{Cells, CellsMut, Listed, cell_of};
 use crate::output::{Copies, Output};
 use s2cell::CellId;
 use std::alloc::AllocError;
@@ -12,6 +14,34 @@ use std::alloc::AllocError;
 pub struct Room<'a> {
     /// The room.
     pub out: &'a mut [u64],
+}
+
+impl<'a> Listed for Room<'a> {
+    ghost ids = { λ r. r.out.now };
+
+    fn len(&self) -> usize {
+        self.out.len()
+    }
+}
+
+impl<'a> Cells for Room<'a> {
+    fn id(&self, k: usize) -> u64 {
+        self.out[k]
+    }
+}
+
+impl<'a> CellsMut for Room<'a> {
+    ghost readable = { λ r. All IsCell r.out.now };
+
+    ghost place = { λ r. r.out.ghost_name };
+
+    fn cell(&self, k: usize) -> CellId {
+        cell_of(self.out[k])
+    }
+
+    fn set(&mut self, k: usize, cell: CellId) {
+        self.out[k] = cell.id();
+    }
 }
 
 impl<'a> Output for Room<'a> {

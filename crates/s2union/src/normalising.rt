@@ -1,15 +1,14 @@
-//! Normalizing a list, and testing whether it is normalized. How one more cell follows packed cells is in `s2list`.
+//! Normalizing a list, and testing whether it is normalized. How cells that are in order are packed is in `s2list`.
 ghost use Rattle.std.specs.Prelude.{◌≡◌, ◌≤◌, ◌<◌, ◌+◌, ◌↔◌, ◌||◌, ◌*◌};
-ghost use Rattle.std.specs.Prelude.{ℕ, IsTrue, take, All, slice_index_or};
+ghost use Rattle.std.specs.Prelude.{ℕ, IsTrue, All};
 ghost use Rattle.std.specs.Vec.{vec_len, vec_capacity};
-ghost use Rattle.std.specs.List.Sorted.{IsNonDecreasing};
 ghost use Rattle.s2cell.specs.Cell.{covers, first_leaf};
 ghost use Rattle.s2list.specs.Union.{IsLocal, IsNormalForm, IsShortest, has_leaf};
 ghost use Rattle.s2list.specs.Packed.{IsPacked};
 
 use crate::union::CellUnion;
 use s2cell::CellId;
-use s2list::{CellList, is_union, new_end};
+use s2list::{CellList, is_union, new_end, pack};
 
 /// The union of the leaves of these cells, which may be in any order and contain one another. Works in the list's own
 /// place and keeps its room, takes no memory and can't fail. A sort and one pass: `n log n` steps, and little more than
@@ -22,49 +21,9 @@ pub fn normalise(mut cells: Vec<CellId>) -> CellUnion
     ensures room { result.room ≡ vec_capacity cells }
 {
     cells.sort_unstable();
-    compact(&mut cells);
-    CellUnion { cells }
-}
-
-/// Packs cells that are in order, in place.
-fn compact(cells: &mut Vec<CellId>)
-    requires { IsNonDecreasing cells.old.items }
-    ensures leaves { (x : ℕ) → has_leaf cells.new.items x ≡ has_leaf cells.old.items x }
-    ensures packed { IsPacked cells.new.items }
-    ensures room { vec_capacity cells.new ≡ vec_capacity cells.old }
-{
-    let mut n = 0;
-    for i in 0..cells.len() {
-        let cell = cells[i];
-        n = place(cells, n, cell);
-    }
+    let n = pack(&mut cells);
     cells.truncate(n);
-}
-
-/// Adds a cell after the first `n` cells, which are packed, and answers how many packed cells there are then.
-fn place(cells: &mut Vec<CellId>, n: usize, cell: CellId) -> usize
-    requires room { n < vec_len cells.old }
-    requires packed { IsPacked (take n cells.old.items) }
-    requires starts { All (λ c. 2 * first_leaf c < cell) (take n cells.old.items) }
-    ensures within { result ≤ n + 1 }
-    ensures packed { IsPacked (take result cells.new.items) }
-    ensures starts { All (λ c. 2 * first_leaf c < cell) (take result cells.new.items) }
-    ensures leaves { (x : ℕ) → has_leaf (take result cells.new.items) x
-        ≡ (has_leaf (take n cells.old.items) x || covers cell x) }
-    ensures rest { (k d : ℕ) → n < k → slice_index_or cells.new.items k d ≡ slice_index_or cells.old.items k d }
-    ensures len { vec_len cells.new ≡ vec_len cells.old }
-    ensures room { vec_capacity cells.new ≡ vec_capacity cells.old }
-{
-    let front = CellList {
-        cells: &cells.as_slice()[..n],
-    };
-    match new_end(&front, cell) {
-        Some((kept, last)) => {
-            cells[kept] = last;
-            kept + 1
-        }
-        None => n,
-    }
+    CellUnion { cells }
 }
 
 /// Whether a list of cells is normalized: it ascends, no two cells share a leaf, and no four are the children of one
@@ -87,10 +46,7 @@ pub(crate) fn add_reserved(list: &mut Vec<CellId>, cell: CellId)
     ensures few { vec_len list.new ≤ vec_len list.old + 1 }
     ensures room { vec_capacity list.new ≡ vec_capacity list.old }
 {
-    let front = CellList {
-        cells: list.as_slice(),
-    };
-    if let Some((kept, last)) = new_end(&front, cell) {
+    if let Some((kept, last)) = new_end(list, list.len(), cell) {
         list.truncate(kept);
         list.push_reserved(last);
     }
