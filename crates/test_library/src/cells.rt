@@ -12,19 +12,15 @@ pub fn answer(
     words: &str,
     found: &mut Vec<u8>,
 ) -> Result<bool, AllocError> {
-    if name == "token" {
-        add_described(alloc, found, CellId::from_token(words.as_bytes()))?;
-    } else if name == "debug" {
-        add_described(alloc, found, CellId::from_debug(words.as_bytes()))?;
-    } else if name == "at" {
-        add_token(found, cell_at(words))?;
-    } else if name == "number" {
-        add_number(alloc, found, cell_at(words))?;
-    } else if name == "place" {
-        add_square(alloc, found, leaf_of(words))?;
-    } else {
-        return answer_of_cells(alloc, name, words, found);
-    }
+    let added = match name {
+        "token" => add_described(alloc, found, CellId::from_token(words.as_bytes())),
+        "debug" => add_described(alloc, found, CellId::from_debug(words.as_bytes())),
+        "at" => add_token(found, cell_at(words)),
+        "number" => add_number(alloc, found, cell_at(words)),
+        "place" => add_square(alloc, found, leaf_of(words)),
+        _ => return answer_of_cells(alloc, name, words, found),
+    };
+    added?;
     Ok(true)
 }
 
@@ -36,17 +32,14 @@ fn answer_of_cells(
     found: &mut Vec<u8>,
 ) -> Result<bool, AllocError> {
     let cells = cells_of(alloc, words)?;
-    if name == "next" {
-        add_token(found, next_of(&cells))?;
-    } else if name == "prev" {
-        add_token(found, previous_of(&cells))?;
-    } else if name == "ancestor" {
-        add_token(found, ancestor_of(&cells))?;
-    } else if name == "square" {
-        add_square(alloc, found, cells.first().copied())?;
-    } else {
-        return Ok(false);
-    }
+    let added = match name {
+        "next" => add_token(found, next_of(&cells)),
+        "prev" => add_token(found, previous_of(&cells)),
+        "ancestor" => add_token(found, ancestor_of(&cells)),
+        "square" => add_square(alloc, found, cells.first().copied()),
+        _ => return Ok(false),
+    };
+    added?;
     Ok(true)
 }
 

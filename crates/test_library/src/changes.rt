@@ -15,13 +15,12 @@ pub fn answer(
     words: &str,
     found: &mut Vec<u8>,
 ) -> Result<bool, AllocError> {
-    if name == "kept" {
-        add_kept(alloc, editor, found)?;
-    } else if name == "between" {
-        add_between(alloc, words, found)?;
-    } else {
-        return Ok(false);
-    }
+    let added = match name {
+        "kept" => add_kept(alloc, editor, found),
+        "between" => add_between(alloc, words, found),
+        _ => return Ok(false),
+    };
+    added?;
     Ok(true)
 }
 

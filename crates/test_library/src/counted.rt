@@ -17,24 +17,31 @@ pub fn answer(
     words: &str,
     found: &mut Vec<u8>,
 ) -> Result<bool, AllocError> {
-    if name == "spaced" {
-        add_spaced(alloc, words, found)?;
-        return Ok(true);
-    }
-    if name == "spaced_cell" {
-        add_spaced_cell(alloc, words, found)?;
-        return Ok(true);
-    }
+    let added = match name {
+        "spaced" => add_spaced(alloc, words, found),
+        "spaced_cell" => add_spaced_cell(alloc, words, found),
+        _ => return answer_of_two(alloc, name, words, found),
+    };
+    added?;
+    Ok(true)
+}
+
+/// The same for a call on two unions, `CELLS / CELLS`.
+fn answer_of_two(
+    alloc: Global,
+    name: &str,
+    words: &str,
+    found: &mut Vec<u8>,
+) -> Result<bool, AllocError> {
     let (one, other) = cut(words);
     let one = union_of(alloc, one)?;
     let other = union_of(alloc, other)?;
-    if name == "contains" {
-        add_line(found, yes_or_no(one.contains(&other)))?;
-    } else if name == "intersects" {
-        add_line(found, yes_or_no(one.intersects(&other)))?;
-    } else {
-        return answer_counted(alloc, name, &one, &other, found);
-    }
+    let added = match name {
+        "contains" => add_line(found, yes_or_no(one.contains(&other))),
+        "intersects" => add_line(found, yes_or_no(one.intersects(&other))),
+        _ => return answer_counted(alloc, name, &one, &other, found),
+    };
+    added?;
     Ok(true)
 }
 

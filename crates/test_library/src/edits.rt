@@ -12,19 +12,15 @@ pub fn answer(
     words: &str,
     found: &mut Vec<u8>,
 ) -> Result<bool, AllocError> {
-    if name == "assign" || name == "add" || name == "remove" {
-        add_edited(alloc, editor, name, words, found)?;
-    } else if name == "undo" {
-        add_moved(alloc, found, editor.undo())?;
-    } else if name == "redo" {
-        add_moved(alloc, found, editor.redo())?;
-    } else if name == "register" {
-        add_register(editor, words, found)?;
-    } else if name == "run_edits" {
-        add_tally(alloc, editor, words, found)?;
-    } else {
-        return Ok(false);
-    }
+    let added = match name {
+        "assign" | "add" | "remove" => add_edited(alloc, editor, name, words, found),
+        "undo" => add_moved(alloc, found, editor.undo()),
+        "redo" => add_moved(alloc, found, editor.redo()),
+        "register" => add_register(editor, words, found),
+        "run_edits" => add_tally(alloc, editor, words, found),
+        _ => return Ok(false),
+    };
+    added?;
     Ok(true)
 }
 

@@ -14,15 +14,13 @@ pub fn answer(
     words: &str,
     found: &mut Vec<u8>,
 ) -> Result<bool, AllocError> {
-    if name == "session" {
-        add_session(alloc, editor, words, found)?;
-    } else if name == "decode_session" {
-        add_decoded(alloc, words, found)?;
-    } else if name == "restore" {
-        add_restored(alloc, editor, words, found)?;
-    } else {
-        return Ok(false);
-    }
+    let added = match name {
+        "session" => add_session(alloc, editor, words, found),
+        "decode_session" => add_decoded(alloc, words, found),
+        "restore" => add_restored(alloc, editor, words, found),
+        _ => return Ok(false),
+    };
+    added?;
     Ok(true)
 }
 

@@ -14,31 +14,32 @@ pub fn answer(
     words: &str,
     found: &mut Vec<u8>,
 ) -> Result<bool, AllocError> {
-    if name == "normalized" {
-        let cells = cells_of(alloc, words)?;
-        add_line(found, yes_or_no(is_normalized(&cells)))?;
-    } else if name == "count" {
-        add_counted_leaves(alloc, found, &union_of(alloc, words)?)?;
-    } else if name == "range" {
-        add_range(alloc, words, found)?;
-    } else if name == "denormalized" {
-        add_denormalized(alloc, words, found)?;
-    } else if name == "same" {
-        add_compared(alloc, words, found)?;
-    } else if name == "symmetric_difference" {
-        add_difference(alloc, words, found)?;
-    } else {
-        return Ok(false);
-    }
+    let added = match name {
+        "normalized" => add_whether_normalized(alloc, words, found),
+        "count" => add_counted_leaves(alloc, words, found),
+        "range" => add_range(alloc, words, found),
+        "denormalized" => add_denormalized(alloc, words, found),
+        "same" => add_compared(alloc, words, found),
+        "symmetric_difference" => add_difference(alloc, words, found),
+        _ => return Ok(false),
+    };
+    added?;
     Ok(true)
 }
 
-/// Adds how many cells and leaves a union has.
-fn add_counted_leaves(
+/// Adds whether cells are a union's list.
+fn add_whether_normalized(
     alloc: Global,
+    tokens: &str,
     found: &mut Vec<u8>,
-    union: &CellUnion,
 ) -> Result<(), AllocError> {
+    let cells = cells_of(alloc, tokens)?;
+    add_line(found, yes_or_no(is_normalized(&cells)))
+}
+
+/// Adds how many cells and leaves a union has.
+fn add_counted_leaves(alloc: Global, tokens: &str, found: &mut Vec<u8>) -> Result<(), AllocError> {
+    let union = union_of(alloc, tokens)?;
     let (cells, leaves) = (union.len(), union.leaf_count());
     add_line(found, &format!(in alloc; "cells {cells} leaves {leaves}")?)
 }
