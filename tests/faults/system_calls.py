@@ -6,8 +6,8 @@ opening, the look at or the closing of a file. In some runs each read of the scr
 a few bytes. Answers, status, standard error and files must be what docs/SCRIPT.md says of such a failure;
 The plain model says what all other lines do. Each kind of call has to fail at least once, so that none passes by
 tests/refuse.c. Then the same with all calls of the kind from one on, as on a disk that goes on failing: such a run
-comes to an end, and tries nothing again and again. In one run each file becomes a device just before it is opened. The
-last line is 'N passed, M failed'.
+comes to an end, and tries nothing again and again. In one run each file becomes a device just before it is opened. In
+others a read of a file is interrupted a hundred times, one after another. The last line is 'N passed, M failed'.
 """
 import collections
 import errno
@@ -230,6 +230,14 @@ def is_looked_at_again(refusing):
     return ended[:2] == (1, b"error file\n" * 2) and len(opened) == 2 and not read
 
 
+def interrupted(refusing):
+    """Each read of a file, and the run in which it is interrupted a hundred times before it gives something."""
+    reads = [call for call in refusing.run().calls if call.kind == "read"]
+    for number, call in enumerate(reads, 1):
+        if call.file != 0:
+            yield call, refusing.run(f"read {number} {number + 99} {errno.EINTR}")
+
+
 def failures(refusing, modes, last=0):
     """Each call that is made to fail, the bytes of answers before it, its error, and the run in which it fails, with
     those up to the last one."""
@@ -273,6 +281,9 @@ def main():
             tell("files of few bytes", is_cut_right(refusing, most), most)
         tell("notes before a read that fails", is_explained(refusing))
         tell("files that become a device", is_looked_at_again(refusing))
+        for call, ended in interrupted(refusing):
+            is_well = ended[:4] == (1, ANSWERS, b"", STEPS[-1].model.files)
+            tell("reads of files that are interrupted", is_well, call, ended.answers[-100:])
     for what, count in sorted(counts.items()):
         print(f"{count} of {what}")
     print(f"{sum(counts.values()) - failed} passed, {failed} failed")
