@@ -299,7 +299,9 @@ def hinted(reason, word):
 
 
 # Words that other prompts and places take, as the reason has them, and what is done here instead.
-HABITS = ((r"'[^']*;' is not an? ", "a command ends without ';'"),
+HABITS = ((r"'\\['\"].* is not an? ", "words stand without quotes"),
+          (r"'0[xX][0-9a-fA-F]+' is not a cell ", "a token stands without '0x'"),
+          (r"'[^']*;' is not an? ", "a command ends without ';'"),
           (r"'[^']*,[^']*' is not a cell ", "cells stand apart by blanks"),
           (r"'[+-]?\d+\.\d+' is not an? ", "'python3 -m s2union_geo leaves' makes cells of degrees"))
 
