@@ -63,7 +63,7 @@ __all__ = ["CellUnion", "Union", "UnionFile", "version", "is_cell", "level", "fa
            "OutOfMemoryError", "UnionFileError", "FileShortError", "FileVersionError", "FileTrailingError",
            "FileCellError", "UnknownStatusError"]
 
-__version__ = "1.3.2"
+__version__ = "1.3.3"
 
 def _refuse(status: int, what: str = "") -> NoReturn:
     _library.refuse(status, what)
