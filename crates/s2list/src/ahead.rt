@@ -15,7 +15,7 @@ use s2cell::CellId;
 
 /// A list counts as short if the other is at least this many times as long. A search in the other takes no more steps
 /// than that, so the searches for all cells of the short one take no more than a pass.
-const MUCH_LONGER: usize = 64;
+const LONG_TO_SHORT: usize = 64;
 
 /// A search that goes this many cells ahead of a walk, or fewer, goes by leaps: these cells lie in the cache or come
 /// there without being asked for, and leaps take fewer looks than a search in all of the list.
@@ -25,7 +25,7 @@ const NEAR: usize = 32;
 pub fn is_short(few: usize, many: usize) -> bool
     ensures { IsTrue result ↔ 64 * few ≤ many }
 {
-    few <= many / MUCH_LONGER
+    few <= many / LONG_TO_SHORT
 }
 
 /// How a walk along two lists searches one of them, for where it stands in the other.

@@ -14,7 +14,7 @@ use crate::looks::{Count, LookedAt, Uncounted};
 pub const NEARBY: usize = 15;
 
 /// A search among all cells goes on without branches once this many places are left: 256 bytes.
-const FEW: usize = 32;
+const LAST_PLACES: usize = 32;
 
 /// How many cells end by the leaf `lo`; these come first. Logarithmic.
 pub(crate) fn find<C: Cells>(cells: &C, lo: u64) -> usize
@@ -44,7 +44,7 @@ pub fn find_counted<C: LookedAt<K>, K: Count>(cells: &C, lo: u64, count: &mut K)
     if !ends_by(cells.look(0, count), lo) {
         return 0;
     }
-    narrow_until(FEW, cells, 0, len - 1, lo, count)
+    narrow_until(LAST_PLACES, cells, 0, len - 1, lo, count)
 }
 
 /// How many cells end by the leaf `lo`, if the first `start` are known to. Logarithmic in how many more do.

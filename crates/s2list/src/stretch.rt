@@ -20,7 +20,7 @@ pub(crate) struct Piece {
 }
 
 /// How many cells a run has at least, before it is looked for.
-pub(crate) const RUN: usize = 8;
+pub(crate) const SHORTEST_RUN: usize = 8;
 
 /// The index before which a run of cells ends that begins at the index `i`, after the leaf `done`: there is a leaf
 /// between its last cell and the next one, and between its last cell and the leaf `mark`. Or `i`, if no such run is
@@ -36,7 +36,9 @@ pub(crate) fn run_to<C: Cells>(cells: &C, i: usize, done: u64, mark: u64) -> usi
         → first_leaf (slice_index (C.ids cells.now) (result - 1)) + size_of (slice_index (C.ids cells.now) (result - 1))
         < mark }
 {
-    if cells.len().saturating_sub(i) <= RUN || mark <= first_of(cells.id(i + RUN)) {
+    if cells.len().saturating_sub(i) <= SHORTEST_RUN
+        || mark <= first_of(cells.id(i + SHORTEST_RUN))
+    {
         return i;
     }
     if first_of(cells.id(i)) <= done {
@@ -45,10 +47,10 @@ pub(crate) fn run_to<C: Cells>(cells: &C, i: usize, done: u64, mark: u64) -> usi
     cut_before(cells, i, mark)
 }
 
-/// As `run_to`, for more than `RUN` cells.
+/// As `run_to`, for more than `SHORTEST_RUN` cells.
 fn cut_before<C: Cells>(cells: &C, i: usize, mark: u64) -> usize
-    requires there { i + RUN < length (C.ids cells.now) }
-    requires fits { i + RUN < 2 ^ 64 }
+    requires there { i + SHORTEST_RUN < length (C.ids cells.now) }
+    requires fits { i + SHORTEST_RUN < 2 ^ 64 }
     ensures within { result ≤ length (C.ids cells.now) }
     ensures cut { IsLocal (C.ids cells.now) → i < result → result < length (C.ids cells.now)
         → first_leaf (slice_index (C.ids cells.now) (result - 1)) + size_of (slice_index (C.ids cells.now) (result - 1))
@@ -60,7 +62,7 @@ fn cut_before<C: Cells>(cells: &C, i: usize, mark: u64) -> usize
     if mark == NEVER {
         return cells.len();
     }
-    let mut stop = find_from(cells, i + RUN, mark);
+    let mut stop = find_from(cells, i + SHORTEST_RUN, mark);
     while i < stop {
         if is_cut(cells, stop, mark) {
             return stop;

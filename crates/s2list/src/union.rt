@@ -12,7 +12,7 @@ use crate::cells::Cells;
 use crate::find::{end_of, first_of};
 use crate::output::{Copies, Output};
 use crate::pile::{Pile, add, finish, lay};
-use crate::stretch::{RUN, rest_of, run_to};
+use crate::stretch::{SHORTEST_RUN, rest_of, run_to};
 use std::alloc::AllocError;
 
 /// A pile to which more cells were added, and the index of the next.
@@ -105,7 +105,7 @@ fn add_next<X: Cells, Y: Cells, W: Copies<X>>(
         });
     }
     // Not asked of short lists: the next number of the other one would be read for it.
-    if xs.len().saturating_sub(i) > RUN {
+    if xs.len().saturating_sub(i) > SHORTEST_RUN {
         let stop = run_to(xs, i, pile.hi, rest_of(ys, j, pile.hi).first);
         if i < stop {
             let laid = lay(out, pile, xs, i, stop)?;

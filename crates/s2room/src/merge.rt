@@ -14,7 +14,7 @@ const MERGED_CELLS: usize = 32;
 const PARTINGS: u32 = 130;
 
 /// How many numbers are copied at once, if all of them come next.
-const RUN: usize = 8;
+const COPIED_AT_ONCE: usize = 8;
 
 /// What is left of two lists: one from `x` to before `x_end`, the other from `y` to before `y_end`.
 #[derive(Clone, Copy)]
@@ -114,11 +114,11 @@ fn merge(xs: &[u64], ys: &[u64], out: &mut [u64])
         y: 0,
         y_end: ys.len(),
     };
-    while left.x_end - left.x >= 2 * RUN && left.y_end - left.y >= 2 * RUN {
-        if xs[left.x + RUN - 1] <= ys[left.y] {
-            left = put_x(xs, ys, RUN, left, out);
-        } else if ys[left.y + RUN - 1] <= xs[left.x] {
-            left = put_y(xs, ys, RUN, left, out);
+    while left.x_end - left.x >= 2 * COPIED_AT_ONCE && left.y_end - left.y >= 2 * COPIED_AT_ONCE {
+        if xs[left.x + COPIED_AT_ONCE - 1] <= ys[left.y] {
+            left = put_x(xs, ys, COPIED_AT_ONCE, left, out);
+        } else if ys[left.y + COPIED_AT_ONCE - 1] <= xs[left.x] {
+            left = put_y(xs, ys, COPIED_AT_ONCE, left, out);
         } else {
             left = put_both(xs, ys, left, out);
         }
@@ -180,7 +180,7 @@ fn put_both(xs: &[u64], ys: &[u64], left: Left, out: &mut [u64]) -> Left
 {
     let mut rest = left;
     let mut turn = 0;
-    while turn < RUN {
+    while turn < COPIED_AT_ONCE {
         rest = put_least(xs, ys, rest, out);
         rest = put_greatest(xs, ys, rest, out);
         turn += 1;

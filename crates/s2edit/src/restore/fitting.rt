@@ -22,7 +22,7 @@ const LIST_TO_FEW: usize = 8;
 const LIST_TO_BATCH: usize = 32;
 
 /// Up to this number of cells are few, whatever the list.
-const FEW: usize = 4096;
+const FEW_CELLS: usize = 4096;
 
 /// How many cells of the list can be copied in the time in which one cell of a change is followed in a part.
 const COPIES_A_CELL: usize = 4;
@@ -45,7 +45,7 @@ pub(crate) fn follow(
         (λ fault. FailsToFollow fault
         (FitInTurn union.now.cells (of_register register (map diff_of moves.now)))) }
 {
-    let few = (union.len() / LIST_TO_FEW).max(FEW);
+    let few = (union.len() / LIST_TO_FEW).max(FEW_CELLS);
     if count_followed(moves, register, few, usize::MAX) < moves.len() {
         return follow_batches(alloc, union.try_clone()?, moves, register);
     }
@@ -88,7 +88,7 @@ fn follow_batches(
     let mut spare = CellUnion::empty(alloc);
     let mut done = 0;
     while done < moves.len() {
-        let few = (list.len() / LIST_TO_BATCH).max(FEW);
+        let few = (list.len() / LIST_TO_BATCH).max(FEW_CELLS);
         let work = list.len().saturating_mul(COPIES_A_CELL);
         let next = done + count_followed(&moves[done..], register, few, work).max(1);
         follow_batch(alloc, &mut list, &mut spare, &moves[done..next], register)?;
