@@ -24,24 +24,20 @@ pub fn make(
     found: &mut Vec<u8>,
 ) -> Result<(), AllocError> {
     let (name, rest) = call.split_once(" ").unwrap_or((call, ""));
-    if name == "status" {
-        return add_number(alloc, u64::from(status(&done.ended)), found);
+    match name {
+        "status" => add_number(alloc, u64::from(status(&done.ended)), found),
+        "ended" => add_end(alloc, &done.ended, found),
+        "file" => add_file(alloc, &mut done.shelf, rest, found),
+        "cell" => {
+            let told = cell_answer(rest.as_bytes(), found);
+            add_line(found, name_of(&told))
+        }
+        "check" => {
+            let told = check_answer(alloc, &mut done.shelf, rest, found);
+            add_line(found, name_of(&told))
+        }
+        _ => make_other(alloc, lines, name, rest, found),
     }
-    if name == "ended" {
-        return add_end(alloc, &done.ended, found);
-    }
-    if name == "file" {
-        return add_file(alloc, &mut done.shelf, rest, found);
-    }
-    if name == "cell" {
-        let told = cell_answer(rest.as_bytes(), found);
-        return add_line(found, name_of(&told));
-    }
-    if name == "check" {
-        let told = check_answer(alloc, &mut done.shelf, rest, found);
-        return add_line(found, name_of(&told));
-    }
-    make_other(alloc, lines, name, rest, found)
 }
 
 /// Makes a call that doesn't ask for what the row's run left.
@@ -52,37 +48,36 @@ fn make_other(
     rest: &str,
     found: &mut Vec<u8>,
 ) -> Result<(), AllocError> {
-    if name == "log" {
-        return add_log(alloc, lines, flushing_of(rest), found);
+    match name {
+        "log" => add_log(alloc, lines, flushing_of(rest), found),
+        "seen" => add_seen(alloc, lines, number(rest) as usize, found),
+        "without" => add_rest(alloc, rest, found),
+        "job" => add_job(alloc, rest, found),
+        "program" => add_process(alloc, lines, rest, Failing { of: "", call: 0 }, found),
+        "failing" => add_failing(alloc, lines, rest, found),
+        _ => make_runs(alloc, lines, name, rest, found),
     }
-    if name == "seen" {
-        return add_seen(alloc, lines, number(rest) as usize, found);
-    }
-    if name == "without" {
-        return add_rest(alloc, rest, found);
-    }
-    if name == "job" {
-        return add_job(alloc, rest, found);
-    }
-    if name == "program" {
-        return add_process(alloc, lines, rest, Failing { of: "", call: 0 }, found);
-    }
-    if name == "failing" {
-        return add_failing(alloc, lines, rest, found);
-    }
-    let failed = if name == "reads" {
-        let (size, more) = sized(rest);
-        reads_fail(alloc, lines, flushing_of(more), size)?
-    } else if name == "writes" {
-        writes_of(alloc, lines, rest, Mishap::Fails)?
-    } else if name == "takes" {
-        writes_of(alloc, lines, rest, Mishap::TakesNothing)?
-    } else if name == "shelf" {
-        shelf_fails(alloc, lines)?
-    } else {
-        return add_line(found, "no such call");
+}
+
+/// Makes runs in which calls of a stream or of the shelf fail in turn.
+fn make_runs(
+    alloc: Global,
+    lines: &[&str],
+    name: &str,
+    rest: &str,
+    found: &mut Vec<u8>,
+) -> Result<(), AllocError> {
+    let failed = match name {
+        "reads" => {
+            let (size, more) = sized(rest);
+            reads_fail(alloc, lines, flushing_of(more), size)
+        }
+        "writes" => writes_of(alloc, lines, rest, Mishap::Fails),
+        "takes" => writes_of(alloc, lines, rest, Mishap::TakesNothing),
+        "shelf" => shelf_fails(alloc, lines),
+        _ => return add_line(found, "no such call"),
     };
-    match failed {
+    match failed? {
         Some(count) => add_number(alloc, count, found),
         None => add_line(found, "wrong"),
     }
