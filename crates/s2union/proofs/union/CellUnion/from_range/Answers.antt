@@ -8,7 +8,8 @@ returns-clause-leaves c =
     let end = c.end_leaf.ensures.most in
     let all = grown_gap (c.in_ok-put_gap.ensures.put (λ h. omega arith) []
     (record { list = c.put_gap.new.out.list; most = 2 ^ 64 - 1 })
-    (record { same_most = refl; len_is = λ few. refl; front = λ few. c.new-cells.ensures.items })) (λ few. omega arith) in
+    (record { same_most = refl; len_is = λ few. refl; front = λ few. c.new-cells.ensures.items }))
+    (λ few. omega arith) in
     let leaves = rw (c.first_leaf.ensures.value, c.end_leaf.ensures.value) at all.leaves in
     search rules
 
