@@ -167,7 +167,7 @@ def all_functions(folder):
 
 
 def drop_bodies(folder, functions):
-    """Drops the bodies of these functions in a copy of the sources, but for those that constants call, and answers the
+    """Drops the bodies of these functions in a copy of the sources, except those that constants call, and answers the
     texts that it has replaced, by their paths. A function is given as `all_functions` has it."""
     root, originals = Path(folder, "src"), {}
     texts = {path: path.read_text() for path in sorted(root.rglob("*.rt"))}
