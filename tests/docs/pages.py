@@ -283,10 +283,16 @@ def wrong_levels():
 
 
 def other_kits():
-    """The number of pages that name a kit of Rattle, and those that name another one than the file KIT."""
-    kit = (ROOT / "KIT").read_text().strip()
-    named = [(page, it) for page in pages() for it in re.findall(r"rattle-kit-\w+ logic \w+", page.read_text())]
-    return len(named), [f"{page.relative_to(ROOT)}: {it}" for page, it in named if it != kit]
+    """How often a page names a kit of Rattle or the checksum of its logic, and those that the file KIT hasn't, with
+    those that README.md or docs/PROOF.md hasn't."""
+    kits = [line.split() for line in (ROOT / "KIT").read_text().splitlines()]
+    known = {name for name, *_ in kits} | {words[-1] for words in kits}
+    texts = {page.relative_to(ROOT).as_posix(): page.read_text() for page in pages()}
+    named = [(page, it) for page, text in texts.items()
+             for it in re.findall(r"rattle-kit-\w+|(?<=logic )\w+|(?<=logic `)\w+|(?<=sum=)\w+", text) if re.search(r"\d", it)]
+    missing = [f"{page}: {it} is missing" for page in ("README.md", "docs/PROOF.md") for it in sorted(known)
+               if not re.search(rf"\b{it.removeprefix('rattle-kit-')}\b", texts[page])]
+    return len(named), [f"{page}: {it}" for page, it in named if it not in known] + missing
 
 
 def unknown_parts():

@@ -1,5 +1,6 @@
 """tools/release --check passes a release that is whole, and refuses one with a mistake that is planted in it."""
 import hashlib
+import json
 import os
 import re
 import shutil
@@ -7,7 +8,7 @@ import subprocess
 import tempfile
 import unittest
 
-from process import TOP
+from process import PROGRAM, TOP, ran
 
 PAGE = """# The release of version {version}
 
@@ -18,6 +19,19 @@ PAGE = """# The release of version {version}
 """.format(version="7.8.9", one="1" * 40, two="2" * 64)
 FILES = {"README.md": PAGE, "s2calc": "#!/bin/sh\necho s2calc 7.8.9\n", "s2union-7.8.9-x86_64-linux.tar.gz": "tar",
          "s2calc_7.8.9_amd64.deb": "deb", "aarch64/s2calc": "arm", "aarch64/s2calc_7.8.9_arm64.deb": "deb for arm"}
+
+
+# What stands for tools/package: both tarballs with the program and the page, and what a release doesn't take.
+PACKAGE = """version=$(cat VERSION) room=$(mktemp -d)
+mkdir -p "$room/s2union/share/s2union/page" "$1/aarch64" && cp "$PROGRAM" "$room/s2union/s2calc"
+echo page >"$room/s2union/share/s2union/page/index.html"
+for at in x86_64/. aarch64/aarch64; do
+  tar -C "$room" -czf "$1/${at#*/}/s2union-$version-${at%/*}-linux.tar.gz" s2union
+  touch "$1/${at#*/}/s2union-$version-${at%/*}.jar"
+done
+touch "$1/aarch64/s2union-doc_${version}_all.deb"
+rm -r "$room"
+"""
 
 
 class Release(unittest.TestCase):
@@ -50,10 +64,10 @@ class Release(unittest.TestCase):
         for folder, text in sums.items():
             self.write(os.path.join("dist", folder, "SHA256SUMS"), text)
 
-    def refused(self, *words):
+    def refused(self, *words, **environment):
         """What the check refuses."""
         done = subprocess.run(["tools/release", *words], cwd=self.room, capture_output=True, text=True, check=False,
-                              timeout=60)
+                              timeout=60, env={**os.environ, **environment})
         refused = re.findall(r"^FAILED (.*)", done.stdout, re.M)
         self.assertEqual(done.returncode, bool(refused), done.stdout + done.stderr)
         return refused
@@ -96,12 +110,44 @@ class Release(unittest.TestCase):
             self.write("CHANGELOG.md", f"# Changes\n\n{head}\n\n## 7.8.9 (2026-11-27)\n")
             self.assertEqual(self.refused("--check"), ["CHANGELOG.md begins with version 7.8.9 and its date"])
 
-    def test_a_tree_that_is_not_clean(self):
-        """Then nothing is made, and what was released stays."""
-        how = {"cwd": self.room, "check": True, "capture_output": True, "timeout": 60}
+    def commit(self):
+        """Commits all of it, and answers the day."""
+        how = {"cwd": self.room, "check": True, "capture_output": True, "timeout": 60, "text": True}
         for words in (["init", "-q"], ["add", "-A"],
                       ["-c", "user.name=x", "-c", "user.email=x@x", "commit", "-q", "-m", "All of it"]):
             subprocess.run(["git", *words], **how)
+        words = ["git", "log", "-1", "--format=%cd", "--date=format-local:%F"]
+        return subprocess.run(words, env={**os.environ, "TZ": "UTC"}, **how).stdout.strip()
+
+    def test_the_kit_that_built_it(self):
+        """A release, by tools that stand for the project's, names the kit by which both libraries were proved: any one
+        whose logic the file KIT names."""
+        version = ran("--version")[1].decode().split()[-1]
+        for name, text in (("tools/package", PACKAGE), ("tools/java", 'mkdir "$1" && touch "$1/s2union.jar"'),
+                           ("bin/rt", "echo a-kit-3 logic 5"), ("bin/javac", ""), ("bin/aarch64-linux-gnu-gcc", "")):
+            self.write(name, f"#!/bin/sh\n{text}\n")
+        for name, text in (("VERSION", f"{version}\n"), ("KIT", "a-kit-1 logic 5\na-kit-2 logic 5\n"),
+                           (".gitignore", "crates\ndist\n"), ("tools/sources.py", "print('7' * 64)\n")):
+            self.write(name, text)
+        self.write("CHANGELOG.md", f"# Changes\n\n## {version} ({self.commit()})\n")
+        self.commit()
+        given = {"PATH": f"{self.room}/bin:{os.environ['PATH']}", "PROGRAM": PROGRAM}
+        two = ["one kit of that logic has proved the libraries"]
+        for one, other, refused in (("3 logic 5", "3 logic 5", []), ("3 logic 5", "2 logic 5", two),
+                                    ("3 logic 55", "3 logic 55", two)):
+            for folder, kit in ("", one), ("aarch64", other):
+                record = json.dumps({"sources": "", "kit": f"a-kit-{kit}", "parts": {}})
+                self.write(os.path.join("crates/s2union_c/out", folder, "archive.json"), record)
+            self.assertEqual(self.refused(**given), refused)
+            with open(os.path.join(self.room, "dist/README.md"), encoding="utf-8") as it:
+                self.assertIn("\n- Kit: `a-kit-3 logic 5`\n", it.read())
+        self.write("KIT", "a-kit-3 logic 6\n")
+        self.commit()
+        self.assertEqual(self.refused(**given), ["the kit has the logic that the file KIT names"])
+
+    def test_a_tree_that_is_not_clean(self):
+        """Then nothing is made, and what was released stays."""
+        self.commit()
         self.write("more", "more")
         self.assertIn("nothing is changed that isn't committed", self.refused())
         self.assertEqual(self.refused("--check"), [])
