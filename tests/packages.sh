@@ -27,6 +27,8 @@ step "refused: code that is written" refused "its code is not written" \
   "long x; $entry long sqlite3_sunion_init(void) { return (long)&x; }" -fno-pic -mcmodel=large -Wl,-z,notext
 step "refused: links that stay writable" refused "what is linked is read only" "$entry" -Wl,-z,norelro
 step "refused: another library" refused "needs the C library alone" "$entry" -Wl,--no-as-needed -l:libgcc_s.so.1
+step "refused: a newer C library" refused "the C library that docs/INSTALL.md names" "#include <math.h>
+  $entry __attribute__((visibility(\"hidden\"))) double at(double x, double y) { return hypot(x, y); }" -lm
 step "refused: a name that nothing defines" refused "nothing but C's calls" \
   "int nobody(void); $entry int sqlite3_sunion_init(void) { return nobody(); }"
 step "refused: another entry point" refused "exports its entry points" "$entry int other(void) { return 0; }"

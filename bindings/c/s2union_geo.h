@@ -52,7 +52,7 @@ static inline void s2u_geo_place(uint32_t face, double i, double j, double* long
     default: x = v, y = u, z = -1;
   }
   *longitude = atan2(y + 0.0, x + 0.0) * (180 / S2U_GEO_PI); /* as S2: -0 is 0, so never -180 */
-  *latitude = atan2(z, hypot(x, y)) * (180 / S2U_GEO_PI);
+  *latitude = atan2(z, sqrt(x * x + y * y)) * (180 / S2U_GEO_PI); /* as S2; hypot is of glibc 2.35 */
 }
 
 /* The longitude and the latitude of the middle of a cell. S2U_NO_CELL if it is none. */

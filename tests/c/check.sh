@@ -18,6 +18,7 @@ symbols() { # what the shared library offers and wants
   [ -z "$given" ] && ! grep -qvwE 'free|malloc|memcpy|memmove|memset|realloc' <(printf '%s\n' $wanted)
 }
 step "symbols" symbols
+step "the C library that it needs" old_glibc "$work/usr/lib/libs2union.so.1"
 
 # ---- the header, in five languages by two compilers
 

@@ -13,10 +13,10 @@ need_packages
 need_library
 
 step "no arithmetic on cells" no_arithmetic "$top/bindings/java/s2union.c"
-step "tools/java" "$top/tools/java" "$work/java" "${target[@]}"
+step "tools/java" "$top/tools/java" "$work/java" "${target[@]}" "${released[@]}"
 [ "$failed" -eq 0 ] || finish
 jar=$work/java/s2union.jar
-again() { "$top/tools/java" "$work/again" "${target[@]}" && diff -r "$work/java" "$work/again"; }
+again() { "$top/tools/java" "$work/again" "${target[@]}" "${released[@]}" && diff -r "$work/java" "$work/again"; }
 step "the same bytes a second time" again
 beside_it() { # what a registry of Java asks for, without a word that is not filled in
   jar --describe-module --file "$jar" | grep "^s2union.* automatic" && [ -s "$work/java/s2union-javadoc.jar" ] &&
@@ -27,7 +27,8 @@ step "its sources, its reference, its pom, its name as a module" beside_it
 unpacked() { # libraries, each for its processor
   local each
   mkdir "$work/classes" && (cd "$work/classes" && jar --extract --file "$jar") && for each in $processors; do
-    readelf -hW "$work/classes/s2union/${each%:*}/libs2union_java.so" | grep -i "Machine:.*${each#*:}" || return 1
+    readelf -hW "$work/classes/s2union/${each%:*}/libs2union_java.so" | grep -i "Machine:.*${each#*:}" &&
+      old_glibc "$work/classes/s2union/${each%:*}/libs2union_java.so" || return 1
   done
 }
 step "the library for each processor is in it" unpacked

@@ -13,6 +13,7 @@ step "a copy of PostgreSQL $server" copied
 source=$top/bindings/postgres
 for file in "$source"/*.[ch]; do step "no arithmetic on cells: ${file##*/}" no_arithmetic "$file"; done
 step "build" built build COPT=-Werror
+step "the C library that it needs" old_glibc "$work/build/s2union.so"
 rebuilt() { # if the header or the archive has changed, and only then
   local make=(make -C "$work/build" PREFIX="$work/usr" PG_CONFIG="$config" COPT=-Werror) file
   "${make[@]}" -q || return 1
@@ -49,7 +50,7 @@ step "indexes: 2,000 questions by GIN, GiST and by a scan" tests Indexes
 step "no two regions overlap" tests Exclusion
 step "s2union_geo: points, and what is refused" tests Points
 step "plans: the index where values are large and where few rows are found" tests Planner
-step "large questions end within twice their timeout" tests LargeQuestions
+step "large questions end before they have taken twice their timeout" tests LargeQuestions
 step "the aggregate, in parallel" tests Aggregates
 step "arrays of the caller, windows, values that come again" tests test_kept.py::AroundACall
 step "one script, and an update from each earlier version" tests test_catalogue.py::Catalogue test_catalogue.py::Updates

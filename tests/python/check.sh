@@ -24,7 +24,7 @@ of_module() { # what the module wants and offers: what each Python from 3.8 on h
   local module=$work/usr/lib/python/s2union/_library.abi3.so
   [ "$(nm -D --defined-only "$module" | awk '{ print $3 }')" = PyInit__library ] &&
     ! nm -D --undefined-only "$module" | awk '$1 != "w" { print $2 }' |
-      grep -vE '^_?Py[A-Z_][A-Za-z_]+$|@GLIBC_2\.(2\.5|4|14)$'
+      grep -vE '^_?Py[A-Z_][A-Za-z_]+$|@GLIBC_' && old_glibc "$module"
 }
 step "what its module wants of the system" of_module
 python() {

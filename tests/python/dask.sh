@@ -40,7 +40,8 @@ step "its join, beside a loop over all pairs: points in any order, parts without
 step "the countries of the earth, covered" countries 200
 step "100,000 points joined with the countries, beside a loop over all pairs" tests test_dask.py::OverTheCountries
 for_mariadb() {
-  cp -r "$top/bindings/mariadb" "$work/mariadb_functions" && make -C "$work/mariadb_functions" PREFIX="$work/usr"
+  cp -r "$top/bindings/mariadb" "$work/mariadb_functions" && make -C "$work/mariadb_functions" PREFIX="$work/usr" &&
+    old_glibc "$work"/mariadb_functions/*.so
 }
 step "the user functions of MariaDB" for_mariadb
 step "the same by terms, as search engines have them" tests test_engines.py::Terms

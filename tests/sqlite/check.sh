@@ -33,6 +33,7 @@ build() { # FOLDER FLAGS..
     make -C "$folder" PREFIX="$work/usr" "$@"
 }
 step "build" build plain
+step "the C library that they need" old_glibc "$work"/plain/mod_s2union{,_geo}.so
 step "build, with the sanitizers" build sanitized CFLAGS="-O1 -g -fsanitize=address,undefined -fno-sanitize-recover"
 with_counts() {
   cp "$top/tests/sqlite/counted."{c,flags} "$work/"

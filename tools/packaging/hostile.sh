@@ -55,6 +55,7 @@ while IFS= read -r file; do
   is "$name: its code is not written" no_text_relocations "$file"
   is "$name: what is linked is read only" relocations_read_only "$file"
   is "$name needs the C library alone" needs_only_c "$file"
+  is "$name runs with the C library that docs/INSTALL.md names" bash "$(dirname "$0")/glibc.sh" "$file"
   case $name in
     libs2union.so.*)
       is "$name wants nothing but C's calls" nothing_undefined "$file" '^$'
