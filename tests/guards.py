@@ -83,7 +83,7 @@ MISTAKES = [
             swapped("| 5 | 291 km | 6,144 |", "| 5 | 291 km | 6,154 |")),
     Mistake("another kit on a page", pages.other_kits, "docs/PROOF.md", ended_by(f"\n`{'rattle-kit-'}0`\n")),
     Mistake("another logic on a page", pages.other_kits, "docs/INSTALL.md", ended_by("\nThe logic `0`.\n")),
-    Mistake("a kit that no page names", pages.other_kits, "KIT", ended_by(f"{'rattle-kit-'}0 logic dac8208d650f15bf\n")),
+    Mistake("a kit that no page names", pages.other_kits, "KIT", ended_by("another logic dac8208d650f15bf\n")),
     Mistake("a call that isn't made on the way of a line", pages.calls_on_the_walk, "docs/ARCHITECTURE.md",
             swapped("`run` calls `run_with`", "`run` calls `run_without`")),
     Mistake("a change that is said twice", pages.said_twice, "CHANGELOG.md",
@@ -213,8 +213,8 @@ def the_runner():
 
 
 def becomes(is_so):
-    """Whether something is so within 20 seconds."""
-    ends = time.monotonic() + 20
+    """Whether something is so within ten minutes, since a machine may be busy."""
+    ends = time.monotonic() + 600
     while not is_so() and time.monotonic() < ends:
         time.sleep(0.05)
     return is_so()

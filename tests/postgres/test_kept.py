@@ -3,12 +3,10 @@ after part of a table, asks an aggregate over a window again and again, hands ov
 cancels while an index is made. The server is that of test_postgres.py."""
 
 import hashlib
-import subprocess
-import time
 import unittest
 
 from model import unions as model
-from test_postgres import DATABASE, ROUNDS, Tests, array, psql, tokens, u
+from test_postgres import ROUNDS, Tests, array, psql, seconds_of, tokens, u
 
 # The most memory that a session has had, in MB.
 PEAK = "SELECT (regexp_match(pg_read_file('/proc/self/status'), 'VmHWM:\\s*(\\d+)'))[1]::int / 1024;"
@@ -230,9 +228,7 @@ class Cancels(Tests):
         """)
         for command in ("CREATE INDEX ON placed USING gist (region)", "CREATE INDEX ON placed USING gin (region)",
                         "CREATE INDEX ON placed USING hash (region)", "ANALYZE placed"):
-            begun = time.monotonic()
-            words = ["psql", "-XAqt", "-d", DATABASE, "-c", "SET statement_timeout = '50ms'", "-c", command]
-            run = subprocess.run(words, stdout=subprocess.PIPE, stderr=subprocess.PIPE, text=True, check=False)
-            self.assertIn("due to statement timeout", run.stderr, command)
-            self.assertLess(time.monotonic() - begun, 2, command)
+            took, said = seconds_of(command, 50)
+            self.assertIn("due to statement timeout", said, command)
+            self.assertLess(took, 2, command)
         psql("DROP TABLE placed;")

@@ -11,7 +11,7 @@ import termios
 import time
 import unittest
 
-from process import PROGRAM, ran
+from process import PROGRAM, SECONDS, ran
 
 PROMPT = b"s2calc> "
 
@@ -39,7 +39,7 @@ class Session:
 
     def shown(self, end):
         """What is shown from here on up to these bytes, or to the end of the program."""
-        text, until = b"", time.monotonic() + 30
+        text, until = b"", time.monotonic() + SECONDS
         while end is None or not text.endswith(end):
             assert select.select([self.ours], [], [], max(0, until - time.monotonic()))[0], text
             try:
@@ -56,7 +56,7 @@ class Session:
         os.write(self.ours, keys)
 
     def ended(self):
-        status = self.process.wait(timeout=30)
+        status = self.process.wait(timeout=SECONDS)
         os.close(self.ours)
         return status
 

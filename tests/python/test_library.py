@@ -1143,9 +1143,11 @@ class TheModule(unittest.TestCase):
     def test_a_library_that_is_not_found(self):
         with tempfile.TemporaryDirectory() as folder:
             shutil.copytree(Path(s2union.__file__).parent, Path(folder) / "s2union")
+            where = Path(folder) / "s2union" / "_where.py"  # by a name that is installed nowhere
+            where.write_text(where.read_text().replace('NAME = "libs2union.so.1"', 'NAME = "libs2union.so.none"'))
             given = {"PATH": os.environ["PATH"], "PYTHONPATH": folder, "PYTHONDONTWRITEBYTECODE": "1"}
             (Path(folder) / "other.so").write_bytes(b"")
-            for more, message in (({}, "libs2union.so.1 is not beside the module.*set S2UNION_LIBRARY"),
+            for more, message in (({}, "libs2union.so.none is not beside the module.*set S2UNION_LIBRARY"),
                                   ({"S2UNION_LIBRARY": "/no/such"}, "S2UNION_LIBRARY is '/no/such'"),
                                   ({"S2UNION_LIBRARY": folder + "/other.so"}, "can't load it .*other.so"),
                                   ({"S2UNION_LIBRARY": "libc.so.6"}, "libc.so.6 has no call s2u_\\w+")):
