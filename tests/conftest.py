@@ -21,6 +21,9 @@ def pytest_collection_modifyitems():
 @pytest.hookimpl(trylast=True)
 def pytest_unconfigure(config):
     reporter = config.pluginmanager.get_plugin("terminalreporter")
+    process = sys.modules.get("process")
+    if getattr(process, "IS_RELEASED", False):
+        print(f"without Rattle's kit: the release's program is asked, {process.PROGRAM}", flush=True)
     if reporter and not config.option.collectonly:
         passed, *failed = (len(reporter.stats.get(kind, ())) for kind in ("passed", "failed", "error"))
         print(f"{passed} passed, {sum(failed)} failed", flush=True)

@@ -1,6 +1,8 @@
 # What the parts in bash share. $top is the repository and $work a folder for this run, which goes at its end.
 set -uo pipefail
 umask 022 # a server that root starts as another user reads what is made here
+export LC_ALL=C.UTF-8
+unset LANGUAGE PYTHONPATH PYTHONSTARTUP # no locale and no module of the user's changes what is found
 top=$(CDPATH= cd "$(dirname "${BASH_SOURCE[0]}")/.." && pwd)
 work=$(mktemp -d)
 trap 'rm -rf "$work"' EXIT
@@ -94,7 +96,8 @@ need_linker() { # what tools/library links with
 }
 
 # libs2union and its module for Python, installed as a package would be, in $work/usr: what is in S2UNION_PREFIX, if
-# that is set.
+# that is set. Where it was not proved and no kit is, it is the release's; then tools/java is given what $released has.
+released=()
 need_library() {
   if [ -n "${S2UNION_PREFIX:-}" ]; then
     cp -a "$S2UNION_PREFIX" "$work/usr"
@@ -102,8 +105,19 @@ need_library() {
   fi
   need_linker
   need_packages
-  step "tools/library" "$top/tools/library" "$work/usr"
+  if ! command -v rt >/dev/null && ! "$top/tools/archive" --is-kept; then
+    released=(--released)
+    echo "       without Rattle's kit: the library of the release $(released_version) is asked, without what changed" \
+      "in crates since then"
+  fi
+  step "tools/library ${released[*]}" "$top/tools/library" "$work/usr" "${released[@]}"
   [ "$failed" -eq 0 ] || finish
+}
+
+released_version() { sed -n 's/^- Version: `\(.*\)`$/\1/p' "$top/dist/README.md"; }
+
+old_glibc() { # FILE..: whether the C library that docs/INSTALL.md names will do
+  bash "$top/tools/packaging/glibc.sh" "$@"
 }
 
 no_arithmetic() { # FILE

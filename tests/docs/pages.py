@@ -288,8 +288,8 @@ def other_kits():
     kits = [line.split() for line in (ROOT / "KIT").read_text().splitlines()]
     known = {name for name, *_ in kits} | {words[-1] for words in kits}
     texts = {page.relative_to(ROOT).as_posix(): page.read_text() for page in pages()}
-    named = [(page, it) for page, text in texts.items()
-             for it in re.findall(r"rattle-kit-\w+|(?<=logic )\w+|(?<=logic `)\w+|(?<=sum=)\w+", text) if re.search(r"\d", it)]
+    name = re.compile(r"rattle-kit-\w+|(?<=logic )\w+|(?<=logic `)\w+|(?<=sum=)\w+")
+    named = [(page, it) for page, text in texts.items() for it in name.findall(text) if re.search(r"\d", it)]
     missing = [f"{page}: {it} is missing" for page in ("README.md", "docs/PROOF.md") for it in sorted(known)
                if not re.search(rf"\b{it.removeprefix('rattle-kit-')}\b", texts[page])]
     return len(named), [f"{page}: {it}" for page, it in named if it not in known] + missing

@@ -1,7 +1,7 @@
 #!/usr/bin/env python3
 """Random scripts, answered by the program and by a plain model: tests/run scripts -- [SCRIPTS [SEED]].
 
-The program is the one that the gate or tools/prove has built. The last line is 'N passed, M failed'.
+The program is the one that the tests of tests/program ask. The last line is 'N passed, M failed'.
 """
 import os
 import random
@@ -9,12 +9,12 @@ import subprocess
 import sys
 import tempfile
 
-sys.path.append(os.path.dirname(os.path.dirname(os.path.realpath(__file__))))
+TESTS = os.path.dirname(os.path.dirname(os.path.realpath(__file__)))
+sys.path += [TESTS, os.path.join(TESTS, "program")]
 from model.calculator import COMMANDS, COMPARISONS, EDITS_BY_REGISTER, LONGEST_LINE, REGISTERS, SIDE
 from model.calculator import Calculator, debug, identifier, joined, file_text, run_of, square, token
+from process import PROGRAM
 
-TOP = os.path.dirname(os.path.dirname(os.path.dirname(os.path.abspath(__file__))))
-PROGRAM = os.environ.get("S2CALC", os.path.join(TOP, "crates/calculator/out/calculator"))
 FILES = ["f", "g", "h.s2"]
 FOLDER = "folder"
 NAMES = FILES * 3 + [FOLDER, "absent", "../x", "-f", ".f", "x" * 65]

@@ -1,12 +1,18 @@
-"""A run of the program, which is the one that the gate or tools/prove has built unless S2CALC names another."""
+"""A run of the program: the one that S2CALC names, or that the gate or tools/prove has built; or the release's, where
+neither is, and no kit either."""
 import os
+import platform
+import shutil
 import socket
 import subprocess
 import sys
 import threading
 
 TOP = os.path.dirname(os.path.dirname(os.path.dirname(os.path.realpath(__file__))))
-PROGRAM = os.path.abspath(os.environ.get("S2CALC", os.path.join(TOP, "crates/calculator/out/calculator")))
+RELEASED = os.path.join(TOP, "dist", {"x86_64": ""}.get(platform.machine(), platform.machine()), "s2calc")
+BUILT = os.path.join(TOP, "crates/calculator/out/calculator")
+IS_RELEASED = "S2CALC" not in os.environ and not os.path.exists(BUILT) and not shutil.which("rt")
+PROGRAM = os.path.abspath(os.environ.get("S2CALC", RELEASED if IS_RELEASED else BUILT))
 LAUNCHER = os.path.join(TOP, "tools/launcher/launcher")
 sys.path.append(os.path.dirname(LAUNCHER))  # whose modules tests import
 FACE = b"ok 0 1\n"
