@@ -155,6 +155,7 @@ def limits(read):
 def of_limits(of):
     """The places of these limits; the header has one, from which tools/calls makes others."""
     options = {"limit": {"value": of["MOST_REGISTER"]}, "depth": {"value": of["MOST_STATES"]}}
+    longest = {"": {"value": f"{of['LONGEST_LINE']:,}"}}
     note = {"most": of["MOST_REGISTER"], "listed": of["MOST_LISTED"]}
     note_form = r"\(--limit raises that, up to (?P<most>\d+)\), denorm lists (?P<listed>\d+)\""
     return [
@@ -169,6 +170,8 @@ def of_limits(of):
               options),
         Place(SCRIPT, r"^\| `--(?P<name>\w+) N` \| the most .*, 1 to (?P<value>\d+);", options),
         Place(SCRIPT, r"raise `--(?P<name>\w+)`, up to (?P<value>\d+)", options),
+        Place(SCRIPT, r"^\| `line` \| the line has more than (?P<value>[\d,]+) bytes", longest),
+        Place(SCRIPT, r"It has at most (?P<value>[\d,]+) bytes before the newline", longest),
         Place("crates/s2calc/src/notes.rt", note_form, {"": note}),
         Place("crates/s2calc/specs/Notes.antt", note_form, {"": note}),
     ]

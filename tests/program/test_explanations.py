@@ -8,6 +8,7 @@ import unittest
 
 import pytest
 
+from model.calculator import LONGEST_LINE
 from process import FACE, PROGRAM, ran, ran_in_pieces
 from test_sessions import change, session
 
@@ -26,14 +27,14 @@ def explained(script, **how):
     return done.returncode, done.stdout, done.stderr
 
 
-LONG = b"line: the line has more than 4096 bytes: write several shorter lines\n"
+LONG = b"line: the line has more than %d bytes: write several shorter lines\n" % LONGEST_LINE
 ODD = {
     "bytes that don't print": (b"add a " + bytes(range(1, 9)),
                                b"cell: '" + b"".join(b"\\x%02x" % n for n in range(1, 9)) + b"' is not a cell"),
     "quotes, a backslash and a CR": (b"add a \xff'\"\\\r", b"cell: '\\xff\\'\\\"\\\\' is not a cell"),
     "4,090 such bytes": (b"add a " + b"\xff" * 4090, b"cell: '" + b"\\xff" * 4090 + b"' is not a cell"),
-    "the longest line": (b"x" * 4096, b"syntax: '" + b"x" * 4096 + b"' is not a command\n"),
-    "a byte more": (b"x" * 4097, LONG),
+    "the longest line": (b"x" * LONGEST_LINE, b"syntax: '" + b"x" * LONGEST_LINE + b"' is not a command\n"),
+    "a byte more": (b"x" * (LONGEST_LINE + 1), LONG),
     "a long comment": (b"#" * 70000, LONG),
 }
 

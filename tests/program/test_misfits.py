@@ -8,7 +8,7 @@ from process import ran
 
 NAME = (b"a file name (1 to 64 letters, digits, '.', '_' or '-'; it must not begin with '.' or '-'; "
         b"--dir names the folder)")
-LONG = b"line: the line has more than 4096 bytes: write several shorter lines"
+LONG = b"line: the line has more than %d bytes: write several shorter lines" % LONGEST_LINE
 MARK = b"is not a command; it begins with a byte order mark: save the script without that"
 
 # Refused lines, and what is said about them.
