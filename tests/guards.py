@@ -19,6 +19,7 @@ import subprocess
 import sys
 import tempfile
 import time
+import unittest.mock
 from pathlib import Path
 from typing import Callable, NamedTuple
 
@@ -83,7 +84,7 @@ MISTAKES = [
             swapped("| 5 | 291 km | 6,144 |", "| 5 | 291 km | 6,154 |")),
     Mistake("another kit on a page", pages.other_kits, "docs/PROOF.md", ended_by(f"\n`{'rattle-kit-'}0`\n")),
     Mistake("another logic on a page", pages.other_kits, "docs/INSTALL.md", ended_by("\nThe logic `0`.\n")),
-    Mistake("a kit that no page names", pages.other_kits, "KIT", ended_by("another logic dac8208d650f15bf\n")),
+    Mistake("a kit that no page names", pages.other_kits, "KIT", ended_by("a-kit-0 logic dac8208d650f15bf\n")),
     Mistake("a call that isn't made on the way of a line", pages.calls_on_the_walk, "docs/ARCHITECTURE.md",
             swapped("`run` calls `run_with`", "`run` calls `run_without`")),
     Mistake("a change that is said twice", pages.said_twice, "CHANGELOG.md",
@@ -279,6 +280,14 @@ def ends_of_parts(counts, room):
     counts.tell("a row of texts in the table of a lane", again == runs, str(again))
     done = subprocess.run([TOP / "tests" / "run", "--list"], capture_output=True, text=True, check=False)
     counts.tell("--list, which doesn't say what each folder has", "\ntests/tools " in done.stdout, done.stderr)
+    with unittest.mock.patch.object(module.shutil, "which", lambda name: None), \
+            contextlib.redirect_stdout(io.StringIO()) as said:
+        lacking = [module.lacks_kit(module.chosen([], tier)) for tier in ("quick", "gate")]
+    counts.tell("the quick tier without the kit", lacking == [False, True], said.getvalue())
+    done = subprocess.run(["/bin/sh", TOP / "tests" / "run", "docs"], capture_output=True, text=True, check=False,
+                          env={"PATH": str(room)})
+    is_a_line = (done.returncode, done.stdout, done.stderr.count("\n")) == (2, "", 1)
+    counts.tell("without Python, not by a line that says so", is_a_line, done.stderr)
     done = subprocess.run([TOP / "tests" / "run", "no-such-part"], capture_output=True, text=True, check=False)
     counts.tell("a part that isn't there", done.returncode == 1 and "no part has the name" in done.stderr, done.stderr)
 
@@ -328,6 +337,9 @@ def mistakes(counts, room):
         subprocess.run(["git", *words], cwd=room, check=True)
     for module in (pages, prose, rot, texts):
         module.ROOT = room
+    broken = pages.broken_links()
+    (room / "world").mkdir()
+    counts.tell("a folder that docs/TUTORIAL.md has made", pages.broken_links() == broken, str(broken))
     without = {}
     for mistake in MISTAKES:
         check, file = mistake.check, room / mistake.file

@@ -1,7 +1,10 @@
 #!/usr/bin/env bash
 # What the commands of tools/ say of words that they don't know, of other sources, and without the kit: tests/run tools.
-# It needs the archive of `tests/run archive`. The last line is 'N passed, M failed'; the status is 1 if any failed.
+# It needs the archive of `tests/run archive`; where neither that nor the kit is, it leaves out what is asked of it. The
+# last line is 'N passed, M failed'; the status is 1 if any failed.
 . "$(dirname "$0")/../steps.sh"
+taken=--no-build
+[ -e "$top/crates/s2union_c/out/archive.json" ] || command -v rt >/dev/null || taken=--released
 
 own_sources() ( # in a copy, where no kit is, the archive stays as long as its sources do
   cd "$top" && mkdir "$work/copy" &&
@@ -10,10 +13,14 @@ own_sources() ( # in a copy, where no kit is, the archive stays as long as its s
     export PATH=/usr/bin:/bin XDG_CACHE_HOME=$work/cache &&
     tools/archive && echo >>crates/s2cell/src/lib.rt && ! tools/archive
 )
-step "tools/archive: no archive of other sources" own_sources
+if [ "$taken" = --no-build ]; then
+  step "tools/archive: no archive of other sources" own_sources
+else
+  echo "       without Rattle's kit: there is no archive, so none of other sources is tried" && mkdir "$work/copy"
+fi
 without_kit() ( # in that copy, which has no archive and no program: what needs the kit says so, and installs nothing
   local command
-  cd "$top" && cp -r --parents .ci VERSION tests "$work/copy" && mkdir "$work/installers" || return
+  cd "$top" && cp -r --parents .ci VERSION tests tools "$work/copy" && mkdir "$work/installers" || return
   for command in apt-get sudo; do
     printf '#!/bin/sh\necho "$0 $*" >>%q\n' "$work/installed" >"$work/installers/$command"
     chmod +x "$work/installers/$command"
@@ -37,7 +44,14 @@ unknown_words() { # and nothing is written for them
 }
 step "tools/: words that they don't know" unknown_words
 below() ( # a folder that isn't named from the root
-  cd "$work" && DESTDIR=below "$top/tools/library" /usr --no-build && [ -e below/usr/lib/libs2union.so.1 ]
+  cd "$work" && DESTDIR=below "$top/tools/library" /usr "$taken" && [ -e below/usr/lib/libs2union.so.1 ]
 )
 step "tools/library: below a DESTDIR" below
+of_release() ( # what links with it has the calls of dist/, and the headers of this checkout
+  "$top/tools/library" "$work/released" --released && cd "$work/released" &&
+    printf '%s\n' '#include <s2union.h>' '#include <stdio.h>' \
+      'int main(void) { return printf("%u\n", s2u_version()) < 0 || s2u_parent(5, 0) == 0; }' >x.c &&
+    gcc -Iinclude x.c lib/libs2union.a -o x && ./x
+)
+step "tools/library: the library of the release" of_release
 finish
