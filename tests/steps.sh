@@ -110,7 +110,7 @@ need_library() {
     echo "       without Rattle's kit: the library of the release $(released_version) is asked, without what changed" \
       "in crates since then"
   fi
-  step "tools/library ${released[*]}" "$top/tools/library" "$work/usr" "${released[@]}"
+  step "tools/library${released:+ --released}" "$top/tools/library" "$work/usr" "${released[@]}"
   [ "$failed" -eq 0 ] || finish
 }
 

@@ -8,6 +8,7 @@ import sys
 import tempfile
 
 from every_command import DEPTH, FILES, LIMIT, LINES, PROGRAM, STEPS, TOP, arguments, files_of, fill
+from process import SECONDS
 
 ROWS = os.path.join(TOP, "crates/test_script/out/test_script")
 SCRIPT = b"".join(line + b"\n" for line in LINES)
@@ -68,7 +69,7 @@ class Refusing:
             how = {"LD_PRELOAD": self.library, "REFUSED": refused, "PIECE": str(piece or sys.maxsize)}
             how.update({"CALLS": log.name} if has_calls else {})
             how.update({"SWAPPED": swapped} if swapped else {})
-            done = subprocess.run(words, input=script, capture_output=True, timeout=60, env=how, preexec_fn=before)
+            done = subprocess.run(words, input=script, capture_output=True, timeout=SECONDS, env=how, preexec_fn=before)
             calls = [Call(kind, int(file), int(answer)) for kind, file, answer in map(str.split, log)]
             return done, calls
 

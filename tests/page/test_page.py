@@ -23,6 +23,7 @@ from selenium.webdriver.support.ui import Select
 HERE = Path(__file__).resolve().parent
 TOP = HERE.parents[1]
 SIDE = 2**30
+SECONDS = 600  # on a machine with much else to do
 FAULTS = {
     "short": (b"\1\3\0\0", "bytes are missing"),
     "other version": (b"\2" + bytes(8), "unknown version"),
@@ -136,7 +137,7 @@ class TestPage:
 
     def open(self):
         self.driver.get((self.folder / "index.html").as_uri())
-        end = time.monotonic() + 30
+        end = time.monotonic() + SECONDS
         while not self.run("return typeof s2page !== 'undefined'"):
             assert time.monotonic() < end, self.status()
             time.sleep(0.05)
@@ -154,7 +155,7 @@ class TestPage:
 
     def wait(self):
         """Waits until the page says something, and covers nothing."""
-        end = time.monotonic() + 120
+        end = time.monotonic() + SECONDS
         while not self.status() or self.driver.find_element(By.ID, "work").is_displayed():
             assert time.monotonic() < end, self.status()
             time.sleep(0.02)
@@ -221,7 +222,7 @@ class TestPage:
     def saved(self, words, name):
         """What a button of a union's line saves, under this name."""
         self.click_of(words)
-        file, end = self.downloads / name, time.monotonic() + 20
+        file, end = self.downloads / name, time.monotonic() + SECONDS
         while not file.exists():
             assert time.monotonic() < end, list(self.downloads.iterdir())
             time.sleep(0.05)
@@ -1212,7 +1213,7 @@ class TestPage:
         broken = self.downloads / "broken.html"
         broken.write_text(page)
         self.driver.get(broken.as_uri())
-        time.sleep(0.5)
+        self.wait()
         assert "can't run the page" in self.status(), self.status()
 
     def test_no_error(self):

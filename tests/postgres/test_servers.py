@@ -121,7 +121,8 @@ class AfterThePage(unittest.TestCase):
         threads = [threading.Thread(target=call) for call in (write, read, read)]
         for thread in threads:
             thread.start()
-        time.sleep(0.5)
+        while len(inserted) < 6 and threads[0].is_alive():
+            time.sleep(0.01)
         said = once("""
             BEGIN;
             LOCK TABLE tiles IN SHARE ROW EXCLUSIVE MODE;
@@ -130,7 +131,9 @@ class AfterThePage(unittest.TestCase):
             ALTER TABLE tiles ATTACH PARTITION tiles_second FOR VALUES FROM (0) TO (4611686018427387904);
             DROP TABLE tiles_moved;
             COMMIT;""")
-        time.sleep(0.5)
+        so_far = len(inserted)
+        while len(inserted) < so_far + 6 and threads[0].is_alive():
+            time.sleep(0.01)
         moved.set()
         for thread in threads:
             thread.join()

@@ -56,7 +56,7 @@ def ran_in_pieces(script, size, *options):
     sender = threading.Thread(target=send)
     sender.start()
     with its:
-        done = subprocess.run([PROGRAM, "run", *options], stdin=its, capture_output=True, timeout=60)
+        done = subprocess.run([PROGRAM, "run", *options], stdin=its, capture_output=True, timeout=SECONDS)
     sender.join()
     return done.returncode, done.stdout, done.stderr
 

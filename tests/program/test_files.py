@@ -6,7 +6,7 @@ import subprocess
 import tempfile
 import unittest
 
-from process import FACE, PROGRAM, answered, ran
+from process import FACE, PROGRAM, SECONDS, answered, ran
 from test_sessions import most_resident_after, number
 
 NOBODY = 65534
@@ -71,7 +71,7 @@ class UnionFiles(unittest.TestCase):
     def test_a_file_of_which_each_read_fails(self):
         os.symlink("/proc/self/mem", self.path("f"))  # A regular file, whose first bytes can't be read.
         script = b"add a 3\nload a f\nrestore f\nshow a\n"
-        done = ran("run", "--dir", self.folder, script=script, timeout=60)
+        done = ran("run", "--dir", self.folder, script=script)
         self.assertEqual(done, (1, FACE + b"error file\n" * 2 + b"3\nend\n", b""))
         self.checks("f", "error file")
 
@@ -149,7 +149,7 @@ class Permissions(unittest.TestCase):
     def run_as_nobody(self, script):
         user = {"user": NOBODY, "group": NOBODY, "extra_groups": []} if os.getuid() == 0 else {}
         done = subprocess.run(
-            [self.program, "run", "--dir", self.folder], input=script, capture_output=True, timeout=60, **user
+            [self.program, "run", "--dir", self.folder], input=script, capture_output=True, timeout=SECONDS, **user
         )
         return done.stdout
 

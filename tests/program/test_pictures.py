@@ -14,7 +14,7 @@ from xml.etree import ElementTree
 import pytest
 
 from model import calculator as model
-from process import PROGRAM, TOP, answered, ran
+from process import PROGRAM, SECONDS, TOP, answered, ran
 
 
 def cell_at(level, left, top, side):
@@ -215,7 +215,7 @@ class Pictures(unittest.TestCase):
 
     def test_the_pictures_of_the_pages_are_current(self):
         made = os.path.join(TOP, "docs", "pictures")
-        subprocess.run(["bash", os.path.join(made, "make.sh"), self.folder, PROGRAM], check=True, timeout=60)
+        subprocess.run(["bash", os.path.join(made, "make.sh"), self.folder, PROGRAM], check=True, timeout=SECONDS)
         names = [name for name in os.listdir(made) if name.endswith(".svg")]
         self.assertEqual(sorted(names), sorted(os.listdir(self.folder)))
         self.assertEqual(filecmp.cmpfiles(made, self.folder, names, shallow=False), (names, [], []))

@@ -8,7 +8,7 @@ import subprocess
 import tempfile
 import unittest
 
-from process import PROGRAM, TOP, ran
+from process import PROGRAM, SECONDS, TOP, ran
 
 PAGE = """# The release of version {version}
 
@@ -67,7 +67,7 @@ class Release(unittest.TestCase):
     def refused(self, *words, **environment):
         """What the check refuses."""
         done = subprocess.run(["tools/release", *words], cwd=self.room, capture_output=True, text=True, check=False,
-                              timeout=60, env={**os.environ, **environment})
+                              timeout=SECONDS, env={**os.environ, **environment})
         refused = re.findall(r"^FAILED (.*)", done.stdout, re.M)
         self.assertEqual(done.returncode, bool(refused), done.stdout + done.stderr)
         return refused
@@ -112,7 +112,7 @@ class Release(unittest.TestCase):
 
     def commit(self):
         """Commits all of it, and answers the day."""
-        how = {"cwd": self.room, "check": True, "capture_output": True, "timeout": 60, "text": True}
+        how = {"cwd": self.room, "check": True, "capture_output": True, "timeout": SECONDS, "text": True}
         for words in (["init", "-q"], ["add", "-A"],
                       ["-c", "user.name=x", "-c", "user.email=x@x", "commit", "-q", "-m", "All of it"]):
             subprocess.run(["git", *words], **how)

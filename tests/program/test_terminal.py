@@ -103,5 +103,5 @@ class Terminal(unittest.TestCase):
         script = b"add a 04\nshow a\n"
         with open("/dev/full", "wb") as full:
             done = subprocess.run([PROGRAM, "run", "--prompt"], input=script, stdout=subprocess.PIPE, stderr=full,
-                                  timeout=60)
+                                  timeout=SECONDS)
         self.assertEqual((done.returncode, done.stdout), (0, ran("run", script=script)[1]))
