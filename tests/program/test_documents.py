@@ -1,4 +1,5 @@
 """The program answers what README.md and docs/ show; and the script s2calc at the top runs it."""
+import hashlib
 import os
 import re
 import shlex
@@ -58,9 +59,8 @@ class Launcher(unittest.TestCase):
 
     def make_repository(self):
         """Makes a repository of one source in the folder, with a kit, and answers how its commands are run."""
-        self.copy("s2calc", "tools/prove", "tools/usage.sh", "tools/sources.sh", "tools/sources.py",
-                  "tools/launcher/launcher", "tools/launcher/unbuilt.sh",
-                  "VERSION", "KIT", "HANDLES", "crates.txt", "crates/s2cell/src/lib.rt")
+        self.copy("s2calc", "tools/prove", "tools/usage.sh", "tools/sources.sh", "tools/launcher/launcher",
+                  "tools/launcher/unbuilt.sh", "VERSION", "KIT", "HANDLES", "crates.txt", "crates/s2cell/src/lib.rt")
         with open(os.path.join(TOP, "crates.txt"), encoding="utf-8") as it:
             for line in it:
                 os.makedirs(os.path.join(self.room, "crates", re.match(r"\w+", line)[0]), exist_ok=True)
@@ -76,7 +76,16 @@ class Launcher(unittest.TestCase):
         os.chmod(path, 0o755)
 
     def environment(self, has_kit=True, **more):
-        path = os.path.join(self.room, "bin") + ":/usr/bin:/bin" if has_kit else "/usr/bin:/bin"
+        """Where there is no Python."""
+        path = os.path.join(self.room, "tools_of_the_system")
+        if not os.path.isdir(path):
+            os.mkdir(path)
+            for folder in "/usr/bin", "/bin":
+                for name in os.listdir(folder):
+                    if not name.startswith("python") and not os.path.lexists(os.path.join(path, name)):
+                        os.symlink(os.path.join(folder, name), os.path.join(path, name))
+        if has_kit:
+            path = os.path.join(self.room, "bin") + ":" + path
         return {"PATH": path, "COUNT": os.path.join(self.room, "count"), **more}
 
     def builds(self):
@@ -103,7 +112,7 @@ class Launcher(unittest.TestCase):
         how = self.make_repository()
         how["env"] = self.environment(has_kit=False)
         self.write("dist/s2calc", "#!/bin/sh\necho released\n")
-        sources = subprocess.run(["python3", "tools/sources.py"], check=True, **how).stdout.strip()
+        sources = subprocess.run(["bash", "tools/sources.sh", "sum"], check=True, **how).stdout.strip()
         self.write("dist/README.md", f"- Sources: `{sources}`\n")
         for has_kit in False, True:
             how["env"] = self.environment(has_kit)
@@ -114,13 +123,40 @@ class Launcher(unittest.TestCase):
             how["env"] = self.environment(has_kit=False)
             done = subprocess.run(["./s2calc", "run"], check=True, **how)
             self.assertEqual(done.stdout, "released\n")
-            self.assertIn("newer", done.stderr)
+            self.assertIn("the sources here aren't those of the release, whose program answers\n", done.stderr)
             how["env"] = self.environment()
             self.assertEqual(subprocess.run(["./s2calc"], check=True, input="", **how).stdout, "unproved\n")
             os.remove(os.path.join(self.room, path))
         self.copy("crates/s2cell/src/lib.rt")
         done = subprocess.run(["./s2calc", "run"], check=True, **how)
         self.assertEqual((done.stdout, done.stderr), ("released\n", ""))
+
+    def test_a_checksum_that_is_no_file(self):
+        """What stands in the place of the one that is kept isn't read, and keeps no call from its end."""
+        how = self.make_repository()
+        how["env"] = self.environment(has_kit=False)
+        self.write("dist/s2calc", "#!/bin/sh\necho released\n")
+        sources = subprocess.run(["bash", "tools/sources.sh", "sum"], check=True, **how).stdout.strip()
+        self.write("dist/README.md", f"- Sources: `{sources}`\n")
+        kept = os.path.join(self.room, ".s2calc", "checksum")
+        os.mkdir(os.path.dirname(kept))
+        for make in os.mkfifo, os.mkdir, lambda path: os.symlink("/dev/zero", path), lambda path: self.write(path, ""):
+            make(kept)
+            done = subprocess.run(["./s2calc", "run"], check=True, **how)
+            self.assertEqual((done.stdout, done.stderr), ("released\n", ""))
+            os.rmdir(kept) if os.path.isdir(kept) else os.remove(kept)
+
+    def test_the_checksum_of_the_sources(self):
+        """It is that of the target, of the lines of the crates, and of what sha256sum prints of each file."""
+        how = self.make_repository()
+        with open(os.path.join(self.room, "crates.txt"), encoding="utf-8") as it:
+            lines = [line for line in it if not line.startswith(("s2union_c", "s2room", "test_", "#"))]
+        with open(os.path.join(self.room, "crates/s2cell/src/lib.rt"), "rb") as it:
+            lines.append(f"{hashlib.sha256(it.read()).hexdigest()}  crates/s2cell/src/lib.rt\n")
+        text = "x86_64-unknown-linux-gnu\n" + "".join(sorted(lines[:-1])) + lines[-1]
+        done = subprocess.run(["bash", "tools/sources.sh", "sum"], check=True, **how)
+        self.assertEqual(done.stdout.strip(), hashlib.sha256(text.encode()).hexdigest())
+        self.assertEqual(subprocess.run(["bash", "tools/sources.sh"], check=False, **how).returncode, 2)
 
     def test_an_unproved_build_is_kept(self):
         """It is made once, also by two calls at once, and says what it is; where it can't be kept it answers too."""
