@@ -276,6 +276,8 @@ def ends_of_parts(counts, room):
     runs = {"docs": module.Run(5, 1, 0, 0), "program": module.Run(3, 1, 0, 0)}
     lines = list(module.table(runs))
     counts.tell("what was looked at in texts, as tests that passed", lines[-1] == "3 passed, 2 failed", str(lines))
+    *_, last = module.table({"docs": module.Run(5, 1, 0, 0), "rot": module.Run(4, 0, 0, 0)})
+    counts.tell("texts alone, as no test that passed", last == "9 looked at, 1 failed", last)
     again = module.of_table(list(runs), "\n".join(lines))
     counts.tell("a row of texts in the table of a lane", again == runs, str(again))
     done = subprocess.run([TOP / "tests" / "run", "--list"], capture_output=True, text=True, check=False)
