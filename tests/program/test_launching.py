@@ -301,7 +301,7 @@ class Identifiers(unittest.TestCase):
         forms.append(f"{number - (1 << 64) if number >> 63 else number:+}")
         if number >= 10**16:
             forms += [str(number), str(number - (1 << 64)) if number >> 63 else f"+{number}"]
-        return self.random.choice(forms)
+        return self.random.choice([form for form in forms if not form.isdigit() or len(form) > 16])
 
     def test_thousands_in_all_forms(self):
         words = [self.word(*cell) for cell in self.cells]
@@ -336,8 +336,24 @@ class Identifiers(unittest.TestCase):
         self.assertEqual(ran("run", script=commands + b"show b\n")[1].partition(b"\n")[2], shown)
 
     def test_digits_alone(self):
-        """Up to 16 are a token, unless --decimal says that they are a number."""
+        """Up to 16 are a token, unless --decimal says that they are a number; or other words have more, as identifiers
+        in a database have. If all words of a text are digits, it is said how they were read."""
         self.assertEqual(launched("cells", input=b"1 +1 10\n"), (0, b"1 0000000000000001 1\n", b""))
+        few, many = 1234567890123457, 5180949494577750587
+        for text, place in ((f"{few}\n{many}", "line 1, word 1"), (f"{many}, {few}", "line 1, word 2"),
+                            (f"x{many}"[1:] + f"\n3/0 -8520159584101335040\n{few}", "line 3, word 1")):
+            status, out, error = launched("cells", input=text.encode())
+            self.assertEqual((status, out), (1, b""))
+            self.assertTrue(error.decode().startswith(f"s2calc: {place}: {few}: is it a token or a number? "), error)
+            self.assertIn(b"--decimal", error)
+            tokens = [f"{int(word) % 2**64:016x}".rstrip("0") for word in re.findall(r"-?\d{16,}", text)]
+            status, out, error = launched("cells", "--decimal", input=text.encode())
+            self.assertEqual((status, [it for it in out.decode().split() if it != "64"], error), (0, tokens, b""))
+        status, out, error = launched("cells", input=b"1234567890123457\n 1234567890123459")
+        self.assertEqual((status, out), (0, b"1234567890123457 1234567890123459\n"))
+        self.assertTrue(error.startswith(b"s2calc: line 1, word 1: 1234567890123457: was read as a token"), error)
+        self.assertIn(b"--decimal", error)
+        self.assertEqual(launched("cells", input=b"1234567890123457 04 1c")[2], b"")
         self.assertEqual(launched("cells", "--decimal", input=b"1 16 3/0\n"),
                          (0, b"0000000000000001 000000000000001 64\n", b""))
 

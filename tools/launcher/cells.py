@@ -11,18 +11,25 @@ Options:
   -h, --help     Print help
 
 A cell is a decimal number with a sign or of more than 16 digits, signed or not; a token (64c); or a debug text (3/021).
+Up to 16 digits without a sign are a token. Identifiers of a database can have as few digits: --decimal reads them as
+numbers. A text with digits of both kinds is an error without it.
+
 Blanks, commas, semicolons, bars, quotes and brackets of all kinds may stand around cells, and the last line of 'show',
 which is 'end', after them. The tokens are in the order of the cells, in lines that a script takes. The first word that
 isn't a cell is named by its line, and the status is 1.
 
 Example:
-  $ sqlite3 world.db 'SELECT cell FROM towns' | s2calc cells --add a | s2calc run
+  $ sqlite3 world.db 'SELECT cell FROM towns' | s2calc cells --decimal --add a | s2calc run
 """
 import os
 import re
+import signal
 import sys
 
 WORD = re.compile(r"[^\s,;|\"'`()\[\]{}<>]+", re.A)
+DECIMAL = re.compile(r"[+-][0-9]{1,20}|[0-9]{17,20}")  # in any text
+MANY = 16  # digits, of which a token has no more
+FEW = 8  # digits: more of them, and no letter anywhere, are hardly those of tokens
 LONGEST = 4000  # bytes of a line, where a script takes 4,096
 HELD = 1 << 20  # lines that are printed at once, so that a text with a fault has no answer unless it is large
 
@@ -37,28 +44,58 @@ def identifier(word, is_decimal):
         path = word[2:]
         width = 1 << 60 - 2 * len(path)
         return (int(word[0]) << 61) + int(path or "0", 4) * 2 * width + width
-    if re.fullmatch(r"[+-][0-9]{1,20}|[0-9]{17,20}", word) or is_decimal and re.fullmatch(r"[0-9]{1,20}", word):
+    if DECIMAL.fullmatch(word) or is_decimal and re.fullmatch(r"[0-9]{1,20}", word):
         number = int(word)
         return number % (1 << 64) if -(1 << 63) <= number < 1 << 64 else None
     return int(word.ljust(16, "0"), 16) if re.fullmatch(r"[0-9A-Fa-f]{1,16}", word) else None
 
 
-def token(word, is_decimal):
+def token(word, is_decimal=False):
     """The token of the cell that a word names, or None."""
     number = identifier(word, is_decimal)
     is_cell = number and number >> 61 < 6 and ((number & -number).bit_length() - 1) % 2 == 0
     return f"{number:016x}".rstrip("0") if is_cell else None
 
 
-def tokens(lines, is_decimal):
-    """The tokens of a text."""
-    for number, line in enumerate(lines, 1):
-        words = WORD.findall(line)
-        for place, word in enumerate(words if words != ["end"] else [], 1):
-            found = token(word, is_decimal)
-            if not found:
-                raise ValueError(f"line {number}, word {place}: {word!a} is not a cell")
-            yield found
+class Text:
+    """The lines of a text of cells; and of what is read so far, the first word of up to 16 digits alone, the first of
+    more, whether all words are digits, and the most digits of one."""
+
+    def __init__(self, lines, is_decimal):
+        self.lines, self.is_decimal = lines, is_decimal
+        self.few = self.many = None
+        self.is_of_digits, self.most = True, 0
+
+    def tokens(self):
+        for number, line in enumerate(self.lines, 1):
+            words = WORD.findall(line)
+            for place, word in enumerate(words if words != ["end"] else [], 1):
+                found = token(word, self.is_decimal)
+                if not found:
+                    raise ValueError(f"line {number}, word {place}: {word!a} is not a cell")
+                self.note(word, f"line {number}, word {place}: {word}")
+                yield found
+
+    def note(self, word, where):
+        """Notes a word. It may be taken for a token alone where no other word is surely a number."""
+        digits = word.lstrip("+-")
+        if self.is_decimal or not digits.isdigit():
+            self.is_of_digits = False
+            return
+        self.most = max(self.most, len(digits))
+        if len(digits) > MANY:
+            self.many = self.many or where
+        elif digits == word:
+            self.few = self.few or where
+        if self.few and self.many:
+            raise ValueError(f"{self.few}: is it a token or a number? Other cells here are numbers of more than {MANY}"
+                             " digits. --decimal reads all as numbers")
+
+    def hint(self):
+        """What standard error should say of the whole text, or nothing."""
+        if self.few and self.is_of_digits and self.most > FEW:
+            return f"{self.few}: was read as a token, as all words are; --decimal reads them as numbers"
+        return ""
 
 
 def filled(words, head):
@@ -118,6 +155,8 @@ def print_all(lines):
         sys.stdout.flush()
     except OSError as error:
         os.dup2(os.open(os.devnull, os.O_WRONLY), 1)  # what waits is lost
+        if isinstance(error, BrokenPipeError):
+            sys.exit(128 + signal.SIGPIPE)  # without a word: the reader has seen enough
         raise Fault("output", error.strerror) from error
 
 
@@ -127,7 +166,10 @@ def main(words):
         return 0
     try:
         file, head, is_decimal = options(words)
-        print_all(filled(tokens(lines_of(file), is_decimal), head))
+        text = Text(lines_of(file), is_decimal)
+        print_all(filled(text.tokens(), head))
+        if text.hint():
+            print(f"s2calc: {text.hint()}", file=sys.stderr)
     except Fault as fault:
         what, how = fault.args
         more = "\n\nFor more information, try '--help'." if what == "usage" else ""
