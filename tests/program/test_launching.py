@@ -1,10 +1,12 @@
-"""The launcher: through pipes and files the program's bytes and no process more; scripts in files and in words, paths,
-help, and `cells`."""
+"""The launcher: the program's bytes, and to files no process more; pipes that nobody reads; scripts in files and in
+words, paths, help, and `cells`."""
 import contextlib
 import os
 import random
 import re
 import shutil
+import signal
+import socket
 import sqlite3
 import subprocess
 import tempfile
@@ -35,18 +37,89 @@ def both(*words, **how):
 
 SAME = ["run", "run --explain", "run --prompt", "run --limit=1 --dir . --depth 2 --explain", "run --limit 0",
         "run --limit", "run --dir", "run --dir=", "run --colour", "run --prompt --prompt", "run --limit -5",
-        "run --lim 5", "cell 64c", "cell X", "cell", "check parks", "check", "check --dir . parks",
+        "run --lim 5", "cell 64c", "cell", "check",
         "draw --cells 1 3/021", "draw --curve --cells 1 -- f", "draw --help", "--version", "-V", "ru", "-- run",
         "help draw", "help help", "--x", "adds", ".*"]
 
 
 @pytest.mark.parametrize("words", [
-    *(line.split() for line in SAME), [""], ["run", "--dir", "no such"], ["cell", " 3/021 "],
-    ["cell", "$(x) `x` *"], ["cell", ""], ["cell", b"\xff"], ["run", "--dir", b"\xff"]], ids=str)
+    *(line.split() for line in SAME), [""], ["run", "--dir", "no such"], ["check", "a b"], ["cell", b"\xff"],
+    ["run", "--dir", b"\xff"]],
+    ids=str)
 def test_same_bytes(words):
     """The launcher adds nothing."""
     wanted, found = both(*words, input=SCRIPT)
     assert found == wanted
+
+
+CELLS = "X", " 3/021 ", "$(x) `x` *", "", "0c\nadd a 04\nsave a made", "18446744073709551617", "-9223372036854775809"
+NO_CELL, NO_FILE = "is not a cell (a token or a debug text)", "there is no file of that name"
+
+
+@pytest.mark.parametrize("words,reason", [
+    *((["cell", cell], ("the word " if "\n" in cell else f"'{cell}' ") + NO_CELL) for cell in CELLS),
+    (["check", "parks"], f"parks: {NO_FILE}"),
+    (["check", "--dir", ".", "parks"], f"parks: {NO_FILE}"),
+    (["check", "--dir", "/", "etc"], "etc: the file could not be read or written"),
+    (["check", f"{TOP}/README.md"], "README.md: the file is not a union file")], ids=str)
+def test_why_a_cell_or_a_file_has_an_error(words, reason):
+    """The answer and the status are the program's, and standard error says why; nothing else is done."""
+    for how in {}, {"stdout": subprocess.DEVNULL, "capture_output": False, "stderr": subprocess.PIPE}:
+        program, found = both(*words, **how)
+        wanted = program if "README" not in words[-1] else (1, program[1] and b"error format\n", b"")
+        assert found == (wanted[0], wanted[1], wanted[2] + f"s2calc: {reason}\n".encode())
+
+
+@pytest.mark.parametrize("line", ["run", "run script", "run --explain script", "run -c history",
+                                  "run --explain -c history", "cell 1", "check square", "draw square", "cells script"])
+def test_a_pipe_that_nobody_reads(line, tmp_path):
+    """Then nothing is said, and the status is that of SIGPIPE, as of other programs."""
+    words = line.split()
+    (tmp_path / "script").write_bytes(b"1 3 5\n" if words[0] == "cells" else b"cell 1\n" * 1000)
+    ran("run", script=b"add a 1\nsave a square\n", cwd=tmp_path)
+    reader, writer = os.pipe()
+    os.close(reader)
+    with open(writer, "wb") as pipe:
+        done = subprocess.run([LAUNCHER, *words], cwd=tmp_path, env=ENVIRONMENT, input=b"cell 1\n", stdout=pipe,
+                              stderr=subprocess.PIPE, timeout=60, check=False)
+    assert (done.returncode, done.stderr) == (128 + signal.SIGPIPE, b"")
+
+
+def test_a_script_needs_no_word(tmp_path):
+    for words in [], ["-"]:
+        assert launched(*words, input=SCRIPT, cwd=tmp_path) == ran("run", script=SCRIPT, cwd=tmp_path)
+        assert launched(*words) == (0, b"", b"")
+
+
+@pytest.mark.parametrize("words", [["cell"], ["cell", "--explain"], ["check"], ["draw"], ["draw", "--cells"]], ids=str)
+def test_a_word_is_never_a_script(words, tmp_path):
+    for word in "zz\nsave a made", "zz\rsave a made", "0c\nsave a made":
+        assert launched(*words, word, cwd=tmp_path)[0] == 1
+    assert os.listdir(tmp_path) == []
+
+
+def test_an_option_that_is_no_option_of_cell():
+    for words in ["--json", "0c"], ["--json"], ["0c", "--json"]:
+        status, out, error = launched("cell", *words)
+        assert (status, out, error.splitlines()[:2]) == (
+            2, b"", [b"s2calc: usage", b"error: unexpected argument '--json' found"])
+
+
+@pytest.mark.parametrize("number", [1, 3, 864691128455135232, 5180949494577750587, 10789722008133304320])
+def test_a_decimal_identifier(number):
+    """It is read with a sign, or if it has more than 16 digits, and its cell is that of its token."""
+    words = [f"{number - (number >> 63 << 64):+}"] + [str(number)] * (number > 10**16)
+    for word in words:
+        assert launched("cell", word) == ran("cell", f"{number:016x}".rstrip("0"))
+
+
+def test_options_of_the_program_are_handed_on(tmp_path):
+    (tmp_path / "program").write_text("#!/bin/sh\necho \"$@\" && cat\n")
+    (tmp_path / "program").chmod(0o755)
+    (tmp_path / "script").write_text("lines\n")
+    environment = {**ENVIRONMENT, "S2CALC_PROGRAM": str(tmp_path / "program")}
+    for words, given in (["script", "--stop"], b"lines\n"), (["--stop", "-c", "line"], b"line\n"), (["--stop"], b""):
+        assert launched("run", *words, cwd=tmp_path, env=environment) == (0, b"run --stop\n" + given, b"")
 
 
 @pytest.mark.parametrize("words", [["run"], ["run", "--explain"], ["cell", "1"]], ids=str)
@@ -66,13 +139,14 @@ class TheProgram(unittest.TestCase):
     """What the launcher adds nothing to."""
 
     def test_no_process_stays_between(self):
-        """The process that was started is the program, which waits for the script."""
-        for words in (["run"], ["run", "--prompt"], ["run", "-"], ["run", "/dev/stdin"]):
-            with subprocess.Popen([LAUNCHER, *words], env=ENVIRONMENT, stdin=subprocess.PIPE, stdout=subprocess.PIPE,
-                                  stderr=subprocess.PIPE) as process:
+        """The process that was started is the program, which waits for the script, unless its answers go to a pipe."""
+        for words in ([], ["run"], ["run", "--prompt"], ["run", "-"], ["run", "/dev/stdin"]):
+            ours, its = socket.socketpair()
+            with ours, its, subprocess.Popen([LAUNCHER, *words], env=ENVIRONMENT, stdin=subprocess.PIPE, stdout=its,
+                                             stderr=subprocess.PIPE) as process:
                 process.stdin.write(b"count a\n")
                 process.stdin.flush()
-                self.assertEqual(process.stdout.readline(), b"cells 0 leaves 0\n")
+                self.assertEqual(ours.recv(100), b"cells 0 leaves 0\n")
                 self.assertTrue(os.path.samefile(f"/proc/{process.pid}/exe", os.path.realpath(PROGRAM)))
                 process.stdin.close()
                 self.assertEqual(process.wait(60), 0)
@@ -107,18 +181,17 @@ def test_a_minus_is_standard_input(tmp_path):
     assert launched("run", "-", cwd=tmp_path) == (0, b"", b"")
 
 
-@pytest.mark.parametrize("words,wrong", [
-    (["nope"], "nope"), (["land.outer", "nope", "none"], "nope"), (["--fit", "a", "b"], "a"),
-    (["README.md/"], "README.md/"), (["./land.outer", "./none"], "none"), (["a/x", "b/x"], "a/x"),
-    (["--dir", "/", "land.outer"], "land.outer"), (["--cells", "1", "zz", "2"], "zz"),
-    (["--curve", "--cells", "0/0 ", "*"], "0/0 ")])
-def test_a_picture_that_can_not_be_made(words, wrong):
-    """Standard output stays empty, and standard error has the answer of the program, with the word it is of."""
+@pytest.mark.parametrize("words,reason", [
+    (["nope"], f"nope: {NO_FILE}"), (["land.outer", "nope", "none"], f"nope: {NO_FILE}"),
+    (["--fit", "a", "b"], f"a: {NO_FILE}"), (["./land.outer", "./none"], f"none: {NO_FILE}"),
+    (["--dir", "/", "land.outer"], f"land.outer: {NO_FILE}"), (["--cells", "1", "zz", "2"], f"'zz' {NO_CELL}"),
+    (["--curve", "--cells", "0/0 ", "*"], f"'0/0 ' {NO_CELL}"), (["README.md/"], "'README.md/' is not a file name"),
+    (["a/x", "b/x"], "'a/x' is not a file name")])
+def test_a_picture_that_can_not_be_made(words, reason):
+    """Standard output stays empty, and standard error says of the first word that is wrong why it is."""
     status, out, error = launched("draw", *words, cwd=PICTURES, env=ENVIRONMENT)
     assert (status, out) == (1, b"")
-    head, _, answer = error.decode().splitlines()[-1].rpartition(": ")
-    assert head == f"s2calc: {wrong}"
-    assert re.fullmatch("error (name|missing|file|format|cell)", answer)
+    assert error.decode().startswith(f"s2calc: {reason}")
 
 
 class Scripts(unittest.TestCase):
@@ -131,14 +204,16 @@ class Scripts(unittest.TestCase):
         self.how = {"cwd": self.room, "env": ENVIRONMENT}
 
     def test_a_file(self):
-        wanted = ran("run", "--explain", script=SCRIPT, cwd=self.room)
+        status, out, error = wanted = ran("run", "--explain", script=SCRIPT, cwd=self.room)
         for name in ("script", "-x", "a b$(c)"):
             with open(os.path.join(self.room, name), "wb") as it:
                 it.write(SCRIPT)
         path = os.path.join(self.room, "script")
         for words in (["script"], [path], ["./-x"], ["a b$(c)"]):
-            self.assertEqual(launched("run", "--explain", *words, **self.how), wanted)
-            self.assertEqual(launched("run", *words, "--explain", **self.how), wanted)
+            named = error.replace(b"line ", words[0].encode() + b": line ")
+            self.assertEqual(launched("run", "--explain", *words, **self.how), (status, out, named))
+            self.assertEqual(launched("run", *words, "--explain", **self.how), (status, out, named))
+            self.assertEqual(launched("run", *words, **self.how), (status, out, b""))
         self.assertEqual(launched("run", "-", "--explain", **{**self.how, "input": SCRIPT}), wanted)
         self.assertEqual(launched("run", "--no-prompt", "--explain", **{**self.how, "input": SCRIPT}), wanted)
 
@@ -180,11 +255,10 @@ class Scripts(unittest.TestCase):
             number = int(out.split()[1].ljust(16, b"0"), 16)
             signed = number - (number >> 63 << 64)
             self.assertEqual(error.decode(), f"identifier {number}, with a sign {signed}\n")
-        for word, reason in (("zz", "is not a cell (a token or a debug text)"), ("X", "is not a cell"),
-                             ("10789722008133304320", "it is the identifier of the cell 95bccb")):
-            status, out, error = launched("cell", "--explain", word)
-            self.assertEqual((status, out), (1, b"error cell\n"))
-            self.assertIn(reason, error.decode())
+            for decimal in number, signed:
+                if len(str(decimal)) > 16:
+                    self.assertEqual(launched("cell", str(decimal), "--explain"), (status, out, error))
+        self.assertEqual(launched("cell", "--explain", "zz"), launched("cell", "zz"))
 
     def test_paths(self):
         """If all files are in one folder, it is that of the run."""
@@ -211,13 +285,10 @@ class Help(unittest.TestCase):
     def test_what_is_added(self):
         """Each line of the program's help stays, but its usage, what it says of a prompt, and one that is indented."""
         for words, changed in ((["--help"], []), (["run", "--help"], ["Usage:", "--prompt"]),
-                               (["cell", "-h"], ["Usage:", "-h,"])):
+                               (["cell", "-h"], ["Usage:", "<CELL>", "-h,"])):
             own, whole = (said(*words)[1].decode().splitlines() for said in (ran, launched))
             gone = [line for line in own if line not in whole]
             self.assertEqual([line.split()[0] for line in gone], changed)
-        status, out, error = ran()
-        self.assertEqual(launched(), (status, out, error.replace(b", draw, help]", b", draw, cells, help]")))
-        self.assertIn(b", cells, ", launched()[2])
         self.assertEqual(launched("help", "run"), launched("run", "--limit", "5", "-h"))
         self.assertEqual(launched("help", "cell"), launched("cell", "--help"))
         self.assertIn(b"      --explain  Says", launched("help", "cell")[1])

@@ -95,14 +95,30 @@ class Keys(unittest.TestCase):
         for line, answer in lines[:-1]:
             self.assertEqual(self.answered(session, line), answer)
         self.assertEqual(lines[-1], ("", ""))
-        self.assertEqual(self.status(session), 1)  # a line was refused
+        self.assertEqual(self.status(session), 0)  # though a line had an error: a session has none, as in bc and psql
 
     def test_leaving(self):
         for keys in ("quit\r", "exit\r", "  exit \r", END):
             self.assertEqual(self.status(self.started(), keys), 0)
         session = self.started()
         self.assertEqual(self.answered(session, "count"), "error syntax\n  a register (a to z) is missing\n")
-        self.assertEqual(self.status(session, "quit\r"), 1)
+        self.assertEqual(self.status(session, "quit\r"), 0)
+
+    def test_cells_of_other_programs(self):
+        """Commas stand between them, and an identifier may be decimal, as Python and SQL print it."""
+        session = self.started()
+        for line, answer in (("add a 04,0c", "ok 0 2"), ("add a 864691128455135232, 1441151880758558720,", "ok 0 1"),
+                             ("show a", "04\n0c\n14\nend"),
+                             ("cell -8520159584101335040", "cell 89c25 4/10320102 level 8 face 4 leaves"
+                              " 4963283448711086080 4963301040897130495"),
+                             ("range b 04,14", "ok 0 3"), ("has b 864691128455135232", "yes"),
+                             ("cell 1234567890123456c", "error cell\n  '1234567890123456c' is not a cell (a token or a"
+                              " debug text)"),
+                             ("add a ,", "error syntax\n  a cell (a token or a debug text) is missing"),
+                             ("at 0,0,0", "error face\n  '0,0,0' is not a face (0 to 5)"),
+                             ("add a 18446744073709551617",
+                              "error cell\n  '18446744073709551617' is not a cell (a token or a debug text)")):
+            self.assertEqual(self.answered(session, line), answer + "\n")
 
     def test_prompt_wanted_or_not(self):
         session = self.started("run", "--prompt", "--limit", "1", "-")
@@ -165,8 +181,6 @@ class Keys(unittest.TestCase):
                              ("add a '04' '0c';", f"cell\n  '\\'04\\'' {cell}; words stand without quotes"),
                              ("add b '04';", f"cell\n  '\\'04\\';' {cell}; words stand without quotes"),
                              ("cell 0x89C25", f"cell\n  '0x89C25' {cell}; a token stands without '0x'"),
-                             ("add a 04,0c", f"cell\n  '04,0c' {cell}; cells stand apart by blanks"),
-                             ("add a 04, 0c", f"cell\n  '04,' {cell}; cells stand apart by blanks"),
                              ("has a -2.35 48.85", f"cell\n  '-2.35' {cell}; {degrees}"),
                              ("at 48.85 2.35", f"face\n  '48.85' is not a face (0 to 5); {degrees}"),
                              ("add a 04.", f"cell\n  '04.' {cell}"),
@@ -280,6 +294,32 @@ class Keys(unittest.TestCase):
         self.assertEqual(self.answered(session, ""), "")
         self.assertEqual(self.answered(session, "# count b"), "")
 
+    def test_a_line_of_one_blank_or_control_character(self):
+        """Each that Python calls a blank, and each control character, after Ctrl-V. None ends the session. At this
+        terminal none is a signal."""
+        blanks = {chr(code) for code in range(sys.maxunicode + 1) if chr(code).isspace()}
+        letters = sorted(blanks | {chr(code) for code in (*range(0x20), *range(0x7F, 0xA0))})
+        session = self.spawned("sh", "-c", f"stty intr undef quit undef susp undef -ixon; exec {LAUNCHER}")
+        self.shown(session)
+        self.answered(session, "add a 1")
+        for letter in letters:
+            for line in letter, f"quit{letter}", f"help{letter}":
+                if line.strip(" \t\r\n\0") not in ("quit", "help"):
+                    session.send("".join(f"\x16{it}" if it == letter else it for it in line) + "\r")
+                    self.shown(session)
+        self.assertGreater(len(letters), 80)
+        self.assertEqual(self.answered(session, "count a"), "cells 1 leaves 1152921504606846976\n")
+        self.assertEqual(self.status(session), 0)
+
+    def test_a_blank_that_is_no_separator(self):
+        """The program separates words by spaces and tabs alone, so the prompt does."""
+        session = self.started()
+        for line, word in (("\u00a0", r"\xc2\xa0"), ("\u00a0quit", r"\xc2\xa0quit"),
+                           ("\u3000help", r"\xe3\x80\x80help")):
+            session.send(line + "\r")
+            self.assertIn(f"error syntax\n  '{word}' is not a command", self.shown(session))
+        self.assertEqual(self.status(session), 0)
+
     def test_letters_that_the_locale_lacks(self):
         """They are bytes to readline, and kept as they were typed. The second locale isn't installed."""
         for locale in "C", "xx_YY.UTF-8":
@@ -304,9 +344,35 @@ class Keys(unittest.TestCase):
         self.shown(shell)
         self.assertEqual(self.answered(shell, "count a"), "")
         self.assertEqual(self.answered(shell, "count"), "  error syntax: a register (a to z) is missing\n")
-        self.assertEqual(self.status(shell), 1)
+        self.assertEqual(self.status(shell), 0)
         with open(os.path.join(self.room, "answers"), "rb") as it:
             self.assertEqual(it.read(), b"cells 0 leaves 0\nerror syntax\n")
+
+    def test_a_script_in_a_file(self):
+        """At a terminal each error has its reason, with the file's name before it; lines after -c have reasons too."""
+        with open(os.path.join(self.room, "script"), "wb") as it:
+            it.write(b"add a zz\ncount a\n")
+        for words, reason in (["script"], "script: line 1: "), (["-c", "add a zz"], "line 1: "):
+            session = self.spawned(LAUNCHER, "run", *words)
+            shown = self.shown(session, pexpect.EOF)
+            self.assertIn(f"{reason}error cell: 'zz' is not a cell (a token or a debug text)\n", shown)
+            self.assertIn("error cell\n", shown)
+            session.close()
+            self.assertEqual(session.exitstatus, 1)
+        session = self.spawned("sh", "-c", f"{LAUNCHER} run script 2>reasons")
+        self.assertEqual(self.shown(session, pexpect.EOF), "error cell\ncells 0 leaves 0\n")
+        self.assertEqual(os.path.getsize(os.path.join(self.room, "reasons")), 0)
+
+    def test_reasons_in_a_file(self):
+        """Where standard error is no terminal, the prompt is at standard output."""
+        shell = self.spawned("sh", "-c", f"{LAUNCHER} 2>reasons")
+        self.assertTrue(self.shown(shell).startswith("s2calc "))
+        self.assertEqual(self.answered(shell, "count"), "error syntax\n")
+        self.assertTrue(self.answered(shell, "help count").startswith("count r\n"))
+        self.assertEqual(self.answered(shell, "count a"), "cells 0 leaves 0\n")
+        self.assertEqual(self.status(shell, "quit\r"), 0)
+        with open(os.path.join(self.room, "reasons"), "rb") as it:
+            self.assertEqual(it.read(), b"  a register (a to z) is missing\n")
 
     # ---- what fails
 
@@ -314,14 +380,41 @@ class Keys(unittest.TestCase):
         path = os.path.join(self.room, "python3")
         with open(path, "w", encoding="ascii") as it:
             it.write("#!/bin/sh\nexec /usr/bin/python3 -c 'import runpy, sys; sys.modules[\"readline\"] = None; "
-                     "del sys.argv[:2]; runpy.run_path(sys.argv[0], run_name=\"__main__\")' \"$@\"\n")
+                     "del sys.argv[:4]; runpy.run_path(sys.argv[0], run_name=\"__main__\")' \"$@\"\n")
         os.chmod(path, 0o755)
         for folders, missing in ((f"{self.room}:/usr/bin:/bin", "python3 has no readline"),
                                  (os.path.join(self.room, "empty"), "python3 is missing")):
             session = self.started(PATH=folders)
-            self.assertEqual(session.banner, f"s2calc: {missing}, so there are no keys, no history and no help\n")
-            self.assertEqual(self.answered(session, "count a"), "cells 0 leaves 0\n")
-            self.assertEqual(self.status(session), 0)
+            self.assertIn(f"s2calc: {missing}, so there are no keys and no history", session.banner)
+            self.assertIn("'help' for help, Ctrl-D to leave\n", session.banner)
+            self.assertEqual(self.answered(session, "add a 04"), "ok 0 1\n")
+            for _ in range(2):
+                session.send("clear a" + INTERRUPT)
+                self.assertRegex(self.shown(session), r"^(clear a)?\^C(clear a)?\n")
+            self.assertIn("\n  add r CELL..   ", self.answered(session, "help"))
+            self.assertEqual(self.answered(session, "?"), self.answered(session, "help"))
+            self.assertIn("adds the cells", self.answered(session, "help add"))
+            self.assertNotIn("adds the cells", self.answered(session, "? ad"))
+            self.assertIn("is not a command", self.answered(session, "ad"))
+            self.assertEqual(self.answered(session, "count a"), "cells 1 leaves 288230376151711744\n")
+            for keys in "quit\r", "exit\r", END:
+                self.assertEqual(self.status(session, keys), 0)
+                session = self.started(PATH=folders)
+
+    def test_an_interrupt_while_it_starts(self):
+        """Ctrl-C then ends it without a word: while Python starts, and while the program does."""
+        real = os.path.realpath(PROGRAM)
+        for name, text in (("python3", "kill -INT $$; exec /usr/bin/python3 \"$@\""),
+                           ("program", f'[ "$*" != "run --prompt" ] || kill -INT $PPID; exec {real} "$@"')):
+            path = os.path.join(self.room, name)
+            with open(path, "w", encoding="ascii") as it:
+                it.write(f"#!/bin/sh\n{text}\n")
+            os.chmod(path, 0o755)
+        for environment in ({"PATH": f"{self.room}:/usr/bin:/bin"}, {"S2CALC_PROGRAM": f"{self.room}/program"}):
+            session = self.spawned(LAUNCHER, **environment)
+            self.assertEqual(self.shown(session, pexpect.EOF), "")
+            session.close()
+            self.assertEqual(session.signalstatus, signal.SIGINT)
 
     def test_state_that_can_not_be_kept(self):
         session = self.started(XDG_STATE_HOME="/dev/null/x")

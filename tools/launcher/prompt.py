@@ -4,17 +4,24 @@
 
 The proved program runs as a child, in a process group of its own, as `run --prompt` with these options. It gets the
 lines by a pipe and writes its answers to standard output itself. Its own prompt on standard error says that an answer
-is whole. So registers and history are the program's alone, and no key ends it but those that end the script.
+is whole. So registers and history are the program's alone. No line ends it, but 'quit' and 'exit', and no Ctrl-C.
 """
-import ctypes
-import difflib
-import functools
-import os
-import re
 import signal
-import stat
-import subprocess
-import sys
+
+if __name__ == "__main__":
+    signal.signal(signal.SIGINT, signal.SIG_DFL)  # until lines are read, Ctrl-C ends this without a word
+
+import ctypes  # noqa: E402
+import difflib  # noqa: E402
+import functools  # noqa: E402
+import os  # noqa: E402
+import re  # noqa: E402
+import stat  # noqa: E402
+import subprocess  # noqa: E402
+import sys  # noqa: E402
+
+sys.path.append(os.path.dirname(os.path.realpath(__file__)))
+from cells import DECIMAL, token  # noqa: E402
 
 PROMPT = "s2calc> "
 LONGEST = 4096  # bytes of a line; every longer one is answered alike
@@ -116,7 +123,8 @@ class Program:
             signal.signal(signal.SIGTTOU, signal.SIG_IGN)  # it writes to the terminal, which isn't its own
 
         answers = os.dup(1)
-        os.dup2(2, 1)  # lines are typed, and help is shown, where the prompt is
+        if os.isatty(2):
+            os.dup2(2, 1)  # lines are typed, and help is shown, where the prompt is
         self.path, self.is_seen = program, os.isatty(answers)
         self.child = subprocess.Popen([program, "run", "--prompt", *options], stdin=subprocess.PIPE, stdout=answers,
                                       stderr=subprocess.PIPE, bufsize=0, preexec_fn=of_its_own)
@@ -149,29 +157,35 @@ class Program:
         self.end(self.child.stderr.read()[1:])  # which begins with the newline after the last prompt
 
     def end(self, said):
+        """Ends with the program's status; with 0 if all that it says is that a line had an error, which was seen."""
         status = self.child.wait()
         os.write(2, said)
         if status < 0:
             say(f"the program was ended by signal {-status}")
-        sys.exit(status if status >= 0 else 128 - status)
+            status = 128 - status
+        sys.exit(0 if status == 1 else status)
 
 
 # ---- keys
 
 
 class Keyboard:
-    """Lines with readline's keys, and a history that outlives a run."""
+    """Lines with readline's keys, and a history that outlives a run; as the terminal edits them, without readline."""
 
     def __init__(self, readline, program, folder):
         self.readline, self.program, self.folder = readline, program, folder
         self.is_typing, self.is_covered, self.path = False, False, None
         signal.signal(signal.SIGINT, self.interrupted)
+        sys.stdin.reconfigure(errors="surrogateescape")
+        if readline:
+            self.take_keys(readline)
+
+    def take_keys(self, readline):
         readline.set_pre_input_hook(self.begin)
         readline.set_auto_history(False)
         readline.set_completer_delims(" \t")
         readline.set_completer(self.completed)
         readline.parse_and_bind("tab: complete")
-        sys.stdin.reconfigure(errors="surrogateescape")
         try:  # Python's module has no calls for these; without them Ctrl-Z stops at once, and `fg` shows no prompt
             calls = ctypes.CDLL(getattr(readline, "__file__", None))
             self.give_back, self.take_again, self.show = (
@@ -198,8 +212,10 @@ class Keyboard:
         return path
 
     def keep(self, line):
+        if not self.readline or not words_of(line):
+            return
         typed, last = os.fsencode(line), self.readline.get_current_history_length()
-        if not line.strip() or last and os.fsencode(self.readline.get_history_item(last)) == typed:
+        if last and os.fsencode(self.readline.get_history_item(last)) == typed:
             return
         self.readline.add_history(typed.decode("ascii", "surrogateescape"))  # the bytes, which any locale takes
         if self.path:
@@ -216,7 +232,7 @@ class Keyboard:
 
     def interrupted(self, *_):
         """Ctrl-C: drops the line that is typed. The program doesn't notice."""
-        is_line = self.is_typing and self.readline.get_line_buffer()
+        is_line = self.is_typing and self.readline and self.readline.get_line_buffer()
         print("" if is_line else f"\n({LEAVING})", flush=True)
         if self.is_typing:
             self.is_typing = False  # so this is raised once, where it is caught
@@ -239,6 +255,7 @@ class Keyboard:
         """The lines that are typed, up to Ctrl-D. A paste may have several."""
         while True:
             try:
+                self.is_typing = not self.readline  # which says itself when it reads keys
                 text = input(PROMPT)
                 self.is_typing = False
             except KeyboardInterrupt:
@@ -288,33 +305,70 @@ def folder_of(options):
     return folder
 
 
-def hinted(reason, word):
-    """The reason why a word is not a command, with a hint at a word of the prompt, or at an upper-case command."""
-    if word in WORDS:
-        return f"'{word}' takes no word"
-    if reason[-1] == "?":
-        hint = near(word, WORDS)
-        return reason[:-1] + hint.replace("; did you mean", ",") if hint else reason
-    return reason + (near(word, [*COMMANDS, *WORDS]) or "; 'help' lists the commands")
+def words_of(line):
+    """The words of a line, as the program has them: apart by spaces and tabs alone."""
+    return [word for word in re.split("[ \t]+", line) if word]
+
+
+def in_tokens(line, forms):
+    """The line, with blanks for commas between cells, and tokens for decimal identifiers of cells."""
+    words = words_of(line)
+    form = forms.get(words[0], ("",))[0].split() if words else []
+    first = next((place for place, kind in enumerate(form) if kind.startswith("CELL")), len(words))
+    cells = [cell for word in words[first:] for cell in word.split(",") if cell]
+    cells = [DECIMAL.fullmatch(cell) and token(cell) or cell for cell in cells]
+    return line if cells == words[first:] else " ".join(words[:first] + cells)
 
 
 # Words that other prompts and places take, as the reason has them, and what is done here instead.
 HABITS = ((r"'\\['\"].* is not an? ", "words stand without quotes"),
           (r"'0[xX][0-9a-fA-F]+' is not a cell ", "a token stands without '0x'"),
           (r"'[^']*;' is not an? ", "a command ends without ';'"),
-          (r"'[^']*,[^']*' is not a cell ", "cells stand apart by blanks"),
           (r"'[+-]?\d+\.\d+' is not an? ", "'python3 -m s2union_geo leaves' makes cells of degrees"))
 
 
+def hinted(reason):
+    """The reason why a line has an error, with a hint at a habit of other places, at a word of the prompt, or at an
+    upper-case command."""
+    if not (unknown := re.match(r"'(.*)' is not a command(; did|$)", reason)):
+        return reason + next((f"; {advice}" for habit, advice in HABITS if re.match(habit, reason)), "")
+    if unknown[1] in WORDS:
+        return f"'{unknown[1]}' takes no word"
+    if unknown[2]:
+        hint = near(unknown[1], WORDS)
+        return reason[:-1] + hint.replace("; did you mean", ",") if hint else reason
+    return reason + (near(unknown[1], [*COMMANDS, *WORDS]) or "; 'help' lists the commands")
+
+
 def answer(program, line):
-    """Has the program carry out a line, and shows why if it refuses it."""
-    reason = program.carry_out(os.fsencode(line)).rstrip("\n")
-    if re.search(r"is not a command(; did|$)", reason):
-        reason = hinted(reason, line.split()[0])
-    else:
-        reason += next((f"; {advice}" for habit, advice in HABITS if re.match(habit, reason)), "")
+    """Has the program carry out a line, and shows why if it has an error."""
+    reason = program.carry_out(os.fsencode(in_tokens(line, help_of(program.path)[1]))).rstrip("\n")
+    try:
+        reason = hinted(reason)
+    except Exception:  # pylint: disable=broad-except
+        pass  # nobody needs a hint as much as the registers
     if reason:
-        print(f"  {reason}", flush=True)
+        print(f"  {reason}", file=sys.stderr, flush=True)
+
+
+def session(path, readline, options):
+    """Hands over the lines that are typed, until one is to leave."""
+    program = Program(path, options)
+    version = subprocess.run([path, "--version"], stdout=subprocess.PIPE, check=True).stdout.decode().strip()
+    print(f"{version}: 'help' for help, Ctrl-D to leave", flush=True)
+    folder = folder_of(options)
+    if not os.path.isdir(folder):
+        say(f"there is no folder '{folder}' for the files of this session")
+    help_of(path)  # while the program can surely be run
+    for line in Keyboard(readline, program, folder).lines():
+        words = words_of(line)
+        if words in (["quit"], ["exit"]):
+            break
+        if words[:1] in (["help"], ["?"]):
+            show_help(path, words[1:])
+        else:
+            answer(program, line)
+    program.close()
 
 
 def main(path, *options):
@@ -323,23 +377,9 @@ def main(path, *options):
     try:
         import readline  # pylint: disable=import-outside-toplevel
     except ImportError:
-        say("python3 has no readline, so there are no keys, no history and no help")
-        os.execv(path, [path, "run", "--prompt", *options])
-    program = Program(path, options)
-    version = subprocess.run([path, "--version"], stdout=subprocess.PIPE, check=True).stdout.decode().strip()
-    print(f"{version}: 'help' for help, Ctrl-D to leave", flush=True)
-    folder = folder_of(options)
-    if not os.path.isdir(folder):
-        say(f"there is no folder '{folder}' for the files of this session")
-    for line in Keyboard(readline, program, folder).lines():
-        words = line.split()
-        if words in (["quit"], ["exit"]):
-            break
-        if words[:1] in (["help"], ["?"]):
-            show_help(path, words[1:])
-        else:
-            answer(program, line)
-    return program.close()
+        say("python3 has no readline, so there are no keys and no history")
+        readline = None
+    return session(path, readline, options)
 
 
 if __name__ == "__main__":

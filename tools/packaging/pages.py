@@ -92,8 +92,9 @@ MORE = {
 s2calc computes with regions of the sphere as unions of S2 cells. It is proved which bytes the program writes for the
 bytes of each script; the prompt, 'cells' and the reading of FILE are not proved.
 
-A script has one command a line. Registers a to z hold unions, and undo goes back. At a terminal 's2calc' alone shows a
-prompt: its lines can be edited, Tab completes them, Ctrl-C drops one, 'help' lists the commands, and Ctrl-D leaves.""",
+A script has one command a line. Registers a to z hold unions, and undo goes back. 's2calc' alone answers the script on
+standard input. At a terminal it shows a prompt: its lines can be edited, Tab completes them, Ctrl-C drops one, 'help'
+lists the commands, and Ctrl-D leaves.""",
     "FILES": """\
   NAME  A union file in S2's own encoding, or a session file, in the folder that --dir names
   $XDG_STATE_HOME/s2calc/history  The lines typed at the prompt; ~/.local/state is the folder if that isn't set""",
