@@ -70,17 +70,17 @@ def test_why_a_cell_or_a_file_has_an_error(words, reason):
         assert found == (wanted[0], wanted[1], wanted[2] + f"s2calc: {reason}\n".encode())
 
 
-@pytest.mark.parametrize("line", ["run", "run script", "run --explain script", "run -c history",
+@pytest.mark.parametrize("line", ["run", "run --explain", "", "run script", "run --explain script", "run -c history",
                                   "run --explain -c history", "cell 1", "check square", "draw square", "cells script"])
 def test_a_pipe_that_nobody_reads(line, tmp_path):
     """Then nothing is said, and the status is that of SIGPIPE, as of other programs."""
     words = line.split()
-    (tmp_path / "script").write_bytes(b"1 3 5\n" if words[0] == "cells" else b"cell 1\n" * 1000)
+    (tmp_path / "script").write_bytes(b"1 3 5\n" if words[:1] == ["cells"] else b"cell 1\n" * 1000)
     ran("run", script=b"add a 1\nsave a square\n", cwd=tmp_path)
     reader, writer = os.pipe()
     os.close(reader)
-    with open(writer, "wb") as pipe:
-        done = subprocess.run([LAUNCHER, *words], cwd=tmp_path, env=ENVIRONMENT, input=b"cell 1\n", stdout=pipe,
+    with open(writer, "wb") as pipe, open(tmp_path / "script", "rb") as script:
+        done = subprocess.run([LAUNCHER, *words], cwd=tmp_path, env=ENVIRONMENT, stdin=script, stdout=pipe,
                               stderr=subprocess.PIPE, timeout=60, check=False)
     assert (done.returncode, done.stderr) == (128 + signal.SIGPIPE, b"")
 
@@ -111,6 +111,16 @@ def test_a_decimal_identifier(number):
     words = [f"{number - (number >> 63 << 64):+}"] + [str(number)] * (number > 10**16)
     for word in words:
         assert launched("cell", word) == ran("cell", f"{number:016x}".rstrip("0"))
+
+
+def test_commas_between_cells():
+    answers = [ran("cell", word)[1] for word in ("0c", "3/021", "64c")]
+    assert launched("cell", "864691128455135232, 3/021,64c,") == (0, b"".join(answers), b"")
+    status, out, error = launched("cell", "0c,zz,64c")
+    assert (status, out) == (1, answers[0] + b"error cell\n" + answers[2])
+    assert error.decode() == f"s2calc: 'zz' {NO_CELL}\n"
+    for word in ",", ", ,":
+        assert launched("cell", word) == (1, b"error cell\n", f"s2calc: '{word}' {NO_CELL}\n".encode())
 
 
 def test_options_of_the_program_are_handed_on(tmp_path):
