@@ -42,7 +42,7 @@ class Keys(unittest.TestCase):
     def spawned(self, command, *words, **environment):
         """A program at a terminal of its own."""
         session = pexpect.spawn(command, list(words), cwd=self.room, env={**self.environment, **environment},
-                                timeout=SECONDS, encoding="utf-8", dimensions=(60, 200))
+                                timeout=SECONDS, encoding="utf-8", codec_errors="replace", dimensions=(60, 200))
         session.delaybeforesend = None
         self.addCleanup(session.close, True)
         return session
@@ -329,6 +329,14 @@ class Keys(unittest.TestCase):
             self.assertEqual(self.answered(session, "undo"), "error nothing\n  there is nothing to undo or redo\n")
         with open(os.path.join(self.room, "state/s2calc/history"), encoding="utf-8") as it:
             self.assertEqual(it.read(), "# é\nundo\n" * 2)
+
+    def test_bytes_that_the_locale_lacks(self):
+        """Each alone on a line. Readline took 0x84 for Ctrl-D where it took it for a key."""
+        session = self.started(LC_ALL="C")
+        for byte in range(0x80, 0x100):
+            os.write(session.child_fd, bytes([byte]) + b"\r")
+            self.assertIn(rf"'\x{byte:02x}' is not a command", self.shown(session))
+        self.assertEqual(self.status(session), 0)
 
     def test_lines_typed_ahead(self):
         session = self.started()

@@ -186,6 +186,7 @@ class Keyboard:
         readline.set_completer_delims(" \t")
         readline.set_completer(self.completed)
         readline.parse_and_bind("tab: complete")
+        readline.parse_and_bind("set convert-meta off")  # else a byte of a letter can be a key, and 0x84 is Ctrl-D
         try:  # Python's module has no calls for these; without them Ctrl-Z stops at once, and `fg` shows no prompt
             calls = ctypes.CDLL(getattr(readline, "__file__", None))
             self.give_back, self.take_again, self.show = (
