@@ -13,6 +13,7 @@ import fcntl
 import importlib.machinery
 import importlib.util
 import io
+import os
 import re
 import signal
 import subprocess
@@ -286,6 +287,11 @@ def ends_of_parts(counts, room):
             contextlib.redirect_stdout(io.StringIO()) as said:
         lacking = [module.lacks_kit(module.chosen([], tier)) for tier in ("quick", "gate")]
     counts.tell("the quick tier without the kit", lacking == [False, True], said.getvalue())
+    for name in "needs", "sources":
+        (room / f"{name}.py").write_text("raise ImportError\n")
+    done = subprocess.run([TOP / "tests" / "run", "--list"], capture_output=True, text=True, check=False,
+                          env={**os.environ, "PYTHONPATH": str(room), "LC_ALL": "xx_YY"})
+    counts.tell("modules of the user's in the place of its own", done.returncode == 0, done.stderr)
     done = subprocess.run(["/bin/sh", TOP / "tests" / "run", "docs"], capture_output=True, text=True, check=False,
                           env={"PATH": str(room)})
     is_a_line = (done.returncode, done.stdout, done.stderr.count("\n")) == (2, "", 1)
@@ -339,9 +345,6 @@ def mistakes(counts, room):
         subprocess.run(["git", *words], cwd=room, check=True)
     for module in (pages, prose, rot, texts):
         module.ROOT = room
-    broken = pages.broken_links()
-    (room / "world").mkdir()
-    counts.tell("a folder that docs/TUTORIAL.md has made", pages.broken_links() == broken, str(broken))
     without = {}
     for mistake in MISTAKES:
         check, file = mistake.check, room / mistake.file

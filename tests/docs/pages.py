@@ -106,8 +106,7 @@ def paths():
     """Each path in backticks, as (page, path, whether it is there): one that begins with a folder of the top or a
     crate, or has the name of a file. A crate and a name may also be a mutant."""
     names = {name.rpartition("/")[2] for name in tracked(ROOT)} | EXAMPLES
-    known = [name.removeprefix("crates/").partition("/") for name in tracked(ROOT)]
-    folders = {folder for folder, slash, _ in known if slash} | {"crates", "dist"} | GONE
+    folders = {path.name for path in [*ROOT.iterdir(), *(ROOT / "crates").iterdir()] if path.is_dir()} | GONE
     for page in pages():
         for code in CODE.findall(page.read_text()):
             path = code.split()[0] if code.split() else ""

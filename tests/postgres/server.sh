@@ -21,7 +21,8 @@ as_postgres=()
 copied() {
   mkdir -p "$copy/usr/lib/postgresql" "$copy/usr/share/postgresql" && chmod 755 "$work" &&
     cp -a "/usr/lib/postgresql/$server" "$copy/usr/lib/postgresql/" &&
-    cp -a "/usr/share/postgresql/$server" "$copy/usr/share/postgresql/"
+    cp -a "/usr/share/postgresql/$server" "$copy/usr/share/postgresql/" &&
+    find "$copy" -name 's2union*' -prune -exec rm -r {} + # what a package of ours has there
 }
 
 built() { # FOLDER FLAGS..: the extension as it is
