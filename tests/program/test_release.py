@@ -127,7 +127,7 @@ class Release(unittest.TestCase):
                            ("bin/rt", "echo a-kit-3 logic 5"), ("bin/javac", ""), ("bin/aarch64-linux-gnu-gcc", "")):
             self.write(name, f"#!/bin/sh\n{text}\n")
         for name, text in (("VERSION", f"{version}\n"), ("KIT", "a-kit-1 logic 5\na-kit-2 logic 5\n"),
-                           (".gitignore", "crates\ndist\n"), ("tools/sources.py", "print('7' * 64)\n"),
+                           (".gitignore", "crates\ndist\n"),
                            ("tools/sources.sh", f"checksum() {{ echo {'7' * 64}; }}\n")):
             self.write(name, text)
         self.write("CHANGELOG.md", f"# Changes\n\n## {version} ({self.commit()})\n")
