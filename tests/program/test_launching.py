@@ -61,7 +61,7 @@ NO_CELL, NO_FILE = "is not a cell (a token or a debug text)", "there is no file 
     (["check", "parks"], f"parks: {NO_FILE}"),
     (["check", "--dir", ".", "parks"], f"parks: {NO_FILE}"),
     (["check", "--dir", "/", "etc"], "etc: the file could not be read or written"),
-    (["check", f"{TOP}/README.md"], "README.md: the file is not a union file")], ids=str)
+    (["check", f"{TOP}/README.md"], f"{TOP}/README.md: the file is not a union file")], ids=str)
 def test_why_a_cell_or_a_file_has_an_error(words, reason):
     """The answer and the status are the program's, and standard error says why; nothing else is done."""
     for how in {}, {"stdout": subprocess.DEVNULL, "capture_output": False, "stderr": subprocess.PIPE}:
@@ -193,7 +193,7 @@ def test_a_minus_is_standard_input(tmp_path):
 
 @pytest.mark.parametrize("words,reason", [
     (["nope"], f"nope: {NO_FILE}"), (["land.outer", "nope", "none"], f"nope: {NO_FILE}"),
-    (["--fit", "a", "b"], f"a: {NO_FILE}"), (["./land.outer", "./none"], f"none: {NO_FILE}"),
+    (["--fit", "a", "b"], f"a: {NO_FILE}"), (["./land.outer", "./none"], f"./none: {NO_FILE}"),
     (["--dir", "/", "land.outer"], f"land.outer: {NO_FILE}"), (["--cells", "1", "zz", "2"], f"'zz' {NO_CELL}"),
     (["--curve", "--cells", "0/0 ", "*"], f"'0/0 ' {NO_CELL}"), (["README.md/"], "'README.md/' is not a file name"),
     (["a/x", "b/x"], "'a/x' is not a file name")])
