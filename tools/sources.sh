@@ -50,12 +50,13 @@ find_sum() {
     read -r sum <"$kept/checksum" || sum=
   fi
   [ -z "$sum" ] || return 0
-  new=$(mkdir -p "$kept" && mktemp "$kept/checksum.XXXXXX") 2>/dev/null || new=
-  sum=$(checksum)
+  new=$({ mkdir -p "$kept" && mktemp "$kept/checksum.XXXXXX"; } 2>/dev/null) || new=
+  sum=$(checksum) || sum=
   [ -z "$new" ] || {
-    echo "$sum" >"$new.of" && touch -r "$new" "$new.of" && mv -fT "$new.of" "$kept/checksum"
+    [ -z "$sum" ] || { echo "$sum" >"$new.of" && touch -r "$new" "$new.of" && mv -fT "$new.of" "$kept/checksum"; }
     rm -f "$new" "$new.of"
   } 2>/dev/null
+  [ -n "$sum" ]
 }
 
 # Whether the program was proved and built of these sources: none is newer; or all are what they were when none was, and
