@@ -40,9 +40,10 @@ class Keys(unittest.TestCase):
         }
 
     def spawned(self, command, *words, **environment):
-        """A program at a terminal of its own."""
+        """A program at a terminal of its own. A shell has Ctrl-C ignored in what it puts into the background."""
         session = pexpect.spawn(command, list(words), cwd=self.room, env={**self.environment, **environment},
-                                timeout=SECONDS, encoding="utf-8", codec_errors="replace", dimensions=(60, 200))
+                                timeout=SECONDS, encoding="utf-8", codec_errors="replace", dimensions=(60, 200),
+                                preexec_fn=lambda: signal.signal(signal.SIGINT, signal.SIG_DFL))
         session.delaybeforesend = None
         self.addCleanup(session.close, True)
         return session
