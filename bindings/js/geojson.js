@@ -10,12 +10,22 @@ const MOST_SHAPES = 100_000;
 const MOST_FEATURES = 500;
 /** The most cells that are written as polygons. */
 const MOST_POLYGONS = 200_000;
-/** The degrees between two points of a border. What is straight on the map bends less than 10 m between them. */
+/** In radii of the earth: a border bends no more than 10 m between two points of it, */
+const BEND = 10 / 6_371_010;
+/** which are no more than these degrees apart. */
+const LONGEST = 5;
+/** How much rounding may add to that. */
+const NOISE = 2e-14;
+/** The degrees in which long edges are counted. */
 const STEP = 0.25;
 /** The most steps of the edges of all shapes: with few positions these and some for each, so that work follows text. */
 const STEPS_OF_FEW = 400_000;
 const STEPS_A_POSITION = 4;
 const MOST_STEPS = 4_000_000;
+/** The most pairs of a square and an edge that are looked at for one level, with few positions and at few borders. */
+const PAIRS_OF_FEW = 5_000_000;
+const PAIRS_A_POSITION = 50;
+const PAIRS_AT_A_BORDER = 100;
 const STRIPES = 1024;
 const LEAST_LEVEL = 30;
 const radians = (degrees) => degrees * (Math.PI / 180);
@@ -77,8 +87,8 @@ function checked(position) {
   if (!isWithin(longitude, 540) || !isWithin(latitude, 90)) throw new Error("a position is out of range");
 }
 
-/** How many steps an edge takes. */
-const stepsOf = ([x, y], [toX, toY]) => Math.max(1, Math.ceil(Math.max(Math.abs(toX - x), Math.abs(toY - y)) / STEP));
+/** How many degrees an edge is long, along the axis along which these are more. */
+const degreesOf = ([x, y], [toX, toY]) => Math.max(Math.abs(toX - x), Math.abs(toY - y));
 
 /** Refuses shapes that are too many or too long, or that have a position out of range. */
 function checkShapes(all) {
@@ -89,7 +99,7 @@ function checkShapes(all) {
   let [positions, steps] = [0, 0];
   for (const line of all.flatMap(({lines}) => lines)) {
     positions += line.length;
-    for (let k = 1; k < line.length; k++) steps += stepsOf(line[k - 1], line[k]);
+    for (let k = 1; k < line.length; k++) steps += Math.max(1, Math.ceil(degreesOf(line[k - 1], line[k]) / STEP));
   }
   const most = Math.min(MOST_STEPS, STEPS_OF_FEW + STEPS_A_POSITION * positions);
   if (steps > most) throw new Error(`the edges have more than ${most} steps of ${STEP} degrees`);
@@ -110,6 +120,19 @@ function lengthOf({lines}) {
 }
 
 /**
+ * How far a line that is straight on the map is at most from the chord between its ends, in radii of the earth. A curve
+ * is nowhere farther from its chord than an eighth of its greatest acceleration. That of a line which in a unit of time
+ * goes `wide` and `high`, in radians, has the square cos^2 wide^4 + 2 (1 + sin^2) wide^2 high^2 + high^4 at a latitude
+ * of this cosine and sine.
+ */
+function bendOf([x, y], [toX, toY]) {
+  const [wide, high] = [radians(toX - x) ** 2, radians(toY - y) ** 2];
+  const least = radians(Math.max(0, Math.min(y, toY), -Math.max(y, toY)));
+  const most = radians(Math.max(Math.abs(y), Math.abs(toY)));
+  return Math.sqrt((Math.cos(least) * wide) ** 2 + 2 * (1 + Math.sin(most) ** 2) * wide * high + high ** 2) / 8;
+}
+
+/**
  * The short edges of a shape on the sphere, as two points each, and how far from what is straight between them the
  * border may be.
  */
@@ -117,13 +140,16 @@ function edgesOf({lines}) {
   const edges = [];
   for (const line of lines) {
     for (let k = 1; k < line.length; k++) {
-      const [[x, y], [toX, toY]] = [line[k - 1], line[k]];
-      const steps = stepsOf(line[k - 1], line[k]);
-      let from = pointOf(x, y);
+      const [start, end] = [line[k - 1], line[k]];
+      const wanted = Math.max(degreesOf(start, end) / LONGEST, Math.sqrt(bendOf(start, end) / BEND));
+      const steps = Math.max(1, Math.ceil(wanted));
+      let here = start;
+      let from = pointOf(...start);
       for (let step = 1; step <= steps; step++) {
-        const to = pointOf(x + ((toX - x) * step) / steps, y + ((toY - y) * step) / steps);
-        edges.push({from, to, slack: distance(from, to) ** 2 / 8 + radians((toX - x) / steps) ** 2 / 16 + 1e-15});
-        from = to;
+        const there = [0, 1].map((axis) => start[axis] + ((end[axis] - start[axis]) * step) / steps);
+        const to = pointOf(...there);
+        edges.push({from, to, slack: bendOf(here, there) + NOISE});
+        [here, from] = [there, to];
       }
     }
   }
@@ -187,14 +213,19 @@ function onSphere(face, s, t) {
 
 /**
  * The squares that contain a shape: those that lie in it, and those near its border, of the last level at which these
- * are no more than `most`. `tell` takes how many are at the border, level by level.
+ * are no more than `most`. `tell` takes how many are at the border, level by level. Too many edges near one another are
+ * an error.
  */
 function squaresOf(shape, most, tell) {
   const isInside = insideOf(shape);
   const isIn = ({middle: [x, y, z]}) => isInside(degrees(Math.atan2(y, x)), degrees(Math.atan2(z, Math.hypot(x, y))));
   const inside = [];
+  const positions = shape.lines.reduce((sum, line) => sum + line.length, 0);
+  const mostPairs = PAIRS_OF_FEW + PAIRS_A_POSITION * positions + PAIRS_AT_A_BORDER * most;
   /** Of squares with the edges that may be near, those that have some; the others may lie in the shape. */
   const divided = (squares) => {
+    const pairs = squares.reduce((sum, {edges}) => sum + edges.length, 0);
+    if (pairs > mostPairs) throw new Error(`too many edges lie near one another: ${pairs} pairs of squares and edges`);
     const [near, found] = [[], []];
     for (const {square, edges} of squares) {
       const left = edges.filter((edge) => distanceTo(edge, square.middle) <= square.radius + edge.slack);

@@ -71,7 +71,7 @@ class Geo(page.Page):
         runpy.run_path(os.path.join(page.TOP, "tools", "page"))["make_package"](package, b"", stand_in)
         Path(self.file("places.txt")).write_text(text)
         subprocess.run(["node", os.path.join(page.TOP, "tests", "js", "geo.mjs"), package, self.file("places.txt"),
-                        self.file("leaves.txt")], check=True)
+                        "-", self.file("leaves.txt")], check=True)
         made = from_tokens(Path(self.file("leaves.txt")).read_text())
         apart = numpy.flatnonzero(numpy.array(made, "uint64") != cells)
         self.assertGreaterEqual(apart.min(initial=len(cells)), 1000000)  # on borders Node's own sines may differ

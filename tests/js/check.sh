@@ -34,8 +34,10 @@ step "what is refused, and what stays" node "$tests/refusals.mjs" "$module" "$ve
 places() { PYTHONPATH=$top/tests /usr/bin/python3 -B -c 'from model.places import POINTS
 for place in POINTS: print(*place)' >"$work/places"; }
 step "places, with the leaves that S2 has there" places
+borders() { PYTHONPATH=$top/tests /usr/bin/python3 -B -m model.borders >"$work/borders"; }
+step "triangles, and places along their borders" borders
 step "points in degrees, and GeoJSON, on a small stack and heap" \
-  node --stack-size=100 --max-old-space-size=400 "$tests/geo.mjs" "$package" "$work/places"
+  node --stack-size=100 --max-old-space-size=400 "$tests/geo.mjs" "$package" "$work/places" "$work/borders"
 
 by_name() { # NAME: a program of the page, in a package that has ours
   mkdir -p "$work/program/node_modules" && cp -rT "$package" "$work/program/node_modules/s2union" &&

@@ -1,12 +1,12 @@
-// Points in degrees and GeoJSON of the package for JavaScript: geo.mjs FOLDER PLACES [LEAVES]. Each line of PLACES has
-// a longitude, a latitude and the token of the leaf that S2 has there. The last line is 'N passed, M failed'. With a
-// file for LEAVES the tokens go there, and nothing is tested.
+// Points in degrees and GeoJSON of the package for JavaScript: geo.mjs FOLDER PLACES BORDERS. Each line of PLACES has a
+// longitude, a latitude and the token of the leaf that S2 has there; BORDERS is what model/borders.py writes. The last
+// line is 'N passed, M failed'. With geo.mjs FOLDER PLACES - LEAVES the tokens go to this file, and nothing is tested.
 import assert from "node:assert/strict";
 import {readFileSync, writeFileSync} from "node:fs";
 import {join, resolve} from "node:path";
 import {pathToFileURL} from "node:url";
 
-const [folder, places, leaves] = process.argv.slice(2).map((name) => resolve(name));
+const [folder, places, borders, leaves] = process.argv.slice(2).map((name) => resolve(name));
 const {exports} = JSON.parse(readFileSync(join(folder, "package.json"), "utf8"));
 const imported = (name) => import(pathToFileURL(join(folder, exports[name].default)));
 const {CellUnion, Refusal, load, tokens, fromToken, face, level, parents, token} = await imported(".");
@@ -64,6 +64,27 @@ const tests = {
     });
     assert.ok(sizes[1] < sizes[0]);
     assert.ok(geo.fromGeoJSON(polygon, 50_000).leafCount() < sizes[1]);
+  },
+  "each place of triangles with an edge along both axes": () => {
+    for (const [ring, asked] of JSON.parse(readFileSync(borders, "utf8"))) {
+      const inside = geo.fromLngLats(asked.filter(([, , lies]) => lies >= 0).map(([x, y]) => [x, y]));
+      for (const most of [300, 3000]) {
+        const found = geo.fromGeoJSON({type: "Polygon", coordinates: [ring]}, most).hasEach(inside);
+        assert.ok(inside.length > 500 && found.every(Boolean), `${ring}: ${most}`);
+      }
+    }
+  },
+  "short texts near a pole, which take no more memory than others": () => {
+    for (const south of [89, 89.9999, 90 - 1e-6]) {
+      const edges = Array.from({length: 16}, (_, k) => [k % 2 ? 539 : -539, south + (90 - south) * (k / 1600)]);
+      const ring = [...edges, [-540, edges[15][1]], [-540, south - (90 - south) / 100], edges[0]];
+      assert.ok(geo.fromGeoJSON({type: "Polygon", coordinates: [ring]}).has(geo.fromLngLat(-539.5, edges[7][1])));
+    }
+  },
+  "too many edges near one another": () => {
+    const teeth = Array.from({length: 3000}, (_, k) => [k % 2 ? 0.1 : 0, k / 1e12]);
+    const line = {type: "LineString", coordinates: teeth};
+    assert.throws(() => geo.fromGeoJSON(line), /too many edges lie near one another: \d+ pairs/);
   },
   "long edges, and many as wide as their polygon, which take no more memory than short ones": () => {
     const around = Array.from({length: 100}, (_, k) => [k % 2 ? 180 : -180, k / 10]);

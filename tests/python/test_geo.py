@@ -2,6 +2,7 @@
 tests/geo asks S2 about more."""
 
 import contextlib
+import ctypes
 import io
 import itertools
 import json
@@ -11,6 +12,7 @@ import pty
 import subprocess
 import sys
 import tempfile
+import types
 import unittest
 import unittest.mock
 from fractions import Fraction
@@ -22,13 +24,14 @@ import s2union_geo
 from s2union import Union, from_face_ij, from_token, level, parent, square, tokens
 from s2union_geo import (area, boundary, covering, coverings, interior, leaf, leaves, points, read_geojson,
                          to_geojson)
-from s2union_geo import crossings, geojson, polygons, sphere
+from s2union_geo import crossings, geojson, interrupts, polygons, sphere
 from s2union_geo.__main__ import main
 from s2union_geo import outlines
 from s2union_geo.geojson import rings
 from s2union_geo.sphere import geographic, on_cube
 
 import docstrings
+from model import borders
 from model.places import MIDDLES, POINTS
 
 SIDE = 2**24  # of a cell of level 6, in leaves
@@ -137,6 +140,31 @@ class Polygons(unittest.TestCase):
                 found = outer.contains_cells(cells) if lies else inner.contains_cells(cells)
                 self.assertEqual(set(found.tolist()), {lies})
 
+    def test_places_along_the_borders_of_triangles(self):
+        """Of triangles with an edge along both axes, between the equator and 89.9 degrees: each place of one is in its
+        coverings, and none outside is in an interior."""
+        for corners in borders.triangles():
+            x, y, lies = map(numpy.array, borders.places_of(corners, 40))
+            cells = leaves(x, y)
+            for most in (200, 2000):
+                outer, inner = coverings(polygon(borders.ring_of(corners)), most)
+                self.assertFalse((~outer.contains_cells(cells[lies >= 0])).any(), (corners, most))
+                self.assertFalse(inner.contains_cells(cells[lies < 0]).any(), (corners, most))
+
+    def test_bends(self):
+        """Of random lines on the map, as far as they go from the chords between their ends, or a little more."""
+        random = Random(9)
+        for _ in range(3000):
+            wide, high = (random.choice([0, 1e-6, 0.01, 0.3, 5]) * random.uniform(-1, 1) for _ in range(2))
+            west, south = random.uniform(-180, 180), random.uniform(-90, 90 - abs(high)) + max(0, -high)
+            places = [on_sphere(west + wide * k / 16, south + high * k / 16) for k in range(17)]
+            farthest = max(math.dist(it, [a + (b - a) * k / 16 for a, b in zip(places[0], places[-1])])
+                           for k, it in enumerate(places))
+            bend, = polygons._bends(numpy.array([[west, south]]), numpy.array([[wide, high]])).tolist()
+            self.assertLess(farthest, bend + 1e-14)
+            is_long = max(abs(wide), abs(high)) > 0.5
+            self.assertTrue(is_long or bend < 1.02 * farthest + 1e-14, (west, south, wide, high))
+
     def test_edges_are_straight_on_the_map(self):
         """Between two points of the 49th parallel, 10 degrees apart, the shortest line lies 12 km to the north."""
         outer, inner = coverings(polygon([[0, 40], [10, 40], [10, 49], [0, 49], [0, 40]]), 100000)
@@ -239,7 +267,7 @@ class Polygons(unittest.TestCase):
         places = [[(random.choice(pool), random.choice(pool)) for _ in range(3)] for pool in pools for _ in range(3000)]
         wanted = [turn(*(tuple(map(Fraction, place)) for place in three)) for three in places]
         a, b, c = numpy.array(places).transpose(1, 0, 2)
-        self.assertEqual(crossings._turns(a, b, c).tolist(), wanted)
+        self.assertEqual(crossings.Turns()(a, b, c).tolist(), wanted)
 
     def test_too_much(self):
         ring = numpy.stack([numpy.linspace(0, 300, 500001), numpy.zeros(500001)], axis=1).tolist()
@@ -253,13 +281,58 @@ class Polygons(unittest.TestCase):
             polygons._edges_of([[wide]])
         flower = [place for k in range(9) for place in ([0, 0], [9, k], [9, k + 0.5])]
         self.assertTrue(covering(polygon([*flower, flower[0]])))
-        for name, said in ("MOST_PAIRS", "too many edges lie beside one another"), ("MOST_NEAR", "too many edges meet"):
-            with unittest.mock.patch.object(crossings, name, 100), self.assertRaisesRegex(ValueError, said):
-                covering(polygon([*flower, flower[0]]))
+        for module, name, said in ((crossings, "MOST_PAIRS", "too many edges lie beside one another"),
+                                   (crossings, "MOST_NEAR", "too many edges meet"),
+                                   (polygons, "PAIRS_OF_FEW", r"too many edges lie near one another: \d+ pairs")):
+            with unittest.mock.patch.object(module, name, 100), self.assertRaisesRegex(ValueError, said):
+                covering(polygon([*flower, flower[0]]), 0)
+        along = [[0.99 if k % 2 else 0.5, (0.99 if k % 2 else 0.5) + k * 1e-14] for k in range(30)]
+        sliver = polygon([*along, [0.4, 0.6], [0.4, 0.4], along[0]])
+        self.assertTrue(covering(sliver))
+        with unittest.mock.patch.object(crossings, "MOST_EXACT", 100), self.assertRaisesRegex(
+                ValueError, "too many edges nearly lie on one line"):
+            covering(sliver)
         with tempfile.NamedTemporaryFile() as file:
             file.truncate(s2union_geo.MOST_BYTES + 1)
             with self.assertRaisesRegex(ValueError, "has more than 268435456 bytes"):
                 read_geojson(file.name)
+
+
+class Work(unittest.TestCase):
+    def test_short_texts_near_a_pole(self):
+        """Rings of few positions whose edges go around a pole take few pairs of squares and edges."""
+        turn = [[45, 90], [85, 89.9999985], [205, 89.9999985], [345, 89.9999985], [45, 90]]
+        rings = [turn, *(around(4 * turns, south) for turns in (1, 4, 22) for south in (89, 89.9999, 90 - 1e-6))]
+        near = polygons._Walk.is_near
+        for ring in rings:
+            with unittest.mock.patch.object(polygons._Walk, "is_near", autospec=True, side_effect=near) as asked:
+                self.assertTrue(covering(polygon(ring)), ring)
+            pairs = sum(len(call.args[3]) for call in asked.call_args_list)
+            self.assertLess(pairs, 60_000 * len(ring), ring)
+
+    def test_the_server_may_end_it(self):
+        """Inside PL/Python a flag of the server makes long work tell the client something, which raises its error."""
+        class Ended(Exception):
+            pass
+
+        server, flag = types.ModuleType("plpy"), ctypes.c_int(0)
+        server.info = unittest.mock.Mock(side_effect=Ended)
+        union = covering(polygon(SQUARE))
+        with unittest.mock.patch.dict(sys.modules, {"plpy": server}), unittest.mock.patch.object(
+                interrupts, "FLAGS_OF_SERVER", [flag]):
+            self.assertEqual(covering(polygon(SQUARE)), union)
+            flag.value = 1
+            for work in (lambda: covering(polygon(SQUARE)), lambda: to_geojson(union),
+                         lambda: crossings.look_for_crossings([[numpy.array(SQUARE, float)]]),
+                         lambda: polygons.interior(polygon(SQUARE))):
+                self.assertRaises(Ended, work)
+            self.assertEqual(interrupts._flags(), [])  # this process has no such flags
+
+
+def around(count, south):
+    """A ring of edges that go three times around the pole, to the east and back, and a little to the north."""
+    edges = [[539 if k % 2 else -539, south + (90 - south) * k / count / 100] for k in range(count)]
+    return [*edges, [-540, edges[-1][1]], [-540, south - (90 - south) / 100], edges[0]]
 
 
 REFUSED = [
@@ -299,6 +372,11 @@ def test_shapes_that_are_refused(shape, said):
 def test_limits_that_are_refused(most, deepest, error):
     with pytest.raises(error):
         covering(polygon(SQUARE), most, deepest)
+
+
+def on_sphere(longitude, latitude):
+    x, y = math.radians(longitude), math.radians(latitude)
+    return math.cos(y) * math.cos(x), math.cos(y) * math.sin(x), math.sin(y)
 
 
 def turn(a, b, c):

@@ -2,26 +2,18 @@
 
 from __future__ import annotations
 
-from fractions import Fraction
 from typing import Any, Iterator, NamedTuple
 
 import numpy
 
+from .interrupts import look
+
 AT_ONCE = 20_000  # pairs that are looked at together: so few that the processor's caches hold them
 MOST_PAIRS = 200_000_000  # of edges whose ranges overlap, in all polygons together
 MOST_NEAR = 4_000_000  # of edges that meet or nearly do
+MOST_EXACT = 4_000_000  # turns that floats leave open, of which each takes about as long as twenty pairs
 WIDE = 4096.0  # degrees, more than a polygon spans: polygons are kept apart by as much
 UNSURE = 1e-12  # a turn whose area is a smaller part of its parts may be rounded to the wrong side
-
-
-class Edges(NamedTuple):
-    """The edges of rings: where each begins and ends, the number of its ring, the edge that follows and that before."""
-
-    start: Any
-    end: Any
-    ring: Any
-    follower: Any
-    before: Any
 
 
 def portions(counts: Any, most: int) -> Iterator[slice]:
@@ -47,22 +39,53 @@ def ends_of(polygons: list[list[Any]]) -> tuple[Any, Any, Any]:
     return numpy.vstack([ring[:-1] for ring in all_rings]), numpy.vstack([ring[1:] for ring in all_rings]), polygon
 
 
-def _turns(a: Any, b: Any, c: Any) -> Any:
-    """For each three places 1 if they turn to the left, -1 to the right, 0 if they lie on a line: exactly.
+class Turns:
+    """Which way places turn: exactly. No more than ``MOST_EXACT`` may be asked that need whole numbers."""
 
-    A difference of floats has the right sign, so two products of unlike signs are compared by these; two places that
-    are the same number are on a line with each third. Fractions are for what is left where rounding might decide."""
-    (px, py), (qx, qy) = (b - a).T, (c - a).T
-    left, right = px * qy, py * qx
-    signs = numpy.sign(px) * numpy.sign(qy), numpy.sign(py) * numpy.sign(qx)
-    is_close = numpy.abs(left - right) <= UNSURE * (numpy.abs(left) + numpy.abs(right))
-    same = (b == c).all(axis=1)
-    sign = numpy.sign(numpy.where(is_close, signs[0] - signs[1], left - right))
-    for k in numpy.flatnonzero(is_close & (signs[0] * signs[1] > 0) & ~same):
-        (ax, ay), (bx, by), (cx, cy) = (map(Fraction, place[k].tolist()) for place in (a, b, c))
-        exact = (bx - ax) * (cy - ay) - (by - ay) * (cx - ax)
-        sign[k] = (exact > 0) - (exact < 0)
-    return sign
+    def __init__(self) -> None:
+        self.left = MOST_EXACT
+
+    def __call__(self, a: Any, b: Any, c: Any) -> Any:
+        """For each three places 1 if they turn to the left, -1 to the right, 0 if they lie on a line.
+
+        A difference of floats has the right sign, so two products of unlike signs are compared by these; two places
+        that are the same number are on a line with each third. Whole numbers are for what is left where rounding might
+        decide."""
+        (px, py), (qx, qy) = (b - a).T, (c - a).T
+        left, right = px * qy, py * qx
+        signs = numpy.sign(px) * numpy.sign(qy), numpy.sign(py) * numpy.sign(qx)
+        is_close = numpy.abs(left - right) <= UNSURE * (numpy.abs(left) + numpy.abs(right))
+        same = (b == c).all(axis=1)
+        sign = numpy.sign(numpy.where(is_close, signs[0] - signs[1], left - right))
+        unsure = numpy.flatnonzero(is_close & (signs[0] * signs[1] > 0) & ~same)
+        if unsure.size:
+            self.left -= unsure.size
+            if self.left < 0:
+                raise ValueError("too many edges nearly lie on one line to be looked at")
+            sign[unsure] = _exact_turns(a[unsure], b[unsure], c[unsure])
+        return sign
+
+
+def _exact_turns(*places: Any) -> Any:
+    """Turns by whole numbers, of which each coordinate is that many parts of a degree."""
+    part, power = numpy.frexp(numpy.array(places))
+    least = power[part != 0].min()
+    moved = numpy.where(part == 0, 0, power - least).astype(object)
+    (ax, bx, cx), (ay, by, cy) = ((part * 2.0**53).astype("int64").astype(object) << moved).transpose(2, 0, 1)
+    turns = (bx - ax) * (cy - ay) - (by - ay) * (cx - ax)
+    return (turns > 0).astype("int64") - (turns < 0)
+
+
+class Edges(NamedTuple):
+    """The edges of rings: where each begins and ends, the number of its ring, the edge that follows and that before,
+    and what tells turns."""
+
+    start: Any
+    end: Any
+    ring: Any
+    follower: Any
+    before: Any
+    turns: Turns
 
 
 def _ranges(low: Any, high: Any, polygon: Any) -> tuple[Any, Any]:
@@ -127,12 +150,13 @@ def look_for_crossings(polygons: list[list[Any]]) -> None:
     place = each_of(numpy.array(list(map(len, polygons))))[1][ring]
     edge = numpy.arange(len(ring))
     follower = numpy.where(number + 1 == sizes[ring], edge - number, edge + 1)
-    edges = Edges(start, end, ring, follower, numpy.argsort(follower))
+    edges = Edges(start, end, ring, follower, numpy.argsort(follower), Turns())
     low, high = numpy.minimum(start, end), numpy.maximum(start, end)
     axis = _fewer(low, high, polygon)
     low, high = (it[edge, [axis, 1 - axis]] for it in (low, high))
     left = MOST_NEAR
     for a, b in _pairs(low, high, polygon, start, end):
+        look()
         left -= len(a)
         if left < 0:
             raise ValueError("too many edges meet to be looked at")
@@ -148,9 +172,9 @@ def look_for_crossings(polygons: list[list[Any]]) -> None:
 def _meet(edges: Edges, a: Any, b: Any) -> Any:
     """Which pairs of edges, whose ranges overlap, may not be: those that cross; and of one ring those that run along
     one another, and those at whose touching point the ring goes to its own other side."""
-    start, end, ring, follower, _ = edges
-    sides = [_turns(start[a], end[a], start[b]), _turns(start[a], end[a], end[b]),
-             _turns(start[b], end[b], start[a]), _turns(start[b], end[b], end[a])]
+    start, end, ring, follower, _, turns = edges
+    sides = [turns(start[a], end[a], start[b]), turns(start[a], end[a], end[b]),
+             turns(start[b], end[b], start[a]), turns(start[b], end[b], end[a])]
     wrong = (sides[0] * sides[1] < 0) & (sides[2] * sides[3] < 0)
     meet = (sides[0] * sides[1] <= 0) & (sides[2] * sides[3] <= 0) & (ring[a] == ring[b])
     follows = (follower[a] == b) | (follower[b] == a)
@@ -174,16 +198,16 @@ def _share_more(start: Any, end: Any, a: Any, b: Any) -> Any:
 def _goes_through(edges: Edges, one: Any, other: Any) -> Any:
     """Whether a ring goes to its own other side at the begin of `other`, which lies on `one`. The end of `one` is left
     to the edge that follows it."""
-    start, end, _, _, before = edges
+    start, end, _, _, before, turns = edges
     place = start[other]
     is_begin = (start[one] == place).all(axis=1)
     is_end = (end[one] == place).all(axis=1)
     came = start[numpy.where(is_begin, before[one], one)]
-    sides = [_is_left(came, place, end[one], it) for it in (start[before[other]], end[other])]
+    sides = [_is_left(turns, came, place, end[one], it) for it in (start[before[other]], end[other])]
     return ~is_end & (sides[0] != sides[1])
 
 
-def _is_left(came: Any, place: Any, goes: Any, it: Any) -> Any:
+def _is_left(turns: Turns, came: Any, place: Any, goes: Any, it: Any) -> Any:
     """Whether a place lies to the left of a way that comes from a place, and goes on to another one."""
-    first, then = _turns(came, place, it) > 0, _turns(place, goes, it) > 0
-    return numpy.where(_turns(came, place, goes) >= 0, first & then, first | then)
+    first, then = turns(came, place, it) > 0, turns(place, goes, it) > 0
+    return numpy.where(turns(came, place, goes) >= 0, first & then, first | then)

@@ -20,6 +20,8 @@ from .sphere import leaves
 
 __all__ = ["Frame"]
 
+COLUMNS = ("longitude", "latitude"), ("lon", "lat"), ("lng", "lat")  # of degrees, if no others are named
+
 
 @pandas.api.extensions.register_dataframe_accessor("s2")
 class Frame:
@@ -36,17 +38,18 @@ class Frame:
     def __init__(self, frame: Any) -> None:
         self.frame = frame if getattr(frame, "crs", None) is None else frame.to_crs(4326)
 
-    def leaves(self, longitude: str = "longitude", latitude: str = "latitude") -> pandas.Series:
-        """The leaf of each row: of its point, or in a frame without geometry, of two columns.
+    def leaves(self, longitude: str | None = None, latitude: str | None = None) -> pandas.Series:
+        """The leaf of each row: of its point, or in a frame without geometry, of two columns of degrees.
 
         .. versionadded:: 1.2
 
         Parameters
         ----------
-        longitude : str
+        longitude : str, optional
             The column of longitudes, from -540 to 540 degrees.
-        latitude : str
-            The column of latitudes, from -90 to 90 degrees.
+        latitude : str, optional
+            The column of latitudes, from -90 to 90 degrees. If no columns are named, they are ``longitude`` and
+            ``latitude``, ``lon`` and ``lat``, or ``lng`` and ``lat``, the first of these that are there.
 
         Returns
         -------
@@ -64,16 +67,25 @@ class Frame:
 
         Examples
         --------
-        >>> places = pandas.DataFrame({"longitude": [2.3522], "latitude": [48.8566]}, index=["Paris"])
+        >>> places = pandas.DataFrame({"lon": [2.3522], "lat": [48.8566]}, index=["Paris"])
         >>> places.s2.leaves()["Paris"] == 5180949494577750587
         True
         """
-        if hasattr(self.frame, "geometry"):
-            x, y = self.frame.geometry.x, self.frame.geometry.y
-        else:
-            x, y = self.frame[longitude], self.frame[latitude]
+        x, y = self._degrees(longitude, latitude)
         found = leaves(x.to_numpy(), y.to_numpy()).view("int64")
         return pandas.Series(found, self.frame.index, name="leaf")
+
+    def _degrees(self, longitude: str | None, latitude: str | None) -> Any:
+        """The longitudes and the latitudes of the rows."""
+        if hasattr(self.frame, "geometry"):
+            return self.frame.geometry.x, self.frame.geometry.y
+        names = next((pair for pair in COLUMNS if {*pair} <= {*self.frame.columns}), COLUMNS[0])
+        if longitude is not None or latitude is not None:
+            names = longitude or COLUMNS[0][0], latitude or COLUMNS[0][1]
+        for name in names:
+            if name not in self.frame.columns:
+                raise KeyError(f"a frame without geometry has two columns of degrees: there is no column {name!r}")
+        return self.frame[names[0]], self.frame[names[1]]
 
     def coverings(self, max_cells: int = 200, max_level: int = 30) -> pandas.DataFrame:
         """Two unions for each row's polygons: one which contains them, and one that they contain.
@@ -97,7 +109,7 @@ class Frame:
         ValueError
             The errors of `s2union_geo.coverings`, with the row.
         TypeError
-            A number of cells or a level is no int.
+            A number of cells or a level is no int, or the frame has no geometry.
 
         Examples
         --------
@@ -108,7 +120,7 @@ class Frame:
         >>> found.inner["sea"] < found.outer["sea"]
         True
         """
-        made = [self._covered(row, shape, max_cells, max_level) for row, shape in self.frame.geometry.items()]
+        made = [self._covered(row, shape, max_cells, max_level) for row, shape in self._shapes().items()]
         return pandas.DataFrame(made, self.frame.index, ["outer", "inner"])
 
     @staticmethod
@@ -118,17 +130,23 @@ class Frame:
         except ValueError as error:
             raise ValueError(f"row {row!r}: {error}") from None
 
-    def sjoin(self, points: Any, max_cells: int = 200) -> pandas.DataFrame:
+    def sjoin(self, points: Any, max_cells: int = 200, longitude: str | None = None,
+              latitude: str | None = None) -> pandas.DataFrame:
         """Each pair of a row of this frame and a row of another whose point lies inside of its polygons.
 
         .. versionadded:: 1.2
 
         Parameters
         ----------
-        points : GeoDataFrame
-            The other frame. A row without a point or a polygon is in no pair.
+        points : GeoDataFrame or DataFrame
+            The other frame: one of points, or one without geometry, which has columns of degrees. A row without a point
+            or a polygon is in no pair.
         max_cells : int
             The most cells of a covering, 0 to 1,000,000. Coverings decide for most points, and shapely for the rest.
+        longitude : str, optional
+            The column of longitudes, as `leaves` has it.
+        latitude : str, optional
+            The column of latitudes.
 
         Returns
         -------
@@ -141,7 +159,9 @@ class Frame:
         ValueError
             The errors of `coverings` and `leaves`.
         TypeError
-            A number of cells is no int.
+            A number of cells is no int, or the frame of polygons has no geometry.
+        KeyError
+            A column is missing.
 
         Examples
         --------
@@ -152,30 +172,44 @@ class Frame:
         >>> seas.s2.sjoin(ships).values.tolist()
         [['sea', 'one']]
         """
-        regions, others = self._whole(), points.s2._whole()
-        leaf = others.s2.leaves().to_numpy().view("uint64")
+        regions = self._whole()
+        index, *places = points.s2._points(longitude, latitude)
+        leaf = leaves(*places)
         order = leaf.argsort(kind="stable")
         leaf, found = leaf[order], []
-        places = others.geometry.to_numpy()[order]
+        x, y = (it[order] for it in places)
         for row, shape, outer, inner in zip(regions.index, regions.geometry, *regions.s2.coverings(max_cells).T.values):
             first, last = (numpy.asarray(ends(numpy.asarray(outer))) for ends in (range_mins, range_maxes))
             ends = zip(leaf.searchsorted(first), leaf.searchsorted(last, "right"))
             near = numpy.concatenate([numpy.arange(0), *(numpy.arange(*pair) for pair in ends)])
             inside = inner.contains_cells(leaf[near])
-            inside[~inside] = _contain(shape, places[near[~inside]])
+            asked = near[~inside]
+            inside[~inside] = _contain(shape, zip(x[asked], y[asked]))
             rows = numpy.sort(order[near[inside]])
-            found.append(pandas.DataFrame({"region": [row] * len(rows), "point": others.index[rows]}))
+            found.append(pandas.DataFrame({"region": [row] * len(rows), "point": index[rows]}))
         return pandas.concat(found, ignore_index=True) if found else pandas.DataFrame(columns=["region", "point"])
+
+    def _shapes(self) -> Any:
+        if not hasattr(self.frame, "geometry"):
+            raise TypeError("polygons are wanted in a GeoDataFrame: this frame has no geometry")
+        return self.frame.geometry
 
     def _whole(self) -> Any:
         """The rows that have a geometry."""
-        shapes = self.frame.geometry
+        shapes = self._shapes()
         return self.frame[~(shapes.isna() | shapes.is_empty)]
+
+    def _points(self, longitude: str | None, latitude: str | None) -> Any:
+        """The index of the rows that have a point, and their longitudes and latitudes."""
+        frame = self._whole() if hasattr(self.frame, "geometry") else self.frame
+        x, y = frame.s2._degrees(longitude, latitude)
+        is_there = (x.notna() & y.notna()).to_numpy()
+        return frame.index[is_there], x.to_numpy()[is_there], y.to_numpy()[is_there]
 
 
 def _contain(shape: Any, places: Any) -> list[bool]:
-    """Whether a polygon contains each point, which a polygon across the date line may have at another longitude."""
+    """Whether a polygon contains each place, which a polygon across the date line may have at another longitude."""
     from shapely.geometry import Point
     from shapely.prepared import prep
     exact = prep(shape)
-    return [any(exact.contains(Point(place.x + turn, place.y)) for turn in (0, 360, -360)) for place in places]
+    return [any(exact.contains(Point(x + turn, y)) for turn in (0, 360, -360)) for x, y in places]

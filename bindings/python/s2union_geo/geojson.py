@@ -10,6 +10,7 @@ from typing import Any, Iterator
 import numpy
 from s2union import CellUnion, tokens
 
+from .interrupts import look
 from .sphere import MOST, NO_NUMBERS, geographic, number_of, on_cube, range_of, squares_of
 
 MOST_BYTES = 2**28  # of a text or a file
@@ -83,6 +84,7 @@ def polygons_of(shape: Any) -> list[list[Any]]:
         elif kind in ("Polygon", "MultiPolygon"):
             parts = _list_of(it, "coordinates", kind)
             for rings in parts if kind == "MultiPolygon" else [parts]:
+                look()
                 if not numpy.iterable(rings):
                     raise ValueError(f"polygon {len(found)} has a list of rings")
                 found.append([_ring_of(ring, f"polygon {len(found)}, ring {k}") for k, ring in enumerate(rings)])
@@ -131,6 +133,7 @@ def rings(cells: Any) -> Iterator[list[list[float]]]:
     corners = [geographic(*on_cube(face, i + side * right, j + side * up))
                for right, up in ((0, 0), (1, 0), (1, 1), (0, 1))]
     for ring in numpy.array(corners).transpose(2, 0, 1).tolist():
+        look()
         poles = [k for k, (_, latitude) in enumerate(ring) if abs(latitude) == 90]
         for k in poles:  # has every longitude: those of the corners before and after it
             ring[k:k + 1] = [[ring[k - 1][0], ring[k][1]], [ring[(k + 1) % 4][0], ring[k][1]]]

@@ -14,14 +14,18 @@ from s2union import CellUnion, from_points, parents
 
 from .crossings import AT_ONCE, WIDE, each_of, ends_of, look_for_crossings, portions
 from .geojson import polygons_of
+from .interrupts import look
 from .sphere import geographic, on_cube, on_cube_line, sphere
 
 MOST_CELLS = 1_000_000
-STEP = 0.25  # degrees between two points of an edge. What is straight on the map bends less than 10 m between them
+BEND = 10 / 6_371_010  # in radii of the earth: the border bends no more than 10 m between two points of an edge,
+LONGEST = 5  # which are no more than these degrees apart
+STEP = 0.25  # degrees, in which long edges are counted
 STEPS_OF_FEW, STEPS_A_POSITION = 400_000, 4  # of all edges together, so that the work follows the text
 MOST_STEPS = 4_000_000
-NOISE = 4e-15  # of distances, in radii of the earth
+NOISE = 2e-14  # of distances, in radii of the earth
 NARROW = 1e-6  # degrees, more than rounding moves the end of an edge
+PAIRS_OF_FEW, PAIRS_A_POSITION, PAIRS_A_CELL = 5_000_000, 50, 100  # of squares and edges, looked at for one level
 MOST_KEPT = 4_000_000  # pairs of squares and edges that an outer covering keeps for an inner one
 CHILDREN = numpy.array([(0, 0), (0, 1), (1, 0), (1, 1)])
 CORNERS = ((0, 0), (0, 1), (1, 0), (1, 1))
@@ -198,13 +202,28 @@ def _number(value: Any, most: int, what: str) -> int:
     return int(value)
 
 
+def _bends(start: Any, across: Any) -> Any:
+    """How far lines that are straight on the map are at most from the chords between their ends, in radii of the earth.
+
+    A curve is nowhere farther from its chord than an eighth of its greatest acceleration. That of a line which in a
+    unit of time goes `wide` and `high`, in radians, has the square cos^2 wide^4 + 2 (1 + sin^2) wide^2 high^2 + high^4
+    at a latitude of this cosine and sine."""
+    wide, high = numpy.radians(across.T)**2
+    south, north = numpy.sort([start[:, 1], start[:, 1] + across[:, 1]], axis=0)
+    least = numpy.radians(numpy.maximum(0, numpy.maximum(south, -north)))
+    most = numpy.radians(numpy.maximum(north, -south))
+    return numpy.sqrt((numpy.cos(least) * wide)**2 + 2 * (1 + numpy.sin(most)**2) * wide * high + high**2) / 8
+
+
 def _edges_of(polygons: list[list[Any]]) -> Edges:
     first, last, polygon = ends_of(polygons)
     positions = sum(len(ring) for rings in polygons for ring in rings)
     most = min(MOST_STEPS, STEPS_OF_FEW + STEPS_A_POSITION * positions)
-    steps = numpy.maximum(1, numpy.ceil(numpy.abs(last - first).max(axis=1, initial=0) / STEP)).astype("int64")
-    if steps.sum() > most:
+    length = numpy.abs(last - first).max(axis=1, initial=0)
+    if numpy.maximum(1, numpy.ceil(length / STEP)).sum() > most:
         raise ValueError(f"the edges have more than {most} steps of {STEP} degrees")
+    steps = numpy.maximum(length / LONGEST, numpy.sqrt(_bends(first, last - first) / BEND))
+    steps = numpy.maximum(1, numpy.ceil(steps)).astype("int64")
     edge, step = each_of(steps)
     across = (last - first)[edge] / steps[edge][:, None]
     here = first[edge] + across * step[:, None]
@@ -212,7 +231,7 @@ def _edges_of(polygons: list[list[Any]]) -> Edges:
     start = sphere(*here.T)
     way = sphere(*there.T) - start
     square = (way**2).sum(axis=0)
-    slack = square / 8 + numpy.radians(across[:, 0])**2 / 16 + NOISE
+    slack = _bends(here, across) + NOISE
     square[square == 0] = numpy.inf
     return Edges(start, way, square, slack, polygon[edge])
 
@@ -240,6 +259,11 @@ def _sides(squares: Squares, level: int) -> Any:
             at = on_cube_line((place + far) * side)[:, None]
             planes.append((outward * (across - at * middle) / numpy.sqrt(1 + at * at)).T)
     return numpy.array(planes)
+
+
+def _parts_of(squares: Any, parts: Any) -> Any:
+    """The places of the parts of squares, which stand next to each other."""
+    return (len(parts) * squares[:, None] + parts).ravel()
 
 
 class _OnMap:
@@ -279,6 +303,8 @@ class _Walk:
     def __init__(self, shape: Any, max_cells: int, max_level: int) -> None:
         self.most, self.deepest = _number(max_cells, MOST_CELLS, "max_cells"), _number(max_level, 30, "max_level")
         self.polygons = polygons_of(shape)
+        positions = sum(len(ring) for rings in self.polygons for ring in rings)
+        self.most_pairs = PAIRS_OF_FEW + PAIRS_A_POSITION * positions + PAIRS_A_CELL * self.most
         look_for_crossings(self.polygons)
         self.polygons = [rings for rings in self.polygons if rings]
         if self.polygons:
@@ -288,32 +314,43 @@ class _Walk:
     def begin(self) -> Any:
         """The faces, which of them lie in a polygon, and those at a border with their edges, by pairs."""
         faces = Squares(numpy.arange(6), numpy.zeros(6, "int64"), numpy.zeros(6, "int64"))
-        count = len(self.edges.slack)
-        pairs = numpy.repeat(numpy.arange(6), count), numpy.tile(numpy.arange(count), 6)
-        return faces, *self.divided(faces, 0, *pairs)
+        edge = numpy.arange(len(self.edges.slack))
+        return faces, *self.divided(faces, 0, numpy.zeros_like(edge), edge)
 
     def below(self, level: int, squares: Squares, border: Any, of: Any, edge: Any) -> Any:
         """The same of the children of the squares at the border."""
-        children, pairs, edges = self.children(squares, border, of, edge)
-        return children, *self.divided(children, level, pairs, edges)
+        ij = numpy.stack([squares.i[border], squares.j[border]])
+        i, j = (2 * ij[:, :, None] + CHILDREN.T[:, None, :]).reshape(2, -1)
+        children = Squares(numpy.repeat(squares.face[border], 4), i, j)
+        return children, *self.divided(children, level, numpy.searchsorted(border, of), edge)
 
     def divided(self, squares: Squares, level: int, of: Any, edge: Any) -> Any:
-        """Which of the squares lie in a polygon, which are at a border, and with which edges, by pairs."""
+        """Which of the squares lie in a polygon, which are at a border, and with which edges, by pairs. The squares are
+        the parts of larger ones, as many of each; `of` and `edge` are the pairs of these with edges."""
+        parts = numpy.arange(4 if level else 6)
+        if len(of) * len(parts) > self.most_pairs:
+            raise ValueError(f"too many edges lie near one another: {len(of) * len(parts)} pairs of squares and edges")
         middle, radius = _middles(squares, level)
         sides = _sides(squares, level)
-        near = numpy.zeros(len(of), bool)
-        for at in range(0, len(of), AT_ONCE):
-            part = slice(at, at + AT_ONCE)
-            near[part] = self.is_near(middle.take(of[part], axis=1), radius[of[part]], edge[part])
-            close = at + numpy.flatnonzero(near[part])
-            near[close] = ~self.is_beyond(sides.take(of[close], axis=2), edge[close])
+        near = []
+        for at in range(0, len(of), AT_ONCE // len(parts)):
+            look()
+            whole, one = (it[at:at + AT_ONCE // len(parts)] for it in (of, edge))
+            square, one = _parts_of(whole, parts), numpy.repeat(one, len(parts))
+            close = self.is_near(middle.take(square, axis=1), radius[square], one)
+            square, one = square[close], one[close]
+            close = ~self.is_beyond(sides.take(square, axis=2), one)
+            near.append((square[close], one[close]))
         known = len(self.polygons)
-        lost = numpy.setdiff1d(of * known + self.edges.polygon[edge], of[near] * known + self.edges.polygon[edge[near]])
+        whole, polygon = numpy.divmod(numpy.unique(of * known + self.edges.polygon[edge]), known)
+        lost = _parts_of(whole, parts) * known + numpy.repeat(polygon, len(parts))
+        of, edge = (numpy.concatenate(it) for it in zip(*near))
+        lost = numpy.setdiff1d(lost, of * known + self.edges.polygon[edge])
         inside = numpy.zeros(len(radius), bool)
         x, y = geographic(*middle)
         square, polygon = numpy.divmod(lost, known)
         inside[square[self.on_map.is_inside(polygon, x[square], y[square])]] = True
-        left = near & ~inside[of]
+        left = ~inside[of]
         return inside, of[left], edge[left]
 
     def is_near(self, middle: Any, radius: Any, edge: Any) -> Any:
@@ -329,14 +366,6 @@ class _Walk:
         slack = self.edges.slack[edge]
         return numpy.any([((side * start).sum(axis=0) > slack) & ((side * end).sum(axis=0) > slack) for side in sides],
                          axis=0)
-
-    def children(self, squares: Squares, border: Any, of: Any, edge: Any) -> Any:
-        """The four children of the squares at the border, and the pairs of these with edges."""
-        ij = numpy.stack([squares.i[border], squares.j[border]])
-        i, j = (2 * ij[:, :, None] + CHILDREN.T[:, None, :]).reshape(2, -1)
-        place = numpy.searchsorted(border, of)
-        pairs = (4 * place[:, None] + numpy.arange(4)).ravel()
-        return Squares(numpy.repeat(squares.face[border], 4), i, j), pairs, numpy.repeat(edge, 4)
 
     def ids(self, squares: Squares, level: int) -> Any:
         leaves = from_points(squares.face, squares.i << (30 - level), squares.j << (30 - level))
