@@ -15,9 +15,11 @@ import docstrings
 import geopandas
 import numpy
 import page
+import pandas
 import pywraps2 as s2
 import s2union_geo.frames
 from earth import all_pairs, points_of_the_sphere
+from model import borders
 from s2union import CellUnion, from_tokens, to_signed, tokens
 from s2union_geo import area, boundary, coverings, leaves, points, to_geojson
 from s2union_geo.geojson import rings
@@ -268,6 +270,59 @@ SQL
         self.assertEqual(found, all_pairs(cells, {name: list(union) for name, union in regions.items()}))
         print(f"{len(found)} pairs of a region and a point", file=sys.stderr)
 
+    def test_coverings_have_their_borders(self):
+        """Of many triangles with an edge along both axes of the map: each place of one is in its coverings, and none
+        outside is in an interior, by whole numbers."""
+        for corners, x, y, lies in triangles(200):
+            cells, shape = leaves(x, y), {"type": "Polygon", "coordinates": [borders.ring_of(corners)]}
+            for most in (200, 2000, 20000):
+                outer, inner = coverings(shape, most)
+                self.assertFalse((~outer.contains_cells(cells[lies >= 0])).any(), (corners, most))
+                self.assertFalse(inner.contains_cells(cells[lies < 0]).any(), (corners, most))
+
+    def test_joins_have_the_places_along_borders(self):
+        """By GeoPandas' frames, and by PostGIS: of the same triangles, all places inside, and none outside."""
+        rows, wanted = [], []
+        for name, (corners, x, y, lies) in enumerate(triangles(40)):
+            ring = borders.ring_of(corners)
+            zone = geopandas.GeoDataFrame(geometry=[shape({"type": "Polygon", "coordinates": [ring]})], index=[name])
+            found = zone.s2.sjoin(pandas.DataFrame({"lon": x, "lat": y}))
+            self.assertEqual(found.point.tolist(), numpy.flatnonzero(lies > 0).tolist(), corners)
+            text = ", ".join(f"{a!r} {b!r}" for a, b in ring)
+            rows += [f"{name}\tPOLYGON(({text}))\t{leaf}\t{place}\n"
+                     for leaf, place in zip(leaves(x, y).view("int64").tolist(), lies.tolist())]
+        Path(self.file("borders.tsv")).write_text("".join(rows))
+        said = self.output("""psql -XAqt regions 2>&1 <<'SQL'
+CREATE TABLE borders (name int, shape text, leaf bigint, lies int);
+\\copy borders FROM 'world/borders.tsv'
+CREATE TABLE zones AS SELECT name, s2_covering(area, 5000), s2_interior(area, 5000)
+FROM (SELECT name, min(shape)::geometry AS area FROM borders GROUP BY name) AS shapes;
+SELECT count(*) FILTER (WHERE lies >= 0), count(*) FILTER (WHERE lies >= 0 AND NOT s2_covering @> leaf),
+  count(*) FILTER (WHERE lies < 0 AND s2_interior @> leaf)
+FROM borders JOIN zones USING (name);
+SQL
+""")
+        inside = sum(line.rstrip().endswith(("\t0", "\t1")) for line in rows)
+        self.assertEqual(said, f"{inside}|0|0\n")
+
+    def test_a_statement_may_be_canceled(self):
+        """A covering that takes seconds ends at a timeout, before its result, also in a parallel query."""
+        said = self.output("""psql -XAqt regions 2>&1 <<'SQL'
+CREATE TABLE long AS SELECT ST_MakePolygon(ST_MakeLine(place ORDER BY number)) AS shape FROM (
+  SELECT number, ST_MakePoint(539 - 1078 * (number % 2), 40 + number * 1e-6) AS place
+  FROM generate_series(0, 89) AS number
+  UNION ALL VALUES (90, ST_MakePoint(-540, 40.001)), (91, ST_MakePoint(-540, 39)), (92, ST_MakePoint(539, 40))) AS them,
+  generate_series(1, 4) AS copy GROUP BY copy;
+ALTER TABLE long SET (parallel_workers = 2);
+SET parallel_setup_cost = 0; SET parallel_tuple_cost = 0; SET min_parallel_table_scan_size = 0;
+SET statement_timeout = '100ms';
+SELECT s2_covering(shape) FROM long LIMIT 1;
+SELECT sum(s2_count(s2_covering(shape))) FROM long;
+SQL
+""")
+        error = "ERROR:  plpy.Error: canceling statement due to statement timeout"
+        self.assertEqual([line for line in said.splitlines() if line.startswith("ERROR")], [error] * 2)
+
     def test_sqlite_both_ways(self):
         """The same by the functions of texts that the page has for SQLite, with its tiles."""
         rows = [(it["properties"]["file"], json.dumps(it["geometry"]))
@@ -324,6 +379,16 @@ SQL
         self.assertEqual(small.s2.sjoin(places).values.tolist(), [["of leaves", "a"]])
         self.assertEqual(wide.s2.sjoin(places[2:3]).values.tolist(), [])
         self.assertEqual(wide[1:].s2.sjoin(places).values.tolist(), [])
+        degrees_of = {"lon": [-175, 169.999, None, 180], "lat": [0, 0, 0, 4.9999]}
+        for names in (("longitude", "latitude"), ("lon", "lat"), ("lng", "lat"), ("x", "y")):
+            plain = pandas.DataFrame(dict(zip(names, degrees_of.values())), index=list("abcd"))
+            named = names if names[0] == "x" else ()
+            self.assertEqual(wide.s2.sjoin(plain, 200, *named).values.tolist(), [["wide", "a"], ["wide", "d"]])
+            self.assertEqual(plain[:2].s2.leaves(*named).tolist(), places[:2].s2.leaves().tolist())
+        for work in (lambda: wide.s2.sjoin(plain), plain.s2.leaves, lambda: wide.s2.sjoin(plain, longitude="x")):
+            self.assertRaisesRegex(KeyError, "two columns of degrees: there is no column 'l.*itude'", work)
+        for work in (plain.s2.coverings, lambda: plain.s2.sjoin(places)):
+            self.assertRaisesRegex(TypeError, "polygons are wanted in a GeoDataFrame", work)
         meters = places[:2].to_crs(3857)
         self.assertEqual(wide.s2.sjoin(meters).values.tolist(), [["wide", "a"]])
         self.assertEqual(len(meters.s2.leaves()), 2)
@@ -331,6 +396,12 @@ SQL
         wrong = geopandas.GeoDataFrame(geometry=[shape({"type": "Polygon", "coordinates": [crossed]})], index=["it"])
         with self.assertRaisesRegex(ValueError, "^row 'it': polygon 0: ring 0 crosses or runs along itself"):
             wrong.s2.coverings()
+
+
+def triangles(count):
+    """The triangles of model/borders.py, each with places along its edges, and whether these lie in it."""
+    for corners in borders.triangles(borders.EDGES + borders.MORE_EDGES):
+        yield corners, *map(numpy.array, borders.places_of(corners, count))
 
 
 def corners_of(positions):

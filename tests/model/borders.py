@@ -1,6 +1,6 @@
 """Triangles whose long edge goes along both axes of the map, and places along their edges, of which whole numbers say
-whether they lie in the triangle. They are asked of Python and JavaScript, and by tests/geo of PostGIS and GeoPandas. Run
-as a program it writes them as JSON."""
+whether they lie in the triangle. They are asked of Python and JavaScript, and by tests/geo of PostGIS and GeoPandas.
+Run as a program it writes them as JSON."""
 import json
 
 PARTS = 2**30  # of a degree: a place lies at whole numbers of these, which floats have exactly

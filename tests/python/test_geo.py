@@ -199,6 +199,7 @@ class Polygons(unittest.TestCase):
                       polygon([position for position in SQUARE for _ in range(2)])):
             self.assertEqual(covering(shape), wanted)
         self.assertEqual(coverings({"type": "FeatureCollection", "features": []}), (Union(), Union()))
+        self.assertEqual(coverings(polygon([[7, 7]] * 4)), (Union(), Union()))
 
     def test_rings_that_need_care(self):
         """One that comes to within a rounding of itself and doesn't touch; and one with corners north and south of the

@@ -81,7 +81,7 @@ class Frame:
             return self.frame.geometry.x, self.frame.geometry.y
         names = next((pair for pair in COLUMNS if {*pair} <= {*self.frame.columns}), COLUMNS[0])
         if longitude is not None or latitude is not None:
-            names = longitude or COLUMNS[0][0], latitude or COLUMNS[0][1]
+            names = tuple(name if given is None else given for given, name in zip((longitude, latitude), COLUMNS[0]))
         for name in names:
             if name not in self.frame.columns:
                 raise KeyError(f"a frame without geometry has two columns of degrees: there is no column {name!r}")

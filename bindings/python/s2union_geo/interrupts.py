@@ -1,4 +1,4 @@
-"""Long work inside PostgreSQL, where PL/Python runs it: whether the server wants the statement or the session to end."""
+"""Long work inside PostgreSQL, by PL/Python: whether the server wants the statement or the session to end."""
 
 from __future__ import annotations
 
@@ -21,7 +21,8 @@ FLAGS_OF_SERVER = _flags()
 
 
 def look() -> None:
-    """Between two short parts of long work. After a cancel, a timeout or the session's end it raises the server's error.
+    """Between two short parts of long work. After a cancel, a timeout or the end of the session it raises the server's
+    error.
 
     The server looks for these while it tells the client something. `plpy.execute` would do it too, but is an error in
     parallel queries."""

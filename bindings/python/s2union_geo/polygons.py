@@ -85,7 +85,8 @@ def covering(shape: Any, max_cells: int = 200, max_level: int = 30) -> CellUnion
         Something isn't a polygon, a position is out of range, or a ring is open, crosses itself or runs along itself:
         the message has its polygon and ring. Or there are more than ``MOST_POSITIONS`` positions, edges of more than
         100,000 degrees and one for each position, or of 1,000,000, ``MOST_BYTES`` bytes of a text, or too many edges
-        that meet or lie beside one another. Or a number of cells or a level is out of range.
+        that meet, nearly lie on one line, or lie near or beside one another. Or a number of cells or a level is out of
+        range.
     TypeError
         A number of cells or a level is no int.
 
@@ -133,7 +134,8 @@ def interior(shape: Any, max_cells: int = 200, max_level: int = 30) -> CellUnion
         Something isn't a polygon, a position is out of range, or a ring is open, crosses itself or runs along itself:
         the message has its polygon and ring. Or there are more than ``MOST_POSITIONS`` positions, edges of more than
         100,000 degrees and one for each position, or of 1,000,000, ``MOST_BYTES`` bytes of a text, or too many edges
-        that meet or lie beside one another. Or a number of cells or a level is out of range.
+        that meet, nearly lie on one line, or lie near or beside one another. Or a number of cells or a level is out of
+        range.
     TypeError
         A number of cells or a level is no int.
 
@@ -180,7 +182,8 @@ def coverings(shape: Any, max_cells: int = 200, max_level: int = 30) -> tuple[Ce
         Something isn't a polygon, a position is out of range, or a ring is open, crosses itself or runs along itself:
         the message has its polygon and ring. Or there are more than ``MOST_POSITIONS`` positions, edges of more than
         100,000 degrees and one for each position, or of 1,000,000, ``MOST_BYTES`` bytes of a text, or too many edges
-        that meet or lie beside one another. Or a number of cells or a level is out of range.
+        that meet, nearly lie on one line, or lie near or beside one another. Or a number of cells or a level is out of
+        range.
     TypeError
         A number of cells or a level is no int.
 
@@ -332,7 +335,7 @@ class _Walk:
             raise ValueError(f"too many edges lie near one another: {len(of) * len(parts)} pairs of squares and edges")
         middle, radius = _middles(squares, level)
         sides = _sides(squares, level)
-        near = []
+        near = [(of[:0], edge[:0])]
         for at in range(0, len(of), AT_ONCE // len(parts)):
             look()
             whole, one = (it[at:at + AT_ONCE // len(parts)] for it in (of, edge))
