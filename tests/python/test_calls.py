@@ -4,9 +4,11 @@ import ctypes
 import gc
 import inspect
 import os
+import pickle
 import re
 import subprocess
 import sys
+import tempfile
 import threading
 import time
 import tracemalloc
@@ -310,9 +312,10 @@ class WithoutMemory(unittest.TestCase):
 class Around(unittest.TestCase):
     def test_other_threads_run_during_a_call(self):
         """One that is asleep wakes while the library works: none is asked to hand over the lock. Each call that may
-        take long is made until it did."""
+        take long is made until it did. The thread that wakes can release nothing that the call reads."""
         xs, ys = (memoryview(array("Q", range(first, 2**21, 8))) for first in (1, 5))
-        points, data = memoryview(array("I", 3 * len(xs) * [1])), [calls.encode("", 9, ids) for ids in (xs, ys)]
+        points = memoryview(array("I", 3 * len(xs) * [1]))
+        data = [memoryview(calls.encode("", 9, ids)) for ids in (xs, ys)]
         words = {
             **WORDS, **dict.fromkeys(("ids", "xs", "cells"), xs), "ys": ys, "bytes": data[0], "points": points,
             "bounds": (0, 0, 999, 0, 999), "level": 30, "min": 30, "most": 10**6, "text": calls.tokens(xs),
@@ -322,17 +325,26 @@ class Around(unittest.TestCase):
         large = [xs, ys, points, *data, words["bounds"], words["text"]]
         quick = {"contains_cell", "intersects_cell", "cells_at", "file_count", "file_cell", "file_contains_cell",
                  "file_intersects_cell", "from_token", "from_debug"}
-        ticks, ends = [0], threading.Event()
+        ticks, read, released, ends = [0], [], [], threading.Event()
 
         def tick():
             while not ends.wait(0.0005):
                 ticks[0] += 1
+                for place, view in enumerate(read):
+                    try:
+                        view.release()
+                        released.append(place)
+                    except BufferError:
+                        pass
 
         def is_seen(call, given):
             before, deadline = ticks[0], time.monotonic() + 20
-            while ticks[0] == before and time.monotonic() < deadline:
-                call(*given)
-            return ticks[0] > before
+            while ticks[0] == before and not released and time.monotonic() < deadline:
+                views = [memoryview(it) if isinstance(it, memoryview) else it for it in given]
+                read[:] = [it for it in views if isinstance(it, memoryview)]
+                call(*views)
+                read.clear()
+            return ticks[0] > before and not released
 
         interval, thread = sys.getswitchinterval(), threading.Thread(target=tick)
         sys.setswitchinterval(1000)
@@ -340,12 +352,61 @@ class Around(unittest.TestCase):
             thread.start()
             long = {name: given for name, given in each_call(words, others).items()
                     if name not in quick and any(it is one for it in given for one in large)}
-            wrong = [name for name, given in long.items() if not is_seen(getattr(calls, name), given)]
+            wrong = [(name, released.copy()) for name, given in long.items()
+                     if released.clear() or not is_seen(getattr(calls, name), given)]
         finally:
             sys.setswitchinterval(interval)
             ends.set()
             thread.join()
         self.assertEqual((wrong, len(long) > 35), ([], True))
+
+    def test_a_file_that_another_thread_closes(self):
+        """Whoever asks it gets the answer, or the ValueError of a closed file, and whoever closes it the BufferError of
+        one that is read, whenever that is."""
+        union = Union(range(1, 3200001, 8))
+        cells = array("Q", range(1, 200001, 2))
+        with tempfile.TemporaryDirectory() as folder:
+            path, other = Path(folder, "many"), Union.from_tokens("04")
+            path.write_bytes(union.to_bytes())
+            with UnionFile.open(path) as file, UnionFile(other.to_bytes()) as one:
+                asked = {
+                    "contains_cells": lambda it: it.contains_cells(cells), "leaf_count": UnionFile.leaf_count,
+                    "union": UnionFile.union, "ancestors": UnionFile.ancestors, "contains": lambda it: it.contains(it),
+                    "intersects": lambda it: one.intersects(it), "in": lambda it: 1 in it, "len": len,
+                    "cells": lambda it: it[399_990:], "pickle": lambda it: pickle.loads(pickle.dumps(it)).union(),
+                }
+                answers = {name: question(file) for name, question in asked.items()}
+            for name, question in asked.items():
+                for sources in (lambda: UnionFile.open(path, checked=True),
+                                lambda: UnionFile(bytearray(path.read_bytes()), checked=True)):
+                    for turn in range(8):
+                        self.ask_and_close(sources(), question, turn * 0.0004, answers[name], name)
+
+    def ask_and_close(self, file, question, delay, wanted, name):
+        said, begun = [], threading.Event()
+
+        def ask():
+            begun.set()
+            try:
+                while len(said) < 40:
+                    said.append(question(file) == wanted)
+            except ValueError as error:
+                said.append("released memoryview" in str(error))
+
+        thread = threading.Thread(target=ask)
+        thread.start()
+        begun.wait()
+        time.sleep(delay)
+        try:
+            while thread.is_alive():
+                try:
+                    file.close()
+                    break
+                except BufferError as error:
+                    self.assertIn("exported buffer", str(error))
+        finally:
+            thread.join()
+        self.assertEqual((name, set(said)), (name, {True}))
 
     def test_one_union_in_many_threads(self):
         a, b = Union(range(1, 20001, 8)), Union(range(5, 20001, 16))

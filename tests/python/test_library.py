@@ -483,8 +483,11 @@ class TheModule(unittest.TestCase):
             for name in (path, str(path)):
                 with UnionFile.open(name) as file:
                     self.assertEqual((len(file), file.union(), type(file)), (2, union, UnionFile))
-                self.assertRaises(ValueError, file.union)
-                self.assertRaises(ValueError, lambda: union[0] in file)
+                for question in (file.union, file.leaf_count, file.ancestors, lambda: union[0] in file,
+                                 lambda: file.contains(file), lambda: file.contains_cells(union), lambda: len(file),
+                                 lambda: bool(file), lambda: file[0], lambda: file[9], lambda: file[:0],
+                                 lambda: list(file), lambda: pickle.dumps(file)):
+                    self.assertRaisesRegex(ValueError, "released memoryview", question)
                 file.close()
             for wrong in (b"", b"\1", union.to_bytes()[:-1]):
                 path.write_bytes(wrong)

@@ -1319,7 +1319,7 @@ class UnionFile:
     (2, True, False)
     """
 
-    __slots__ = ("_bytes", "_size")
+    __slots__ = ("_bytes",)
 
     def __init__(self, data: Bytes, checked: bool = False) -> None:
         view = _bytes_in(data)
@@ -1327,7 +1327,7 @@ class UnionFile:
             raise TypeError("a UnionFile is made once")
         if not checked and _library.file_check(view) == 0:
             raise NotNormalizedError("the cells of the file are not normalized: CellUnion.from_bytes takes it")
-        self._size = _library.file_count(view)
+        _library.file_count(view)  # which refuses what is no file, also if it was checked
         self._bytes = view
 
     @classmethod
@@ -1372,7 +1372,7 @@ class UnionFile:
             return cls(_mmap.mmap(file.fileno(), 0, access=_mmap.ACCESS_READ) if has_bytes else b"", checked)
 
     def close(self) -> None:
-        """Let go of the bytes. Questions raise ValueError from then on.
+        """Let go of the bytes. Questions raise ValueError from then on, `len` and `bool` too.
 
         .. versionadded:: 1.2
 
@@ -1384,7 +1384,7 @@ class UnionFile:
         Raises
         ------
         BufferError
-            A call of another thread reads them.
+            A call of another thread reads them. The file stays open.
 
         Examples
         --------
@@ -1410,7 +1410,7 @@ class UnionFile:
         return self
 
     def __len__(self) -> int:
-        return self._size
+        return _library.file_count(self._bytes)
 
     @overload
     def __getitem__(self, place: SupportsIndex) -> int: ...
@@ -1418,12 +1418,13 @@ class UnionFile:
     def __getitem__(self, place: slice) -> list[int]: ...
 
     def __getitem__(self, place: Any) -> Any:
+        size = len(self)
         if isinstance(place, slice):
-            return [self._cell_at(k) for k in range(*place.indices(self._size))]
-        at = _operator.index(place) if hasattr(type(place), "__index__") else self._size
-        if not -self._size <= at < self._size:
-            _refuse_place(place, self._size)
-        return self._cell_at(at % self._size)
+            return [self._cell_at(k) for k in range(*place.indices(size))]
+        at = _operator.index(place) if hasattr(type(place), "__index__") else size
+        if not -size <= at < size:
+            _refuse_place(place, size)
+        return self._cell_at(at % size)
 
     def _cell_at(self, place: int) -> int:
         return _library.file_cell(self._bytes, place)
@@ -1690,7 +1691,7 @@ class UnionFile:
         >>> tokens(UnionFile(CellUnion.from_tokens("04").to_bytes()).ancestors())
         ['04', '1']
         """
-        return _cells_in(_library.file_ancestors("", 2 * self._size, _unchanging(self._bytes))).tolist()
+        return _cells_in(_library.file_ancestors("", 2 * len(self), _unchanging(self._bytes))).tolist()
 
     def union(self) -> CellUnion:
         """The union itself, copied.
@@ -1718,7 +1719,7 @@ class UnionFile:
         >>> UnionFile(CellUnion.from_tokens("04").to_bytes()).union()
         <CellUnion of 1 cells: 04>
         """
-        return CellUnion._holding(_library.decode("", self._size, _unchanging(self._bytes)))
+        return CellUnion._holding(_library.decode("", len(self), _unchanging(self._bytes)))
 
 
 def _union_of(cells: Any) -> CellUnion:

@@ -3,7 +3,8 @@
  * It has Python's side of a call alone: numbers, lists, texts and refusals. `tools/calls` makes calls.h, which has the
  * calls whose arguments say all that there is to say; the others are below. What a function takes:
  *   a cell    an int, or what has an __index__, of 64 bits without or with a sign; a number of its own range likewise;
- *   a list    bytes or a memoryview without gaps, which nobody may write during the call; a text: bytes or a str.
+ *   a list    bytes or a memoryview without gaps, which nobody may write during the call, and nobody can release; a
+ *             text: bytes or a str.
  * One that makes a list takes before these what a refusal is to say, and the room that is tried first, and answers
  * bytes. Calls that may read much give up the interpreter's lock. The module has no state but where the library is, so
  * each interpreter has its own. */
@@ -20,10 +21,18 @@
 
 #include <s2union.h>
 
-/* All that the limited API has for the bytes of a memoryview before 3.11. It stays in the library of each Python 3, but
- * not in the headers of later ones. What it answers is good as long as the memoryview is. */
-#pragma GCC diagnostic ignored "-Wdeprecated-declarations"
-PyAPI_FUNC(int) PyObject_AsReadBuffer(PyObject* object, const void** at, Py_ssize_t* size);
+/* Py_buffer, which has been the same in each Python from 3.3 on, and is in the limited API from 3.11 on. */
+typedef struct Buffer {
+  void* at;
+  PyObject* holder;
+  Py_ssize_t size, unit;
+  int is_readonly, dimensions;
+  char* format;
+  Py_ssize_t *shape, *strides, *suboffsets;
+  void* internal;
+} Buffer;
+PyAPI_FUNC(int) PyObject_GetBuffer(PyObject* object, Buffer* buffer, int flags);
+PyAPI_FUNC(void) PyBuffer_Release(Buffer* buffer);
 
 /* The oldest names of what opens a library, which are the same in all C libraries: so that the module runs with those
  * before 2.34 too, where Python itself brings them. */
@@ -39,12 +48,13 @@ __asm__(".symver dlopen, dlopen@" OLDEST "\n.symver dlsym, dlsym@" OLDEST "\n.sy
 enum { LAST_PLACE = 1073741823 }; /* of a leaf on its face, in both directions: 2^30 - 1 */
 
 typedef struct List {
+  Buffer buffer; /* of a memoryview, which can't be released meanwhile, nor may what it is of be resized */
   const void* at;
   size_t n;
 } List;
 
 typedef struct Parts {
-  const char* all;
+  List all;
   size_t count, unit, done, n, bad; /* bad: the first number of the part that has no entry, or n */
   uint64_t at[2048];
 } Parts;
@@ -57,6 +67,12 @@ typedef struct Room {
 /* ---- what is given */
 
 #define WORD(k) PyTuple_GetItem(words, k)
+
+/* Before the declaration of a list, or of one in parts, that is {0} at first: its buffer is held until the function
+ * ends, so also while others have the interpreter's lock. */
+#define HELD __attribute__((cleanup(let_go)))
+
+static void let_go(void* list) { PyBuffer_Release(&((List*)list)->buffer); }
 
 static bool has(PyObject* words, Py_ssize_t n) {
   if (PyTuple_Size(words) == n) return true;
@@ -153,7 +169,7 @@ static bool as_cell(PyObject* given, uint64_t* bits) {
   return fits;
 }
 
-/* The bytes of a list, as numbers of `unit` bytes. They stay as long as what is given does. */
+/* The bytes of a list, as numbers of `unit` bytes. */
 static bool as_list(PyObject* given, size_t unit, List* list) {
   char* text = NULL;
   Py_ssize_t size = 0;
@@ -162,8 +178,10 @@ static bool as_list(PyObject* given, size_t unit, List* list) {
     list->at = text;
   } else if (!PyMemoryView_Check(given)) {
     return refuse_type("a list", "bytes or a memoryview", given);
-  } else if (PyObject_AsReadBuffer(given, &list->at, &size) != 0) {
-    return false;
+  } else {
+    if (PyObject_GetBuffer(given, &list->buffer, 0) != 0) return false;
+    list->at = list->buffer.at;
+    size = list->buffer.size;
   }
   list->n = (size_t)size / unit;
   bool is_placed = unit == 1 || size == 0 || (uintptr_t)list->at % sizeof(uint64_t) == 0;
@@ -174,12 +192,10 @@ static bool as_list(PyObject* given, size_t unit, List* list) {
 
 /* A list whose numbers have entries of their own, in parts that are copied: so others may write it during the call. */
 static bool as_parts(PyObject* given, size_t unit, Parts* parts) {
-  List list;
-  *parts = (Parts){.unit = unit};
-  if (!as_list(given, 1, &list)) return false;
-  parts->all = list.at;
-  parts->count = list.n / unit;
-  if (parts->count * unit == list.n) return true;
+  parts->unit = unit;
+  if (!as_list(given, 1, &parts->all)) return false;
+  parts->count = parts->all.n / unit;
+  if (parts->count * unit == parts->all.n) return true;
   PyErr_Format(PyExc_TypeError, "a list of numbers of %zu bytes ends in one", unit);
   return false;
 }
@@ -191,7 +207,7 @@ static bool has_part(Parts* list) {
   list->done += list->n;
   list->n = list->count - list->done < most ? list->count - list->done : most;
   if (list->n == 0) return false;
-  memcpy(list->at, list->all + list->done * list->unit, list->n * list->unit);
+  memcpy(list->at, (const char*)list->all.at + list->done * list->unit, list->n * list->unit);
   return true;
 }
 
@@ -412,7 +428,7 @@ static PyObject* py_from_debug(PyObject* module, PyObject* given) { return cell_
 
 /* The tokens of a list in a str, with blanks between them. */
 static PyObject* py_tokens(PyObject* module, PyObject* given) {
-  List ids;
+  HELD List ids = {0};
   Room text;
   int32_t status;
   size_t length = 0;
@@ -442,7 +458,7 @@ static PyObject* py_from_tokens(PyObject* module, PyObject* given) {
 
 /* The union of a list of cells, which is copied. */
 static PyObject* py_normalise(PyObject* module, PyObject* given) {
-  List list;
+  HELD List list = {0};
   Room ids;
   int32_t status;
   size_t length = 0;
@@ -459,7 +475,7 @@ static PyObject* py_normalise(PyObject* module, PyObject* given) {
 
 /* The union of lists that lie one after another, and where each ends. */
 static PyObject* py_union_of_many(PyObject* module, PyObject* words) {
-  List ids, ends;
+  HELD List ids = {0}, ends = {0};
   Room work, out;
   int32_t status;
   size_t length = 0;
@@ -474,7 +490,7 @@ static PyObject* py_union_of_many(PyObject* module, PyObject* words) {
 
 /* The first place of the cells of a union that share a leaf with a cell, and how many they are. */
 static PyObject* py_cells_at(PyObject* module, PyObject* words) {
-  List ids;
+  HELD List ids = {0};
   uint64_t cell;
   size_t first, count;
   if (!has(words, 2) || !as_cell(WORD(1), &cell) || !as_list(WORD(0), sizeof(uint64_t), &ids)) return NULL;

@@ -44,7 +44,7 @@ typedef struct Calls {
 #define LIBRARY(name) ((Calls*)PyModule_GetState(module))->s2u_##name
 
 static PyObject* py_ancestors(PyObject* module, PyObject* words) {
-  List ids;
+  HELD List ids = {0};
   size_t len = 0;
   uint64_t room;
   Room out;
@@ -84,7 +84,7 @@ static PyObject* py_common_ancestor(PyObject* module, PyObject* words) {
 }
 
 static PyObject* py_compare(PyObject* module, PyObject* words) {
-  List xs, ys;
+  HELD List xs = {0}, ys = {0};
   if (!has(words, 2) || !as_list(WORD(0), sizeof(uint64_t), &xs) ||
       !as_list(WORD(1), sizeof(uint64_t), &ys))
     return NULL;
@@ -94,7 +94,7 @@ static PyObject* py_compare(PyObject* module, PyObject* words) {
 }
 
 static PyObject* py_complement(PyObject* module, PyObject* words) {
-  List ids;
+  HELD List ids = {0};
   size_t len = 0;
   uint64_t room;
   Room out;
@@ -109,7 +109,7 @@ static PyObject* py_complement(PyObject* module, PyObject* words) {
 }
 
 static PyObject* py_contains(PyObject* module, PyObject* words) {
-  List xs, ys;
+  HELD List xs = {0}, ys = {0};
   if (!has(words, 2) || !as_list(WORD(0), sizeof(uint64_t), &xs) ||
       !as_list(WORD(1), sizeof(uint64_t), &ys))
     return NULL;
@@ -119,15 +119,15 @@ static PyObject* py_contains(PyObject* module, PyObject* words) {
 }
 
 static PyObject* py_contains_cell(PyObject* module, PyObject* words) {
-  List ids;
+  HELD List ids = {0};
   uint64_t cell;
   if (!has(words, 2) || !as_cell(WORD(1), &cell) || !as_list(WORD(0), sizeof(uint64_t), &ids)) return NULL;
   return asked(module, LIBRARY(contains_cell)(ids.at, ids.n, cell), (uint64_t[]){cell}, 1);
 }
 
 static PyObject* py_contains_cells(PyObject* module, PyObject* words) {
-  List ids;
-  Parts cells;
+  HELD List ids = {0};
+  HELD Parts cells = {0};
   if (!has(words, 2) || !as_list(WORD(0), sizeof(uint64_t), &ids) ||
       !as_parts(WORD(1), sizeof(uint64_t), &cells))
     return NULL;
@@ -142,7 +142,7 @@ static PyObject* py_contains_cells(PyObject* module, PyObject* words) {
 }
 
 static PyObject* py_decode(PyObject* module, PyObject* words) {
-  List bytes;
+  HELD List bytes = {0};
   size_t len = 0;
   uint64_t room;
   Room out;
@@ -157,7 +157,7 @@ static PyObject* py_decode(PyObject* module, PyObject* words) {
 }
 
 static PyObject* py_denormalised(PyObject* module, PyObject* words) {
-  List ids;
+  HELD List ids = {0};
   uint64_t min, modulus, room;
   size_t len = 0;
   Room out;
@@ -174,7 +174,7 @@ static PyObject* py_denormalised(PyObject* module, PyObject* words) {
 }
 
 static PyObject* py_denormalised_len(PyObject* module, PyObject* words) {
-  List ids;
+  HELD List ids = {0};
   uint64_t min, modulus, len = 0;
   if (!has(words, 3) || !as_number(WORD(1), "a level", 0, 30, &min) ||
       !as_number(WORD(2), "a modulus", 1, 3, &modulus) || !as_list(WORD(0), sizeof(uint64_t), &ids))
@@ -185,7 +185,7 @@ static PyObject* py_denormalised_len(PyObject* module, PyObject* words) {
 }
 
 static PyObject* py_difference(PyObject* module, PyObject* words) {
-  List xs, ys;
+  HELD List xs = {0}, ys = {0};
   size_t len = 0;
   uint64_t room;
   Room out;
@@ -201,7 +201,7 @@ static PyObject* py_difference(PyObject* module, PyObject* words) {
 }
 
 static PyObject* py_encode(PyObject* module, PyObject* words) {
-  List ids;
+  HELD List ids = {0};
   size_t len = 0;
   uint64_t room;
   Room out;
@@ -222,7 +222,7 @@ static PyObject* py_face(PyObject* module, PyObject* words) {
 }
 
 static PyObject* py_file_ancestors(PyObject* module, PyObject* words) {
-  List bytes;
+  HELD List bytes = {0};
   size_t len = 0;
   uint64_t room;
   Room out;
@@ -237,7 +237,7 @@ static PyObject* py_file_ancestors(PyObject* module, PyObject* words) {
 }
 
 static PyObject* py_file_cell(PyObject* module, PyObject* words) {
-  List bytes;
+  HELD List bytes = {0};
   uint64_t k, id = 0;
   if (!has(words, 2) || !as_number(WORD(1), "a place", 0, UINT64_MAX, &k) ||
       !as_list(WORD(0), sizeof(uint8_t), &bytes))
@@ -248,7 +248,7 @@ static PyObject* py_file_cell(PyObject* module, PyObject* words) {
 }
 
 static PyObject* py_file_check(PyObject* module, PyObject* words) {
-  List bytes;
+  HELD List bytes = {0};
   if (!as_list(words, sizeof(uint8_t), &bytes)) return NULL;
   int32_t answer;
   UNLOCKED(answer = LIBRARY(file_check)(bytes.at, bytes.n));
@@ -256,7 +256,7 @@ static PyObject* py_file_check(PyObject* module, PyObject* words) {
 }
 
 static PyObject* py_file_contains(PyObject* module, PyObject* words) {
-  List xs, ys;
+  HELD List xs = {0}, ys = {0};
   if (!has(words, 2) || !as_list(WORD(0), sizeof(uint8_t), &xs) ||
       !as_list(WORD(1), sizeof(uint8_t), &ys))
     return NULL;
@@ -266,7 +266,7 @@ static PyObject* py_file_contains(PyObject* module, PyObject* words) {
 }
 
 static PyObject* py_file_contains_cell(PyObject* module, PyObject* words) {
-  List bytes;
+  HELD List bytes = {0};
   uint64_t cell;
   if (!has(words, 2) || !as_cell(WORD(1), &cell) || !as_list(WORD(0), sizeof(uint8_t), &bytes)) return NULL;
   int32_t answer;
@@ -275,8 +275,8 @@ static PyObject* py_file_contains_cell(PyObject* module, PyObject* words) {
 }
 
 static PyObject* py_file_contains_cells(PyObject* module, PyObject* words) {
-  List bytes;
-  Parts cells;
+  HELD List bytes = {0};
+  HELD Parts cells = {0};
   if (!has(words, 2) || !as_list(WORD(0), sizeof(uint8_t), &bytes) ||
       !as_parts(WORD(1), sizeof(uint64_t), &cells))
     return NULL;
@@ -291,7 +291,7 @@ static PyObject* py_file_contains_cells(PyObject* module, PyObject* words) {
 }
 
 static PyObject* py_file_count(PyObject* module, PyObject* words) {
-  List bytes;
+  HELD List bytes = {0};
   uint64_t count = 0;
   if (!as_list(words, sizeof(uint8_t), &bytes)) return NULL;
   int32_t status;
@@ -300,7 +300,7 @@ static PyObject* py_file_count(PyObject* module, PyObject* words) {
 }
 
 static PyObject* py_file_intersects(PyObject* module, PyObject* words) {
-  List xs, ys;
+  HELD List xs = {0}, ys = {0};
   if (!has(words, 2) || !as_list(WORD(0), sizeof(uint8_t), &xs) ||
       !as_list(WORD(1), sizeof(uint8_t), &ys))
     return NULL;
@@ -310,7 +310,7 @@ static PyObject* py_file_intersects(PyObject* module, PyObject* words) {
 }
 
 static PyObject* py_file_intersects_cell(PyObject* module, PyObject* words) {
-  List bytes;
+  HELD List bytes = {0};
   uint64_t cell;
   if (!has(words, 2) || !as_cell(WORD(1), &cell) || !as_list(WORD(0), sizeof(uint8_t), &bytes)) return NULL;
   int32_t answer;
@@ -319,7 +319,7 @@ static PyObject* py_file_intersects_cell(PyObject* module, PyObject* words) {
 }
 
 static PyObject* py_file_leaf_count(PyObject* module, PyObject* words) {
-  List bytes;
+  HELD List bytes = {0};
   uint64_t leaves = 0;
   if (!as_list(words, sizeof(uint8_t), &bytes)) return NULL;
   int32_t status;
@@ -336,7 +336,7 @@ static PyObject* py_from_face_ij(PyObject* module, PyObject* words) {
 }
 
 static PyObject* py_from_points(PyObject* module, PyObject* words) {
-  Parts points;
+  HELD Parts points = {0};
   if (!as_parts(words, sizeof(s2u_point), &points)) return NULL;
   size_t unit = sizeof(uint64_t);
   int32_t status = S2U_OK;
@@ -365,7 +365,7 @@ static PyObject* py_inner(PyObject* module, PyObject* words) {
 }
 
 static PyObject* py_inner_in(PyObject* module, PyObject* words) {
-  List ids;
+  HELD List ids = {0};
   s2u_rect bounds;
   uint64_t level, most, room;
   size_t len = 0;
@@ -383,7 +383,7 @@ static PyObject* py_inner_in(PyObject* module, PyObject* words) {
 }
 
 static PyObject* py_inner_of(PyObject* module, PyObject* words) {
-  List ids;
+  HELD List ids = {0};
   uint64_t level, most, room;
   size_t len = 0;
   Room out;
@@ -400,7 +400,7 @@ static PyObject* py_inner_of(PyObject* module, PyObject* words) {
 }
 
 static PyObject* py_intersection(PyObject* module, PyObject* words) {
-  List xs, ys;
+  HELD List xs = {0}, ys = {0};
   size_t len = 0;
   uint64_t room;
   Room out;
@@ -416,7 +416,7 @@ static PyObject* py_intersection(PyObject* module, PyObject* words) {
 }
 
 static PyObject* py_intersects(PyObject* module, PyObject* words) {
-  List xs, ys;
+  HELD List xs = {0}, ys = {0};
   if (!has(words, 2) || !as_list(WORD(0), sizeof(uint64_t), &xs) ||
       !as_list(WORD(1), sizeof(uint64_t), &ys))
     return NULL;
@@ -426,15 +426,15 @@ static PyObject* py_intersects(PyObject* module, PyObject* words) {
 }
 
 static PyObject* py_intersects_cell(PyObject* module, PyObject* words) {
-  List ids;
+  HELD List ids = {0};
   uint64_t cell;
   if (!has(words, 2) || !as_cell(WORD(1), &cell) || !as_list(WORD(0), sizeof(uint64_t), &ids)) return NULL;
   return asked(module, LIBRARY(intersects_cell)(ids.at, ids.n, cell), (uint64_t[]){cell}, 1);
 }
 
 static PyObject* py_intersects_cells(PyObject* module, PyObject* words) {
-  List ids;
-  Parts cells;
+  HELD List ids = {0};
+  HELD Parts cells = {0};
   if (!has(words, 2) || !as_list(WORD(0), sizeof(uint64_t), &ids) ||
       !as_parts(WORD(1), sizeof(uint64_t), &cells))
     return NULL;
@@ -455,7 +455,7 @@ static PyObject* py_is_cell(PyObject* module, PyObject* words) {
 }
 
 static PyObject* py_is_union(PyObject* module, PyObject* words) {
-  List ids;
+  HELD List ids = {0};
   if (!as_list(words, sizeof(uint64_t), &ids)) return NULL;
   int32_t answer;
   UNLOCKED(answer = LIBRARY(is_union)(ids.at, ids.n));
@@ -463,7 +463,7 @@ static PyObject* py_is_union(PyObject* module, PyObject* words) {
 }
 
 static PyObject* py_leaf_count(PyObject* module, PyObject* words) {
-  List ids;
+  HELD List ids = {0};
   if (!as_list(words, sizeof(uint64_t), &ids)) return NULL;
   uint64_t answer;
   UNLOCKED(answer = LIBRARY(leaf_count)(ids.at, ids.n));
@@ -477,7 +477,7 @@ static PyObject* py_level(PyObject* module, PyObject* words) {
 }
 
 static PyObject* py_levels(PyObject* module, PyObject* words) {
-  Parts ids;
+  HELD Parts ids = {0};
   if (!as_parts(words, sizeof(uint64_t), &ids)) return NULL;
   size_t unit = sizeof(uint8_t);
   int32_t status = S2U_OK;
@@ -512,7 +512,7 @@ static PyObject* py_outer(PyObject* module, PyObject* words) {
 }
 
 static PyObject* py_outer_in(PyObject* module, PyObject* words) {
-  List ids;
+  HELD List ids = {0};
   s2u_rect bounds;
   uint64_t level, most, room;
   size_t len = 0;
@@ -530,7 +530,7 @@ static PyObject* py_outer_in(PyObject* module, PyObject* words) {
 }
 
 static PyObject* py_outer_of(PyObject* module, PyObject* words) {
-  List ids;
+  HELD List ids = {0};
   uint64_t level, most, room;
   size_t len = 0;
   Room out;
@@ -554,7 +554,7 @@ static PyObject* py_parent(PyObject* module, PyObject* words) {
 }
 
 static PyObject* py_parents(PyObject* module, PyObject* words) {
-  Parts ids;
+  HELD Parts ids = {0};
   uint64_t level;
   if (!has(words, 2) || !as_number(WORD(1), "a level", 0, 30, &level) ||
       !as_parts(WORD(0), sizeof(uint64_t), &ids))
@@ -596,7 +596,7 @@ static PyObject* py_range_max(PyObject* module, PyObject* words) {
 }
 
 static PyObject* py_range_maxes(PyObject* module, PyObject* words) {
-  Parts ids;
+  HELD Parts ids = {0};
   if (!as_parts(words, sizeof(uint64_t), &ids)) return NULL;
   size_t unit = sizeof(uint64_t);
   int32_t status = S2U_OK;
@@ -615,7 +615,7 @@ static PyObject* py_range_min(PyObject* module, PyObject* words) {
 }
 
 static PyObject* py_range_mins(PyObject* module, PyObject* words) {
-  Parts ids;
+  HELD Parts ids = {0};
   if (!as_parts(words, sizeof(uint64_t), &ids)) return NULL;
   size_t unit = sizeof(uint64_t);
   int32_t status = S2U_OK;
@@ -634,7 +634,7 @@ static PyObject* py_size(PyObject* module, PyObject* words) {
 }
 
 static PyObject* py_symmetric_difference(PyObject* module, PyObject* words) {
-  List xs, ys;
+  HELD List xs = {0}, ys = {0};
   size_t len = 0;
   uint64_t room;
   Room out;
@@ -650,7 +650,7 @@ static PyObject* py_symmetric_difference(PyObject* module, PyObject* words) {
 }
 
 static PyObject* py_token_fields(PyObject* module, PyObject* words) {
-  Parts ids;
+  HELD Parts ids = {0};
   if (!as_parts(words, sizeof(uint64_t), &ids)) return NULL;
   size_t unit = sizeof(uint8_t) * S2U_MOST_TOKEN;
   int32_t status = S2U_OK;
@@ -663,7 +663,7 @@ static PyObject* py_token_fields(PyObject* module, PyObject* words) {
 }
 
 static PyObject* py_union(PyObject* module, PyObject* words) {
-  List xs, ys;
+  HELD List xs = {0}, ys = {0};
   size_t len = 0;
   uint64_t room;
   Room out;
