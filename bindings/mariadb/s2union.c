@@ -1,157 +1,271 @@
 /* User functions of MariaDB and MySQL: a union is a BLOB, the union file that SQLite's extension has too, and a cell a
- * BIGINT. docs/MARIADB.md says what each does. A user function can't end a statement by an error of its own, so what is
- * wrong answers NULL. */
+ * BIGINT. docs/MARIADB.md says what each does. An argument of a wrong type is an error of the statement. A wrong value
+ * answers NULL, since a user function can't end a statement once it has begun. */
 #include <mysql.h>
 #include <s2union.h>
 #include <s2union_geo.h>
+#include <s2union_host.h>
+#include <stdio.h>
 #include <stdlib.h>
 #include <string.h>
 
 typedef char flag; /* where the server hears whether the answer is NULL */
 
-static flag wanted(UDF_ARGS* args, unsigned count, const char* kinds, char* message) {
-  static const enum Item_result types[] = {['u'] = STRING_RESULT, ['t'] = STRING_RESULT, ['c'] = INT_RESULT,
-                                           ['i'] = INT_RESULT, ['d'] = REAL_RESULT};
+/* ---- what is given. The letters of arguments: a file to be asked, a list, a text or a list, a cell, what may be a
+ * cell, a small number, degrees, or bytes. The first three are unions. */
+
+typedef struct {
+  uint64_t* ids; /* of a list */
+  uint8_t* file; /* that was made of a list */
+  const uint8_t* bytes;
+  size_t n, size;
+  uint64_t cell;
+  uint32_t number;
+  double degrees;
+} argument;
+
+/* What a statement has of a function until its end: the last text or file that it answered, and of each argument the
+ * size of the last file, and that file itself if it is kept. */
+enum { MOST_ARGUMENTS = 2, WORTH_KEEPING = 250 };
+typedef struct {
+  char* answer;
+  struct last { size_t size; uint8_t* file; } last[MOST_ARGUMENTS];
+} state;
+
+/* What an argument has to be that isn't; NULL if it is. A text without a length may be NULL, or a parameter that isn't
+ * known yet. */
+static const char* missed(const UDF_ARGS* args, unsigned k, char letter) {
+  int is_text = args->arg_type[k] == STRING_RESULT;
+  if (args->arg_type[k] == INT_RESULT || (is_text && args->lengths[k] == 0 && !args->args[k])) return NULL;
+  switch (letter) {
+    case 'm': case 'b': return NULL;
+    case 'd': return is_text ? "a longitude or a latitude is a number" : NULL;
+    case 'n': return "a level or the number of a child is an integer";
+    case 'c': return is_text ? NULL : "a cell is an integer or a text";
+    default: return is_text ? NULL : "a union is a BLOB, or cells in an integer or a text";
+  }
+}
+
+static flag is_refused(UDF_ARGS* args, const char* letters, char* message) {
+  unsigned count = (unsigned)strlen(letters);
   if (args->arg_count != count) {
     strcpy(message, "s2: another number of arguments");
     return 1;
   }
-  for (unsigned k = 0; k < count; k++) args->arg_type[k] = types[(unsigned char)kinds[k]];
-  return 0;
-}
-static int has_null(const UDF_ARGS* args) {
-  for (unsigned k = 0; k < args->arg_count; k++)
-    if (!args->args[k]) return 1;
+  for (unsigned k = 0; k < count; k++) {
+    const char* what = missed(args, k, letters[k]);
+    if (what) {
+      sprintf(message, "s2: argument %u: %s", k + 1, what);
+      return 1;
+    }
+    if (letters[k] == 'd' && args->arg_type[k] != STRING_RESULT) args->arg_type[k] = REAL_RESULT;
+  }
   return 0;
 }
 
 #define BYTES(k) (const uint8_t*)args->args[k], args->lengths[k]
 #define TEXT(k) args->args[k], args->lengths[k]
-#define CELL(k) (uint64_t)*(long long*)args->args[k]
-#define SMALL(k) (*(long long*)args->args[k] < 0 || *(long long*)args->args[k] > 99 ? 99u : \
-                  (uint32_t)*(long long*)args->args[k])
-#define DEGREES(k) *(double*)args->args[k]
+
+static int read_cell(const UDF_ARGS* args, unsigned k, uint64_t* cell) {
+  if (args->arg_type[k] == STRING_RESULT) return s2u_host_cell_of_text(TEXT(k), cell) == S2U_OK;
+  if (args->arg_type[k] != INT_RESULT) return 0;
+  *cell = (uint64_t)*(long long*)args->args[k];
+  return s2u_is_cell(*cell);
+}
+
+/* Any number that is too large for a level or a child is as good as another. */
+static int read_number(const UDF_ARGS* args, unsigned k, uint32_t* number) {
+  if (args->arg_type[k] != INT_RESULT) return 0;
+  long long wide = *(long long*)args->args[k];
+  *number = wide < 0 || wide > 99 ? 99 : (uint32_t)wide;
+  return 1;
+}
+
+static int read_degrees(const UDF_ARGS* args, unsigned k, double* degrees) {
+  if (args->arg_type[k] != REAL_RESULT) return 0;
+  *degrees = *(double*)args->args[k];
+  return 1;
+}
+
+/* The server doesn't say whether bytes come or a text. No text of cells begins as a union file does. */
+static int is_file(const UDF_ARGS* args, unsigned k) {
+  return args->arg_type[k] == STRING_RESULT && args->lengths[k] > 0 && args->args[k][0] == 1;
+}
+
+/* The union of a file or of cells. No bytes at all are no file, but for `has_texts` the text of no cell. */
+static int read_list(const UDF_ARGS* args, unsigned k, int has_texts, argument* a) {
+  int is_text = args->arg_type[k] == STRING_RESULT;
+  size_t room = is_file(args, k) ? S2U_MOST_IN_FILE(args->lengths[k]) : is_text ? S2U_MOST_NAMED(args->lengths[k]) : 1;
+  if (is_text && args->lengths[k] == 0 && !has_texts) return 0;
+  a->ids = malloc(8 * room + 8);
+  a->n = 1;
+  if (!a->ids || !is_text) return a->ids && read_cell(args, k, a->ids);
+  if (is_file(args, k)) return s2u_decode(BYTES(k), a->ids, room, &a->n) == S2U_OK;
+  return s2u_from_tokens(TEXT(k), a->ids, room, &a->n) == S2U_OK && s2u_normalise(a->ids, a->n, &a->n) == S2U_OK;
+}
+
+/* The file of a list, in memory of its own; NULL if there is none. */
+static uint8_t* file_of(const uint64_t* ids, size_t n, size_t* size) {
+  uint8_t* file = malloc(S2U_FILE_SIZE(n));
+  if (!file || s2u_encode(ids, n, file, S2U_FILE_SIZE(n), size) == S2U_OK) return file;
+  free(file);
+  return NULL;
+}
+
+/* s2u_file_check of a file. One that comes again in each row, as in a join, is kept the second time if its cells are
+ * normalized. From then on it is compared, which takes the place of the check and is faster. */
+static int32_t check(struct last* last, const uint8_t* bytes, size_t size) {
+  int again = last->size == size;
+  if (again && last->file && memcmp(last->file, bytes, size) == 0) return 1;
+  int32_t status = s2u_file_check(bytes, size);
+  if (size <= WORTH_KEEPING) return status;
+  free(last->file);
+  *last = (struct last){size, again && status == 1 ? malloc(size) : NULL};
+  if (last->file) memcpy(last->file, bytes, size);
+  return status;
+}
+
+/* A file that can be asked: in place, if its cells are normalized. */
+static int read_file(state* kept, const UDF_ARGS* args, unsigned k, argument* a) {
+  int32_t status = is_file(args, k) ? check(&kept->last[k], BYTES(k)) : 0;
+  a->bytes = (const uint8_t*)args->args[k];
+  a->size = args->lengths[k];
+  if (status != 0) return status == 1;
+  if (read_list(args, k, 0, a)) a->bytes = a->file = file_of(a->ids, a->n, &a->size);
+  return a->file != NULL;
+}
+
+static int read_argument(state* kept, const UDF_ARGS* args, unsigned k, char letter, argument* a) {
+  switch (letter) {
+    case 'f': return read_file(kept, args, k, a);
+    case 'l': case 't': return read_list(args, k, letter == 't', a);
+    case 'c': return read_cell(args, k, &a->cell);
+    case 'm': a->number = (uint32_t)read_cell(args, k, &a->cell); return 1;
+    case 'n': return read_number(args, k, &a->number);
+    case 'd': return read_degrees(args, k, &a->degrees);
+    default: return a->number = is_file(args, k) && s2u_file_check(BYTES(k)) == 1, 1;
+  }
+}
+
+/* Whether no argument is NULL, and each is what its letter wants. */
+static int are_read(UDF_INIT* it, const UDF_ARGS* args, const char* letters, argument* a) {
+  for (unsigned k = 0; k < args->arg_count; k++)
+    if (!args->args[k]) return 0;
+  for (unsigned k = 0; k < args->arg_count; k++)
+    if (!read_argument((state*)it->ptr, args, k, letters[k], &a[k])) return 0;
+  return 1;
+}
+
+static void give_back(argument* a) {
+  for (int k = 0; k < MOST_ARGUMENTS; k++) free(a[k].ids), free(a[k].file);
+}
+
 /* `most` is the length of the longest answer. The server cuts answers at it wherever it keeps them: for DISTINCT, say.
  * It would take that of the arguments. */
-#define BEGUN(name, kinds, most)                                                                    \
-  flag name##_init(UDF_INIT* it, UDF_ARGS* args, char* message) {                                    \
-    it->maybe_null = 1, it->const_item = 0, it->ptr = NULL, it->max_length = most;                   \
-    return wanted(args, sizeof kinds - 1, kinds, message);                                           \
-  }
+static flag begin(UDF_INIT* it, UDF_ARGS* args, const char* letters, unsigned most, char* message) {
+  it->maybe_null = 1, it->const_item = 0, it->ptr = NULL, it->max_length = most;
+  if (is_refused(args, letters, message)) return 1;
+  it->ptr = calloc(1, sizeof(state));
+  if (!it->ptr) strcpy(message, "s2: out of memory");
+  return !it->ptr;
+}
 
-/* A number: `call` sets `answer`, and says whether there is one. Letters: u a union, c a cell, i a small number, d a
- * number of degrees, t a text. */
-#define NUMBER(name, kinds, call)                                                                   \
-  BEGUN(name, kinds, 20)                                                                             \
+static void end(UDF_INIT* it) {
+  state* kept = (state*)it->ptr;
+  for (int k = 0; kept && k < MOST_ARGUMENTS; k++) free(kept->last[k].file);
+  if (kept) free(kept->answer);
+  free(kept);
+}
+
+#define FUNCTION(name, letters, most)                                                               \
+  flag name##_init(UDF_INIT* it, UDF_ARGS* args, char* message) {                                    \
+    return begin(it, args, letters, most, message);                                                  \
+  }                                                                                                  \
+  void name##_deinit(UDF_INIT* it) { end(it); }
+
+/* ---- numbers: `call` sets `answer`, and says whether there is one */
+
+#define NUMBER(name, letters, call)                                                                 \
+  FUNCTION(name, letters, 20)                                                                        \
   long long name(UDF_INIT* it, UDF_ARGS* args, flag* is_null, flag* error) {                         \
-    (void)it, (void)error;                                                                           \
+    (void)error;                                                                                     \
     uint64_t answer = 0;                                                                             \
-    *is_null = (flag)(has_null(args) || !(call));                                                    \
+    argument a[MOST_ARGUMENTS] = {{0}};                                                              \
+    *is_null = (flag)!(are_read(it, args, letters, a) && (call));                                    \
+    give_back(a);                                                                                    \
     return *is_null ? 0 : (long long)answer;                                                         \
   }
 #define ASKED(call) ((answer = (uint64_t)(int64_t)(call)), (int64_t)answer >= 0)
 #define FOUND(call) ((answer = (call)) != 0)
+#define FILE_OF(k) a[k].bytes, a[k].size
 
-NUMBER(s2_is_union, "u", ASKED(s2u_file_check(BYTES(0)) == 1))
-NUMBER(s2_is_cell, "c", ASKED(s2u_is_cell(CELL(0))))
-NUMBER(s2_contains, "uu", ASKED(s2u_file_contains(BYTES(0), BYTES(1))))
-NUMBER(s2_contains_cell, "uc", ASKED(s2u_file_contains_cell(BYTES(0), CELL(1))))
-NUMBER(s2_intersects, "uu", ASKED(s2u_file_intersects(BYTES(0), BYTES(1))))
-NUMBER(s2_intersects_cell, "uc", ASKED(s2u_file_intersects_cell(BYTES(0), CELL(1))))
-NUMBER(s2_count, "u", s2u_file_count(BYTES(0), &answer) == S2U_OK)
-NUMBER(s2_leaves, "u", s2u_file_leaf_count(BYTES(0), &answer) == S2U_OK)
-NUMBER(s2_level, "c", ASKED(s2u_level(CELL(0))))
-NUMBER(s2_face, "c", ASKED(s2u_face(CELL(0))))
-NUMBER(s2_parent, "ci", FOUND(s2u_parent(CELL(0), SMALL(1))))
-NUMBER(s2_child, "ci", FOUND(s2u_child(CELL(0), SMALL(1))))
-NUMBER(s2_range_min, "c", FOUND(s2u_range_min(CELL(0))))
-NUMBER(s2_range_max, "c", FOUND(s2u_range_max(CELL(0))))
-NUMBER(s2_common_ancestor, "cc", FOUND(s2u_common_ancestor(CELL(0), CELL(1))))
-NUMBER(s2_cell, "t", s2u_from_token(TEXT(0), &answer) == S2U_OK)
-NUMBER(s2_leaf_at, "dd", FOUND(s2u_geo_leaf(DEGREES(0), DEGREES(1))))
+NUMBER(s2_is_union, "b", ASKED(a->number))
+NUMBER(s2_is_cell, "m", ASKED(a->number))
+NUMBER(s2_contains, "ff", ASKED(s2u_file_contains(FILE_OF(0), FILE_OF(1))))
+NUMBER(s2_contains_cell, "fc", ASKED(s2u_file_contains_cell(FILE_OF(0), a[1].cell)))
+NUMBER(s2_intersects, "ff", ASKED(s2u_file_intersects(FILE_OF(0), FILE_OF(1))))
+NUMBER(s2_intersects_cell, "fc", ASKED(s2u_file_intersects_cell(FILE_OF(0), a[1].cell)))
+NUMBER(s2_count, "f", s2u_file_count(FILE_OF(0), &answer) == S2U_OK)
+NUMBER(s2_leaves, "f", s2u_file_leaf_count(FILE_OF(0), &answer) == S2U_OK)
+NUMBER(s2_level, "c", ASKED(s2u_level(a->cell)))
+NUMBER(s2_face, "c", ASKED(s2u_face(a->cell)))
+NUMBER(s2_parent, "cn", FOUND(s2u_parent(a->cell, a[1].number)))
+NUMBER(s2_child, "cn", FOUND(s2u_child(a->cell, a[1].number)))
+NUMBER(s2_range_min, "c", FOUND(s2u_range_min(a->cell)))
+NUMBER(s2_range_max, "c", FOUND(s2u_range_max(a->cell)))
+NUMBER(s2_common_ancestor, "cc", FOUND(s2u_common_ancestor(a->cell, a[1].cell)))
+NUMBER(s2_cell, "c", FOUND(a->cell))
+NUMBER(s2_leaf_at, "dd", FOUND(s2u_geo_leaf(a->degrees, a[1].degrees)))
 
-BEGUN(s2_token, "c", S2U_MOST_TOKEN)
-char* s2_token(UDF_INIT* it, UDF_ARGS* args, char* result, unsigned long* length, flag* is_null, flag* error) {
-  (void)it, (void)error;
-  size_t n = 0;
-  *is_null = (flag)(has_null(args) || s2u_token(CELL(0), result, S2U_MOST_TOKEN, &n) != S2U_OK);
-  *length = n;
-  return result;
-}
+/* ---- texts and unions: `call` makes one in memory of its own, and sets `len` */
 
-/* ---- unions, in memory that the statement has until its end */
-
-#define KEEPER(name, kinds)                                                                         \
-  BEGUN(name, kinds, 1u << 30)                                                                       \
-  void name##_deinit(UDF_INIT* it) { free(it->ptr); }
-
-typedef struct { uint64_t* ids; size_t n; } list;
-
-static int read_list(const UDF_ARGS* args, unsigned k, list* to) {
-  size_t room = S2U_MOST_IN_FILE(args->lengths[k]);
-  to->ids = malloc(8 * room + 8);
-  return to->ids && s2u_decode(BYTES(k), to->ids, room, &to->n) == S2U_OK;
-}
-/* The file of a list, in place of the last one of this function. */
-static char* written(UDF_INIT* it, const uint64_t* ids, size_t n, unsigned long* length, flag* is_null) {
-  size_t len = 0;
-  free(it->ptr);
-  it->ptr = malloc(S2U_FILE_SIZE(n));
-  *is_null = (flag)(!it->ptr || s2u_encode(ids, n, (uint8_t*)it->ptr, S2U_FILE_SIZE(n), &len) != S2U_OK);
-  *length = len;
-  return it->ptr;
-}
-
-#define MAKER(name, kinds, most, call)                                                              \
-  KEEPER(name, kinds)                                                                                \
+#define KEEPER(name, letters, most, call)                                                           \
+  FUNCTION(name, letters, most)                                                                      \
   char* name(UDF_INIT* it, UDF_ARGS* args, char* result, unsigned long* length, flag* is_null, flag* error) { \
     (void)result, (void)error;                                                                       \
-    list a = {NULL, 0}, b = {NULL, 0};                                                               \
-    uint64_t* out = NULL;                                                                            \
-    char* made = NULL;                                                                               \
-    size_t len = 0, room;                                                                            \
-    *is_null = 1;                                                                                    \
-    if (!has_null(args) && read_list(args, 0, &a) && (sizeof kinds < 3 || read_list(args, 1, &b)) &&  \
-        (room = (most), out = malloc(8 * room + 8)) && (call) == S2U_OK)                             \
-      made = written(it, out, len, length, is_null);                                                 \
-    free(a.ids), free(b.ids), free(out);                                                             \
-    return made;                                                                                     \
+    state* kept = (state*)it->ptr;                                                                   \
+    argument a[MOST_ARGUMENTS] = {{0}};                                                              \
+    size_t len = 0;                                                                                  \
+    free(kept->answer);                                                                              \
+    kept->answer = are_read(it, args, letters, a) ? (char*)(call) : NULL;                            \
+    give_back(a);                                                                                    \
+    *is_null = (flag)!kept->answer;                                                                  \
+    *length = len;                                                                                   \
+    return kept->answer;                                                                             \
   }
+#define LIST_OF(k) a[k].ids, a[k].n
+enum { LONGEST = 1073741824 }; /* bytes: as much as a packet can have */
 
-/* Texts: the tokens of a union, and the union of tokens. */
-KEEPER(s2_tokens, "u")
-char* s2_tokens(UDF_INIT* it, UDF_ARGS* args, char* result, unsigned long* length, flag* is_null, flag* error) {
-  (void)result, (void)error;
-  list a = {NULL, 0};
-  size_t len = 0;
-  *is_null = 1;
-  if (!has_null(args) && read_list(args, 0, &a)) {
-    free(it->ptr);
-    it->ptr = malloc(S2U_MOST_TOKENS(a.n) + 1);
-    *is_null = (flag)(!it->ptr || s2u_tokens(a.ids, a.n, it->ptr, S2U_MOST_TOKENS(a.n), &len) != S2U_OK);
-  }
-  free(a.ids);
-  *length = len;
-  return it->ptr;
+static char* token_of(uint64_t cell, size_t* len) {
+  char* text = malloc(S2U_MOST_TOKEN);
+  if (text && s2u_token(cell, text, S2U_MOST_TOKEN, len) != S2U_OK) free(text), text = NULL;
+  return text;
+}
+static char* tokens_of(const argument* a, size_t* len) {
+  char* text = malloc(S2U_MOST_TOKENS(a->n) + 1);
+  if (text && s2u_tokens(LIST_OF(0), text, S2U_MOST_TOKENS(a->n), len) != S2U_OK) free(text), text = NULL;
+  return text;
 }
 
-KEEPER(s2_normalise, "t")
-char* s2_normalise(UDF_INIT* it, UDF_ARGS* args, char* result, unsigned long* length, flag* is_null, flag* error) {
-  (void)result, (void)error;
-  size_t n = 0, room = has_null(args) ? 0 : args->lengths[0] / 2 + 1;
-  uint64_t* ids = malloc(8 * room + 8);
-  char* made = NULL;
-  *is_null = 1;
-  if (ids && !has_null(args) && s2u_from_tokens(TEXT(0), ids, room, &n) == S2U_OK &&
-      s2u_normalise(ids, n, &n) == S2U_OK)
-    made = written(it, ids, n, length, is_null);
-  free(ids);
-  return made;
-}
+KEEPER(s2_token, "c", S2U_MOST_TOKEN, token_of(a->cell, &len))
+KEEPER(s2_tokens, "l", LONGEST, tokens_of(a, &len))
+KEEPER(s2_normalise, "t", LONGEST, file_of(LIST_OF(0), &len))
 
-MAKER(s2_union, "uu", a.n + b.n, s2u_union(a.ids, a.n, b.ids, b.n, out, room, &len))
-MAKER(s2_intersection, "uu", a.n + b.n, s2u_intersection(a.ids, a.n, b.ids, b.n, out, room, &len))
-MAKER(s2_difference, "uu", S2U_MOST_DIFFERENCE(a.n, b.n), s2u_difference(a.ids, a.n, b.ids, b.n, out, room, &len))
-MAKER(s2_symmetric_difference, "uu", S2U_MOST_SYMMETRIC_DIFFERENCE(a.n, b.n),
-      s2u_symmetric_difference(a.ids, a.n, b.ids, b.n, out, room, &len))
-MAKER(s2_complement, "u", S2U_MOST_COMPLEMENT(a.n), s2u_complement(a.ids, a.n, out, room, &len))
+/* A union that `call` makes in `out`, where `room` is as much as the longest one takes. */
+#define MAKER(name, letters, longest, call)                                                         \
+  static uint8_t* make_##name(const argument* a, size_t* len) {                                      \
+    size_t room = (longest), n = 0;                                                                  \
+    uint64_t* out = malloc(8 * room + 8);                                                            \
+    uint8_t* file = out && (call) == S2U_OK ? file_of(out, n, len) : NULL;                           \
+    free(out);                                                                                       \
+    return file;                                                                                     \
+  }                                                                                                  \
+  KEEPER(name, letters, LONGEST, make_##name(a, &len))
+#define MADE out, room, &n
+
+MAKER(s2_union, "ll", a->n + a[1].n, s2u_union(LIST_OF(0), LIST_OF(1), MADE))
+MAKER(s2_intersection, "ll", a->n + a[1].n, s2u_intersection(LIST_OF(0), LIST_OF(1), MADE))
+MAKER(s2_difference, "ll", S2U_MOST_DIFFERENCE(a->n, a[1].n), s2u_difference(LIST_OF(0), LIST_OF(1), MADE))
+MAKER(s2_symmetric_difference, "ll", S2U_MOST_SYMMETRIC_DIFFERENCE(a->n, a[1].n),
+      s2u_symmetric_difference(LIST_OF(0), LIST_OF(1), MADE))
+MAKER(s2_complement, "l", S2U_MOST_COMPLEMENT(a->n), s2u_complement(LIST_OF(0), MADE))

@@ -7,27 +7,15 @@ WORLD is the folder of the countries, and WORK one for the servers, which listen
 import os
 import socket
 import subprocess
-import time
 import unittest
-from pathlib import Path
 
 import earth
 import numpy
 from model import plain_sql
+from model.engine import INSTALL, WORK, Engine, MariadbServer
 from model.random_cells import signed
-from s2union import Union, child, common_ancestor, from_token, level, parent, range_max, range_min, tokens
+from s2union import Union, tokens
 
-WORK = Path(os.environ["WORK"])
-MARIADB = f"""[server]
-datadir={WORK}/mariadb
-socket={WORK}/mariadb.socket
-plugin-dir={WORK}/mariadb_functions
-pid-file={WORK}/mariadb.pid
-skip-networking
-[client]
-socket={WORK}/mariadb.socket
-local-infile
-"""
 CLICKHOUSE = """<yandex>
 <logger><level>error</level><console>1</console></logger>
 <listen_host>127.0.0.1</listen_host><tcp_port>{port}</tcp_port>
@@ -65,27 +53,6 @@ def pairs(text):
     return sorted((int(place), name) for place, name in rows)
 
 
-class Engine(unittest.TestCase):
-    """A server that runs while its tests do. Those who inherit say how it is started and asked."""
-
-    @classmethod
-    def begin(cls, server, client):
-        cls.client = client
-        with open(WORK / f"{cls.__name__}.log", "wb") as log:
-            process = subprocess.Popen(server, stdin=subprocess.DEVNULL, stdout=log, stderr=log)
-        cls.addClassCleanup(process.wait)
-        cls.addClassCleanup(process.terminate)
-        until = time.monotonic() + 60
-        while cls.ask("SELECT 1", check=False) != "1\n":
-            assert process.poll() is None and time.monotonic() < until, (WORK / f"{cls.__name__}.log").read_text()
-            time.sleep(0.1)
-
-    @classmethod
-    def ask(cls, script, check=True):
-        return subprocess.run(cls.client, input=script, stdout=subprocess.PIPE, check=check, text=True, timeout=300,
-                              stderr=None if check else subprocess.DEVNULL).stdout
-
-
 class Sqlite(unittest.TestCase):
     def test_all_pairs(self):
         self.assertEqual(sorted(plain_sql.in_sqlite(POINTS, REGIONS)[0]), PAIRS)
@@ -120,16 +87,7 @@ class Terms(unittest.TestCase):
             self.assertEqual(met, {other for other in ranges if meet(ranges[name], ranges[other])})
 
 
-class Mariadb(Engine):
-    @classmethod
-    def setUpClass(cls):
-        (WORK / "mariadb.cnf").write_text(MARIADB)
-        own = f"--defaults-file={WORK}/mariadb.cnf"
-        user = ["--user=root"] if os.getuid() == 0 else []
-        subprocess.run(["mariadb-install-db", own, "--auth-root-authentication-method=normal", *user], check=True,
-                       stdout=subprocess.DEVNULL)
-        cls.begin(["/usr/sbin/mariadbd", own, *user], ["mariadb", own, "--skip-column-names", "--user=root"])
-
+class Mariadb(MariadbServer):
     def given(self, kind, made="signed"):
         """The tables of points and of countries, in columns of this kind, in a database of their own."""
         return f"""DROP DATABASE IF EXISTS world; CREATE DATABASE world; USE world;
@@ -144,12 +102,11 @@ class Mariadb(Engine):
         self.assertEqual(pairs(self.ask(self.given("unsigned", "unsigned") + recipe)), PAIRS)
 
     def test_functions(self):
-        """docs/MARIADB.md: all pairs of a leaf and a covering and of two coverings, set operations beside the module
-        for Python, and what is wrong, which is NULL."""
-        install = (Path(__file__).resolve().parents[2] / "bindings" / "mariadb" / "install.sql").read_text()
+        """docs/MARIADB.md: all pairs of a leaf and a covering and of two coverings, and set operations beside the
+        module for Python."""
         values = ",".join(f"('{name}', x'{Union(cells).to_bytes().hex()}')" for name, cells in REGIONS.items())
         pairs_of_unions = "SELECT count(*) FROM regions a JOIN regions b ON a.name < b.name AND s2_intersects(a.u, b.u)"
-        self.ask(f"""{self.given('')} {install}
+        self.ask(f"""{self.given('')} {INSTALL}
             CREATE TABLE regions (name varchar(200) PRIMARY KEY, u longblob NOT NULL);
             INSERT INTO regions VALUES {values};""")
         found = self.ask("USE world; SELECT place, name FROM places JOIN regions ON s2_contains_cell(u, leaf)")
@@ -171,47 +128,6 @@ class Mariadb(Engine):
         self.assertEqual([bytes.fromhex(said[k]) for k in (0, 4)], [(~france).to_bytes(), france.to_bytes()])
         self.assertEqual(said[1:4] + said[5:],
                          [str(len(france)), str(france.leaf_count()), " ".join(france.tokens()), "1"])
-        cell = "s2_cell('9b')"
-        said = self.ask(f"SELECT {cell}, s2_token({cell}), s2_level({cell}), s2_face({cell}), s2_parent({cell}, 1), "
-                        f"s2_child({cell}, 0), s2_range_min({cell}), s2_range_max({cell}), s2_is_cell({cell}), "
-                        f"s2_common_ancestor({cell}, s2_cell('9f')), s2_token(s2_leaf_at(2.3522, 48.8566)), "
-                        "s2_intersects_cell(s2_normalise('9b'), s2_cell('9b1'))")
-        cell = from_token("9b")
-        self.assertEqual(said.split(), [*map(str, (
-            signed(cell), "9b", level(cell), 4, signed(parent(cell, 1)), signed(child(cell, 0)),
-            signed(range_min(cell)), signed(range_max(cell)), 1, signed(common_ancestor(cell, from_token("9f"))),
-            "47e66e1d8f8be23b", 1))])
-        wrong = ("s2_level(2), s2_token(2), s2_parent(s2_cell('9b'), 31), s2_child(1, 0), s2_cell('x'), s2_count('x'), "
-                 "s2_contains_cell('x', 1), s2_leaf_at(541, 0), s2_union('x', 'y'), s2_tokens('x'), "
-                 "s2_normalise('zz'), s2_contains(NULL, 'x'), s2_contains_cell(s2_normalise('1'), NULL), "
-                 "s2_complement(NULL), s2_parent(s2_cell('9b'), -1), s2_parent(s2_cell('9b'), 4294967296), "
-                 "s2_child(s2_cell('9b'), 4)")
-        self.assertEqual(self.ask(f"SELECT {wrong}").split(), ["NULL"] * 17)
-        empty = Union().to_bytes().hex()
-        self.assertEqual(self.ask("SELECT s2_is_union('x'), s2_is_cell(2), lower(hex(s2_normalise('')))").split(),
-                         ["0", "0", empty])
-        two = Union([1, 5])  # answers that are longer than the arguments, kept by the server
-        said = self.ask("USE world; CREATE TABLE kept AS SELECT s2_token(1), hex(s2_normalise('1')), "
-                        f"s2_tokens(x'{two.to_bytes().hex()}'); SELECT * FROM kept")
-        self.assertEqual(said, f"{1:016x}\t{Union([1 << 60]).to_bytes().hex().upper()}\t{' '.join(two.tokens())}\n")
-        for call in ("s2_level(1, 2)", "s2_union(s2_normalise('1'))", "s2_leaf_at(1)"):
-            with self.assertRaises(subprocess.CalledProcessError):
-                self.ask(f"SELECT {call}")
-
-    def test_memory_goes_back_after_each_row(self):
-        many = Union([(8 * k + 1) for k in range(20000)])
-        self.ask(f"""{self.given('')} CREATE TABLE large (u longblob, t longtext);
-            INSERT INTO large VALUES (x'{many.to_bytes().hex()}', '{' '.join(many.tokens())}');""")
-        for call in ("s2_union(u, u)", "s2_complement(u)", "s2_tokens(u)", "s2_normalise(t)"):
-            before = self.resident()
-            self.ask(f"USE world; SELECT BENCHMARK(1000, length({call})) FROM large")
-            self.assertLess(self.resident() - before, 100_000, call)
-
-    @staticmethod
-    def resident():
-        """The server's memory, in KB."""
-        status = Path("/proc", (WORK / "mariadb.pid").read_text().strip(), "status").read_text()
-        return int(status.partition("VmRSS:")[2].split()[0])
 
     def test_what_is_not_cut(self):
         """The CHECK refuses it."""
