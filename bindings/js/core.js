@@ -523,9 +523,10 @@ class Core {
 
   /** The union in the bytes of a file; a file that is none is refused by its fault. */
   decode(bytes) {
-    const status = this.ask("s2u_file_check", [bytes]);
+    const [[at, length]] = this.passed([bytes], []); // of a copy: other threads may change shared bytes meanwhile
+    const status = this.calls.s2u_file_check(at, length);
     if (status < 0) throw new Refusal(status, 0);
-    const ids = new BigUint64Array(bytes.slice(HEAD_SIZE).buffer);
+    const ids = new BigUint64Array(this.bytes(Number(at) + HEAD_SIZE, Number(length) - HEAD_SIZE).slice().buffer);
     return status === 1 ? ids : this.normalise(ids);
   }
 

@@ -87,6 +87,26 @@ by_property() ( # named from the root and from here, where the classes have none
     ! by_page -cp classes >said 2>&1 && grep "s2union has no library for amd64" said
 )
 step "the property s2union.library" by_property
+of_its_own() ( # whoever may write what is made, by the umask: asked when it is deleted
+  cat >"$work/deleted.c" <<'END' &&
+#define _GNU_SOURCE
+#include <stdio.h>
+#include <stdlib.h>
+#include <sys/stat.h>
+#include <sys/syscall.h>
+#include <unistd.h>
+int unlink(const char* path) {
+  struct stat it;
+  FILE* said = stat(path, &it) == 0 && it.st_size > 9999 ? fopen(getenv("DELETED"), "a") : NULL;
+  if (said) fprintf(said, "%o\n", it.st_mode), fclose(said);
+  return (int)syscall(SYS_unlink, path);
+}
+END
+    gcc -shared -fPIC "$work/deleted.c" -o "$work/deleted.so" && cd "$work" && umask 0 &&
+    DELETED=$work/deleted LD_PRELOAD=$work/deleted.so by_page -XX:-UsePerfData -cp "$jar" &&
+    [ "$(uniq "$work/deleted")" = 100600 ]
+)
+step "its library while it is loaded, which no other user may write" of_its_own
 not_loaded() ( # what can't be loaded doesn't stay either
   cd "$work" && echo "no library" >classes/s2union/amd64/libs2union_java.so &&
     ! by_page -cp classes >said 2>&1 && grep UnsatisfiedLinkError said && [ -z "$(ls temporary)" ]

@@ -41,11 +41,18 @@ const tests = {
     assert.throws(() => geo.fromGeoJSON({type: "Nothing"}), /no GeoJSON/);
     assert.throws(() => geo.fromGeoJSON("{"), SyntaxError);
     assert.throws(() => geo.fromGeoJSON({type: "Point", coordinates: [0, 91]}), /out of range/);
+    for (const position of [["0", "1"], [0, "1"], [true, 1], [null, 1], [[0], 1], [0], [0, NaN]]) {
+      assert.throws(() => geo.fromGeoJSON({type: "Point", coordinates: position}), /out of range/, String(position));
+      const coordinates = [position, ...square.slice(1, 4), position];
+      assert.throws(() => geo.fromGeoJSON({type: "Polygon", coordinates: [coordinates]}), /out of range/);
+    }
     for (const [length, steps] of [[1000, 404_000], [1_000_000, 4_000_000]]) {
       const coordinates = Array.from({length}, (_, k) => [k % 2 ? 540 : -540, 0]);
       assert.throws(() => geo.fromGeoJSON({type: "LineString", coordinates}), RegExp(`more than ${steps} steps`));
     }
-    assert.throws(() => geo.fromGeoJSON(polygon, 0), RangeError);
+    for (const most of [0, -1, NaN, 1_000_001, 1e9, Infinity, "many"]) {
+      assert.throws(() => geo.fromGeoJSON(polygon, most), RangeError, String(most));
+    }
     assert.throws(() => geo.toGeoJSON(CellUnion.fromTokens("1").denormalized(1)), TypeError);
   },
   "a covering has all points of a polygon, and few more with more cells": () => {
@@ -85,6 +92,22 @@ const tests = {
     const teeth = Array.from({length: 3000}, (_, k) => [k % 2 ? 0.1 : 0, k / 1e12]);
     const line = {type: "LineString", coordinates: teeth};
     assert.throws(() => geo.fromGeoJSON(line), /too many edges lie near one another: \d+ pairs/);
+  },
+  "a strip along a parallel and one along a meridian have a narrow margin": () => {
+    const strip = [[0, 60], [10, 60], [10, 60.001], [0, 60.001], [0, 60]];
+    for (const ring of [strip, strip.map(([x, y]) => [y, x])]) {
+      const union = geo.fromGeoJSON({type: "Polygon", coordinates: [ring]}, 10_000);
+      assert.ok(union.leafCount() < 2n ** 44n, `${union.leafCount()}`);
+      for (let k = 0; k <= 100; k++) {
+        const at = (across) => ring[1][0] === 10 ? [k / 10, 60 + across] : [60 + across, k / 10];
+        assert.ok(union.has(geo.fromLngLat(...at(0.0005))) && !union.has(geo.fromLngLat(...at(0.1))), `${k}`);
+      }
+    }
+  },
+  "a polygon whose positions are all one place": () => {
+    const dot = (most) => geo.fromGeoJSON({type: "Polygon", coordinates: [Array(4).fill([1, 1])]}, most);
+    assert.ok(dot(1).size === 1 && dot(1).has(geo.fromLngLat(1, 1)) && dot(1).isSupersetOf(dot(1000)));
+    assert.ok(dot(1000).leafCount() < 5n && dot(1).leafCount() > 5n);
   },
   "long edges, and many as wide as their polygon, which take no more memory than short ones": () => {
     const around = Array.from({length: 100}, (_, k) => [k % 2 ? 180 : -180, k / 10]);

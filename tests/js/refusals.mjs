@@ -303,6 +303,21 @@ const TESTS = {
     assert.equal(first.has(LEAF), true);
     withoutMemory(0, () => assert.equal(second.has(LEAF), false));
   },
+  "what was answered doesn't change afterwards": () => {
+    const asked = Object.entries(CALLS).filter(([name, {asks}]) => asks && name !== "load");
+    const answers = asked.map(([name, {asks}]) => {
+      const it = asks(few);
+      return {name, it, shown: inspect(it)};
+    });
+    assert.ok(answers.filter(({it}) => ArrayBuffer.isView(it)).length > 5);
+    const others = new Given(s2, 7);
+    others.cells = others.cells.map((id) => id + 2n ** 40n);
+    others.points.reverse();
+    for (const [, {asks}] of asked) {
+      asks(others);
+      for (const {name, it, shown} of answers) assert.equal(inspect(it), shown, name);
+    }
+  },
   "what was given changes afterwards": () => {
     const wanted = (it, name) => {
       assert.equal(it.has(FACE), true, name);
@@ -326,6 +341,17 @@ const TESTS = {
       if (name === "resizable") buffer.resize?.(0);
       else if (name !== "shared") structuredClone(buffer, {transfer: [buffer]});
       for (const it of [fresh, asked, asked.toUnion()]) wanted(it, name);
+    }
+    const {set} = Object.getPrototypeOf(Uint8Array.prototype);
+    shared.set(good);
+    Object.getPrototypeOf(Uint8Array.prototype).set = function (...words) {
+      set.apply(this, words);
+      shared.fill(255); // as another thread may, at any time after the bytes were read
+    };
+    try {
+      wanted(CellUnion.decode(shared), "shared, read by decode");
+    } finally {
+      Object.getPrototypeOf(Uint8Array.prototype).set = set;
     }
     const list = BigUint64Array.of(0n, FACE, 0n).subarray(1, 2);
     const unions = [new CellUnion(list), CellUnion.fromNormalized(list), CellUnion.unionOf([new CellUnion(list)])];

@@ -2,9 +2,10 @@ package s2union;
 
 import java.io.IOException;
 import java.io.InputStream;
+import java.io.OutputStream;
 import java.nio.file.Files;
 import java.nio.file.Path;
-import java.nio.file.StandardCopyOption;
+import java.nio.file.StandardOpenOption;
 import java.util.Arrays;
 
 /** The calls of s2union.h, by their numbers in s2union.c, and what their statuses mean. */
@@ -50,7 +51,10 @@ final class Calls {
       }
       Path copy = Files.createTempFile("libs2union_java", ".so");
       try {
-        Files.copy(library, copy, StandardCopyOption.REPLACE_EXISTING);
+        // Into the file that was made, which nobody else may write: to replace it would make one by the umask.
+        try (OutputStream to = Files.newOutputStream(copy, StandardOpenOption.WRITE)) {
+          library.transferTo(to);
+        }
         System.load(copy.toString());
       } finally {
         Files.delete(copy);
