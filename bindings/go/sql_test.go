@@ -26,7 +26,8 @@ func TestColumnsOfDatabases(t *testing.T) {
 		var found s2union.CellID
 		check(t, found.Scan(given) == nil && found == id, "a cell is scanned")
 	}
-	for _, given := range []any{must(union.MarshalBinary()), "04 0c", []byte("0c, 04"), "0/0 0/1"} {
+	for _, given := range []any{must(union.MarshalBinary()), "04 0c", []byte("0c, 04"), "0/0 0/1",
+		[]byte("\n04 0c"), []byte("\t0c\r\n04"), []byte(" ,04,0c ")} {
 		var found s2union.CellUnion
 		check(t, found.Scan(given) == nil && found.Equal(union), "a union is scanned")
 	}

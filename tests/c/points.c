@@ -44,9 +44,11 @@ int main(void) {
                 s2u_geo_middle(leaf, &x, &y) == S2U_OK && is_near(x, y, longitude, latitude);
     is_so ? passed++ : failed++;
   }
-  if (s2u_geo_leaf(541, 0) == 0 && s2u_geo_leaf(0, NAN) == 0 && s2u_geo_middle(2, &x, &y) == S2U_NO_CELL) passed++;
-  else failed++;
+  const double wrong[][2] = {{541, 0}, {-541, 0}, {0, 91}, {0, -91}, {NAN, 0}, {0, NAN}, {INFINITY, 0}};
+  for (size_t k = 0; k < sizeof wrong / sizeof *wrong; k++)
+    s2u_geo_leaf(wrong[k][0], wrong[k][1]) ? failed++ : passed++;
+  s2u_geo_middle(2, &x, &y) == S2U_NO_CELL ? passed++ : failed++;
   all_as_by_hypot() ? passed++ : failed++;
   printf("%d passed, %d failed\n", passed, failed);
-  return passed < 3 || failed > 0;
+  return passed < 11 || failed > 0;
 }

@@ -212,6 +212,9 @@ static void unions() {
   REFUSES(S2U_MEMORY, two.SymmetricDifference(face, status));
   REFUSES(S2U_MEMORY, two.Complement(status));
   REFUSES(S2U_MEMORY, two.ContainsCells(two.cell_ids(), status));
+  status = S2U_OK;
+  const bool is_taken = x.Decode(bytes.data(), bytes.size(), &status);
+  check(!is_taken && status == S2U_MEMORY, "Decode without memory");
   REFUSES(S2U_MEMORY, two.Ancestors(status));
   REFUSES(S2U_MEMORY, two.Covering(0, 9, status));
   REFUSES(S2U_MEMORY, two.Tokens(status));

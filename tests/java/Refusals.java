@@ -52,6 +52,29 @@ final class Refusals {
     }
   }
 
+  /** A status that a later library may have, and the longest list that Java has. */
+  private static void whatIsUnknown() {
+    try {
+      var refusal = Refusal.class.getDeclaredConstructor(int.class, long.class);
+      refusal.setAccessible(true);
+      for (int status : new int[] {-99, -1, -7, -14}) {
+        check(refusal.newInstance(status, 0L).kind() == Refusal.Kind.OTHER, "the kind of " + status);
+      }
+      var room = Class.forName("s2union.Calls").getDeclaredMethod("roomOf", long.class);
+      room.setAccessible(true);
+      check(room.invoke(null, Integer.MAX_VALUE - 8L).equals(Integer.MAX_VALUE - 8), "the longest list");
+      for (long more : new long[] {Integer.MAX_VALUE - 7L, Integer.MAX_VALUE, 1L << 31, 1L << 40, -1}) {
+        try {
+          check(false, "a list of " + more + ": " + room.invoke(null, more));
+        } catch (java.lang.reflect.InvocationTargetException error) {
+          check(error.getCause() instanceof Refusal many && many.kind() == Refusal.Kind.MANY, "" + more);
+        }
+      }
+    } catch (ReflectiveOperationException error) {
+      check(false, error.toString());
+    }
+  }
+
   private static void noCell(long place, Runnable action) {
     refused(-3, place, "not a cell", action);
   }
@@ -206,6 +229,7 @@ final class Refusals {
     check(CellId.version().equals(words[0]), "the version");
     check(Arrays.equals(CellId.toTokens(FACE, 1), new String[] {"1", "0000000000000001"}), "tokens of many");
     numbersThatAreNoCells();
+    whatIsUnknown();
     numbersOutOfRange();
     files();
     values();

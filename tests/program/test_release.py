@@ -92,6 +92,10 @@ class Release(unittest.TestCase):
         self.release(FILES)
         os.symlink("s2calc", os.path.join(self.room, "dist/calculator"))
         self.assertEqual(self.refused("--check"), [more])
+        self.release({**FILES, "s2union-7.8.9.html": FILES["s2calc"]})
+        os.remove(os.path.join(self.room, "dist/s2union-7.8.9.html"))
+        os.symlink("s2calc", os.path.join(self.room, "dist/s2union-7.8.9.html"))
+        self.assertEqual(self.refused("--check"), [more], "a link by a name of SHA256SUMS")
 
     def test_versions_that_are_others(self):
         one, says = "one version", "the program for x86-64 says its version"

@@ -86,6 +86,10 @@ by_pip() { # the module where pip puts it, with the library elsewhere
       /usr/bin/python3 -m doctest "$top/docs/PYTHON.md") && [ -e "$work/site/s2union/py.typed" ]
 }
 step "installed by pip" by_pip
+without_pkg_config() { # where no folder for s2union.h is said, the compiler's own places are left
+  (cd "$work/source" && env -u S2UNION_INCLUDE PATH= /usr/bin/python3 setup.py --name 2>/dev/null) | grep -x s2union
+}
+step "its setup.py without pkg-config" without_pkg_config
 by_sdist() ( # the archive of its sources builds where nothing else is
   cp -r "$top/bindings/python" "$work/described" &&
     python3 "$top/tools/packaging/described.py" "$work/described" docs/PYTHON.md &&

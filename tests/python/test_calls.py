@@ -119,6 +119,7 @@ SAID = [
     (lambda: s2union.parent(FACE), "a face has no parent: 0x1000000000000000"),
     (lambda: s2union.parent(FACE, 1), "level 1 is deeper than the cell 1, which is of level 0"),
     (lambda: s2union.child(1, 0), "a leaf has no children: 0x1"),
+    (lambda: s2union.child(1 - 2**63, 0), "a leaf has no children: 0x8000000000000001"),
     (lambda: s2union.from_token("é"), "not a cell: 'é'"),
     (lambda: s2union.from_tokens("1 " + 40 * "x"), f"not a cell: '{32 * 'x'}' at place 2"),
     (lambda: s2union.from_tokens("1, Málaga"), "not a cell: 'Málaga' at place 3"),

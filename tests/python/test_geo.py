@@ -486,6 +486,9 @@ class Maps(unittest.TestCase):
     def test_the_command_line(self):
         self.assertEqual(said("leaves", text="2.3522 48.8566 Paris\n\n0 90 North Pole\n").stdout,
                          "47e66e1d8f8be23b\n5000000000000001\n")
+        for nothing in ("", "\n \n"):
+            done = said("leaves", text=nothing)
+            self.assertEqual((done.returncode, done.stdout, done.stderr), (0, "", ""))
         for words, text, wanted in ((("leaves",), "2 3\n\n2,35 4\n", "line 3 has no longitude .*: '2,35 4'\n"),
                                     (("leaves",), "7\n", "s2union_geo: line 1 has no longitude and latitude at .*'7'"),
                                     (("leaves",), "1 91\n", r"s2union_geo: line 1: a latitude .*comes first\): 91.0\n"),

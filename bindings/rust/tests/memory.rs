@@ -1,8 +1,10 @@
-//! Each allocation refused in turn: a call that returns a `Result` returns `Error::Memory`, or what it would have.
+//! Each allocation refused in turn: a call that returns a `Result` returns `Error::Memory`, or what it would have. And
+//! each block goes back to the allocator by the size and the alignment with which it was taken.
 
 use std::alloc::{GlobalAlloc, Layout, System};
 use std::cell::Cell;
 use std::fmt::Debug;
+use std::sync::atomic::{AtomicUsize, Ordering};
 
 use s2union::{CellId, CellUnion, Error, Rect, UnionFile};
 
@@ -13,7 +15,38 @@ thread_local! {
 
 struct Refusing;
 
+/// How many blocks were given back by another layout than they were taken by.
+static OTHERS: AtomicUsize = AtomicUsize::new(0);
+
+/// Each block has its layout before it, in as many bytes as keep its alignment.
+fn with_head(layout: Layout) -> (Layout, usize) {
+    let head = layout.align().max(16);
+    (Layout::from_size_align(layout.size() + head, head).unwrap(), head)
+}
+
 impl Refusing {
+    /// The block before these bytes, and the layout by which it was taken.
+    unsafe fn noted(at: *mut u8, layout: Layout) -> (*mut u8, Layout) {
+        let note: *mut usize = at.sub(16).cast();
+        if (note.read(), note.add(1).read()) != (layout.size(), layout.align()) {
+            OTHERS.fetch_add(1, Ordering::SeqCst);
+        }
+        let (whole, head) = with_head(Layout::from_size_align(note.read(), note.add(1).read()).unwrap());
+        (at.sub(head), whole)
+    }
+
+    /// Notes the layout of a block; its bytes are after the note.
+    unsafe fn note(block: *mut u8, layout: Layout) -> *mut u8 {
+        if block.is_null() {
+            return block;
+        }
+        let at = block.add(with_head(layout).1);
+        let note: *mut usize = at.sub(16).cast();
+        note.write(layout.size());
+        note.add(1).write(layout.align());
+        at
+    }
+
     fn refuses(&self) -> bool {
         let left = REFUSED.with(Cell::get);
         REFUSED.with(|refused| refused.set(left.saturating_sub(1)));
@@ -27,7 +60,7 @@ unsafe impl GlobalAlloc for Refusing {
         if self.refuses() {
             std::ptr::null_mut()
         } else {
-            System.alloc(layout)
+            Self::note(System.alloc(with_head(layout).0), layout)
         }
     }
 
@@ -35,12 +68,15 @@ unsafe impl GlobalAlloc for Refusing {
         if self.refuses() {
             std::ptr::null_mut()
         } else {
-            System.realloc(at, layout, size)
+            let (block, whole) = Self::noted(at, layout);
+            let larger = Layout::from_size_align(size, layout.align()).unwrap();
+            Self::note(System.realloc(block, whole, with_head(larger).0.size()), larger)
         }
     }
 
     unsafe fn dealloc(&self, at: *mut u8, layout: Layout) {
-        System.dealloc(at, layout)
+        let (block, whole) = Self::noted(at, layout);
+        System.dealloc(block, whole)
     }
 }
 
@@ -89,4 +125,12 @@ fn each_allocation_refused_in_turn() {
     asked(|| CellUnion::decode(&bytes));
     asked(|| file.ancestors());
     asked(|| file.to_union());
+    // Lists that have more memory than they need, which go back by all of it.
+    let mut cells = Vec::with_capacity(5000);
+    cells.extend_from_slice(y.cells());
+    let kept = CellUnion::from_cells(cells.clone()).into_cells();
+    let mut ids: Vec<u64> = Vec::with_capacity(5000);
+    ids.extend(kept.iter().map(|cell| cell.id()));
+    drop((CellUnion::from_cells(cells), CellUnion::from_ids(ids), x.clone(), bytes));
+    assert_eq!(OTHERS.load(Ordering::SeqCst), 0);
 }
