@@ -290,6 +290,13 @@ class Scripts(unittest.TestCase):
                                   stderr=subprocess.PIPE, check=False, timeout=60)
         self.assertEqual((done.returncode, done.stderr), (2, b"s2calc: output\n"))
 
+    def test_no_picture_stays(self):
+        """In the folder for temporary files, whether it is drawn or not."""
+        with tempfile.TemporaryDirectory() as room:
+            for words, wanted in ((["land.outer"], 0), (["absent"], 1), (["--no"], 2)):
+                status, _, _ = launched("draw", *words, cwd=PICTURES, env={**ENVIRONMENT, "TMPDIR": room})
+                self.assertEqual((status, os.listdir(room)), (wanted, []), words)
+
 
 class Help(unittest.TestCase):
     def test_what_is_added(self):

@@ -150,6 +150,32 @@ class Release(unittest.TestCase):
         self.commit()
         self.assertEqual(self.refused(**given), ["the kit has the logic that the file KIT names"])
 
+    def test_what_was_proved_of_other_sources(self):
+        """It isn't taken for what the commit of a release makes."""
+        with open(os.path.join(self.room, "tools/release"), encoding="utf-8") as it:
+            release = it.read()
+        said = os.path.join(self.room, "said")
+        self.write(".gitignore", "dist\nsaid\ncrates\n")
+        self.write("tools/sources.sh", 'checksum() { cat "$top/source"; }\n')
+        self.write("source", "one")
+        self.write("tools/release", f"""#!/bin/sh
+            top=$(dirname "$0")/..
+            ls "$top/crates/calculator/out" 2>/dev/null >"{said}"
+            cp -r "{self.room}/dist" "$top/dist"
+        """)
+        self.commit()
+        commit = subprocess.run(["git", "rev-parse", "HEAD"], cwd=self.room, check=True, capture_output=True,
+                                timeout=SECONDS, text=True).stdout.strip()
+        self.write("tools/release", release)
+        self.write("crates/calculator/out/calculator", "proved")
+        for source, found in (("one", "calculator\n"), ("two", "")):
+            self.write("source", source)
+            self.commit()
+            self.release({**FILES, "README.md": PAGE.replace("1" * 40, commit)})
+            self.assertEqual(self.refused("--again"), [])
+            with open(said, encoding="utf-8") as it:
+                self.assertEqual(it.read(), found, source)
+
     def test_a_tree_that_is_not_clean(self):
         """Then nothing is made, and what was released stays."""
         self.commit()
