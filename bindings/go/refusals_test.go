@@ -273,6 +273,21 @@ func TestUnionsHaveMemoryOfTheirSize(t *testing.T) {
 	runtime.KeepAlive([]CellUnion{same, one, many})
 }
 
+// A union of half the cells that were given has no more than half as much memory again as it needs.
+func TestUnionsOfFewerCellsHaveMemoryOfTheirSize(t *testing.T) {
+	const count = 1 << 18
+	before := heap()
+	ids := make([]CellID, count)
+	for place := range ids {
+		ids[place] = CellID(place/2*16 + 1)
+	}
+	half := must(s2union.NewCellUnion(ids...))
+	ids = nil
+	check(t, half.Len() == count/2, "the union")
+	check(t, heap()-before < 8*count*3/4, "its memory")
+	runtime.KeepAlive(half)
+}
+
 // scattered is a union of some cells on two faces, which a number picks; the empty union for each fifth one.
 func scattered(number int) CellUnion {
 	var ids []CellID

@@ -228,6 +228,7 @@ SQL
                 self.assertLess(numpy.abs(ring - other).max(), 1e-12)
         for name, content, said in (("no_cell", b"\1" + (1).to_bytes(8, "little") + b"\2" + bytes(7), "not a cell"),
                                     ("short", b"\1" + (2).to_bytes(8, "little") + bytes(8), "Unable to open"),
+                                    ("long", CellUnion.from_tokens("04").to_bytes() + b"\0", "Unable to open"),
                                     ("none", b"", "Unable to open")):
             Path(self.file(name)).write_bytes(content)
             self.assertIn(said, gdal("ogrinfo", self.file(name)).stdout)

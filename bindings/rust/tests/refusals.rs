@@ -143,6 +143,13 @@ fn unions_have_memory_of_their_size() {
         assert_eq!(one.len(), 1);
         assert_eq!(one.into_cells().capacity(), 1);
     }
+    let ids: Vec<u64> = (0..COUNT as u64).map(|place| place / 3 * 8 + 1).collect(); // each thrice
+    let tokens: String = ids.iter().map(|id| format!("{id:016x} ")).collect();
+    for third in [CellUnion::from_ids(ids).unwrap(), union(&tokens)] {
+        let cells = third.into_cells();
+        assert_eq!(cells.len(), COUNT / 3 + 1);
+        assert!(cells.capacity() <= cells.len() + cells.len() / 2, "{}", cells.capacity());
+    }
     let mut cells = CellUnion::from(face).denormalized(6, 1, COUNT).unwrap();
     cells.retain(|cell| cell.parent(5).unwrap().child(3) != Some(*cell));
     let at = cells.as_ptr();
