@@ -92,6 +92,28 @@ inline bool succeeded(int32_t status, int32_t* outcome) {
   return status >= 0;
 }
 
+// made by tools/calls: the room that what a call makes is first given
+namespace rooms {
+inline size_t of_union(size_t nx, size_t ny) { return nx + ny; }
+inline size_t of_intersection(size_t nx, size_t ny) { return 2 * std::min(nx, ny); }
+inline size_t of_difference(size_t nx, size_t ny) { return nx + std::min(nx, ny) + 90; }
+inline size_t of_symmetric_difference(size_t nx, size_t ny) { return nx + ny + 90; }
+inline size_t of_complement(size_t n) { return 32 * n + 90; }
+inline size_t of_range() { return 184; }
+inline size_t of_ancestors(size_t n) { return 2 * n + 30; }
+inline size_t of_file_ancestors(size_t n) { return n / 4 + 30; }
+inline size_t of_outer() { return 64; }
+inline size_t of_inner() { return 64; }
+inline size_t of_outer_in() { return 64; }
+inline size_t of_inner_in() { return 64; }
+inline size_t of_outer_of(size_t n) { return n; }
+inline size_t of_inner_of(size_t n) { return n; }
+inline size_t of_encode(size_t n) { return 8 * n + 9; }
+inline size_t of_decode(size_t n) { return n / 8; }
+inline size_t of_tokens(size_t n) { return 17 * n; }
+inline size_t of_from_tokens(size_t n) { return n / 2 + 1; }
+}  // namespace rooms
+
 /// Gives a string or a vector this size: S2U_OK, or S2U_MEMORY.
 template <class List>
 int32_t resized(List* list, size_t size) {

@@ -71,7 +71,7 @@ func CellIDsFromTokens(words string) ([]CellID, error) { return named([]byte(wor
 // named are the cells that a text names.
 func named(words []byte) ([]CellID, error) {
 	at, n := pointerToText(words)
-	ids := make([]CellID, len(words)/2+1)
+	ids := make([]CellID, roomOfFromTokens(len(words)))
 	var length C.size_t
 	out, room := pointerTo(ids)
 	if status := C.s2u_from_tokens(at, n, out, room, &length); status == C.S2U_NO_CELL {

@@ -16,7 +16,7 @@ const MostCovering = C.S2U_MOST_COVERING
 // would be more than `most` cells, or more than MostCovering. Since 0.2.
 func (rect Rect) Covering(level, most int) (CellUnion, error) {
 	corners := rect.corners()
-	return made(64, func(out *C.uint64_t, room C.size_t, length *C.size_t) C.int32_t {
+	return made(roomOfOuter(), func(out *C.uint64_t, room C.size_t, length *C.size_t) C.int32_t {
 		return C.s2u_outer(&corners, narrowed(level), atLeastZero(most), out, room, length)
 	})
 }
@@ -24,7 +24,7 @@ func (rect Rect) Covering(level, most int) (CellUnion, error) {
 // InteriorCovering is the union of the cells of a level that lie in the rectangle, as Covering. Since 0.2.
 func (rect Rect) InteriorCovering(level, most int) (CellUnion, error) {
 	corners := rect.corners()
-	return made(64, func(out *C.uint64_t, room C.size_t, length *C.size_t) C.int32_t {
+	return made(roomOfInner(), func(out *C.uint64_t, room C.size_t, length *C.size_t) C.int32_t {
 		return C.s2u_inner(&corners, narrowed(level), atLeastZero(most), out, room, length)
 	})
 }
@@ -32,7 +32,7 @@ func (rect Rect) InteriorCovering(level, most int) (CellUnion, error) {
 // Covering is the union of the cells of a level that share a leaf with the union, as that of a Rect. Since 0.2.
 func (cu CellUnion) Covering(level, most int) (CellUnion, error) {
 	at, n := pointerTo(cu.ids)
-	return made(len(cu.ids), func(out *C.uint64_t, room C.size_t, length *C.size_t) C.int32_t {
+	return made(roomOfOuterOf(len(cu.ids)), func(out *C.uint64_t, room C.size_t, length *C.size_t) C.int32_t {
 		return C.s2u_outer_of(at, n, narrowed(level), atLeastZero(most), out, room, length)
 	})
 }
@@ -40,7 +40,7 @@ func (cu CellUnion) Covering(level, most int) (CellUnion, error) {
 // InteriorCovering is the union of the cells of a level that lie in the union, as Covering. Since 0.2.
 func (cu CellUnion) InteriorCovering(level, most int) (CellUnion, error) {
 	at, n := pointerTo(cu.ids)
-	return made(len(cu.ids), func(out *C.uint64_t, room C.size_t, length *C.size_t) C.int32_t {
+	return made(roomOfInnerOf(len(cu.ids)), func(out *C.uint64_t, room C.size_t, length *C.size_t) C.int32_t {
 		return C.s2u_inner_of(at, n, narrowed(level), atLeastZero(most), out, room, length)
 	})
 }
@@ -51,7 +51,7 @@ func (cu CellUnion) InteriorCovering(level, most int) (CellUnion, error) {
 func (cu CellUnion) CoveringIn(rect Rect, level, most int) (CellUnion, error) {
 	at, n := pointerTo(cu.ids)
 	corners := rect.corners()
-	return made(64, func(out *C.uint64_t, room C.size_t, length *C.size_t) C.int32_t {
+	return made(roomOfOuterIn(), func(out *C.uint64_t, room C.size_t, length *C.size_t) C.int32_t {
 		return C.s2u_outer_in(at, n, &corners, narrowed(level), atLeastZero(most), out, room, length)
 	})
 }
@@ -61,7 +61,7 @@ func (cu CellUnion) CoveringIn(rect Rect, level, most int) (CellUnion, error) {
 func (cu CellUnion) InteriorCoveringIn(rect Rect, level, most int) (CellUnion, error) {
 	at, n := pointerTo(cu.ids)
 	corners := rect.corners()
-	return made(64, func(out *C.uint64_t, room C.size_t, length *C.size_t) C.int32_t {
+	return made(roomOfInnerIn(), func(out *C.uint64_t, room C.size_t, length *C.size_t) C.int32_t {
 		return C.s2u_inner_in(at, n, &corners, narrowed(level), atLeastZero(most), out, room, length)
 	})
 }

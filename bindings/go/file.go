@@ -87,7 +87,8 @@ func (f UnionFile) Intersects(other UnionFile) bool {
 // Ancestors is that of the union. Since 0.2.
 func (f UnionFile) Ancestors() []CellID {
 	at, n := pointerToBytes(f.file)
-	return always(listed(len(f.file)/4+30, func(out *C.uint64_t, room C.size_t, length *C.size_t) C.int32_t {
+	most := roomOfFileAncestors(len(f.file))
+	return always(listed(most, func(out *C.uint64_t, room C.size_t, length *C.size_t) C.int32_t {
 		return C.s2u_file_ancestors(at, n, out, room, length)
 	}))
 }

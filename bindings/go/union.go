@@ -65,7 +65,7 @@ func CellUnionFromRange(begin, end CellID) (CellUnion, error) {
 // RangeUnion is the union of all leaves from the first of one cell to the last of another, also across faces.
 // ErrNoCell; ErrArgument: the last leaf comes before the first; ErrMemory. Since 0.2.
 func RangeUnion(first, last CellID) (CellUnion, error) {
-	return made(C.S2U_MOST_RANGE, func(out *C.uint64_t, room C.size_t, length *C.size_t) C.int32_t {
+	return made(roomOfRange(), func(out *C.uint64_t, room C.size_t, length *C.size_t) C.int32_t {
 		return C.s2u_range(C.uint64_t(first), C.uint64_t(last), out, room, length)
 	})
 }
@@ -83,7 +83,7 @@ func CellUnionFromUnion(unions ...CellUnion) CellUnion {
 		return unions[0]
 	case 2:
 		x, y := unions[0], unions[1]
-		return x.with(y, len(x.ids)+len(y.ids), func(xs *C.uint64_t, nx C.size_t, ys *C.uint64_t, ny C.size_t,
+		return x.with(y, roomOfUnion, func(xs *C.uint64_t, nx C.size_t, ys *C.uint64_t, ny C.size_t,
 			out *C.uint64_t, room C.size_t, length *C.size_t) C.int32_t {
 			return C.s2u_union(xs, nx, ys, ny, out, room, length)
 		})
@@ -94,8 +94,7 @@ func CellUnionFromUnion(unions ...CellUnion) CellUnion {
 
 // CellUnionFromIntersection is the union of the leaves that two unions share. Since 0.2.
 func CellUnionFromIntersection(x, y CellUnion) CellUnion {
-	// Twice the shorter one nearly always suffices, and the longer one may be much longer.
-	return x.with(y, 2*smaller(len(x.ids), len(y.ids)), func(xs *C.uint64_t, nx C.size_t, ys *C.uint64_t, ny C.size_t,
+	return x.with(y, roomOfIntersection, func(xs *C.uint64_t, nx C.size_t, ys *C.uint64_t, ny C.size_t,
 		out *C.uint64_t, room C.size_t, length *C.size_t) C.int32_t {
 		return C.s2u_intersection(xs, nx, ys, ny, out, room, length)
 	})
@@ -109,13 +108,9 @@ func CellUnionFromIntersectionWithCellID(x CellUnion, id CellID) CellUnion {
 	return CellUnion{x.CellIDsAt(id)}
 }
 
-// leavesOfAFace is how many cells remain of a face without one leaf.
-const leavesOfAFace = 90
-
 // CellUnionFromDifference is the union of the leaves of x that y doesn't have. Since 0.2.
 func CellUnionFromDifference(x, y CellUnion) CellUnion {
-	room := len(x.ids) + smaller(len(x.ids), len(y.ids)) + leavesOfAFace
-	return x.with(y, room, func(xs *C.uint64_t, nx C.size_t, ys *C.uint64_t, ny C.size_t,
+	return x.with(y, roomOfDifference, func(xs *C.uint64_t, nx C.size_t, ys *C.uint64_t, ny C.size_t,
 		out *C.uint64_t, room C.size_t, length *C.size_t) C.int32_t {
 		return C.s2u_difference(xs, nx, ys, ny, out, room, length)
 	})
@@ -123,8 +118,7 @@ func CellUnionFromDifference(x, y CellUnion) CellUnion {
 
 // CellUnionFromSymmetricDifference is the union of the leaves that exactly one of two unions has. Since 1.1.
 func CellUnionFromSymmetricDifference(x, y CellUnion) CellUnion {
-	room := len(x.ids) + len(y.ids) + leavesOfAFace
-	return x.with(y, room, func(xs *C.uint64_t, nx C.size_t, ys *C.uint64_t, ny C.size_t,
+	return x.with(y, roomOfSymmetricDifference, func(xs *C.uint64_t, nx C.size_t, ys *C.uint64_t, ny C.size_t,
 		out *C.uint64_t, room C.size_t, length *C.size_t) C.int32_t {
 		return C.s2u_symmetric_difference(xs, nx, ys, ny, out, room, length)
 	})
@@ -133,7 +127,7 @@ func CellUnionFromSymmetricDifference(x, y CellUnion) CellUnion {
 // CellUnionFromComplement is the union of the leaves of the sphere that a union doesn't have. Since 1.1.
 func CellUnionFromComplement(x CellUnion) CellUnion {
 	at, n := pointerTo(x.ids)
-	return always(made(2*len(x.ids)+leavesOfAFace, func(out *C.uint64_t, room C.size_t, length *C.size_t) C.int32_t {
+	return always(made(roomOfComplement(len(x.ids)), func(out *C.uint64_t, room C.size_t, length *C.size_t) C.int32_t {
 		return C.s2u_complement(at, n, out, room, length)
 	}))
 }
@@ -255,7 +249,7 @@ func (cu CellUnion) Denormalize(minLevel, levelMod, most int) ([]CellID, error) 
 // share a leaf exactly if a cell of one is among the ancestors of the other. Since 0.2.
 func (cu CellUnion) Ancestors() []CellID {
 	at, n := pointerTo(cu.ids)
-	return always(listed(2*len(cu.ids)+30, func(out *C.uint64_t, room C.size_t, length *C.size_t) C.int32_t {
+	return always(listed(roomOfAncestors(len(cu.ids)), func(out *C.uint64_t, room C.size_t, length *C.size_t) C.int32_t {
 		return C.s2u_ancestors(at, n, out, room, length)
 	}))
 }
@@ -265,7 +259,7 @@ func (cu CellUnion) String() string { return string(cu.tokens()) }
 
 func (cu CellUnion) tokens() []byte {
 	at, n := pointerTo(cu.ids)
-	return text((C.S2U_MOST_TOKEN+1)*len(cu.ids), func(out *C.char, room C.size_t, length *C.size_t) C.int32_t {
+	return text(roomOfTokens(len(cu.ids)), func(out *C.char, room C.size_t, length *C.size_t) C.int32_t {
 		return C.s2u_tokens(at, n, out, room, length)
 	})
 }
@@ -281,7 +275,7 @@ func (cu *CellUnion) UnmarshalText(words []byte) error { return cu.become(unionN
 // equal files. Since 0.2.
 func (cu CellUnion) MarshalBinary() ([]byte, error) {
 	at, n := pointerTo(cu.ids)
-	file := make([]byte, sizeOfFile(len(cu.ids)))
+	file := make([]byte, roomOfEncode(len(cu.ids)))
 	var length C.size_t
 	out, room := pointerToBytes(file)
 	if status := C.s2u_encode(at, n, out, room, &length); status != C.S2U_OK {
@@ -386,7 +380,7 @@ func unionNamed(words []byte) (CellUnion, error) {
 
 func unmarshalled(file []byte) (CellUnion, error) {
 	at, n := pointerToBytes(file)
-	return made(len(file)/8, func(out *C.uint64_t, room C.size_t, length *C.size_t) C.int32_t {
+	return made(roomOfDecode(len(file)), func(out *C.uint64_t, room C.size_t, length *C.size_t) C.int32_t {
 		return C.s2u_decode(at, n, out, room, length)
 	})
 }
@@ -405,11 +399,12 @@ func made(room int, call func(out *C.uint64_t, room C.size_t, length *C.size_t) 
 }
 
 // with is the union that a call makes of two.
-func (cu CellUnion) with(other CellUnion, room int, call func(xs *C.uint64_t, nx C.size_t, ys *C.uint64_t, ny C.size_t,
-	out *C.uint64_t, room C.size_t, length *C.size_t) C.int32_t) CellUnion {
+func (cu CellUnion) with(other CellUnion, room func(nx, ny int) int, call func(xs *C.uint64_t, nx C.size_t,
+	ys *C.uint64_t, ny C.size_t, out *C.uint64_t, room C.size_t, length *C.size_t) C.int32_t) CellUnion {
 	xs, nx := pointerTo(cu.ids)
 	ys, ny := pointerTo(other.ids)
-	return always(made(room, func(out *C.uint64_t, room C.size_t, length *C.size_t) C.int32_t {
+	return always(made(room(len(cu.ids), len(other.ids)), func(
+		out *C.uint64_t, room C.size_t, length *C.size_t) C.int32_t {
 		return call(xs, nx, ys, ny, out, room, length)
 	}))
 }

@@ -1,7 +1,8 @@
 /* The calls of s2union.h for Java: Calls.java has the natives. The numbers of the calls are there and in calls.h,
  * which tools/calls makes of the cases here. A list is a long[], whose signs mean nothing. Lists of up to SHORT
  * elements are passed where they lie, which holds the collector up meanwhile. So are lists of any length to questions
- * that end soon. To other calls longer ones are copied. There is no arithmetic on cells here. */
+ * that end soon, and to operations on two unions of which one is short. To other calls longer ones are copied. There is
+ * no arithmetic on cells here. */
 #include <jni.h>
 #include <s2union.h>
 #include "calls.h"
@@ -117,15 +118,32 @@ CALL(jint, square)(JNIEnv* env, jclass of, jlong id, jlongArray out) {
   return status;
 }
 
+static int32_t written_of(jint call, uint64_t id, char* text, size_t room, size_t* len) {
+  switch (call) {
+    case TOKEN: return s2u_token(id, text, room, len);
+    case DEBUG: return s2u_debug(id, text, room, len);
+    default: return S2U_ARGUMENT;
+  }
+}
+
 /* The length of the token or the debug text of a cell, or a status. */
 CALL(jint, text)(JNIEnv* env, jclass of, jint call, jlong id, jbyteArray out) {
   (void)of;
   char text[S2U_MOST_DEBUG];
   size_t len = 0;
-  int32_t status = (call == 0 ? s2u_token : s2u_debug)((uint64_t)id, text, sizeof text, &len);
+  int32_t status = written_of(call, (uint64_t)id, text, sizeof text, &len);
   if (status < 0) return status;
   (*env)->SetByteArrayRegion(env, out, 0, (jsize)len, (const jbyte*)text);
   return (jint)len;
+}
+
+static int32_t named_by(jint call, const passed* given, uint64_t* id) {
+  passed lists = *given;
+  switch (call) {
+    case FROM_TOKEN: return s2u_from_token(TEXT(0), id);
+    case FROM_DEBUG: return s2u_from_debug(TEXT(0), id);
+    default: return S2U_ARGUMENT;
+  }
 }
 
 CALL(jint, named)(JNIEnv* env, jclass of, jint call, jbyteArray text, jlongArray out) {
@@ -133,7 +151,7 @@ CALL(jint, named)(JNIEnv* env, jclass of, jint call, jbyteArray text, jlongArray
   passed lists = {.env = env};
   uint64_t id = 0;
   add(&lists, text, 1, 0);
-  int32_t status = !begin(&lists) ? S2U_MEMORY : (call == 0 ? s2u_from_token : s2u_from_debug)(TEXT(0), &id);
+  int32_t status = begin(&lists) ? named_by(call, &lists, &id) : S2U_MEMORY;
   end(&lists);
   if (status >= 0) put(env, out, id);
   return status;
@@ -210,10 +228,16 @@ static int32_t made(jint call, const passed* given, const uint32_t* n, size_t* l
   }
 }
 
+/* Operations of two unions end soon if one of them is short: along a long one they leap, or copy runs of it. */
+static int leaps(JNIEnv* env, jint call, jlongArray xs, jlongArray ys) {
+  int is_of_two = call == UNION || call == INTERSECTION || call == DIFFERENCE || call == SYMMETRIC_DIFFERENCE;
+  return is_of_two && ((*env)->GetArrayLength(env, xs) <= SHORT || (*env)->GetArrayLength(env, ys) <= SHORT);
+}
+
 CALL(jint, make)(JNIEnv* env, jclass of, jint call, jlongArray xs, jlongArray ys, jintArray numbers, jlongArray out,
                  jlongArray length) {
   (void)of;
-  passed lists = {.env = env};
+  passed lists = {.env = env, .ends_soon = leaps(env, call, xs, ys)};
   jint n[7] = {0};
   size_t len = 0;
   (*env)->GetIntArrayRegion(env, numbers, 0, (*env)->GetArrayLength(env, numbers), n);
@@ -285,15 +309,22 @@ CALL(jint, write)(JNIEnv* env, jclass of, jint call, jarray xs, jlongArray ys, j
   return ended(&lists, status, length, len);
 }
 
+static int32_t read_from(jint call, const passed* given, size_t* len) {
+  passed lists = *given;
+  switch (call) {
+    case DECODE: return s2u_decode(BYTES(0), LIST(1), len);
+    case FILE_ANCESTORS: return s2u_file_ancestors(BYTES(0), LIST(1), len);
+    case FROM_TOKENS: return s2u_from_tokens(TEXT(0), LIST(1), len);
+    default: return S2U_ARGUMENT;
+  }
+}
+
 CALL(jint, read)(JNIEnv* env, jclass of, jint call, jbyteArray bytes, jlongArray out, jlongArray length) {
   (void)of;
   passed lists = {.env = env};
   size_t len = 0;
   add(&lists, bytes, 1, 0), add(&lists, out, 0, 1);
-  int32_t status = !begin(&lists) ? S2U_MEMORY
-                   : call == 0    ? s2u_decode(BYTES(0), LIST(1), &len)
-                   : call == 1    ? s2u_file_ancestors(BYTES(0), LIST(1), &len)
-                                  : s2u_from_tokens(TEXT(0), LIST(1), &len);
+  int32_t status = begin(&lists) ? read_from(call, &lists, &len) : S2U_MEMORY;
   return ended(&lists, status, length, len);
 }
 

@@ -7,7 +7,7 @@ const LAST_LEVEL = 30;
 // made by tools/calls
 const ROOM = -1, MEMORY = -2, NO_CELL = -3, NO_UNION = -4, ARGUMENT = -5, MANY = -6, FILE_SHORT = -10,
   FILE_VERSION = -11, FILE_TRAILING = -12, FILE_CELL = -13;
-const MOST_TOKEN = 16;
+const MOST_TOKEN = 16, MOST_DEBUG = 32;
 const FAULTS = {
   [-1]: "too little room",
   [-2]: "out of memory",
@@ -22,6 +22,19 @@ const FAULTS = {
 };
 const KINDS = {[-1]: "ROOM", [-2]: "MEMORY", [-3]: "NO_CELL", [-4]: "NO_UNION", [-5]: "ARGUMENT",
   [-6]: "MANY", [-10]: "FILE_SHORT", [-11]: "FILE_VERSION", [-12]: "FILE_TRAILING", [-13]: "FILE_CELL"};
+/** The room that what a call makes is first given. */
+const ROOMS = {
+  s2u_union: (nx, ny) => nx + ny,
+  s2u_intersection: (nx, ny) => 2 * Math.min(nx, ny),
+  s2u_difference: (nx, ny) => nx + Math.min(nx, ny) + 90,
+  s2u_symmetric_difference: (nx, ny) => nx + ny + 90,
+  s2u_complement: (n) => 2 * n + 90,
+  s2u_ancestors: (n) => 2 * n + 30,
+  s2u_file_ancestors: (n) => Math.floor(n / 4) + 30,
+  s2u_encode: (n) => 8 * n + 9,
+  s2u_tokens: (n) => 17 * n,
+  s2u_from_tokens: (n) => Math.floor(n / 2) + 1,
+};
 
 const HEAD_SIZE = 9;
 const PAGE_SIZE = 65536;
@@ -230,8 +243,20 @@ class Core {
     return isYes(call(at, length, cell));
   }
 
-  /** The list that a call makes of lists and numbers; it is called once more if the room was too little. */
-  make(name, lists, room, Kind, ...more) {
+  /** The list that a call makes of lists and numbers, in the room of the table for lists of these lengths. */
+  make(name, lists, Kind, ...more) {
+    return this.makeIn(ROOMS[name](...lists.map((list) => list.length)), name, lists, Kind, ...more);
+  }
+
+  /** The same of unions. One that is much longer than what may come out stays, since its copy would take longest. */
+  makeOf(name, ...unions) {
+    const room = ROOMS[name](...unions.map((list) => list.length));
+    this.stay(...unions.filter((list) => list.length > 4 * room));
+    return this.makeIn(room, name, unions, BigUint64Array);
+  }
+
+  /** The same in some room; it is called once more if that was too little. */
+  makeIn(room, name, lists, Kind, ...more) {
     for (;;) {
       const [words, [out, len]] = this.passed(lists, [room * Kind.BYTES_PER_ELEMENT, 8]);
       const status = this.calls[name](...words, ...more, BigInt(out), BigInt(room), BigInt(len));
@@ -285,7 +310,7 @@ class Core {
   }
 
   text(name, id) {
-    return new TextDecoder().decode(this.make(name, [], 32, Uint8Array, id));
+    return new TextDecoder().decode(this.makeIn(MOST_DEBUG, name, [], Uint8Array, id));
   }
 
   size(id) {
@@ -474,23 +499,23 @@ class Core {
   }
 
   union(xs, ys) {
-    return this.make("s2u_union", [xs, ys], xs.length + ys.length, BigUint64Array);
+    return this.makeOf("s2u_union", xs, ys);
   }
 
   intersection(xs, ys) {
-    return this.make("s2u_intersection", [xs, ys], xs.length + ys.length, BigUint64Array);
+    return this.makeOf("s2u_intersection", xs, ys);
   }
 
   difference(xs, ys) {
-    return this.make("s2u_difference", [xs, ys], xs.length + ys.length, BigUint64Array);
+    return this.makeOf("s2u_difference", xs, ys);
   }
 
   symmetricDifference(xs, ys) {
-    return this.make("s2u_symmetric_difference", [xs, ys], xs.length + ys.length, BigUint64Array);
+    return this.makeOf("s2u_symmetric_difference", xs, ys);
   }
 
   complement(ids) {
-    return this.make("s2u_complement", [ids], 2 * ids.length, BigUint64Array);
+    return this.makeOf("s2u_complement", ids);
   }
 
   denormalisedCount(ids, min, modulus) {
@@ -499,12 +524,12 @@ class Core {
 
   denormalised(ids, min, modulus) {
     const room = Number(this.denormalisedCount(ids, min, modulus));
-    return this.make("s2u_denormalised", [ids], room, BigUint64Array, min, modulus);
+    return this.makeIn(room, "s2u_denormalised", [ids], BigUint64Array, min, modulus);
   }
 
   /** The cells of the union and all their ancestors, ascending, each once. */
   ancestors(ids) {
-    return this.make("s2u_ancestors", [ids], 2 * ids.length + LAST_LEVEL, BigUint64Array);
+    return this.make("s2u_ancestors", [ids], BigUint64Array);
   }
 
   /** The cells of the level that share a leaf with the union, normalized: deeper cells give way to their parents. */
@@ -531,7 +556,7 @@ class Core {
   }
 
   encode(ids) {
-    return this.make("s2u_encode", [ids], HEAD_SIZE + 8 * ids.length, Uint8Array);
+    return this.make("s2u_encode", [ids], Uint8Array);
   }
 
   // Questions of the bytes of a file, whose frame is checked by each.
@@ -582,17 +607,17 @@ class Core {
   }
 
   fileAncestors(bytes) {
-    return this.make("s2u_file_ancestors", [bytes], Math.floor(bytes.length / 4), BigUint64Array);
+    return this.make("s2u_file_ancestors", [bytes], BigUint64Array);
   }
 
   tokens(ids) {
-    return new TextDecoder().decode(this.make("s2u_tokens", [ids], 17 * ids.length, Uint8Array));
+    return new TextDecoder().decode(this.make("s2u_tokens", [ids], Uint8Array));
   }
 
   /** The cells that the words of a text name; a refusal has the byte at which the first begins that names none. */
   named(text) {
     const bytes = encoded(text);
-    return this.make("s2u_from_tokens", [bytes], Math.ceil(bytes.length / 2), BigUint64Array);
+    return this.make("s2u_from_tokens", [bytes], BigUint64Array);
   }
 
   /** The union of the cells that the words of a text name. */

@@ -10,9 +10,7 @@ import java.util.Arrays;
 
 /** The calls of s2union.h, by their numbers in s2union.c, and what their statuses mean. */
 final class Calls {
-  static final int TOKEN = 0, DEBUG = 1;
-  static final int DECODE = 0, FILE_ANCESTORS = 1, FROM_TOKENS = 2;
-  static final int LAST_LEVEL = 30, HEAD = 9;
+  static final int LAST_LEVEL = 30;
   static final long[] NONE = {};
 
   // made by tools/calls, of s2union.h and of the cases of s2union.c
@@ -20,16 +18,43 @@ final class Calls {
   static final int VERSION = 0, IS_CELL = 1, LEVEL = 2, FACE = 3, PARENT = 4, CHILD = 5, RANGE_MIN = 6,
       RANGE_MAX = 7, SIZE = 8, NEXT = 9, PREV = 10, COMMON_ANCESTOR = 11, CELL_CONTAINS = 12,
       CELL_INTERSECTS = 13;
-  static final int IS_UNION = 0, LEAF_COUNT = 1, CONTAINS_CELL = 2, INTERSECTS_CELL = 3, CONTAINS = 4,
-      INTERSECTS = 5, COMPARE = 6;
-  static final int UNION = 0, INTERSECTION = 1, DIFFERENCE = 2, NORMALISE = 3, RANGE = 4,
-      DENORMALISED = 5, ANCESTORS = 6, OUTER = 7, INNER = 8, OUTER_OF = 9, INNER_OF = 10, OUTER_IN = 11,
-      INNER_IN = 12, PARENTS = 13, RANGE_MINS = 14, RANGE_MAXES = 15, SYMMETRIC_DIFFERENCE = 16,
-      COMPLEMENT = 17, UNION_OF_MANY = 18;
-  static final int ENCODE = 0, TOKENS = 1, LEVELS = 2, TOKEN_FIELDS = 3, CONTAINS_CELLS = 4,
-      INTERSECTS_CELLS = 5, FILE_CONTAINS_CELLS = 6;
-  static final int FILE_CHECK = 0, FILE_COUNT = 1, FILE_LEAF_COUNT = 2, FILE_CELL = 3,
-      FILE_CONTAINS_CELL = 4, FILE_INTERSECTS_CELL = 5, FILE_CONTAINS = 6, FILE_INTERSECTS = 7;
+  static final int TOKEN = 14, DEBUG = 15;
+  static final int FROM_TOKEN = 16, FROM_DEBUG = 17;
+  static final int IS_UNION = 18, LEAF_COUNT = 19, CONTAINS_CELL = 20, INTERSECTS_CELL = 21,
+      CONTAINS = 22, INTERSECTS = 23, COMPARE = 24;
+  static final int UNION = 25, INTERSECTION = 26, DIFFERENCE = 27, NORMALISE = 28, RANGE = 29,
+      DENORMALISED = 30, ANCESTORS = 31, OUTER = 32, INNER = 33, OUTER_OF = 34, INNER_OF = 35,
+      OUTER_IN = 36, INNER_IN = 37, PARENTS = 38, RANGE_MINS = 39, RANGE_MAXES = 40,
+      SYMMETRIC_DIFFERENCE = 41, COMPLEMENT = 42, UNION_OF_MANY = 43;
+  static final int ENCODE = 44, TOKENS = 45, LEVELS = 46, TOKEN_FIELDS = 47, CONTAINS_CELLS = 48,
+      INTERSECTS_CELLS = 49, FILE_CONTAINS_CELLS = 50;
+  static final int DECODE = 51, FILE_ANCESTORS = 52, FROM_TOKENS = 53;
+  static final int FILE_CHECK = 54, FILE_COUNT = 55, FILE_LEAF_COUNT = 56, FILE_CELL = 57,
+      FILE_CONTAINS_CELL = 58, FILE_INTERSECTS_CELL = 59, FILE_CONTAINS = 60, FILE_INTERSECTS = 61;
+  /** The room that what a call makes is first given, by the lengths of its lists. */
+  private static long roomOf(int call, long n, long m) {
+    switch (call) {
+      case UNION: return n + m;
+      case INTERSECTION: return 2 * Math.min(n, m);
+      case DIFFERENCE: return n + Math.min(n, m) + 90;
+      case SYMMETRIC_DIFFERENCE: return n + m + 90;
+      case COMPLEMENT: return 2 * n + 90;
+      case RANGE: return 184;
+      case ANCESTORS: return 2 * n + 30;
+      case FILE_ANCESTORS: return n / 4 + 30;
+      case OUTER: return 64;
+      case INNER: return 64;
+      case OUTER_IN: return 64;
+      case INNER_IN: return 64;
+      case OUTER_OF: return n;
+      case INNER_OF: return n;
+      case ENCODE: return 8 * n + 9;
+      case DECODE: return n / 8;
+      case TOKENS: return 17 * n;
+      case FROM_TOKENS: return n / 2 + 1;
+      default: throw new Refusal(Refusal.ARGUMENT, 0);
+    }
+  }
 
   private Calls() {}
 
@@ -109,11 +134,16 @@ final class Calls {
     return answer;
   }
 
-  /** The list that a call makes; it is called once more if the room was too little. */
-  static long[] made(int call, long[] xs, long[] ys, long room, int... numbers) {
+  /** The list that a call makes of lists and numbers. */
+  static long[] made(int call, long[] xs, long[] ys, int... numbers) {
+    return madeIn(roomOf(call, xs.length, ys.length), call, xs, ys, numbers);
+  }
+
+  /** The same in some room; it is called once more if that was too little. */
+  static long[] madeIn(long room, int call, long[] xs, long[] ys, int... numbers) {
     long[] length = new long[1];
     for (long next = room; ; next = length[0]) {
-      long[] out = new long[roomOf(next)];
+      long[] out = new long[lengthOf(next)];
       int status = make(call, xs, ys, numbers, out, length);
       if (status == ROOM) continue;
       checked(status, length[0]);
@@ -141,7 +171,7 @@ final class Calls {
   }
 
   static byte[] bytesOfEach(int call, long[] cells, int each) {
-    byte[] out = new byte[roomOf((long) each * cells.length)];
+    byte[] out = new byte[lengthOf((long) each * cells.length)];
     long[] bad = new long[1];
     whole(write(call, cells, NONE, out, bad), cells, bad[0]);
     return out;
@@ -154,10 +184,10 @@ final class Calls {
   }
 
   /** The bytes that a call writes. */
-  static byte[] written(int call, long[] xs, long room) {
+  static byte[] written(int call, long[] xs) {
     long[] length = new long[1];
-    for (long next = room; ; next = length[0]) {
-      byte[] out = new byte[roomOf(next)];
+    for (long next = roomOf(call, xs.length, 0); ; next = length[0]) {
+      byte[] out = new byte[lengthOf(next)];
       int status = write(call, xs, NONE, out, length);
       if (status == ROOM) continue;
       checked(status, length[0]);
@@ -166,10 +196,10 @@ final class Calls {
   }
 
   /** The list that a call reads from bytes. */
-  static long[] read(int call, byte[] bytes, long room) {
+  static long[] read(int call, byte[] bytes) {
     long[] length = new long[1];
-    for (long next = room; ; next = length[0]) {
-      long[] out = new long[roomOf(next)];
+    for (long next = roomOf(call, bytes.length, 0); ; next = length[0]) {
+      long[] out = new long[lengthOf(next)];
       int status = read(call, bytes, out, length);
       if (status == ROOM) continue;
       checked(status, length[0]);
@@ -178,7 +208,7 @@ final class Calls {
   }
 
   /** The length of an array, if Java has arrays of that length. */
-  private static int roomOf(long room) {
+  private static int lengthOf(long room) {
     if (room < 0 || room > Integer.MAX_VALUE - 8) throw new Refusal(Refusal.MANY, 0);
     return (int) room;
   }

@@ -330,7 +330,7 @@ public final class CellId {
    * @since 1.1
    */
   public static long fromToken(String token) {
-    return named(Calls.TOKEN, token);
+    return named(Calls.FROM_TOKEN, token);
   }
 
   /**
@@ -364,7 +364,7 @@ public final class CellId {
    * @since 1.1
    */
   public static long fromDebugString(String text) {
-    return named(Calls.DEBUG, text);
+    return named(Calls.FROM_DEBUG, text);
   }
 
   private static String text(int call, long id) {
@@ -514,6 +514,6 @@ public final class CellId {
    */
   public static long[] fromTokens(String text) {
     byte[] bytes = text.getBytes(StandardCharsets.UTF_8);
-    return Calls.read(Calls.FROM_TOKENS, bytes, bytes.length / 2 + 1);
+    return Calls.read(Calls.FROM_TOKENS, bytes);
   }
 }

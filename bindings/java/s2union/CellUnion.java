@@ -36,7 +36,7 @@ public final class CellUnion implements Comparable<CellUnion> {
    * @since 1.1
    */
   public static CellUnion of(long... cells) {
-    return new CellUnion(Calls.made(Calls.NORMALISE, cells, Calls.NONE, cells.length));
+    return new CellUnion(Calls.madeIn(cells.length, Calls.NORMALISE, cells, Calls.NONE));
   }
 
   /**
@@ -92,7 +92,7 @@ public final class CellUnion implements Comparable<CellUnion> {
     long[] ids = lists.stream().flatMapToLong(Arrays::stream).toArray();
     long[] ends = lists.stream().mapToLong(list -> list.length).toArray();
     Arrays.parallelPrefix(ends, Long::sum);
-    return new CellUnion(Calls.made(Calls.UNION_OF_MANY, ids, ends, 3L * ids.length));
+    return new CellUnion(Calls.madeIn(3L * ids.length, Calls.UNION_OF_MANY, ids, ends));
   }
 
   /**
@@ -113,7 +113,7 @@ public final class CellUnion implements Comparable<CellUnion> {
   public static CellUnion fromRange(long first, long last) {
     CellId.checked(first);
     CellId.checked(last);
-    return new CellUnion(Calls.made(Calls.RANGE, new long[] {first}, new long[] {last}, 184));
+    return new CellUnion(Calls.made(Calls.RANGE, new long[] {first}, new long[] {last}));
   }
 
   /**
@@ -150,7 +150,7 @@ public final class CellUnion implements Comparable<CellUnion> {
    * @since 1.1
    */
   public static CellUnion decode(byte[] bytes) {
-    return new CellUnion(Calls.read(Calls.DECODE, bytes, Math.max(0, (bytes.length - Calls.HEAD) / 8)));
+    return new CellUnion(Calls.read(Calls.DECODE, bytes));
   }
 
   /**
@@ -202,7 +202,7 @@ public final class CellUnion implements Comparable<CellUnion> {
     numbers[0] = level;
     numbers[1] = MOST_COVERING;
     System.arraycopy(rectangle, 0, numbers, 2, rectangle.length);
-    return new CellUnion(Calls.made(call, ids, Calls.NONE, 1000, numbers));
+    return new CellUnion(Calls.made(call, ids, Calls.NONE, numbers));
   }
 
   /**
@@ -490,7 +490,7 @@ public final class CellUnion implements Comparable<CellUnion> {
    * @since 1.1
    */
   public CellUnion complement() {
-    return new CellUnion(Calls.made(Calls.COMPLEMENT, ids, Calls.NONE, 2L * ids.length + 6));
+    return new CellUnion(Calls.made(Calls.COMPLEMENT, ids, Calls.NONE));
   }
 
   /**
@@ -511,7 +511,7 @@ public final class CellUnion implements Comparable<CellUnion> {
   }
 
   private CellUnion with(int call, CellUnion other) {
-    return new CellUnion(Calls.made(call, ids, other.ids, (long) ids.length + other.ids.length));
+    return new CellUnion(Calls.made(call, ids, other.ids));
   }
 
   /**
@@ -528,7 +528,7 @@ public final class CellUnion implements Comparable<CellUnion> {
    * @since 1.1
    */
   public CellUnion outer(int level) {
-    return new CellUnion(Calls.made(Calls.OUTER_OF, ids, Calls.NONE, ids.length, level, MOST_COVERING));
+    return new CellUnion(Calls.made(Calls.OUTER_OF, ids, Calls.NONE, level, MOST_COVERING));
   }
 
   /**
@@ -545,7 +545,7 @@ public final class CellUnion implements Comparable<CellUnion> {
    * @since 1.1
    */
   public CellUnion inner(int level) {
-    return new CellUnion(Calls.made(Calls.INNER_OF, ids, Calls.NONE, ids.length, level, MOST_COVERING));
+    return new CellUnion(Calls.made(Calls.INNER_OF, ids, Calls.NONE, level, MOST_COVERING));
   }
 
   /**
@@ -604,7 +604,7 @@ public final class CellUnion implements Comparable<CellUnion> {
    * @since 1.1
    */
   public long[] ancestors() {
-    return Calls.made(Calls.ANCESTORS, ids, Calls.NONE, 2L * ids.length + Calls.LAST_LEVEL);
+    return Calls.made(Calls.ANCESTORS, ids, Calls.NONE);
   }
 
   /**
@@ -627,7 +627,7 @@ public final class CellUnion implements Comparable<CellUnion> {
   public long[] denormalized(int min, int modulus, int most) {
     long count = denormalizedSize(min, modulus);
     if (Long.compareUnsigned(count, Math.max(most, 0)) > 0) throw new Refusal(Refusal.MANY, 0);
-    return Calls.made(Calls.DENORMALISED, ids, Calls.NONE, count, min, modulus);
+    return Calls.madeIn(count, Calls.DENORMALISED, ids, Calls.NONE, min, modulus);
   }
 
   /**
@@ -662,7 +662,7 @@ public final class CellUnion implements Comparable<CellUnion> {
    * @since 1.1
    */
   public byte[] encode() {
-    return Calls.written(Calls.ENCODE, ids, Calls.HEAD + 8L * ids.length);
+    return Calls.written(Calls.ENCODE, ids);
   }
 
   /**
@@ -726,6 +726,6 @@ public final class CellUnion implements Comparable<CellUnion> {
    */
   @Override
   public String toString() {
-    return new String(Calls.written(Calls.TOKENS, ids, 17L * ids.length), StandardCharsets.US_ASCII);
+    return new String(Calls.written(Calls.TOKENS, ids), StandardCharsets.US_ASCII);
   }
 }

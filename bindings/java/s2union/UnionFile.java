@@ -200,7 +200,7 @@ public final class UnionFile {
    * @since 1.1
    */
   public long[] ancestors() {
-    return Calls.read(Calls.FILE_ANCESTORS, bytes, bytes.length / 4);
+    return Calls.read(Calls.FILE_ANCESTORS, bytes);
   }
 
   /**

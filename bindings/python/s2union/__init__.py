@@ -32,7 +32,7 @@ from collections.abc import Set as _Set
 from itertools import accumulate as _accumulate
 from typing import TYPE_CHECKING, Any, Iterable, Iterator, NoReturn, overload
 
-from . import _library
+from . import _library, _rooms
 from ._errors import (
     FileCellError, FileShortError, FileTrailingError, FileVersionError, NotACellError, NotNormalizedError,
     OutOfMemoryError, OutOfRangeError, S2UnionError, TooManyCellsError, UnionFileError, UnknownStatusError,
@@ -1691,7 +1691,8 @@ class UnionFile:
         >>> tokens(UnionFile(CellUnion.from_tokens("04").to_bytes()).ancestors())
         ['04', '1']
         """
-        return _cells_in(_library.file_ancestors("", 2 * len(self), _unchanging(self._bytes))).tolist()
+        room = _rooms.file_ancestors(self._bytes.nbytes)
+        return _cells_in(_library.file_ancestors("", room, _unchanging(self._bytes))).tolist()
 
     def union(self) -> CellUnion:
         """The union itself, copied.
@@ -1902,7 +1903,7 @@ class CellUnion:
         ['0c', '14', '1c', '3']
         """
         what = f"{_library.bits(first):#x} comes after {_library.bits(last):#x}"
-        return cls._holding(_library.range_(what, _library.MOST_RANGE, first, last))
+        return cls._holding(_library.range_(what, _rooms.range_(), first, last))
 
     @classmethod
     def from_bytes(cls: type[Self], data: Bytes) -> Self:
@@ -1942,7 +1943,7 @@ class CellUnion:
         s2union.FileVersionError: union file: unknown version: 7 bytes
         """
         view = _bytes_in(data)
-        room = max(view.nbytes - 9, 0) // 8
+        room = _rooms.decode(view.nbytes)
         return cls._holding(_library.decode(f"{view.nbytes} bytes", room, _unchanging(view)))
 
     @classmethod
@@ -1993,7 +1994,7 @@ class CellUnion:
         """
         call = _library.inner if inner else _library.outer
         bounds = (face, i0, i1, j0, j1)
-        return cls._holding(call(_shown(bounds, level, most), 64, bounds, level, most))
+        return cls._holding(call(_shown(bounds, level, most), _rooms.outer(), bounds, level, most))
 
     def outer(self: Self, level: SupportsIndex, most: SupportsIndex = _library.MOST_COVERING,
               rectangle: Iterable[SupportsIndex] | None = None) -> Self:
@@ -2071,9 +2072,10 @@ class CellUnion:
                  rectangle: Iterable[SupportsIndex] | None, level: SupportsIndex, most: SupportsIndex) -> Self:
         """The covering that one call makes of the union, or the other of its part in a rectangle."""
         if rectangle is None:
-            return self._holding(whole(_shown((), level, most), len(self), self._ids, level, most))
+            room = _rooms.outer_of(len(self))
+            return self._holding(whole(_shown((), level, most), room, self._ids, level, most))
         bounds = tuple(rectangle)
-        return self._holding(part(_shown(bounds, level, most), 64, self._ids, bounds, level, most))
+        return self._holding(part(_shown(bounds, level, most), _rooms.outer_in(), self._ids, bounds, level, most))
 
     def to_bytes(self) -> bytes:
         """The union file: the bytes that S2's own S2CellUnion::Encode writes. Equal unions have equal files.
@@ -2099,7 +2101,7 @@ class CellUnion:
         >>> CellUnion.from_tokens("04").to_bytes().hex()
         '0101000000000000000000000000000004'
         """
-        return _library.encode("", 9 + len(self._ids), self._ids)
+        return _library.encode("", _rooms.encode(len(self)), self._ids)
 
     __bytes__ = to_bytes
 
@@ -2391,29 +2393,28 @@ class CellUnion:
         """
         return _library.leaf_count(self._ids)
 
-    def _with(self: Self, call: Callable[..., bytes], other: CellUnion, room: int) -> Self:
-        return self._holding(call("", room, self._ids, other._ids))
+    def _with(self: Self, call: Callable[..., bytes], other: CellUnion, room: Callable[[int, int], int]) -> Self:
+        return self._holding(call("", room(len(self), len(other)), self._ids, other._ids))
 
     def __or__(self: Self, other: CellUnion) -> Self:
         if not isinstance(other, CellUnion):
             return NotImplemented
-        return self._with(_library.union, other, len(self) + len(other))
+        return self._with(_library.union, other, _rooms.union)
 
     def __and__(self: Self, other: CellUnion) -> Self:
         if not isinstance(other, CellUnion):
             return NotImplemented
-        # Twice the shorter one nearly always suffices, and the longer one may be much longer.
-        return self._with(_library.intersection, other, 2 * min(len(self), len(other)))
+        return self._with(_library.intersection, other, _rooms.intersection)
 
     def __sub__(self: Self, other: CellUnion) -> Self:
         if not isinstance(other, CellUnion):
             return NotImplemented
-        return self._with(_library.difference, other, len(self) + min(len(self), len(other)) + 90)
+        return self._with(_library.difference, other, _rooms.difference)
 
     def __xor__(self: Self, other: CellUnion) -> Self:
         if not isinstance(other, CellUnion):
             return NotImplemented
-        return self._with(_library.symmetric_difference, other, len(self) + len(other) + 90)
+        return self._with(_library.symmetric_difference, other, _rooms.symmetric_difference)
 
     def __invert__(self: Self) -> Self:
         return self.complement()
@@ -2581,7 +2582,7 @@ class CellUnion:
         >>> (~CellUnion.from_tokens("04 0c 1c")).tokens()
         ['14', '3', '5', '7', '9', 'b']
         """
-        return self._holding(_library.complement("", 2 * len(self) + 90, self._ids))
+        return self._holding(_library.complement("", _rooms.complement(len(self)), self._ids))
 
     def __ge__(self, other: CellUnion) -> bool:
         if not isinstance(other, CellUnion):
@@ -2794,7 +2795,7 @@ class CellUnion:
         >>> tokens(CellUnion.from_tokens("04").ancestors())
         ['04', '1']
         """
-        return _cells_in(_library.ancestors("", 2 * len(self) + 30, self._ids)).tolist()
+        return _cells_in(_library.ancestors("", _rooms.ancestors(len(self)), self._ids)).tolist()
 
     def __repr__(self) -> str:
         shown = [_library.token(cell) for cell in self.ids[:8]]

@@ -6,6 +6,7 @@
 #include <Rinternals.h>
 #include <R_ext/Rdynload.h>
 #include <s2union.h>
+#include "rooms.h"
 
 typedef struct {
   const uint64_t* ids;
@@ -53,19 +54,21 @@ static SEXP r_normalise(SEXP x) {
 }
 
 typedef int32_t operation(const uint64_t*, size_t, const uint64_t*, size_t, uint64_t*, size_t, size_t*);
-static SEXP made_of(operation* call, SEXP x, SEXP y) {
+static SEXP made_of(operation* call, size_t room_of(size_t, size_t), SEXP x, SEXP y) {
   list a = region(x), b = region(y);
-  size_t room = a.n + b.n, len;
+  size_t room = room_of(a.n, b.n), len;
   uint64_t* out = room_for(room);
   int32_t status = call(a.ids, a.n, b.ids, b.n, out, room, &len);
   if (status == S2U_ROOM) status = call(a.ids, a.n, b.ids, b.n, out = room_for(len), len, &len);
   check(status, 0);
   return vector_of(out, len);
 }
-static SEXP r_union(SEXP x, SEXP y) { return made_of(s2u_union, x, y); }
-static SEXP r_intersection(SEXP x, SEXP y) { return made_of(s2u_intersection, x, y); }
-static SEXP r_difference(SEXP x, SEXP y) { return made_of(s2u_difference, x, y); }
-static SEXP r_symmetric_difference(SEXP x, SEXP y) { return made_of(s2u_symmetric_difference, x, y); }
+static SEXP r_union(SEXP x, SEXP y) { return made_of(s2u_union, room_of_union, x, y); }
+static SEXP r_intersection(SEXP x, SEXP y) { return made_of(s2u_intersection, room_of_intersection, x, y); }
+static SEXP r_difference(SEXP x, SEXP y) { return made_of(s2u_difference, room_of_difference, x, y); }
+static SEXP r_symmetric_difference(SEXP x, SEXP y) {
+  return made_of(s2u_symmetric_difference, room_of_symmetric_difference, x, y);
+}
 
 typedef int32_t question(const uint64_t*, size_t, const uint64_t*, size_t);
 static SEXP answer_of(question* call, SEXP x, SEXP y) {

@@ -22,6 +22,28 @@ pub const MOST_DEBUG: usize = 32;
 pub const MOST_RANGE: usize = 184;
 pub const MOST_COVERING: usize = 1_000_000;
 
+/// The room that what a call makes is first given.
+pub mod rooms {
+    pub fn union(nx: usize, ny: usize) -> usize { nx + ny }
+    pub fn intersection(nx: usize, ny: usize) -> usize { 2 * nx.min(ny) }
+    pub fn difference(nx: usize, ny: usize) -> usize { nx + nx.min(ny) + 90 }
+    pub fn symmetric_difference(nx: usize, ny: usize) -> usize { nx + ny + 90 }
+    pub fn complement(n: usize) -> usize { 32 * n + 90 }
+    pub fn range() -> usize { 184 }
+    pub fn ancestors(n: usize) -> usize { 2 * n + 30 }
+    pub fn file_ancestors(n: usize) -> usize { n / 4 + 30 }
+    pub fn outer() -> usize { 64 }
+    pub fn inner() -> usize { 64 }
+    pub fn outer_in() -> usize { 64 }
+    pub fn inner_in() -> usize { 64 }
+    pub fn outer_of(n: usize) -> usize { n }
+    pub fn inner_of(n: usize) -> usize { n }
+    pub fn encode(n: usize) -> usize { 8 * n + 9 }
+    pub fn decode(n: usize) -> usize { n / 8 }
+    pub fn tokens(n: usize) -> usize { 17 * n }
+    pub fn from_tokens(n: usize) -> usize { n / 2 + 1 }
+}
+
 /// What a refusal says.
 pub fn text(status: i32) -> &'static str {
     match status {

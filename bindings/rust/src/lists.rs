@@ -2,7 +2,7 @@
 
 use std::mem::MaybeUninit;
 
-use crate::calls::{self, MOST_DEBUG, MOST_RANGE, MOST_TOKEN};
+use crate::calls::{self, rooms, MOST_DEBUG, MOST_TOKEN};
 use crate::error::Error;
 use crate::{Point, Rect};
 
@@ -15,28 +15,26 @@ macro_rules! makers {
     };
 }
 makers! {
-    union(xs: &[u64], ys: &[u64]) -> [u64] in xs.len() + ys.len();
-    // Twice the shorter one nearly always suffices, and the longer one may be much longer.
-    intersection(xs: &[u64], ys: &[u64]) -> [u64] in 2 * xs.len().min(ys.len());
-    // A face without one leaf has 90 cells.
-    difference(xs: &[u64], ys: &[u64]) -> [u64] in xs.len() + xs.len().min(ys.len()) + 90;
-    symmetric_difference(xs: &[u64], ys: &[u64]) -> [u64] in xs.len() + ys.len() + 90;
-    complement(ids: &[u64]) -> [u64] in 2 * ids.len() + 90;
-    range(first: u64, last: u64) -> [u64] in MOST_RANGE;
-    ancestors(ids: &[u64]) -> [u64] in 2 * ids.len() + 30;
-    outer(bounds: &Rect, level: u32, most: usize) -> [u64] in 64;
-    inner(bounds: &Rect, level: u32, most: usize) -> [u64] in 64;
-    outer_of(ids: &[u64], level: u32, most: usize) -> [u64] in ids.len();
-    inner_of(ids: &[u64], level: u32, most: usize) -> [u64] in ids.len();
-    outer_in(ids: &[u64], bounds: &Rect, level: u32, most: usize) -> [u64] in 64;
-    inner_in(ids: &[u64], bounds: &Rect, level: u32, most: usize) -> [u64] in 64;
-    encode(ids: &[u64]) -> [u8] in 9 + 8 * ids.len();
-    decode(bytes: &[u8]) -> [u64] in bytes.len() / 8;
-    file_ancestors(bytes: &[u8]) -> [u64] in bytes.len() / 4 + 30;
+    union(xs: &[u64], ys: &[u64]) -> [u64] in rooms::union(xs.len(), ys.len());
+    intersection(xs: &[u64], ys: &[u64]) -> [u64] in rooms::intersection(xs.len(), ys.len());
+    difference(xs: &[u64], ys: &[u64]) -> [u64] in rooms::difference(xs.len(), ys.len());
+    symmetric_difference(xs: &[u64], ys: &[u64]) -> [u64] in rooms::symmetric_difference(xs.len(), ys.len());
+    complement(ids: &[u64]) -> [u64] in rooms::complement(ids.len());
+    range(first: u64, last: u64) -> [u64] in rooms::range();
+    ancestors(ids: &[u64]) -> [u64] in rooms::ancestors(ids.len());
+    outer(bounds: &Rect, level: u32, most: usize) -> [u64] in rooms::outer();
+    inner(bounds: &Rect, level: u32, most: usize) -> [u64] in rooms::inner();
+    outer_of(ids: &[u64], level: u32, most: usize) -> [u64] in rooms::outer_of(ids.len());
+    inner_of(ids: &[u64], level: u32, most: usize) -> [u64] in rooms::inner_of(ids.len());
+    outer_in(ids: &[u64], bounds: &Rect, level: u32, most: usize) -> [u64] in rooms::outer_in();
+    inner_in(ids: &[u64], bounds: &Rect, level: u32, most: usize) -> [u64] in rooms::inner_in();
+    encode(ids: &[u64]) -> [u8] in rooms::encode(ids.len());
+    decode(bytes: &[u8]) -> [u64] in rooms::decode(bytes.len());
+    file_ancestors(bytes: &[u8]) -> [u64] in rooms::file_ancestors(bytes.len());
     token(id: u64) -> [u8] in MOST_TOKEN;
     debug(id: u64) -> [u8] in MOST_DEBUG;
-    tokens(ids: &[u64]) -> [u8] in (MOST_TOKEN + 1) * ids.len();
-    from_tokens(text: &[u8]) -> [u64] in text.len() / 2 + 1;
+    tokens(ids: &[u64]) -> [u8] in rooms::tokens(ids.len());
+    from_tokens(text: &[u8]) -> [u64] in rooms::from_tokens(text.len());
 }
 
 /// The cells that are cut, of which there are as many as `denormalised_len` answers: that is the room.
