@@ -8,6 +8,10 @@
  *     CellUnion ours = theirs;               // from an S2CellUnion, normalized if it wasn't
  *     S2CellUnion again(ours.Union(ours));   // and back, to S2's regions, indexes and areas
  *
+ * LISTS. s2union::Difference(x.cell_ids(), y.cell_ids()) and the like take S2's lists as they are, and answer lists.
+ * Each call checks its lists, in as many steps as they have cells, and refuses one that isn't normalized. A CellUnion
+ * was checked when it was made: so make one of what is asked often.
+ *
  * WHAT DIFFERS. A CellUnion is always normalized: there is no FromVerbatim, and IsValid and IsNormalized are true. What
  * S2 only requires, and looks at in debug builds, is always checked here, and refused if it isn't so. Decode makes its
  * cells a union. There is no geometry: no Expand, areas, bounds or points. docs/FROM_S2.md has the whole table.
@@ -75,6 +79,9 @@ class Error : public std::runtime_error {
   int32_t status_;
 };
 
+template <class Id>
+class CellUnionOf;
+
 namespace internal {
 
 /// Reports the status of a call: in `outcome`, or if that is null, by an exception. Whether it succeeded.
@@ -98,36 +105,168 @@ inline size_t of_union(size_t nx, size_t ny) { return nx + ny; }
 inline size_t of_intersection(size_t nx, size_t ny) { return 2 * std::min(nx, ny); }
 inline size_t of_difference(size_t nx, size_t ny) { return nx + std::min(nx, ny) + 90; }
 inline size_t of_symmetric_difference(size_t nx, size_t ny) { return nx + ny + 90; }
-inline size_t of_complement(size_t n) { return 32 * n + 90; }
+inline size_t of_complement(size_t n) { return 64 * n + 90; }
 inline size_t of_range() { return 184; }
 inline size_t of_ancestors(size_t n) { return 2 * n + 30; }
 inline size_t of_file_ancestors(size_t n) { return n / 4 + 30; }
 inline size_t of_outer() { return 64; }
-inline size_t of_inner() { return 64; }
 inline size_t of_outer_in() { return 64; }
-inline size_t of_inner_in() { return 64; }
 inline size_t of_outer_of(size_t n) { return n; }
-inline size_t of_inner_of(size_t n) { return n; }
-inline size_t of_encode(size_t n) { return 8 * n + 9; }
 inline size_t of_decode(size_t n) { return n / 8; }
-inline size_t of_tokens(size_t n) { return 17 * n; }
 inline size_t of_from_tokens(size_t n) { return n / 2 + 1; }
 }  // namespace rooms
 
-/// Gives a string or a vector this size: S2U_OK, or S2U_MEMORY.
-template <class List>
-int32_t resized(List* list, size_t size) {
-  if (size > list->max_size()) return S2U_MEMORY;
+/// Does what takes memory: S2U_OK, or S2U_MEMORY.
+template <class Take>
+int32_t taken(Take take) {
 #if S2UNION_THROWS
   try {
-    list->resize(size);
+    take();
   } catch (const std::bad_alloc&) {
     return S2U_MEMORY;
   }
 #else
-  list->resize(size);
+  take();
 #endif
   return S2U_OK;
+}
+
+/// Gives a string or a vector this size: S2U_OK, or S2U_MEMORY.
+template <class List>
+int32_t resized(List* list, size_t size) {
+  return size > list->max_size() ? S2U_MEMORY : taken([&] { list->resize(size); });
+}
+
+/// Memory for numbers that a call writes, which nobody fills before: of the stack if they are few, else of the heap.
+class Room {
+ public:
+  Room() = default;
+  Room(const Room&) = delete;
+  Room& operator=(const Room&) = delete;
+  ~Room() { ::operator delete(heap_); }
+
+  /// Whether it has this many now, at least. What it had before is lost.
+  bool has(size_t n) {
+    if (n <= size_) return true;
+    ::operator delete(heap_);
+    heap_ = n > SIZE_MAX / 2 / sizeof few_[0] ? nullptr : ::operator new(n * sizeof few_[0], std::nothrow);
+    size_ = heap_ == nullptr ? kFew : n;
+    return heap_ != nullptr;
+  }
+  size_t size() const { return size_; }
+  uint64_t* at() { return heap_ == nullptr ? few_ : static_cast<uint64_t*>(heap_); }
+
+ private:
+  static constexpr size_t kFew = 256;
+  uint64_t few_[kFew];
+  void* heap_ = nullptr;
+  size_t size_ = kFew;
+};
+
+// A cell and its number are the same 64 bits. A vector's memory is aligned for both.
+template <class Id>
+const uint64_t* numbers(const std::vector<Id>& cells) {
+  const void* at = cells.data();
+  return static_cast<const uint64_t*>(at);
+}
+template <class Id>
+uint64_t* numbers(std::vector<Id>* cells) {
+  void* at = cells->data();
+  return static_cast<uint64_t*>(at);
+}
+
+/// Makes a list of these numbers: S2U_OK, or S2U_MEMORY, and then it is as it was.
+template <class Id>
+int32_t copied(const uint64_t* from, size_t n, std::vector<Id>* list) {
+  const void* at = from;
+  auto* first = static_cast<const Id*>(at);
+  return taken([&] { list->assign(first, first + n); });
+}
+
+/// The list that a call makes, in memory of its own size: tries room that nearly always suffices, or what there is
+/// memory for, and calls again with what is needed if that doesn't.
+template <class Id, class Call>
+int32_t listed(size_t most, std::vector<Id>* made, Call call) {
+  Room room;
+  size_t length = 0;
+  room.has(most);
+  int32_t found = call(room.at(), room.size(), &length);
+  if (found == S2U_ROOM) {
+    if (!room.has(length)) return S2U_MEMORY;
+    found = call(room.at(), room.size(), &length);
+  }
+  return found == S2U_OK ? copied(room.at(), length, made) : found;
+}
+
+/// Whether a list is that of a union, in n steps.
+template <class Id>
+bool is_union(const std::vector<Id>& cells) {
+  return s2u_is_union(numbers(cells), cells.size()) == 1;
+}
+
+/// Normalizes a list in place, unless it is normalized already.
+template <class Id>
+int32_t normalized(std::vector<Id>* cells) {
+  size_t length = 0;
+  if (is_union(*cells)) return S2U_OK;
+  int32_t found = s2u_normalise(numbers(cells), cells->size(), &length);
+  if (found == S2U_OK) cells->resize(length);
+  return found;
+}
+
+/// Whether the cells of a list are those of a union: S2U_OK or S2U_NO_UNION. A union is not asked.
+template <class Id>
+int32_t checked(const std::vector<Id>& cells) {
+  return is_union(cells) ? S2U_OK : S2U_NO_UNION;
+}
+template <class Id>
+int32_t checked(const CellUnionOf<Id>&) {
+  return S2U_OK;
+}
+template <class Id>
+const std::vector<Id>& list_of(const std::vector<Id>& cells) {
+  return cells;
+}
+template <class Id>
+const std::vector<Id>& list_of(const CellUnionOf<Id>& cells) {
+  return cells.cell_ids();
+}
+
+/// The cells that a list or a union has.
+template <class X>
+using CellsOf = std::vector<typename X::value_type>;
+
+/// The list that a call makes of two, each a list or a union.
+template <class Call, class X, class Y>
+CellsOf<X> made_of(Call call, size_t most(size_t, size_t), const X& x, const Y& y, int32_t* status) {
+  static_assert(std::is_same_v<CellsOf<X>, CellsOf<Y>>, "both have cells of one type");
+  CellsOf<X> made;
+  const CellsOf<X>&xs = list_of(x), &ys = list_of(y);
+  int32_t found = checked(x) == S2U_OK ? checked(y) : S2U_NO_UNION;
+  if (found == S2U_OK) {
+    found = listed(most(xs.size(), ys.size()), &made, [&](uint64_t* out, size_t room, size_t* len) {
+      return call(numbers(xs), xs.size(), numbers(ys), ys.size(), out, room, len);
+    });
+  }
+  succeeded(found, status);
+  return made;
+}
+
+/// What a call answers about a list or a union.
+template <class X, class Ask>
+bool answer(const X& x, int32_t* status, Ask ask) {
+  const CellsOf<X>& xs = list_of(x);
+  int32_t found = checked(x);
+  if (found == S2U_OK) found = ask(numbers(xs), xs.size());
+  return succeeded(found, status) && found == 1;
+}
+/// The same about two.
+template <class X, class Y, class Call>
+bool answer(const X& x, const Y& y, int32_t* status, Call call) {
+  const CellsOf<Y>& ys = list_of(y);
+  return answer(x, status, [&](const uint64_t* xs, size_t n) {
+    return checked(y) == S2U_OK ? call(xs, n, numbers(ys), ys.size()) : S2U_NO_UNION;
+  });
 }
 
 /// The list that another class of unions, such as S2CellUnion, keeps its cells in.
@@ -198,11 +337,25 @@ class CellUnionOf {
   /// The same union in another class, such as S2CellUnion. @since 0.1
   /// @snippet examples.cc operator Theirs
   template <class Theirs, class = decltype(Theirs::FromNormalized(std::declval<internal::ListOf<Theirs>>()))>
-  explicit operator Theirs() const {
-    internal::ListOf<Theirs> cells;
-    cells.reserve(size());
-    for (Id id : cell_ids_) cells.emplace_back(internal::number_of(id));
-    return Theirs::FromNormalized(std::move(cells));
+  explicit operator Theirs() const& {
+    if constexpr (std::is_same_v<internal::ListOf<Theirs>, std::vector<Id>>) {
+      return Theirs::FromNormalized(cell_ids_);
+    } else {
+      internal::ListOf<Theirs> cells;
+      cells.reserve(size());
+      for (Id id : cell_ids_) cells.emplace_back(internal::number_of(id));
+      return Theirs::FromNormalized(std::move(cells));
+    }
+  }
+  /// The same without a copy, of a union that is used no more. @since 1.4
+  /// @snippet examples.cc operator Theirs of a result
+  template <class Theirs, class = decltype(Theirs::FromNormalized(std::declval<internal::ListOf<Theirs>>()))>
+  explicit operator Theirs() && {
+    if constexpr (std::is_same_v<internal::ListOf<Theirs>, std::vector<Id>>) {
+      return Theirs::FromNormalized(Release());
+    } else {
+      return static_cast<Theirs>(static_cast<const CellUnionOf&>(*this));
+    }
   }
 
   /// All leaves. S2U_MEMORY. @since 0.1
@@ -221,8 +374,8 @@ class CellUnionOf {
   static CellUnionOf FromNormalized(const std::vector<Id>& cell_ids, int32_t* status = nullptr) {
     CellUnionOf made;
     int32_t found = UnionStatus(cell_ids);
-    if (found == S2U_OK) found = internal::resized(&made.cell_ids_, cell_ids.size());
-    if (internal::succeeded(found, status)) std::copy(cell_ids.begin(), cell_ids.end(), made.cell_ids_.begin());
+    if (found == S2U_OK) found = internal::copied(Numbers(cell_ids), cell_ids.size(), &made.cell_ids_);
+    internal::succeeded(found, status);
     return made;
   }
 
@@ -255,7 +408,7 @@ class CellUnionOf {
   /// @since 0.1
   /// @snippet examples.cc Init
   void Init(std::vector<Id>&& cell_ids, int32_t* status = nullptr) {
-    int32_t found = Normalized(&cell_ids);
+    int32_t found = internal::normalized(&cell_ids);
     if (internal::succeeded(found, status)) cell_ids_ = std::move(cell_ids);
   }
   /// The same from a copy of the cells. S2U_NO_CELL, S2U_MEMORY. @since 0.1
@@ -379,28 +532,26 @@ class CellUnionOf {
   /// The leaves of both. S2U_MEMORY. @since 0.1
   /// @snippet examples.cc Union
   CellUnionOf Union(const CellUnionOf& y, int32_t* status = nullptr) const {
-    return Both(s2u_union, size() + y.size(), y, status);
+    return Both(s2u_union, internal::rooms::of_union, y, status);
   }
   /// The leaves of any of many unions, which are merged in pairs. Takes memory for four times their cells. S2U_MEMORY.
   /// @since 1.0
   /// @snippet examples.cc UnionOf
   static CellUnionOf UnionOf(const std::vector<CellUnionOf>& unions, int32_t* status = nullptr) {
     CellUnionOf made;
-    std::vector<uint64_t> ids, work;
+    internal::Room ids, work;
     std::vector<size_t> ends;
     size_t n = 0;
     for (const CellUnionOf& each : unions) n += each.size();
-    int32_t found = internal::resized(&ids, n);
-    if (found == S2U_OK) found = internal::resized(&work, 2 * n);
-    if (found == S2U_OK) found = internal::resized(&ends, unions.size());
+    int32_t found = ids.has(n) && work.has(2 * n) ? internal::resized(&ends, unions.size()) : S2U_MEMORY;
     if (found == S2U_OK) {
       n = 0;
       for (size_t k = 0; k < unions.size(); k++) {
-        std::copy_n(unions[k].ids(), unions[k].size(), ids.begin() + static_cast<ptrdiff_t>(n));
+        std::copy_n(unions[k].ids(), unions[k].size(), ids.at() + n);
         ends[k] = n += unions[k].size();
       }
-      found = Listed(n, &made.cell_ids_, [&](uint64_t* out, size_t room, size_t* len) {
-        return s2u_union_of_many(ids.data(), n, ends.data(), ends.size(), work.data(), work.size(), out, room, len);
+      found = internal::listed(n, &made.cell_ids_, [&](uint64_t* out, size_t room, size_t* len) {
+        return s2u_union_of_many(ids.at(), n, ends.data(), ends.size(), work.at(), work.size(), out, room, len);
       });
     }
     internal::succeeded(found, status);
@@ -409,7 +560,7 @@ class CellUnionOf {
   /// The leaves that both have. S2U_MEMORY. @since 0.1
   /// @snippet examples.cc Intersection
   CellUnionOf Intersection(const CellUnionOf& y, int32_t* status = nullptr) const {
-    return Both(s2u_intersection, RoomForShared(cell_ids_, y.cell_ids_), y, status);
+    return Both(s2u_intersection, internal::rooms::of_intersection, y, status);
   }
   /// The leaves of the cell that the union has. S2U_NO_CELL. log n steps, and one for each cell of the result.
   /// @since 0.1
@@ -431,18 +582,18 @@ class CellUnionOf {
   /// The leaves that y doesn't have. S2U_MEMORY. @since 0.1
   /// @snippet examples.cc Difference
   CellUnionOf Difference(const CellUnionOf& y, int32_t* status = nullptr) const {
-    return Both(s2u_difference, size() + std::min(size(), y.size()) + S2U_MOST_DIFFERENCE(0, 1), y, status);
+    return Both(s2u_difference, internal::rooms::of_difference, y, status);
   }
 
   /// The leaves that exactly one of them has. S2U_MEMORY. @since 1.1
   /// @snippet examples.cc SymmetricDifference
   CellUnionOf SymmetricDifference(const CellUnionOf& y, int32_t* status = nullptr) const {
-    return Both(s2u_symmetric_difference, size() + y.size() + S2U_MOST_COMPLEMENT(1), y, status);
+    return Both(s2u_symmetric_difference, internal::rooms::of_symmetric_difference, y, status);
   }
   /// The leaves of the sphere that the union doesn't have. S2U_MEMORY. @since 1.1
   /// @snippet examples.cc Complement
   CellUnionOf Complement(int32_t* status = nullptr) const {
-    return Made(2 * size() + S2U_MOST_COMPLEMENT(1), status, [&](uint64_t* out, size_t room, size_t* len) {
+    return Made(internal::rooms::of_complement(size()), status, [&](uint64_t* out, size_t room, size_t* len) {
       return s2u_complement(ids(), size(), out, room, len);
     });
   }
@@ -454,7 +605,7 @@ class CellUnionOf {
   /// The cells and all their ancestors, ascending, each once: the keys of an index. S2U_MEMORY. @since 1.1
   /// @snippet examples.cc Ancestors
   std::vector<Id> Ancestors(int32_t* status = nullptr) const {
-    return Made(2 * size() + 30, status, [&](uint64_t* out, size_t room, size_t* len) {
+    return Made(internal::rooms::of_ancestors(size()), status, [&](uint64_t* out, size_t room, size_t* len) {
       return s2u_ancestors(ids(), size(), out, room, len);
     }).Release();
   }
@@ -544,7 +695,8 @@ class CellUnionOf {
   /// @snippet examples.cc Decode
   bool Decode(const void* bytes, size_t n, int32_t* status = nullptr) {
     std::vector<Id> cells;
-    int32_t found = Listed(S2U_MOST_IN_FILE(n), &cells, [&](uint64_t* out, size_t room, size_t* len) {
+    size_t most = internal::rooms::of_decode(n);
+    int32_t found = internal::listed(most, &cells, [&](uint64_t* out, size_t room, size_t* len) {
       return s2u_decode(static_cast<const uint8_t*>(bytes), n, out, room, len);
     });
     if (found == S2U_OK) cell_ids_ = std::move(cells);
@@ -599,7 +751,8 @@ class CellUnionOf {
   static CellUnionOf FromTokens(std::string_view text, int32_t* status = nullptr) {
     CellUnionOf made;
     std::vector<Id> cells;
-    int32_t found = Listed(S2U_MOST_NAMED(text.size()), &cells, [&](uint64_t* out, size_t room, size_t* len) {
+    size_t most = internal::rooms::of_from_tokens(text.size());
+    int32_t found = internal::listed(most, &cells, [&](uint64_t* out, size_t room, size_t* len) {
       return s2u_from_tokens(text.data(), text.size(), out, room, len);
     });
     if (internal::succeeded(found, status)) made.Init(std::move(cells), status);
@@ -614,12 +767,12 @@ class CellUnionOf {
   /// Whether these are the cells of a union. n steps. @since 0.1
   /// @snippet examples.cc IsNormalized of a list
   static bool IsNormalized(const std::vector<Id>& cell_ids) {
-    return s2u_is_union(Numbers(cell_ids), cell_ids.size()) == 1;
+    return internal::is_union(cell_ids);
   }
   /// Normalizes a list of cells in place. S2U_NO_CELL, and then it is as it was. @since 0.1
   /// @snippet examples.cc Normalize of a list
   static void Normalize(std::vector<Id>* cell_ids, int32_t* status = nullptr) {
-    internal::succeeded(Normalized(cell_ids), status);
+    internal::succeeded(internal::normalized(cell_ids), status);
   }
   /// As the one of a union, which `in` must be: it is checked, n steps. It replaces `out`. S2U_NO_UNION, S2U_ARGUMENT,
   /// S2U_MEMORY. @since 0.1
@@ -633,11 +786,8 @@ class CellUnionOf {
   /// @snippet examples.cc GetIntersection
   static void GetIntersection(const std::vector<Id>& x, const std::vector<Id>& y, std::vector<Id>* out,
                               int32_t* status = nullptr) {
-    if (!internal::succeeded(UnionStatus(x), status) || !internal::succeeded(UnionStatus(y), status)) return;
-    std::vector<Id> cells;
-    int32_t found = Listed(RoomForShared(x, y), &cells, [&](uint64_t* at, size_t room, size_t* len) {
-      return s2u_intersection(Numbers(x), x.size(), Numbers(y), y.size(), at, room, len);
-    });
+    int32_t found = S2U_OK;
+    std::vector<Id> cells = internal::made_of(s2u_intersection, internal::rooms::of_intersection, x, y, &found);
     if (internal::succeeded(found, status)) *out = std::move(cells);
   }
 
@@ -645,15 +795,7 @@ class CellUnionOf {
   static constexpr uint64_t kFirstFace = 0x1000000000000000, kLastFace = 0xb000000000000000;
   static constexpr uint64_t kLeafEnd = 0xc000000000000001;  // S2CellId::End(30), which is no cell
 
-  // A cell and its number are the same 64 bits. A vector's memory is aligned for both.
-  static const uint64_t* Numbers(const std::vector<Id>& cells) {
-    const void* at = cells.data();
-    return static_cast<const uint64_t*>(at);
-  }
-  static uint64_t* Numbers(std::vector<Id>* cells) {
-    void* at = cells->data();
-    return static_cast<uint64_t*>(at);
-  }
+  static const uint64_t* Numbers(const std::vector<Id>& cells) { return internal::numbers(cells); }
 
   static int32_t UnionStatus(const std::vector<Id>& cells) { return IsNormalized(cells) ? S2U_OK : S2U_NO_UNION; }
 
@@ -663,7 +805,7 @@ class CellUnionOf {
     int32_t found = s2u_denormalised_len(Numbers(in), in.size(), min, modulus, &length);
     std::vector<Id> cells;
     if (found == S2U_OK) {
-      found = Listed(length, &cells, [&](uint64_t* at, size_t room, size_t* len) {
+      found = internal::listed(length, &cells, [&](uint64_t* at, size_t room, size_t* len) {
         return s2u_denormalised(Numbers(in), in.size(), min, modulus, at, room, len);
       });
     }
@@ -675,62 +817,38 @@ class CellUnionOf {
     return level < 0 || level == 30 ? level : S2U_ARGUMENT;
   }
 
-  /// Room for what two unions share. Twice the shorter one nearly always suffices, and the longer may be much longer.
-  static size_t RoomForShared(const std::vector<Id>& x, const std::vector<Id>& y) {
-    return 2 * std::min(x.size(), y.size());
-  }
-
-  /// The list that a call makes: tries room that may suffice, and calls again with what is needed if it doesn't. Gives
-  /// back what is left, as Pack does, if it is more than half of what the list has.
-  template <class Call>
-  static int32_t Listed(size_t room, std::vector<Id>* made, Call call) {
-    size_t length = 0;
-    int32_t found = internal::resized(made, room);
-    if (found == S2U_OK) found = call(Numbers(made), made->size(), &length);
-    if (found == S2U_ROOM) {
-      found = internal::resized(made, length);
-      if (found == S2U_OK) found = call(Numbers(made), made->size(), &length);
-    }
-    made->resize(found == S2U_OK ? length : 0);
-    if (made->size() < made->capacity() / 3 * 2) made->shrink_to_fit();
-    return found;
-  }
-
-  static int32_t Normalized(std::vector<Id>* cells) {
-    size_t length = 0;
-    int32_t found = s2u_normalise(Numbers(cells), cells->size(), &length);
-    if (found == S2U_OK) cells->resize(length);
-    return found;
-  }
-
   /// The union that a call makes.
   template <class Call>
   static CellUnionOf Made(size_t room, int32_t* status, Call call) {
     CellUnionOf made;
-    internal::succeeded(Listed(room, &made.cell_ids_, call), status);
+    internal::succeeded(internal::listed(room, &made.cell_ids_, call), status);
     return made;
   }
 
   static CellUnionOf Range(uint64_t first, uint64_t last, int32_t* status) {
-    return Made(S2U_MOST_RANGE, status, [&](uint64_t* out, size_t room, size_t* len) {
+    return Made(internal::rooms::of_range(), status, [&](uint64_t* out, size_t room, size_t* len) {
       return s2u_range(first, last, out, room, len);
     });
   }
 
   template <class Call>
-  CellUnionOf Both(Call call, size_t room, const CellUnionOf& y, int32_t* status) const {
-    return Made(room, status, [&](uint64_t* out, size_t most, size_t* len) {
-      return call(ids(), size(), y.ids(), y.size(), out, most, len);
-    });
+  CellUnionOf Both(Call call, size_t room(size_t, size_t), const CellUnionOf& y, int32_t* status) const {
+    CellUnionOf made;
+    made.cell_ids_ = internal::made_of(call, room, *this, y, status);
+    return made;
   }
 
   template <class Other>
   void Take(const std::vector<Other>& cells, int32_t* status) {
     std::vector<Id> own;
-    int32_t found = internal::resized(&own, cells.size());
-    if (!internal::succeeded(found, status)) return;
-    for (size_t place = 0; place < cells.size(); place++) own[place] = Id(internal::number_of(cells[place]));
-    Init(std::move(own), status);
+    int32_t found = S2U_OK;
+    if constexpr (std::is_same_v<Other, Id>) {
+      found = internal::copied(Numbers(cells), cells.size(), &own);
+    } else {
+      found = internal::resized(&own, cells.size());
+      for (size_t place = 0; place < own.size(); place++) own[place] = Id(internal::number_of(cells[place]));
+    }
+    if (internal::succeeded(found, status)) Init(std::move(own), status);
   }
 
   /// Becomes what a call makes, unless it is refused.
@@ -762,19 +880,19 @@ class CellUnionOf {
 
   template <class Call>
   CellUnionOf Covered(Call call, int level, size_t most, int32_t* status) const {
-    return Made(size(), status, [&](uint64_t* out, size_t room, size_t* len) {
+    return Made(internal::rooms::of_outer_of(size()), status, [&](uint64_t* out, size_t room, size_t* len) {
       return call(ids(), size(), static_cast<uint32_t>(level), most, out, room, len);
     });
   }
   template <class Call>
   CellUnionOf CoveredIn(Call call, const s2u_rect& rect, int level, size_t most, int32_t* status) const {
-    return Made(64, status, [&](uint64_t* out, size_t room, size_t* len) {
+    return Made(internal::rooms::of_outer_in(), status, [&](uint64_t* out, size_t room, size_t* len) {
       return call(ids(), size(), &rect, static_cast<uint32_t>(level), most, out, room, len);
     });
   }
   template <class Call>
   static CellUnionOf CoveredRect(Call call, const s2u_rect& rect, int level, size_t most, int32_t* status) {
-    return Made(64, status, [&](uint64_t* out, size_t room, size_t* len) {
+    return Made(internal::rooms::of_outer(), status, [&](uint64_t* out, size_t room, size_t* len) {
       return call(&rect, static_cast<uint32_t>(level), most, out, room, len);
     });
   }
@@ -793,6 +911,63 @@ class CellUnionOf {
 
   std::vector<Id> cell_ids_;
 };
+
+// ---- calls on lists as they are, such as S2CellUnion::cell_ids(): none is copied. Each of X and Y is a std::vector of
+// cells or a CellUnionOf. A list is checked by each call, a step for each cell: S2U_NO_UNION if it isn't normalized. A
+// CellUnionOf isn't checked again. So make one of a union that you ask often.
+
+/// Whether all leaves of the cell are in the union. S2U_NO_CELL, S2U_NO_UNION. @since 1.4
+/// @snippet examples.cc ContainsCell
+template <class X>
+bool ContainsCell(const X& x, typename X::value_type id, int32_t* status = nullptr) {
+  return internal::answer(x, status, [id](const uint64_t* xs, size_t n) {
+    return s2u_contains_cell(xs, n, internal::number_of(id));
+  });
+}
+/// Whether the union has a leaf of the cell. S2U_NO_CELL, S2U_NO_UNION. @since 1.4
+/// @snippet examples.cc IntersectsCell
+template <class X>
+bool IntersectsCell(const X& x, typename X::value_type id, int32_t* status = nullptr) {
+  return internal::answer(x, status, [id](const uint64_t* xs, size_t n) {
+    return s2u_intersects_cell(xs, n, internal::number_of(id));
+  });
+}
+/// Whether all leaves of y are in x. S2U_NO_UNION. @since 1.4
+/// @snippet examples.cc Contains of lists
+template <class X, class Y>
+bool Contains(const X& x, const Y& y, int32_t* status = nullptr) {
+  return internal::answer(x, y, status, s2u_contains);
+}
+/// Whether the two share a leaf. S2U_NO_UNION. @since 1.4
+/// @snippet examples.cc Intersects of lists
+template <class X, class Y>
+bool Intersects(const X& x, const Y& y, int32_t* status = nullptr) {
+  return internal::answer(x, y, status, s2u_intersects);
+}
+/// The leaves of both, as the list of their union. S2U_NO_UNION, S2U_MEMORY. @since 1.4
+/// @snippet examples.cc Union of lists
+template <class X, class Y>
+internal::CellsOf<X> Union(const X& x, const Y& y, int32_t* status = nullptr) {
+  return internal::made_of(s2u_union, internal::rooms::of_union, x, y, status);
+}
+/// The leaves that both have. S2U_NO_UNION, S2U_MEMORY. @since 1.4
+/// @snippet examples.cc Intersection of lists
+template <class X, class Y>
+internal::CellsOf<X> Intersection(const X& x, const Y& y, int32_t* status = nullptr) {
+  return internal::made_of(s2u_intersection, internal::rooms::of_intersection, x, y, status);
+}
+/// The leaves of x that y doesn't have. S2U_NO_UNION, S2U_MEMORY. @since 1.4
+/// @snippet examples.cc Difference of lists
+template <class X, class Y>
+internal::CellsOf<X> Difference(const X& x, const Y& y, int32_t* status = nullptr) {
+  return internal::made_of(s2u_difference, internal::rooms::of_difference, x, y, status);
+}
+/// The leaves that exactly one of them has. S2U_NO_UNION, S2U_MEMORY. @since 1.4
+/// @snippet examples.cc SymmetricDifference of lists
+template <class X, class Y>
+internal::CellsOf<X> SymmetricDifference(const X& x, const Y& y, int32_t* status = nullptr) {
+  return internal::made_of(s2u_symmetric_difference, internal::rooms::of_symmetric_difference, x, y, status);
+}
 
 /// The bytes of a union file, which answer questions in place, as in a mapped file or a row of a table: nothing is
 /// copied. They stay where they are, and nobody writes them, as long as the object is used.
@@ -867,7 +1042,8 @@ class UnionFileOf {
   /// The cells and all their ancestors, as those of the union. S2U_MEMORY. @since 1.1
   /// @snippet examples.cc UnionFile.Ancestors
   std::vector<Id> Ancestors(int32_t* status = nullptr) const {
-    return CellUnionOf<Id>::Made(2 * size() + 30, status, [&](uint64_t* out, size_t room, size_t* len) {
+    size_t most = internal::rooms::of_file_ancestors(n_);
+    return CellUnionOf<Id>::Made(most, status, [&](uint64_t* out, size_t room, size_t* len) {
       return s2u_file_ancestors(bytes_, n_, out, room, len);
     }).Release();
   }

@@ -26,6 +26,7 @@ void* operator new(size_t size) {
   if (at == nullptr) throw std::bad_alloc();
   return at;
 }
+void* operator new(size_t size, const std::nothrow_t&) noexcept { return std_has_memory ? malloc(size) : nullptr; }
 void operator delete(void* at) noexcept { free(at); }
 void operator delete(void* at, size_t) noexcept { free(at); }
 #endif
@@ -121,12 +122,12 @@ static void unions() {
   x.Normalize();
   x.Pack();
   CHECK(x == two && x.Release() == two.cell_ids() && x.empty());
-  x = face.Difference(leaf);
+  x.Init(cells<Id>({second, first, s2u_child(first, 2), second}));
   const size_t room = x.cell_ids().capacity();
   x.Pack(room - x.size());
   CHECK(room > x.size() && x.cell_ids().capacity() == room);
   x.Pack();
-  CHECK(x == face.Difference(leaf));
+  CHECK(x == two);
   CHECK(x.cell_ids().capacity() == x.size() || !S2UNION_THROWS);  // shrink_to_fit does nothing without exceptions
   x.InitFromMinMax(Id(1), Id(1));
   CHECK(x == Union(cells<Id>({1})));
@@ -208,7 +209,7 @@ static void unions() {
   REFUSES(S2U_MEMORY, two.Union(face, status));
   REFUSES(S2U_MEMORY, two.Intersection(face, status));
   REFUSES(S2U_MEMORY, two.Intersection(Id(kFace), status));
-  REFUSES(S2U_MEMORY, two.Difference(face, status));
+  REFUSES(S2U_MEMORY, face.Difference(two, status));
   REFUSES(S2U_MEMORY, two.SymmetricDifference(face, status));
   REFUSES(S2U_MEMORY, two.Complement(status));
   REFUSES(S2U_MEMORY, two.ContainsCells(two.cell_ids(), status));
@@ -242,7 +243,67 @@ static void unions() {
   has_memory = true;
 }
 
-/// No union keeps room for much more than its cells, unless it can't be given back: then it takes little.
+/// Calls on lists as they are, beside those of unions.
+template <class Id>
+static void lists() {
+  using Union = s2union::CellUnionOf<Id>;
+  const uint64_t first = s2u_child(kFace, 0), second = s2u_child(kFace, 1), inside = s2u_child(first, 1);
+  const std::vector<Id> face = cells<Id>({kFace}), two = cells<Id>({first, second}), none;
+  const std::vector<Id> parts = cells<Id>({inside, s2u_child(kFace, 3)}), wrong = cells<Id>({second, first});
+  const Union x(two), y(parts);
+  using s2union::Contains, s2union::Intersects, s2union::ContainsCell, s2union::IntersectsCell;
+  CHECK(ContainsCell(two, Id(inside)) && ContainsCell(x, Id(inside)) && !ContainsCell(two, Id(kFace)));
+  CHECK(IntersectsCell(two, Id(kFace)) && IntersectsCell(x, Id(kFace)) && !IntersectsCell(parts, Id(second)));
+  CHECK(Contains(face, two) && Contains(face, x) && !Contains(x, face) && Contains(two, none) && Contains(x, x));
+  CHECK(Intersects(two, parts) && Intersects(x, parts) && Intersects(two, y) && !Intersects(none, two));
+  CHECK(s2union::Union(two, parts) == x.Union(y).cell_ids() && s2union::Union(x, parts) == x.Union(y).cell_ids());
+  CHECK(s2union::Intersection(two, y) == cells<Id>({inside}) && s2union::Intersection(x, none).empty());
+  CHECK(s2union::Difference(face, two) == Union(face).Difference(x).cell_ids());
+  CHECK(s2union::SymmetricDifference(two, parts) == x.SymmetricDifference(y).cell_ids());
+  REFUSES(S2U_NO_UNION, ContainsCell(wrong, Id(first), status));
+  REFUSES(S2U_NO_UNION, IntersectsCell(wrong, Id(first), status));
+  REFUSES(S2U_NO_CELL, ContainsCell(two, Id(0), status));
+  REFUSES(S2U_NO_CELL, IntersectsCell(x, Id(2), status));
+  REFUSES(S2U_NO_UNION, Contains(wrong, two, status));
+  REFUSES(S2U_NO_UNION, Contains(x, wrong, status));
+  REFUSES(S2U_NO_UNION, Intersects(wrong, y, status));
+  REFUSES(S2U_NO_UNION, Intersects(two, wrong, status));
+  REFUSES(S2U_NO_UNION, s2union::Union(wrong, two, status));
+  REFUSES(S2U_NO_UNION, s2union::Intersection(two, wrong, status));
+  REFUSES(S2U_NO_UNION, s2union::Difference(wrong, y, status));
+  REFUSES(S2U_NO_UNION, s2union::SymmetricDifference(x, wrong, status));
+  int32_t status = S2U_OK;
+  CHECK(!Contains(face, wrong, &status) && s2union::Union(face, wrong, &status).empty() && status == S2U_NO_UNION);
+#if S2UNION_THROWS
+  std_has_memory = false;
+  REFUSES(S2U_MEMORY, s2union::Union(two, parts, status));
+  REFUSES(S2U_OK, s2union::Intersection(two, none, status));
+  std_has_memory = true;
+#endif
+  const Theirs theirs(Union(x).Union(y));  // a result's own list
+  CHECK(Union(theirs) == x.Union(y) && Union(static_cast<Theirs>(x)) == x);
+}
+
+/// Results and lists of many sizes, about where room is taken from the heap, or once more.
+template <class Id>
+static void rooms() {
+  using Union = s2union::CellUnionOf<Id>;
+  for (uint64_t n : std::initializer_list<uint64_t>{1, 20, 85, 127, 128, 129, 255, 256, 257, 300, 5000}) {
+    std::vector<Id> leaves, all;
+    for (uint64_t place = 0; place < n; place++) leaves.push_back(Id(8 * place + 1));
+    const Union x(leaves), face(cells<Id>({kFace})), rest = x.Complement();
+    CHECK(x.cell_ids() == leaves && rest.Complement() == x && !rest.Intersects(x));
+    CHECK(rest.Union(x) == Union::WholeSphere() && rest.size() > n && rest.cell_ids().capacity() == rest.size());
+    CHECK(x.Union(face).size() == 1 && x.Intersection(face) == x && face.Difference(face.Difference(x)) == x);
+    CHECK(s2union::Difference(leaves, x.cell_ids()).empty() && x.SymmetricDifference(face) == face.Difference(x));
+    std::reverse(leaves.begin(), leaves.end());
+    CHECK(Union(leaves) == x && !Union::IsNormalized(leaves) == (n > 1));
+    face.Intersection(x).Denormalize(30, 1, &all);
+    CHECK(all == x.cell_ids());
+  }
+}
+
+/// A union has memory of its own size.
 template <class Id>
 static void room_that_is_kept() {
   using Union = s2union::CellUnionOf<Id>;
@@ -250,16 +311,16 @@ static void room_that_is_kept() {
   for (uint64_t place = 0; place < 1000; place++) leaves.push_back(Id(8 * place + 1));
   const Union many(leaves), one(cells<Id>({1})), face(cells<Id>({kFace}));
   const Union both = many.Intersection(one), same = one.Intersection(many), rest = many.Difference(one);
-  CHECK(both == one && both.cell_ids().capacity() <= 2 && same == one && same.cell_ids().capacity() <= 2);
-  CHECK(rest.size() == 999 && rest.cell_ids().capacity() <= 1091);
+  CHECK(both == one && both.cell_ids().capacity() == 1 && same == one && same.cell_ids().capacity() == 1);
+  CHECK(rest.size() == 999 && rest.cell_ids().capacity() == 999);
   const Union none = one.Difference(many);
-  CHECK(none.empty() && none.cell_ids().capacity() <= (S2UNION_THROWS ? 0u : 92u));
+  CHECK(none.empty() && none.cell_ids().capacity() == 0);
   Union::GetIntersection(leaves, one.cell_ids(), &shared);
-  CHECK(shared == one.cell_ids() && shared.capacity() <= 2);
+  CHECK(shared == one.cell_ids() && shared.capacity() == 1);
   CHECK(face.Intersection(many) == many && many.Intersection(face) == many);  // more than twice the shorter one
   const Union leaf = Union::FromMinMax(Id(1), Id(1)), again = Union::UnionOf({many, many, many});
   CHECK(leaf == one && again == many);
-  if (S2UNION_THROWS) CHECK(leaf.cell_ids().capacity() == 1 && again.cell_ids().capacity() == 1000);
+  CHECK(leaf.cell_ids().capacity() == 1 && again.cell_ids().capacity() == 1000);
 }
 
 template <class Id>
@@ -439,6 +500,10 @@ int main() {
   ancestors<uint64_t>();
   ancestors<Cell>();
   unions<Cell>();
+  lists<uint64_t>();
+  lists<Cell>();
+  rooms<uint64_t>();
+  rooms<Cell>();
   room_that_is_kept<uint64_t>();
   room_that_is_kept<Cell>();
   files<uint64_t>();

@@ -66,6 +66,13 @@ int main() {
     // [operator Theirs]
   }
   {
+    // [operator Theirs of a result]
+    const CellUnion x = CellUnion::FromTokens("04 14"), y = CellUnion::FromTokens("0c");
+    S2CellUnion theirs(x.Union(y));
+    check(theirs.cell_ids().size() == 3);
+    // [operator Theirs of a result]
+  }
+  {
     // [WholeSphere]
     check(CellUnion::WholeSphere().Tokens() == "1 3 5 7 9 b");
     // [WholeSphere]
@@ -442,6 +449,55 @@ int main() {
     CellUnion::GetIntersection({0x0400000000000000, 0x1400000000000000}, {0x1000000000000000}, &shared);
     check(shared == std::vector<uint64_t>({0x0400000000000000, 0x1400000000000000}));
     // [GetIntersection]
+  }
+  {
+    // [ContainsCell]
+    const S2CellUnion land({S2CellId(0x0400000000000000), S2CellId(0x1400000000000000)});
+    check(s2union::ContainsCell(land.cell_ids(), S2CellId(1)));
+    // [ContainsCell]
+  }
+  {
+    // [IntersectsCell]
+    const S2CellUnion land({S2CellId(0x0400000000000000), S2CellId(0x1400000000000000)});
+    check(s2union::IntersectsCell(land.cell_ids(), S2CellId(0x1000000000000000)));
+    // [IntersectsCell]
+  }
+  {
+    // [Contains of lists]
+    const S2CellUnion face({S2CellId(0x1000000000000000)}), land({S2CellId(0x0400000000000000)});
+    check(s2union::Contains(face.cell_ids(), land.cell_ids()) && !s2union::Contains(land.cell_ids(), face.cell_ids()));
+    // [Contains of lists]
+  }
+  {
+    // [Intersects of lists]
+    const S2CellUnion face({S2CellId(0x1000000000000000)}), land({S2CellId(0x0400000000000000)});
+    check(s2union::Intersects(face.cell_ids(), land.cell_ids()));
+    // [Intersects of lists]
+  }
+  {
+    // [Union of lists]
+    const S2CellUnion land({S2CellId(0x0400000000000000)}), sea({S2CellId(0x1400000000000000)});
+    const S2CellUnion both = S2CellUnion::FromNormalized(s2union::Union(land.cell_ids(), sea.cell_ids()));
+    check(both.cell_ids().size() == 2);
+    // [Union of lists]
+  }
+  {
+    // [Intersection of lists]
+    const S2CellUnion face({S2CellId(0x1000000000000000)}), land({S2CellId(0x0400000000000000)});
+    check(s2union::Intersection(face.cell_ids(), land.cell_ids()) == land.cell_ids());
+    // [Intersection of lists]
+  }
+  {
+    // [Difference of lists]
+    const S2CellUnion face({S2CellId(0x1000000000000000)}), land({S2CellId(0x0400000000000000)});
+    check(s2union::Difference(face.cell_ids(), land.cell_ids()).size() == 3);
+    // [Difference of lists]
+  }
+  {
+    // [SymmetricDifference of lists]
+    const S2CellUnion land({S2CellId(0x0400000000000000)}), sea({S2CellId(0x1400000000000000)});
+    check(s2union::SymmetricDifference(land.cell_ids(), sea.cell_ids()).size() == 2);
+    // [SymmetricDifference of lists]
   }
   {
     // [UnionFile]

@@ -80,19 +80,19 @@ void S2CellUnion::Denormalize(const Cells& in, int min_level, int level_mod, Cel
 }
 
 bool S2CellUnion::Contains(S2CellId id) const {
-  return answers(cell_ids_) ? Proved(*this).Contains(id) : own(*this).Contains(id);
+  return answers(cell_ids_) ? s2union::ContainsCell(cell_ids_, id) : own(*this).Contains(id);
 }
 
 bool S2CellUnion::Intersects(S2CellId id) const {
-  return answers(cell_ids_) ? Proved(*this).Intersects(id) : own(*this).Intersects(id);
+  return answers(cell_ids_) ? s2union::IntersectsCell(cell_ids_, id) : own(*this).Intersects(id);
 }
 
 bool S2CellUnion::Contains(const S2CellUnion& y) const {
-  return answers(cell_ids_, y.cell_ids_) ? Proved(*this).Contains(y) : own(*this).Contains(own(y));
+  return answers(cell_ids_, y.cell_ids_) ? s2union::Contains(cell_ids_, y.cell_ids_) : own(*this).Contains(own(y));
 }
 
 bool S2CellUnion::Intersects(const S2CellUnion& y) const {
-  return answers(cell_ids_, y.cell_ids_) ? Proved(*this).Intersects(y) : own(*this).Intersects(own(y));
+  return answers(cell_ids_, y.cell_ids_) ? s2union::Intersects(cell_ids_, y.cell_ids_) : own(*this).Intersects(own(y));
 }
 
 S2CellUnion S2CellUnion::Union(const S2CellUnion& y) const {
@@ -115,7 +115,7 @@ void S2CellUnion::GetIntersection(const Cells& x, const Cells& y, Cells* out) {
 }
 
 S2CellUnion S2CellUnion::Difference(const S2CellUnion& y) const {
-  if (answers(cell_ids_, y.cell_ids_)) return again(Proved(*this).Difference(y));
+  if (answers(cell_ids_, y.cell_ids_)) return FromVerbatim(s2union::Difference(cell_ids_, y.cell_ids_));
   return again(own(*this).Difference(own(y)));
 }
 

@@ -18,7 +18,7 @@ def symmetric_difference(nx: int, ny: int) -> int:
 
 
 def complement(n: int) -> int:
-    return 32 * n + 90
+    return 2 * n + 90
 
 
 def range_() -> int:

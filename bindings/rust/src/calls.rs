@@ -28,7 +28,7 @@ pub mod rooms {
     pub fn intersection(nx: usize, ny: usize) -> usize { 2 * nx.min(ny) }
     pub fn difference(nx: usize, ny: usize) -> usize { nx + nx.min(ny) + 90 }
     pub fn symmetric_difference(nx: usize, ny: usize) -> usize { nx + ny + 90 }
-    pub fn complement(n: usize) -> usize { 32 * n + 90 }
+    pub fn complement(n: usize) -> usize { 2 * n + 90 }
     pub fn range() -> usize { 184 }
     pub fn ancestors(n: usize) -> usize { 2 * n + 30 }
     pub fn file_ancestors(n: usize) -> usize { n / 4 + 30 }
