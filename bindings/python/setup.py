@@ -29,7 +29,8 @@ def include():
 
 
 ready = (Path(__file__).parent / "s2union" / "_library.abi3.so").exists()
-module = Extension("s2union._library", ["s2union/_library.c"], depends=["s2union/calls.h"], include_dirs=include(),
-                   extra_compile_args=["-std=gnu11", "-fvisibility=hidden"], py_limited_api=True)
+module = Extension("s2union._library", ["s2union/_library.c"], depends=["s2union/calls.h", "s2union/places.h"],
+                   include_dirs=include(), libraries=["m"], py_limited_api=True,
+                   extra_compile_args=["-std=gnu11", "-fvisibility=hidden", "-ffp-contract=off"])
 setup(distclass=Compiled, ext_modules=[] if ready else [module],
       options={"bdist_wheel": {"py_limited_api": "cp38"}})

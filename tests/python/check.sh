@@ -17,7 +17,7 @@ for compiler in gcc clang; do
   step "its module in C, by $compiler" "$compiler" -std=gnu11 -O2 -Wall -Wextra -Werror -fPIC -shared \
     -I"$(python_headers)" -I"$include" "$top/bindings/python/s2union/_library.c" -o "$work/module-$compiler.so"
 done
-for file in _library.c calls.h; do
+for file in _library.c calls.h places.h; do
   step "no arithmetic on cells: $file" no_arithmetic "$top/bindings/python/s2union/$file"
 done
 of_module() { # what the module wants and offers: what each Python from 3.8 on has

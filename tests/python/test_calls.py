@@ -32,7 +32,8 @@ POINTS = memoryview(array("I", [0, 1, 2]))
 WORDS = {
     "what": "", "room": 1, "bounds": RECT, "level": 0, "most": 99, "child": 3, "face": 5, "i": 1, "j": LAST, "k": 1,
     "min": 3, "modulus": 1, "text": "14", "bytes": memoryview(FILE), "points": POINTS, "each": [CELL, 1],
-    "ends": memoryview(array("Q", [4])), "number": 5, "name": "n",
+    "ends": memoryview(array("Q", [4])), "number": 5, "name": "n", "longitude": 2.5, "latitude": 48,
+    "longitudes": memoryview(array("d", [2.5, 999])), "latitudes": memoryview(array("d", [48, 0])),
     **dict.fromkeys(("id", "cell", "a", "b", "whole", "part", "first", "last"), CELL),
     **dict.fromkeys(("ids", "xs", "ys", "cells"), CELLS),
 }
@@ -86,8 +87,22 @@ def test_each_wrong_word(name):
         for other in OTHER_TYPES:
             was_refused = is_refused(name, (*words[:place], other, *words[place + 1:]))
             is_said = name in MAKES_LIST and place == 0  # what a refusal would say may be anything
-            if other is None or type(other) in (float, object):
+            if name == "leaf":  # 0 where Python's side says what is wrong
+                found = calls.leaf(*words[:place], other, *words[place + 1:])
+                assert bool(found) == (other in (1.5, -1))
+            elif other is None or type(other) in (float, object):
                 assert was_refused or is_said
+
+
+def test_places_in_degrees():
+    """Paris, a place that is none, and one on the date line; and the middles of cells."""
+    x, y = array("d", [2.3522, 999, 180]), array("d", [48.8566, 0, -16.5])
+    paris, other = 5180949494577750587, 7935343058781468041
+    assert array("Q", calls.leaves(memoryview(x), memoryview(y))).tolist() == [paris, 0, other]
+    assert [calls.leaf(*place) for place in zip(x, y)] == [paris, 0, other]
+    assert array("d", calls.middles(memoryview(array("Q", [FACE, CELL])))).tolist()[::2] == [0.0, 0.0]
+    with pytest.raises(ValueError, match="not a cell: 0x2$"):
+        calls.middles(memoryview(array("Q", [FACE, 2])))
 
 
 SAID = [

@@ -65,7 +65,54 @@ class Points(unittest.TestCase):
         longitude, latitude = geographic(*on_cube(places[0], places[1] + 0.5, places[2] + 0.5))
         cells = list(map(from_face_ij, *places.tolist()))
         self.assertEqual(leaves(longitude, latitude).tolist(), cells)
-        self.assertEqual(numpy.array(points(cells)).tolist(), [longitude.tolist(), latitude.tolist()])
+        numpy.testing.assert_allclose(points(cells), [longitude, latitude], rtol=1e-14)
+        self.assertEqual(leaves(*points(cells)).tolist(), cells)
+
+    def test_each_place_beside_plain_python(self):
+        """Bit for bit: anywhere, and at poles, corners, and the borders of faces and cells with the numbers beside."""
+        random = Random(1129)
+        borders = [0.0, -0.0, *range(-540, 541, 45), 35.264389682754654, 89.99999999999999, 5e-324, 1e-300]
+        borders += [math.nextafter(x, to) for x in borders for to in (-540, 540)] if sys.version_info >= (3, 9) else []
+        heights = [y * sign for y in borders if y <= 90 for sign in (1, -1) if abs(y) <= 90]
+        places = list(itertools.product(borders, heights))
+        places += [(random.uniform(-540, 540), random.uniform(-90, 90)) for _ in range(70000)]
+        places += [(random.randrange(-540, 541), random.randrange(-90, 91)) for _ in range(20000)]
+        places += [(x / 2**40, y / 2**40) for x, y in places[-1000:]]
+        wanted = [plain_leaf(*place) for place in places]
+        self.assertEqual(leaves(*numpy.array(places).T).tolist(), wanted)
+        self.assertEqual([leaf(*place) for place in places], wanted)
+        two = numpy.asfortranarray(numpy.array(places[-12:]).T.reshape(2, 3, 4))
+        self.assertEqual(leaves(two[0], two[1]).ravel().tolist(), wanted[-12:])
+        self.assertEqual(leaves(two[0].astype(">f8"), two[1]).ravel().tolist(), wanted[-12:])
+        for kind in (int, numpy.float64, numpy.int8, Fraction):
+            self.assertEqual(leaf(kind(3), kind(4)), plain_leaf(3, 4))
+
+    def test_points_of_each_kind(self):
+        cells = [from_token(token) for token in ("1", "04", "1c", "89c25", "9f", "b")]
+        wanted = numpy.array(points(cells)).tolist()
+        union, numbers = Union(cells), numpy.array(cells, "uint64")
+        for given in (iter(cells), tuple(cells), numbers, numbers.astype("int64"), numbers.astype(">u8"),
+                      numpy.repeat(numbers, 2)[::2], numbers.astype(object)):
+            self.assertEqual(numpy.array(points(given)).tolist(), wanted)
+        self.assertEqual(numpy.array(points(union)).tolist(), numpy.array(points(list(union))).tolist())
+        self.assertEqual([found.shape for found in points([])], [(0,), (0,)])
+        longitude, _ = points(cells)
+        longitude[0] = 1  # as an array of the caller's own
+
+
+def plain_leaf(longitude, latitude):
+    """The leaf of a place, by S2's steps in floats of Python."""
+    turn, height = longitude * (math.pi / 180), latitude * (math.pi / 180)
+    point = math.cos(turn) * math.cos(height), math.sin(turn) * math.cos(height), math.sin(height)
+    axis = max(range(3), key=lambda k: (abs(point[k]), k))
+    face = axis + 3 * (point[axis] < 0)
+    x, y, z = point
+    u, v = {0: (y, z), 1: (-x, z), 2: (-x, -y), 3: (z, y), 4: (z, -x), 5: (-y, -x)}[face]
+    places = []
+    for number in (u / point[axis], v / point[axis]):
+        root = 0.5 * math.sqrt(1 + 3 * abs(number))
+        places.append(min(round(2**30 * (root if number >= 0 else 1 - root) - 0.5), 2**30 - 1))
+    return from_face_ij(face, *places)
 
 
 LATITUDE = r"a latitude is from -90 to 90 \(the longitude comes first\): "
@@ -96,9 +143,21 @@ def test_what_is_no_number_alone(given):
         covering(polygon([[0, 0], [1, 0], [1, given], [0, 0]]))
 
 
-def test_points_of_no_cell():
-    with pytest.raises(ValueError, match="not a cell"):
-        points([2])
+def test_a_number_that_is_no_float():
+    with pytest.raises(OverflowError):
+        leaf(10**400, 0)
+    for wrong in math.nan, math.inf, 541, numpy.float64(-540.5):
+        with pytest.raises(ValueError, match="a longitude is from -540 to 540: "):
+            leaf(wrong, 91)
+
+
+@pytest.mark.parametrize("cells,kind,said", [
+    ([1, 2, "x"], ValueError, "not a cell: 0x2$"), ([1, "x", 2], TypeError, "a cell is an int, not str"),
+    (numpy.array([1, 2], "uint64"), ValueError, "not a cell: 0x2$"), (numpy.array([1.0]), TypeError, "an int"),
+    (numpy.array([[1]], "uint64"), TypeError, ""), (None, TypeError, ""), ([2**64], ValueError, "out of range")])
+def test_points_of_no_cell(cells, kind, said):
+    with pytest.raises(kind, match=said):
+        points(cells)
 
 
 class Polygons(unittest.TestCase):

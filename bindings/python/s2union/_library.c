@@ -7,7 +7,7 @@
  *             text: bytes or a str.
  * One that makes a list takes before these what a refusal is to say, and the room that is tried first, and answers
  * bytes. Calls that may read much give up the interpreter's lock. The module has no state but where the library is, so
- * each interpreter has its own. */
+ * each interpreter has its own. places.h has the calls of s2union_geo. */
 #define PY_SSIZE_T_CLEAN
 #define Py_LIMITED_API 0x03080000
 #include <Python.h>
@@ -499,6 +499,8 @@ static PyObject* py_cells_at(PyObject* module, PyObject* words) {
   return Py_BuildValue("(nn)", (Py_ssize_t)first, (Py_ssize_t)count);
 }
 
+#include "places.h"
+
 /* ---- what is no call of the library */
 
 /* The 64 bits of what may be a cell. */
@@ -565,7 +567,7 @@ static PyMethodDef methods[] = {
 #define METHOD(name, kind) {#name, py_##name, kind, NULL},
   METHODS(METHOD)
   METHOD(bits, METH_O) METHOD(to_signed, METH_O) METHOD(list_of, METH_O) METHOD(number, METH_VARARGS)
-  METHOD(refuse, METH_VARARGS)
+  METHOD(refuse, METH_VARARGS) METHOD(leaf, METH_VARARGS) METHOD(leaves, METH_VARARGS) METHOD(middles, METH_O)
   {NULL, NULL, 0, NULL}
 };
 
@@ -598,6 +600,7 @@ static int load(PyObject* module) {
   Py_XDECREF(path);
   Py_XDECREF(where);
   if (!is_found) return -1;
+  use_places(PyModule_GetState(module));
 #define NUMBER(name) if (PyModule_AddIntConstant(module, #name, S2U_##name) != 0) return -1;
   NUMBERS(NUMBER)
   return 0;

@@ -1,4 +1,5 @@
-"""Places on the sphere, in degrees, and S2's projection onto the cube: by numpy, in plain floating point."""
+"""Places on the sphere, in degrees, and S2's projection onto the cube, in plain floating point. Cells of places, and
+places of cells, are those of s2union_geo.h, in C; what is drawn or covered is projected here, by numpy."""
 
 from __future__ import annotations
 
@@ -6,7 +7,7 @@ import math
 from typing import Any
 
 import numpy
-from s2union import from_points, square
+from s2union import CellUnion, _library, square
 
 SIDE = 2**30  # of a face, in leaves
 # In degrees. Longitudes of data are from -180 to 180 or from 0 to 360, and rings go on over the date line.
@@ -64,24 +65,6 @@ def geographic(x: Any, y: Any, z: Any) -> Any:
     return numpy.degrees(numpy.arctan2(y, x)), numpy.degrees(numpy.arctan2(z, numpy.hypot(x, y)))
 
 
-def _place_on_face(u: Any) -> Any:
-    """How many leaves lie before the place u, from -1 to 1, of a face."""
-    root = 0.5 * numpy.sqrt(1 + 3 * numpy.abs(u))
-    place = numpy.where(u >= 0, root, 1 - root)
-    return numpy.minimum(numpy.rint(SIDE * place - 0.5), SIDE - 1).astype("int64")
-
-
-def face_ij(longitude: Any, latitude: Any) -> Any:
-    """The face, i and j of the leaf of each place: S2's own steps."""
-    x, y, z = point = sphere(longitude, latitude)
-    axis = 2 - numpy.argmax(numpy.abs(point[::-1]), axis=0)  # the longest; the last, if several are
-    face = numpy.where(numpy.choose(axis, point) < 0, axis + 3, axis)
-    with numpy.errstate(divide="ignore", invalid="ignore"):
-        u = numpy.choose(face, [y / x, -x / y, -x / z, z / x, z / y, -y / z])
-        v = numpy.choose(face, [z / x, z / y, -y / z, y / x, -x / y, -x / z])
-    return face, _place_on_face(u), _place_on_face(v)
-
-
 def on_cube_line(i: Any) -> Any:
     """The places u, from -1 to 1, of a face at coordinates in leaves."""
     s = i / SIDE
@@ -101,6 +84,11 @@ def on_cube(face: Any, i: Any, j: Any) -> Any:
     """The points of the cube at the coordinates i and j of faces, in leaves: S2's projection, without its length."""
     u, v = on_cube_line(i), on_cube_line(j)
     return on_axes(face, u, v, numpy.ones_like(u))
+
+
+def _memory_of(array: Any) -> memoryview:
+    """The memory of an array for a call, in C's order; a copy, if it lies in another."""
+    return memoryview(numpy.ascontiguousarray(array).ravel())
 
 
 def squares_of(cells: Any) -> Any:
@@ -142,8 +130,8 @@ def leaves(longitude: Any, latitude: Any) -> Any:
     array([5180949494577750587, 7935343058781468041], dtype=uint64)
     """
     longitude, latitude = places_of(longitude, latitude)
-    face, i, j = face_ij(longitude.ravel(), latitude.ravel())
-    return numpy.asarray(from_points(face, i, j), "uint64").reshape(longitude.shape)
+    found = _library.leaves(_memory_of(longitude), _memory_of(latitude))
+    return numpy.frombuffer(found, "uint64").reshape(longitude.shape)
 
 
 def leaf(longitude: float, latitude: float) -> int:
@@ -180,7 +168,13 @@ def leaf(longitude: float, latitude: float) -> int:
     >>> token(leaf(longitude=2.3522, latitude=48.8566))
     '47e66e1d8f8be23b'
     """
-    return int(leaves(number_of(longitude, "longitude"), number_of(latitude, "latitude")))
+    return _library.leaf(longitude, latitude) or _leaf(longitude, latitude)
+
+
+def _leaf(longitude: Any, latitude: Any) -> int:
+    """The same of what becomes a float; a number that is out of range is an error of `leaves`."""
+    x, y = number_of(longitude, "longitude"), number_of(latitude, "latitude")
+    return _library.leaf(x, y) or int(leaves(x, y))
 
 
 def points(cells: Any) -> Any:
@@ -216,6 +210,19 @@ def points(cells: Any) -> Any:
     >>> [float(round(found[0], 6)) for found in points([leaf(2.3522, 48.8566)])]
     [2.3522, 48.8566]
     """
-    face, i, j, side = squares_of(cells)
-    x, y, z = on_cube(face, i + side / 2, j + side / 2)
-    return geographic(x + 0.0, y + 0.0, z)  # as S2: -0 is 0, so it is 180 and not -180, and 0 at a pole
+    longitude, latitude = numpy.frombuffer(_library.middles(_ids_of(cells)), "float64").reshape(2, -1)
+    return longitude, latitude
+
+
+def _ids_of(cells: Any) -> Any:
+    """The numbers of cells as they lie, or else in bytes. What is no cell is an error of the first that is none."""
+    if isinstance(cells, CellUnion):
+        return cells.ids
+    if isinstance(cells, numpy.ndarray) and cells.ndim == 1 and cells.dtype in ("uint64", "int64"):
+        return _memory_of(cells)
+    given = list(cells)
+    try:
+        return _library.list_of(given)
+    except (TypeError, ValueError):
+        squares_of(given)
+        raise
