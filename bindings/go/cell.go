@@ -6,6 +6,7 @@ import "C"
 import (
 	"encoding/json"
 	"fmt"
+	"math/bits"
 	"strconv"
 )
 
@@ -48,13 +49,24 @@ func CellIDFromFaceIJ(face, i, j int) (CellID, error) {
 }
 
 // IsValid is whether the number is the identifier of a cell. Since 0.2.
-func (id CellID) IsValid() bool { return answer(C.s2u_is_cell(C.uint64_t(id))) }
+func (id CellID) IsValid() bool { return id>>61 < 6 && id.lowest()&0x1555555555555555 != 0 }
+
+// lowest is the lowest bit of the number, which says the level of a cell: it is 4^(30 - level).
+func (id CellID) lowest() CellID { return id & -id }
+
+// sure is the number of a cell. It panics with ErrNoCell if it is none.
+func (id CellID) sure() CellID {
+	if !id.IsValid() {
+		panic(ErrNoCell)
+	}
+	return id
+}
 
 // Level is 0 for a face, to 30 for a leaf. Since 0.2.
-func (id CellID) Level() int { return number(C.s2u_level(C.uint64_t(id))) }
+func (id CellID) Level() int { return 30 - bits.TrailingZeros64(uint64(id.sure()))/2 }
 
 // Face is 0 to 5. Since 0.2.
-func (id CellID) Face() int { return number(C.s2u_face(C.uint64_t(id))) }
+func (id CellID) Face() int { return int(id.sure() >> 61) }
 
 // IsLeaf is whether the cell is at level 30. Since 0.2.
 func (id CellID) IsLeaf() bool { return id.Level() == 30 }
@@ -65,56 +77,65 @@ func (id CellID) IsFace() bool { return id.Level() == 0 }
 // Parent is the cell of a level that contains the cell; at its own level, itself. It panics with ErrArgument if the
 // level is deeper. Since 0.2.
 func (id CellID) Parent(level int) CellID {
-	parent := answerFor(C.s2u_parent(C.uint64_t(id), narrowed(level)), id)
-	if parent == 0 {
+	if level > id.Level() || level < 0 {
 		panic(ErrArgument)
 	}
-	return CellID(parent)
+	lowest := CellID(1) << (60 - 2*level)
+	return id&-lowest | lowest
 }
 
 // Children are the four children along the curve. It panics with ErrArgument if the cell is a leaf. Since 0.2.
 func (id CellID) Children() [4]CellID {
-	var children [4]CellID
-	for k := range children {
-		child := answerFor(C.s2u_child(C.uint64_t(id), C.uint32_t(k)), id)
-		if child == 0 {
-			panic(ErrArgument)
-		}
-		children[k] = CellID(child)
+	if id.IsLeaf() {
+		panic(ErrArgument)
 	}
-	return children
+	quarter := id.lowest() / 4
+	return [4]CellID{id - 3*quarter, id - quarter, id + quarter, id + 3*quarter}
 }
 
 // RangeMin is the first leaf of the cell: another cell is in it exactly if its number is not below RangeMin and not
 // above RangeMax. Since 0.2.
-func (id CellID) RangeMin() CellID { return CellID(answerFor(C.s2u_range_min(C.uint64_t(id)), id)) }
+func (id CellID) RangeMin() CellID { return id.sure() - (id.lowest() - 1) }
 
 // RangeMax is the last leaf of the cell. Since 0.2.
-func (id CellID) RangeMax() CellID { return CellID(answerFor(C.s2u_range_max(C.uint64_t(id)), id)) }
+func (id CellID) RangeMax() CellID { return id.sure() + (id.lowest() - 1) }
 
 // LeafCellsCovered is how many leaves the cell has. Since 0.2.
-func (id CellID) LeafCellsCovered() int64 { return int64(answerFor(C.s2u_size(C.uint64_t(id)), id)) }
+func (id CellID) LeafCellsCovered() int64 { return int64(id.sure().lowest()) }
 
 // Next is the next cell of the same level, across faces; 0, which is no cell, after the last one. Since 0.2.
-func (id CellID) Next() CellID { return CellID(answerFor(C.s2u_next(C.uint64_t(id)), id)) }
+func (id CellID) Next() CellID {
+	if next := id.sure() + 2*id.lowest(); next.IsValid() {
+		return next
+	}
+	return 0
+}
 
 // Prev is the cell of the same level before it, across faces; 0, which is no cell, before the first one. Since 0.2.
-func (id CellID) Prev() CellID { return CellID(answerFor(C.s2u_prev(C.uint64_t(id)), id)) }
+func (id CellID) Prev() CellID {
+	if lowest := id.sure().lowest(); id != lowest {
+		return id - 2*lowest
+	}
+	return 0
+}
 
 // Contains is whether all leaves of another cell are in the cell. Since 0.2.
 func (id CellID) Contains(other CellID) bool {
-	return answer(C.s2u_cell_contains(C.uint64_t(id), C.uint64_t(other)))
+	return id.RangeMin() <= other.sure() && other <= id.RangeMax()
 }
 
 // Intersects is whether two cells share a leaf. Since 0.2.
 func (id CellID) Intersects(other CellID) bool {
-	return answer(C.s2u_cell_intersects(C.uint64_t(id), C.uint64_t(other)))
+	return id.RangeMin() <= other.RangeMax() && other.RangeMin() <= id.RangeMax()
 }
 
 // CommonAncestor is the smallest cell that contains both; false if they are on two faces. Since 0.2.
 func (id CellID) CommonAncestor(other CellID) (CellID, bool) {
-	ancestor := answerFor(C.s2u_common_ancestor(C.uint64_t(id), C.uint64_t(other)), id, other)
-	return CellID(ancestor), ancestor != 0
+	if id.Face() != other.Face() {
+		return 0, false
+	}
+	differ := id ^ other | id.lowest() | other.lowest()
+	return id.Parent((61 - bits.Len64(uint64(differ))) / 2), true
 }
 
 // CommonAncestorLevel is the level of CommonAncestor. Since 0.2.
@@ -187,22 +208,4 @@ func (id CellID) checked() error {
 		return nil
 	}
 	return fmt.Errorf("%w: %#x", ErrNoCell, uint64(id))
-}
-
-// answerFor is the number that a call answered for cells; 0 if it has none. Only then it asks whether they are cells,
-// which takes a call of its own, and panics with ErrNoCell if one is none.
-func answerFor(number C.uint64_t, cells ...CellID) C.uint64_t {
-	for k := 0; number == 0 && k < len(cells); k++ {
-		if !cells[k].IsValid() {
-			panic(ErrNoCell)
-		}
-	}
-	return number
-}
-
-func number(status C.int32_t) int {
-	if status < 0 {
-		panic(Error(status))
-	}
-	return int(status)
 }

@@ -1,7 +1,8 @@
 // Package s2union has the cell unions of S2, proved: a set of leaf cells of the sphere as the one normalized list of
-// cells that covers it. Names and meanings are those of golang/geo's CellID and CellUnion. All work is done by the
-// library libs2union, whose every call is proved; this package turns its statuses into errors, and does no arithmetic
-// on cells.
+// cells that covers it. Names and meanings are those of golang/geo's CellID and CellUnion. All work on unions, lists
+// and texts is done by the library libs2union, whose every call is proved; this package turns its statuses into errors.
+// What is asked of one cell alone, such as its level, is a few instructions of Go, which the tests compare with the
+// library.
 //
 // # What differs
 //
@@ -17,7 +18,8 @@
 // Ranges and coverings take memory in the library, and are refused with ErrMemory if there is none; WholeSphere panics
 // then.
 //
-// A call of C takes some 100 ns on top of its own work. For many cells there are calls such as ContainsCellIDs.
+// A call of C takes some 100 ns on top of its own work. For many cells there are calls such as ContainsCellIDs. The
+// methods of CellID that aren't about texts or squares call no C.
 package s2union
 
 // #cgo pkg-config: s2union

@@ -1,4 +1,4 @@
-/* Places in degrees for s2union_geo, whose sphere.py calls these: by s2union_geo.h, so the cells are S2's bit for bit. */
+/* Places in degrees for sphere.py of s2union_geo: by s2union_geo.h, so that cells are S2's bit for bit. */
 
 /* The library's calls that the header makes. They are the same for each interpreter, as the library is. */
 static __typeof__(s2u_from_face_ij)* from_face_ij_there;
