@@ -4,8 +4,8 @@
  * kept as they came, which are few if they are out of line; once they have come again, the value too. All calls of a
  * transaction share what is kept: at most work_mem, but always the two values that came last, which may be the
  * arguments of the call that runs. They are found by a hash of some words, which are spread over the bytes: all bytes,
- * if these are the name of a value. A value of no more bytes than WORTH_KEEPING is checked as fast as it is
- * compared. */
+ * if these are the name of a value. A value of no more bytes than WORTH_KEEPING, some 30 cells, is checked as fast as
+ * it is compared; one that is compressed takes longer. */
 #include "postgres.h"
 
 #include "common/hashfn.h"
@@ -15,7 +15,7 @@
 
 #include "value.h"
 
-enum { ALWAYS_KEPT = 2, WORTH_KEEPING = 2000 };
+enum { ALWAYS_KEPT = 2, WORTH_KEEPING = 240 };
 enum { WORDS_HASHED = 16, MOST_COMPARED = 2, BUCKETS = 1024 };
 
 typedef struct Kept {
