@@ -39,30 +39,24 @@ inline bool go_on(const u64* ids, size_t n) {
   return bad == 0;
 }
 
-inline bool follows(const u64* id, size_t before) {
-  if (before > 0 && least(id[0]) <= most(id[-1])) return false;
-  return before < 3 || !is_family(id[-3], id[-2], id[-1], id[0]);
-}
-
-// Whether cells are a union; calls `block` with each part once it is known to be cells.
-template <typename Each>
-inline bool go_through(const u64* ids, size_t n, bool* is_union, Each block) {
-  *is_union = true;
-  for (size_t i = 0, len; i < n; i += len) {
-    len = std::min(i < 3 ? 1 : BLOCK, n - i);
-    if (!are_cells(ids + i, len)) return false;
-    if (i < 3 || !go_on(ids + i, len)) {
-      for (size_t k = i; k < i + len; k++) *is_union = *is_union && follows(ids + k, k);
-    }
-    block(i, len);
+// How many of the first numbers are a union: one pass with all in registers, which gives `take` each place and number. A
+// number above the last face is only looked for at the end, since all ascend: then the answer is 0.
+template <typename Take>
+inline size_t union_at_front(const u64* ids, size_t n, Take take) {
+  u64 a = 0, b = 0, c = 0, last = 0;
+  for (size_t k = 0; k < n; k++) {
+    u64 id = ids[k], bit = lowest_bit(id);
+    if ((id - bit < last) | ((bit & 0x1555555555555555) == 0)) return k;
+    if ((a ^ b ^ c) == id && is_family(a, b, c, id)) return k;
+    take(k, id);
+    last = id + bit - 1, a = b, b = c, c = id;
   }
-  return true;
+  return n > 0 && c >> 61 >= 6 ? 0 : n;
 }
 
-inline bool is_union(const u64* ids, size_t n) {
-  bool answer;
-  return go_through(ids, n, &answer, [](size_t, size_t) {}) && answer;
-}
+inline size_t union_at_front(const u64* ids, size_t n) { return union_at_front(ids, n, [](size_t, u64) {}); }
+
+inline bool is_union(const u64* ids, size_t n) { return union_at_front(ids, n) == n; }
 
 // Adds a cell after packed cells that begin before it.
 inline u64* place(u64* base, u64* top, u64 id) {
@@ -79,8 +73,9 @@ inline u64* place(u64* base, u64* top, u64 id) {
 
 // Normalizes cells in order, in place.
 inline size_t normalise(u64* ids, size_t n) {
-  u64* top = ids;
-  for (size_t i = 0, len; i < n; i += len) {
+  size_t done = union_at_front(ids, n);
+  u64* top = ids + done;
+  for (size_t i = done, len; i < n; i += len) {
     len = std::min(i < 3 ? 1 : BLOCK, n - i);
     bool same = i >= 3 && top - ids >= 3 && memcmp(top - 3, ids + i - 3, 24) == 0;
     if (same && go_on(ids + i, len)) {
@@ -321,10 +316,10 @@ inline size_t decode(const uint8_t* bytes, size_t size, u64* out) {
   u64 n;
   memcpy(&n, bytes + 1, 8);
   if (bytes[0] != 1 || n != (size - 9) / 8) return 0;
+  const u64* ids = reinterpret_cast<const u64*>(bytes + 9);  // which x86-64 reads as they lie
+  if (union_at_front(ids, n, [&](size_t k, u64 id) { out[k] = id; }) == n) return n;
   memcpy(out, bytes + 9, 8 * n);
-  bool answer;
-  if (!go_through(out, n, &answer, [](size_t, size_t) {})) return 0;
-  if (answer) return n;
+  if (!are_cells(out, n)) return 0;
   std::sort(out, out + n);
   return normalise(out, n);
 }
