@@ -1,7 +1,10 @@
 import java.util.Arrays;
 import java.util.SplittableRandom;
 import java.util.function.BooleanSupplier;
+import java.util.function.LongPredicate;
+import java.util.function.Supplier;
 import java.util.stream.IntStream;
+import java.util.stream.LongStream;
 import s2union.CellId;
 import s2union.CellUnion;
 import s2union.UnionFile;
@@ -122,9 +125,79 @@ final class Calls {
     line(name, 1, isSame, () -> answer ^= ours.getAsBoolean(), () -> answer ^= plain.getAsBoolean());
   }
 
+  /** The cells of one without a part of it: three beside each cell from the part up. */
+  private static long[] without(long id, long part) {
+    LongStream.Builder beside = LongStream.builder();
+    for (long size = part & -part, inside = part; inside != id; size <<= 2) {
+      long above = (inside & -(size << 2)) | size << 2;
+      for (long child = above - 3 * size; child != above + 5 * size; child += 2 * size) {
+        if (child != inside) beside.add(child);
+      }
+      inside = above;
+    }
+    return ordered(beside.build());
+  }
+
+  private static long[] ordered(LongStream ids) {
+    return ids.map(id -> id ^ Long.MIN_VALUE).sorted().map(id -> id ^ Long.MIN_VALUE).toArray();
+  }
+
+  /** A list with others in place of one of its elements, or before it. */
+  private static long[] spliced(long[] ids, int place, int removed, long... others) {
+    long[] made = new long[ids.length - removed + others.length];
+    System.arraycopy(ids, 0, made, 0, place);
+    System.arraycopy(others, 0, made, place, others.length);
+    System.arraycopy(ids, place + removed, made, place + others.length, ids.length - removed - place);
+    return made;
+  }
+
+  private static int placeOf(long[] ids, long id) {
+    int from = 0;
+    for (int to = ids.length; from < to; ) {
+      int middle = (from + to) >>> 1;
+      if (Long.compareUnsigned(ids[middle], id) < 0) from = middle + 1;
+      else to = middle;
+    }
+    return from;
+  }
+
+  private static long[] made;
+
+  private static void row(String name, Supplier<CellUnion> ours, Supplier<long[]> plain) {
+    if (!name.contains(word)) return;
+    boolean isSame = Arrays.equals(ours.get().cellIds(), plain.get());
+    line(name, 1, isSame, () -> answer ^= ours.get().isEmpty(), () -> made = plain.get());
+  }
+
+  /** A union of two cells, one inside a cell of a large one and one apart from it, with the large one. */
+  private static void smallWithLarge(int count) {
+    CellUnion large = CellUnion.of(cells(count, 4, 14, 20));
+    long[] ids = large.cellIds();
+    int holder = ids.length / 2;
+    long inside = CellId.rangeMin(ids[holder]);
+    long apart = Arrays.stream(cells(100, 6, 24, 24)).filter(id -> !large.intersects(id)).findFirst().getAsLong();
+    CellUnion small = CellUnion.of(inside, apart);
+    long[] two = ordered(LongStream.of(inside, apart));
+    Plain plain = Plain.of(large);
+    LongPredicate isIn = plain::contains;
+    Supplier<long[]> without = () -> spliced(ids, holder, 1, without(ids[holder], inside));
+    Supplier<long[]> shared = () -> Arrays.stream(two).filter(isIn).toArray();
+    row("small_intersection_" + count, () -> small.intersection(large), shared);
+    row("large_intersection_" + count, () -> large.intersection(small), shared);
+    row("small_difference_" + count, () -> small.difference(large),
+        () -> Arrays.stream(two).filter(isIn.negate()).toArray());
+    row("large_difference_" + count, () -> large.difference(small), without);
+    row("small_union_" + count, () -> small.union(large), () -> spliced(ids, placeOf(ids, apart), 0, apart));
+    row("small_symmetricDifference_" + count, () -> small.symmetricDifference(large), () -> {
+      long[] rest = without.get();
+      return spliced(rest, placeOf(rest, apart), 0, apart);
+    });
+  }
+
   public static void main(String[] words) {
     if (words.length > 0) word = words[0];
     if (words.length > 1) rounds = Integer.parseInt(words[1]);
+    for (int count : new int[] {1_000, 100_000, 1_000_000, 1_100_000}) smallWithLarge(count);
     for (int count : new int[] {100, 10_000, 100_000, 1_000_000, 3_000_000}) {
       CellUnion union = CellUnion.of(cells(count, 4, 14, 20));
       CellUnion larger = union.union(CellUnion.of(cells(count, 5, 14, 20)));

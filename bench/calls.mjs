@@ -142,6 +142,67 @@ function row(name, units, sides) {
   console.log(`${name.padEnd(34)} ${said.join("  ")} ns${ratio}${isSame ? "" : "  THE ANSWERS DIFFER"}`);
 }
 
+/** The cells of one without a part of it: three beside each cell from the part up. */
+function without(id, part) {
+  const beside = [];
+  for (let size = low(part), inside = part; inside !== id; size <<= 2n) {
+    const above = BigInt.asUintN(64, inside & -(size << 2n)) | size << 2n;
+    for (let k = -3n; k < 5n; k += 2n) if (above + k * size !== inside) beside.push(above + k * size);
+    inside = above;
+  }
+  return BigUint64Array.from(beside).sort();
+}
+
+/** A list with others in place of some of its elements. */
+function spliced(ids, place, removed, others) {
+  const made = new BigUint64Array(ids.length - removed + others.length);
+  made.set(ids.subarray(0, place));
+  made.set(others, place);
+  made.set(ids.subarray(place + removed), place + others.length);
+  return made;
+}
+
+function placeOf(ids, id) {
+  let [from, to] = [0, ids.length];
+  while (from < to) {
+    const middle = (from + to) >>> 1;
+    if (ids[middle] < id) from = middle + 1;
+    else to = middle;
+  }
+  return from;
+}
+
+/** A union of two cells, one inside a cell of a large one and one apart from it, with the large one. */
+function smallWithLarge(count) {
+  const drawn = new s2.CellUnion(cellsOf(count, 4, 14, 20));
+  const ids = drawn.cells();
+  const plain = new Plain(drawn.cells());
+  const holder = ids.length >>> 1;
+  const inside = s2.rangeMin(ids[holder]);
+  const apart = cellsOf(100, 6, 24, 24).find((id) => !drawn.intersectsCell(id));
+  const large = s2.CellUnion.fromNormalized(ids); // which nobody has asked
+  const small = new s2.CellUnion([inside, apart]);
+  const two = small.cells();
+  const rest = () => spliced(ids, holder, 1, without(ids[holder], inside));
+  const rows = {
+    small_intersection: [() => small.intersection(large), () => two.filter((id) => plain.has(id))],
+    large_intersection: [() => large.intersection(small), () => two.filter((id) => plain.has(id))],
+    small_difference: [() => small.difference(large), () => two.filter((id) => !plain.has(id))],
+    large_difference: [() => large.difference(small), rest],
+    small_union: [() => small.union(large), () => spliced(ids, placeOf(ids, apart), 0, [apart])],
+    small_symmetricDifference: [() => small.symmetricDifference(large), () => {
+      const left = rest();
+      return spliced(left, placeOf(left, apart), 0, [apart]);
+    }],
+  };
+  for (const [name, [ours, other]] of Object.entries(rows)) {
+    if (!`${name}_${count}`.includes(word)) continue;
+    if (sum(listed(ours().cells())) !== sum(listed(other()))) wrong++;
+    row(`${name}_${count}`, 1, {ours: () => [ours().size], plain: () => [other().length]});
+  }
+}
+
+for (const count of [1_000, 100_000, 1_000_000]) smallWithLarge(count);
 for (const count of [100, 10_000, 100_000, 1_000_000]) {
   const union = new s2.CellUnion(cellsOf(count, 4, 14, 20));
   const cells = union.cells();

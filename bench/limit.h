@@ -39,8 +39,8 @@ inline bool go_on(const u64* ids, size_t n) {
   return bad == 0;
 }
 
-// How many of the first numbers are a union: one pass with all in registers, which gives `take` each place and number. A
-// number above the last face is only looked for at the end, since all ascend: then the answer is 0.
+// How many of the first numbers are a union: one pass with all in registers, which gives `take` each place and number.
+// A number above the last face is only looked for at the end, since all ascend: then the answer is 0.
 template <typename Take>
 inline size_t union_at_front(const u64* ids, size_t n, Take take) {
   u64 a = 0, b = 0, c = 0, last = 0;
