@@ -6,5 +6,5 @@
 need cargo cargo
 . "$top/tests/library.sh"
 mkdir -p "$work/by-rust/src" && cd "$work/by-rust" && cp "$top/bench/calls.rs" src/main.rs &&
-  printf '[package]\nname = "calls"\nversion = "0.0.0"\nedition = "2021"\n\n[dependencies]\ns2union = { path = "%s" }\n' \
-    "$top/bindings/rust" >Cargo.toml && cargo run -q --release --offline -- "$@"
+  printf '[package]\nname = "calls"\nversion = "0.0.0"\nedition = "2021"\n\n[dependencies]\n' >Cargo.toml &&
+  printf 's2union = { path = "%s" }\n' "$top/bindings/rust" >>Cargo.toml && cargo run -q --release --offline -- "$@"
