@@ -331,14 +331,15 @@ class Around(unittest.TestCase):
         take long is made until it did. The thread that wakes can release nothing that the call reads."""
         xs, ys = (memoryview(array("Q", range(first, 2**21, 8))) for first in (1, 5))
         points = memoryview(array("I", 3 * len(xs) * [1]))
-        data = [memoryview(calls.encode("", 9, ids)) for ids in (xs, ys)]
+        data, degrees = [memoryview(calls.encode("", 9, ids)) for ids in (xs, ys)], memoryview(array("d", xs))
         words = {
             **WORDS, **dict.fromkeys(("ids", "xs", "cells"), xs), "ys": ys, "bytes": data[0], "points": points,
             "bounds": (0, 0, 999, 0, 999), "level": 30, "min": 30, "most": 10**6, "text": calls.tokens(xs),
             "each": range(1, 2**19, 2), "ends": memoryview(array("Q", [len(xs)])),
+            **dict.fromkeys(("longitudes", "latitudes"), degrees),
         }
         others = {"contains": (xs, xs), "compare": (xs, xs), "file_contains": data[:1] * 2, "file_intersects": data}
-        large = [xs, ys, points, *data, words["bounds"], words["text"]]
+        large = [xs, ys, points, degrees, *data, words["bounds"], words["text"]]
         quick = {"contains_cell", "intersects_cell", "cells_at", "file_count", "file_cell", "file_contains_cell",
                  "file_intersects_cell", "from_token", "from_debug"}
         ticks, read, released, ends = [0], [], [], threading.Event()

@@ -34,7 +34,7 @@ static PyObject* py_leaf(PyObject* module, PyObject* words) {
 
 /* The leaves of places, as a bytearray. One that is out of range has 0. */
 static PyObject* py_leaves(PyObject* module, PyObject* words) {
-  List longitudes, latitudes;
+  HELD List longitudes = {0}, latitudes = {0};
   (void)module;
   if (!has(words, 2) || !as_list(WORD(0), sizeof(double), &longitudes) ||
       !as_list(WORD(1), sizeof(double), &latitudes))
@@ -51,7 +51,7 @@ static PyObject* py_leaves(PyObject* module, PyObject* words) {
 
 /* The longitudes of the middles of cells, and then their latitudes, as a bytearray. */
 static PyObject* py_middles(PyObject* module, PyObject* given) {
-  List cells;
+  HELD List cells = {0};
   size_t n = 0;
   (void)module;
   if (!as_list(given, sizeof(uint64_t), &cells)) return NULL;
