@@ -33,6 +33,8 @@ impl<R: Drop, W: Drop> PromptingReader<R, W> {
 impl<R: Source, W: Write> Source for PromptingReader<R, W> {
     ghost remaining = { λ p. R.remaining p.reader };
 
+    ghost given = { λ p. R.given p.reader };
+
     ghost reads = { λ p. R.reads p.reader };
 
     fn read(&mut self, buf: &mut [u8]) -> io::Result<usize> {
