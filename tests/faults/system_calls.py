@@ -127,7 +127,7 @@ def refusal_after(kind, error, before):
     if error == errno.ENOENT and not is_read and kind == "statx":
         return None
     names = {errno.ENOENT: b"missing", errno.ENOMEM: b"memory"} if is_read else {}
-    if kind == "read" and line.split()[0] == b"restore":  # the file was opened, so it is there
+    if kind == "read":  # the file was opened, so it is there
         names.pop(errno.ENOENT)
     return b"error %s\n" % names.get(error, b"file")
 

@@ -81,7 +81,7 @@ HasRead path most bytes calls =
 
 -- the calls of a reading of `most` bytes, by its answer
 abbrev pub Reads : {V : Type 0} → (V → List ℕ) → List ℕ → ℕ → Result (Option V) ShelfFault → List FileCall → Type 0
-Reads bytes path most (Ok None) calls = NotRead path calls
+Reads bytes path most (Ok None) calls = NotOpened path calls
 Reads bytes path most (Ok (Some file)) calls = HasRead path most (bytes file) calls
 Reads bytes path most (Err Device) calls = NotRead path calls
 Reads bytes path most (Err Memory) calls = (calls ≡ []) ⊎ NotRead path calls

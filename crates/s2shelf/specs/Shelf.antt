@@ -2,7 +2,7 @@
 use Rattle.std.specs.Prelude.{◌≡◌, ◌≢◌, ℕ, ◌+◌, ◌%◌, ◌^◌, ◌==◌, ◌&&◌, ◌⊎◌, Bool, true, false, if◌then◌else◌}
 use Rattle.std.specs.Prelude.{List, [], ◌∷◌, ◌++◌, length, take, Option, None, Some, IfSome, option_map}
 use Rattle.std.specs.Str.{bytes_eq}
-use Rattle.s2shelf.specs.FileCalls.{FileCall, Makes, path_to, opening, reading, storing, NotRead, NotStored}
+use Rattle.s2shelf.specs.FileCalls.{FileCall, Makes, path_to, opening, reading, storing, NotOpened, NotRead, NotStored}
 use Rattle.s2shelf.specs.OpenedFile.{name_of, given, has_ended, has_failed, MayBe}
 use Rattle.s2shelf.specs.declared.opened_file.OpenedFile.{OpenedFile}
 use Rattle.s2shelf.specs.declared.shelf.ShelfFault.{ShelfFault}
@@ -73,10 +73,10 @@ FindsMore old name finding new =
 abbrev pub AsksSystem : Files → Files → (List ℕ → List FileCall → Type 0) → Type 0
 AsksSystem old new P = (new.folder ≡ old.folder) × IfSome old.folder (λ folder. Makes old.calls new.calls (P folder))
 
--- the calls for the file at a path of which this finding comes; the bytes that the reads of it gave are those that were
--- found, or begin with them
+-- the calls for the file at a path of which this finding comes: that there is no file is said only if none was opened;
+-- the bytes that the reads of a file gave are those that were found, or begin with them
 abbrev pub CallsFor : Finding → List ℕ → List FileCall → Type 0
-CallsFor NoFile path calls = NotRead path calls
+CallsFor NoFile path calls = NotOpened path calls
 CallsFor Opened path calls = calls ≡ opening path
 CallsFor (Holding bytes) path calls = calls ≡ opening path ++ reading path bytes
 CallsFor (Beginning bytes) path calls = (more : List ℕ) × (calls ≡ opening path ++ reading path (bytes ++ more))

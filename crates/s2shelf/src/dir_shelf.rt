@@ -6,7 +6,7 @@ ghost use Rattle.std.specs.IoError.{error_kind};
 ghost use Rattle.std.specs.String.{string_bytes};
 ghost use Rattle.s2shelf.specs.OpenedFile.{name_of, given, has_failed};
 ghost use Rattle.s2shelf.specs.Shelf.{Opens, Closes, Fails, FailsToClose, FailsToGet, FailsToPut, FindsBeginning};
-ghost use Rattle.s2shelf.specs.Shelf.{PutsFile, one_more};
+ghost use Rattle.s2shelf.specs.Shelf.{PutsFile, count_after, one_more};
 ghost use Rattle.s2shelf.specs.FileCalls as file;
 ghost use Rattle.s2shelf.specs.FileCalls.{Makes, path_to, reading};
 ghost use Rattle.s2shelf.specs.DirShelf.{calls_of_folder, folder_files, folder_path, IsRead, IsWritten};
@@ -64,8 +64,20 @@ impl<R: Files + AllocGlobal> DirShelf<R> {
     }
 }
 
-/// What the answer of the system to a call that reads means.
-fn read_answer<T: Drop>(answer: io::Result<T>, failures: &mut u64) -> Result<Option<T>, ShelfFault>
+/// What an error of the system in a call that reads means.
+fn read_fault(error: io::Error, failures: &mut u64) -> ShelfFault
+    ensures memory { error_kind error ≡ ErrorKind.OutOfMemory → result ≡ ShelfFault.Memory }
+    ensures device { error_kind error ≢ ErrorKind.OutOfMemory → result ≡ ShelfFault.Device }
+    ensures count { failures.new ≡ count_after result failures.old }
+{
+    match error.kind() {
+        ErrorKind::OutOfMemory => ShelfFault::Memory,
+        _ => count_failure(failures),
+    }
+}
+
+/// What the answer of the system to the opening of a file means. Only here an error means that there is no file.
+fn open_answer<T: Drop>(answer: io::Result<T>, failures: &mut u64) -> Result<Option<T>, ShelfFault>
     ensures found { IfOk answer (λ found. result ≡ Ok (Some found)) }
     ensures same { IfOk result (λ found. IfSome found (λ value. answer ≡ Ok value)) }
     ensures missing { IfErr answer (λ error. error_kind error ≡ ErrorKind.NotFound → result ≡ Ok None) }
@@ -73,17 +85,13 @@ fn read_answer<T: Drop>(answer: io::Result<T>, failures: &mut u64) -> Result<Opt
         → result ≡ Err ShelfFault.Memory) }
     ensures device { IfErr answer (λ error. error_kind error ≢ ErrorKind.NotFound
         → error_kind error ≢ ErrorKind.OutOfMemory → result ≡ Err ShelfFault.Device) }
-    ensures count { MatchResult result (λ _. failures.new ≡ failures.old) (λ fault.
-        ((fault ≡ ShelfFault.Device) × (failures.new ≡ one_more failures.old))
-        ⊎ ((fault ≡ ShelfFault.Memory) × (failures.new ≡ failures.old))) }
+    ensures count { MatchResult result (λ _. failures.new ≡ failures.old)
+        (λ fault. failures.new ≡ count_after fault failures.old) }
 {
     match answer {
         Ok(found) => Ok(Some(found)),
-        Err(error) => match error.kind() {
-            ErrorKind::NotFound => Ok(None),
-            ErrorKind::OutOfMemory => Err(ShelfFault::Memory),
-            _ => Err(count_failure(failures)),
-        },
+        Err(error) if error.kind() == ErrorKind::NotFound => Ok(None),
+        Err(error) => Err(read_fault(error, failures)),
     }
 }
 
@@ -134,16 +142,16 @@ fn is_regular(found: io::Result<Metadata>) -> io::Result<()> {
     check_regular(&found?)
 }
 
-/// The first `most` bytes of a regular file.
-fn read_regular<R: Files + AllocGlobal>(
+/// The first `most` bytes of a file that was opened, which is closed.
+fn read_opened<R: Files + AllocGlobal>(
     files: &mut ListedFiles<R>,
     path: &str,
+    mut file: R::File,
     most: usize,
 ) -> io::Result<Vec<u8>>
     ensures calls { Makes (calls_so_far files.old) (calls_so_far files.new) (ReadsFile (λ v. v.items) path.now result) }
     ensures read { IfOk result (λ bytes. IsRead R.File.remaining most bytes.items) }
 {
-    let mut file = open_regular(files, path)?;
     let mut bytes = Vec::new(files.alloc());
     let result = files.read(path, &mut file, most, &mut bytes);
     files.close(path, file);
@@ -192,7 +200,7 @@ impl<R: Files + AllocGlobal> Shelf for DirShelf<R> {
     {
         let path = self.path_of(name)?;
         let answer = open_regular(&mut self.files, path.as_str());
-        let Some(file) = read_answer(answer, &mut self.failures)? else {
+        let Some(file) = open_answer(answer, &mut self.failures)? else {
             return Ok(None);
         };
         Ok(Some(OpenedFile::of(name, file)))
@@ -227,9 +235,15 @@ impl<R: Files + AllocGlobal> Shelf for DirShelf<R> {
             (file.Reads (λ v. v.items) (path_to (folder_path self.old) name.now) most result) }
     {
         let path = self.path_of(name)?;
-        let answer = read_regular(&mut self.files, path.as_str(), most);
-        let found = read_answer(answer, &mut self.failures)?;
-        Ok(beginning_of(found, most))
+        let path = path.as_str();
+        let answer = open_regular(&mut self.files, path);
+        let Some(file) = open_answer(answer, &mut self.failures)? else {
+            return Ok(None);
+        };
+        match read_opened(&mut self.files, path, file, most) {
+            Ok(bytes) => Ok(beginning_of(Some(bytes), most)),
+            Err(error) => Err(read_fault(error, &mut self.failures)),
+        }
     }
 
     /// After Ok all bytes were written to the file at `PATH/NAME`. No other one was touched, whatever it answers.

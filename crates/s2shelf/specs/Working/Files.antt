@@ -1,7 +1,7 @@
 -- What only private contracts need, beside FileCalls.antt, which has what public contracts need.
-use Rattle.std.specs.Prelude.{◌≡◌, ℕ, List, ◌++◌, Result, Ok, Err, MatchResult}
+use Rattle.std.specs.Prelude.{◌≡◌, ℕ, List, Result, Ok, Err, MatchResult}
 use Rattle.s2shelf.specs.FileCalls.{FileCall, Opened, OpenedNot, Made, MadeNot, opening, reading}
-use Rattle.s2shelf.specs.FileCalls.{storing, NotOpened, NotRead, NotStored}
+use Rattle.s2shelf.specs.FileCalls.{storing, NotOpened, NotStored}
 use Rattle.s2shelf.specs.declared.files.ListedFiles.{ListedFiles}
 
 -- the calls so far
@@ -12,10 +12,10 @@ calls_so_far files = files.calls.entries
 abbrev pub OpensFile : {F E : Type 0} → List ℕ → Result F E → List FileCall → Type 0
 OpensFile path answer calls = MatchResult answer (λ _. calls ≡ opening path) (λ _. NotOpened path calls)
 
--- the calls of a reading, by the answer of the system
+-- the calls of the reading of an opened file, by the answer of the system
 abbrev pub ReadsFile : {V E : Type 0} → (V → List ℕ) → List ℕ → Result V E → List FileCall → Type 0
-ReadsFile bytes path answer calls =
-    MatchResult answer (λ v. calls ≡ opening path ++ reading path (bytes v)) (λ _. NotRead path calls)
+ReadsFile bytes path answer calls = MatchResult answer (λ v. calls ≡ reading path (bytes v))
+    (λ _. (gave : List ℕ) × (calls ≡ reading path gave))
 
 -- the calls of a storing, by the answer of the system
 abbrev pub StoresFile : {T E : Type 0} → List ℕ → List ℕ → Result T E → List FileCall → Type 0
