@@ -11,6 +11,11 @@ from model import calculator as model
 from process import PROGRAM
 
 LIMIT, DEPTH = 10_000, 3  # the oldest states are dropped
+# The commands that may be answered `error memory`, the 13 edits and those with a file, and no others: the page that the
+# model reads isn't asked.
+TAKES_MEMORY = ["add", "remove", "keep", "union", "subtract", "intersect", "copy", "clear", "range", "outer", "inner",
+                "outerof", "innerof", "load", "save", "dump", "restore"]
+assert sorted(TAKES_MEMORY) == sorted(name for name, errors in model.ERRORS.items() if "memory" in errors)
 READERS = [name for name, errors in model.ERRORS.items() if "missing" in errors]
 WRITERS = [name for name, errors in model.ERRORS.items() if "file" in errors and name not in READERS]
 
@@ -115,7 +120,7 @@ class Way:
     def failures(self, line, memory, disk):
         """The other answers that the line may have if memory or the disk fails, each with the way that it leads."""
         command = line.split()[0].decode() if line.split() else ""
-        if memory and "memory" in model.ERRORS.get(command, ()) or command in WRITERS:
+        if memory and command in TAKES_MEMORY or command in WRITERS:
             yield self.refused("memory")
         if disk and command in READERS:
             yield self.refused("file")
