@@ -6,11 +6,12 @@ text of another. There the functions that they call have no body, and a hole in 
 the statements of these alone. A mutant that isn't refused so is checked by itself, with those that it calls; and if it
 names no function, with the whole crate. The next check of the copy begins with what this one proved.
 
-`.ci/run` tries the gravest, which say so. --all tries all. Then, and if mutants are named, their functions have to be
-proved without them, since `rt ci` may not have judged these sources. The last line is 'N passed, M failed'. A mutant
-whose check was killed, or judged nothing, was not tried: that is another thing than one that isn't refused, and fails
-too. That a mutant was refused is kept on this machine, by the sources of its crate and of those below it, the kit and
-what is here; it isn't tried again if all of this is the same, unless it is named.
+`.ci/run` tries the gravest, which say so. --all tries all. First their functions have to be proved without them, and
+with the same holes: otherwise the holes would be what is refused. The last line is 'N passed, M failed'. A mutant whose
+check was killed, or judged nothing, was not tried: that is another thing than one that isn't refused, and fails too.
+That a mutant was refused, and that its functions are proved without it, is kept on this machine, by the sources of its
+crate and of those below it, the kit and what is here; it isn't tried again if all of this is the same, unless it is
+named.
 """
 import collections
 import concurrent.futures
@@ -69,6 +70,11 @@ class Mutant:
         """The name of the verdict that it is refused."""
         return verdicts.name_of(TRIED_BY, self.text, self.crate, sources_of(self.crate))
 
+    @functools.cached_property
+    def control(self):
+        """The name of the verdict that its functions are proved without it."""
+        return verdicts.name_of(TRIED_BY, "proved", self.functions, self.crate, sources_of(self.crate))
+
 
 @functools.cache
 def sources_of(crate):
@@ -93,10 +99,10 @@ def rounds(mutants):
 
 
 class Copy:
-    """A copy of a crate, in which mutants are made. It is proved without them, or has to be asked."""
+    """A copy of a crate, in which mutants are made."""
 
-    def __init__(self, crate, words, room, is_proved):
-        self.crate, self.words, self.folder, self.is_proved = crate, words, os.path.join(room, crate), is_proved
+    def __init__(self, crate, words, room, takes_kept):
+        self.crate, self.words, self.folder, self.takes_kept = crate, words, os.path.join(room, crate), takes_kept
         for part in ("src", "specs", "proofs"):
             source = os.path.join(TOP, "crates", crate, part)
             if os.path.isdir(source):
@@ -104,7 +110,7 @@ class Copy:
 
     def tried(self, waiting):
         """What was found of each mutant."""
-        broken = [] if self.is_proved else self.unproved(waiting)
+        broken = self.unproved(waiting)
         waiting = [it for it in waiting if it not in broken]
         found, is_more = [it.says(NOT_TRIED, ": not proved without it") for it in broken], True
         while is_more:
@@ -118,13 +124,23 @@ class Copy:
     def unproved(self, waiting):
         """Those of these mutants whose functions aren't proved without them."""
         same = [(mutant, self.without_mistake(mutant)) for mutant in waiting if mutant.functions]
-        asked = [it for _, it in same if it.functions]
+        same = [(mutant, it) for mutant, it in same if it.functions and not self.is_kept(it)]
+        asked = [it for _, it in same]
         lines = asked and (self.over_holes(asked) or self.checked(asked))
-        return [mutant for mutant, it in same if it.functions and (not lines or verdict_on(it, lines) == REFUSED)]
+        broken = [mutant for mutant, it in same if not lines or verdict_on(it, lines) == REFUSED]
+        for mutant, it in same:
+            if mutant not in broken and verdict_on(it, lines) == NOT_REFUSED:
+                verdicts.keep(it.control)
+        return broken
+
+    def is_kept(self, same):
+        """Whether it is known that these functions are proved."""
+        return self.takes_kept and verdicts.is_kept(same.control)
 
     def without_mistake(self, mutant):
         """The same functions with nothing changed, but for those that only the mutant has."""
         same, there = copy.copy(mutant), all_functions(self.folder)
+        same.__dict__.pop("control", None)
         same.text = ""
         same.functions = [it for it in mutant.functions if any(ends_in(words, it) for words in there)]
         return same
@@ -246,10 +262,9 @@ def words_of(crates):
     return words
 
 
-def tried(chosen, is_proved=False, takes_kept=True):
-    """What was found of each of these mutants, counted; each crate's are tried beside those of others. The crates are
-    proved without them, or the functions have to be asked. One that can't be tried would keep those of its crate from
-    being checked together."""
+def tried(chosen, takes_kept=True):
+    """What was found of each of these mutants, counted; each crate's are tried beside those of others. One that can't be
+    tried would keep those of its crate from being checked together."""
     crates, found = collections.defaultdict(list), []
     for mutant in chosen:
         if takes_kept and verdicts.is_kept(mutant.verdict):
@@ -263,7 +278,7 @@ def tried(chosen, is_proved=False, takes_kept=True):
     with tempfile.TemporaryDirectory() as room, concurrent.futures.ThreadPoolExecutor(checks) as pool:
         try:
             return collections.Counter(sum(pool.map(
-                lambda it: Copy(it[0], words[it[0]], room, is_proved).tried(it[1]), crates.items()), found))
+                lambda it: Copy(it[0], words[it[0]], room, takes_kept).tried(it[1]), crates.items()), found))
         except KeyboardInterrupt:  # the threads would go on to their next checks, which end with this process
             shutil.rmtree(room, ignore_errors=True)
             os._exit(130)
@@ -290,7 +305,7 @@ def main():
     elif sys.argv[1:]:
         found = tried(mutants())
     else:
-        found = tried([it for it in mutants() if it.is_grave], is_proved=True)
+        found = tried([it for it in mutants() if it.is_grave])
     failed = found[NOT_REFUSED] + found[NOT_TRIED]
     print(f"{found[REFUSED]} refused, {found[NOT_REFUSED]} not refused, {found[NOT_TRIED]} not tried,"
           f" in {processor_time() / 60:.0f} minutes of processor time")
