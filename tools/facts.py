@@ -157,7 +157,7 @@ def of_limits(of):
     options = {"limit": {"value": of["MOST_REGISTER"]}, "depth": {"value": of["MOST_STATES"]}}
     longest = {"": {"value": f"{of['LONGEST_LINE']:,}"}}
     note = {"most": of["MOST_REGISTER"], "listed": of["MOST_LISTED"]}
-    note_form = r"\(--limit raises that, up to (?P<most>\d+)\), denorm lists (?P<listed>\d+)\""
+    note_form = r"\(regions of the Earth: --limit (?P<most>\d+)\), denorm lists (?P<listed>\d+)\""
     return [
         Place("crates/s2union_c/include/s2union.h", r"^#define S2U_MOST_COVERING (?P<value>\d+)",
               {"": {"value": of["MOST_COVERING"]}}),

@@ -500,8 +500,9 @@ class Calculator:
         self.past, self.table, self.future = [], {r: [] for r in REGISTERS}, []
         self.notes = b""
 
-    def run(self, script):
-        """The bytes that are written, and whether a line was refused; `notes` says why."""
+    def run(self, script, stops=False):
+        """The bytes that are written, and whether a line was refused, after which nothing is done if the run stops
+        there; `notes` says why."""
         lines = script.split(b"\n")
         if lines[-1] == b"":
             lines.pop()
@@ -512,6 +513,8 @@ class Calculator:
             except Refused as refusal:
                 written.append(f"error {refusal}\n")
                 notes.append(f"line {number}: error {refusal}: {refusal.reason}\n")
+                if stops:
+                    break
         self.notes = "".join(notes).encode()
         return "".join(written).encode(), bool(notes)
 

@@ -218,9 +218,11 @@ def is_answered_alike(seed):
     script = writer.script()
     limit, depth = chance.choice([1, 2, 4, 10, 100, 10_000, 1_000_000]), chance.choice([1, 2, 3, 10, 1000, 10_000])
     files = {name: writer.file() for name in FILES}
-    model = Calculator(limit, depth, {**files, FOLDER: None})
-    answers, refused = model.run(script)
-    for flags, notes in ([], b""), (["--explain"], model.notes):
+    ways = [[], ["--explain"], chance.choice([["--stop"], ["--stop", "--explain"]])]
+    for flags in ways:
+        model = Calculator(limit, depth, {**files, FOLDER: None})
+        answers, refused = model.run(script, "--stop" in flags)
+        notes = model.notes if "--explain" in flags else b""
         got = left_by_the_program(script, limit, depth, files, *flags)
         wanted = answers, notes, int(refused), model.files
         if got != wanted:

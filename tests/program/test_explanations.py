@@ -71,7 +71,7 @@ class Explanations(unittest.TestCase):
         b"restore bad": (b"error session", b"the file is not a session file"),
         b"add b 3 5": (
             b"error too-many",
-            b"too many cells: a register has up to 10000 (--limit raises that, up to 1000000), denorm lists 1000000",
+            b"too many cells: a register has up to 10000 (regions of the Earth: --limit 1000000), denorm lists 1000000",
         ),
         b"redo": (b"error nothing", b"there is nothing to undo or redo"),
         b"save a .x": (

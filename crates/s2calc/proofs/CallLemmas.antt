@@ -132,6 +132,24 @@ reads_on_more a b c times later n p g h e =
       );
     }
 
+-- the same, and what the last of these reads gave
+pub reads_gave : (a b c : Option (List (Option ℕ))) (times n : ℕ) → ReadsOn a b times → Gains b c (Some n ∷ []) → 0 < n
+    → Gained a c (λ reads. AllGave reads × ReadsLast (Some n) reads)
+reads_gave a b c times n p g h = record {
+  more = p.more ++ Some n ∷ [];
+  gained = gains_more a b c p.more (Some n ∷ []) p.gained g;
+  holds = (all_gave_more p.more n p.holds.0 h, record { before = p.more; is = refl; gave = p.holds.0 });
+}
+
+not_at_end : (reads : List (Option ℕ)) → AllGave (reads ++ Some 0 ∷ []) → ⊥
+not_at_end [] gave = absurd (omega (arith, gave.0))
+not_at_end (None ∷ reads) gave = absurd gave
+not_at_end (Some n ∷ reads) gave = not_at_end reads gave.1
+
+-- where each read gave some bytes, none found the end
+pub gave_no_end : (reads : List (Option ℕ)) → AllGave reads → ReadsLast (Some 0) reads → ⊥
+gave_no_end reads gave last = not_at_end last.before (subst AllGave last.is gave)
+
 pub gave_well : {a b : Option (List (Option ℕ))} {times : ℕ} → ReadsOn a b times → Gained a b ReadsWell
 gave_well p = gained_so (λ rs r. inl r.0) p
 

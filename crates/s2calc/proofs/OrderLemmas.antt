@@ -1,24 +1,25 @@
 -- Lemmas on what an observer sees of a run.
 use Rattle.std.proofs.Common.{◌≡◌, ◌∙◌, ℕ, ◌+◌, ◌<◌, Bool, true, List, [], ◌∷◌, ◌++◌, length, take}
-use Rattle.std.proofs.Common.{Option, None, Some, Result, Ok, Err}
+use Rattle.std.proofs.Common.{Option, None, Some, Result, Ok, Err, MatchResult}
 use Rattle.std.proofs.Common.{refl, sym, ap, subst, append_assoc, append-nil, arith, length-append, inl, inr}
 use Rattle.std.proofs.lemmas.List.Concat.{flat_map-append}
-use Rattle.std.specs.Io.KnownBytes.{Appends, IsAtEnd}
+use Rattle.std.specs.Io.KnownBytes.{Appends, IsAtEnd, Keeps}
 use Rattle.std.proofs.KnownBytes.{Appends-kept, Appends-trans}
 use Rattle.s2shelf.specs.Shelf.{Files}
 use Rattle.s2script.specs.Line.{line_of}
 use Rattle.s2script.specs.Lines.{lines, whole_lines, IsUnbroken, BeginsWith}
 use Rattle.s2calc.specs.declared.engine.Tally.{Tally}
 use Rattle.s2calc.specs.declared.fault.RunFault.{RunFault}
+use Rattle.s2calc.specs.declared.fault.RunFault.TheVariants.{Output}
 use Rattle.s2calc.specs.declared.progress.Progress.{Progress}
 use Rattle.s2calc.specs.declared.limits.TheConstants.{KEPT}
 use Rattle.s2calc.specs.World.{World}
 use Rattle.s2calc.specs.Replies.{Reply, text_of, texts}
 use Rattle.s2calc.specs.Step.{asks_for_file}
-use Rattle.s2calc.specs.Run.{Steps, Known, Runs, WereReadWhole}
+use Rattle.s2calc.specs.Run.{Steps, Known, Runs, WereReadWhole, LastIsFirstRefused, NoneAfterRefused}
 use Rattle.s2calc.specs.Working.Stands.{Point}
 use Rattle.s2calc.specs.Calls.{Call, Flushed, Gains, Gained, AllWell, EndsWith, NoneFailed}
-use Rattle.s2calc.specs.Reads.{Gives, ReadsLast}
+use Rattle.s2calc.specs.Reads.{Gives, AllGave, ReadsLast}
 use Rattle.s2calc.specs.Flushing.{FlushedIfOk, Settled}
 use Rattle.s2calc.specs.Working.Stands.{point, Stands, Answered, StandsAfter, Closes}
 use Rattle.s2calc.specs.Moments.{Event, Came, ReadFailed, LineBegins, LineEnds, Moment, moment, bytes_of, read_of}
@@ -28,9 +29,11 @@ use Rattle.s2calc.specs.Order.{Ordered}
 use Rattle.s2calc.specs.Working.Seen.{LinesSeen, LineSeen, LineCut, ManySeen, MoreSeen, EndSeen, LastSeen}
 use Rattle.s2calc.specs.Working.Seen.{SeenSoFar}
 use Rattle.s2calc.proofs.CallLemmas.{gains_nil, gains_more, none_failed_more, last_flushed_after, last_failed_after}
+use Rattle.s2calc.proofs.CallLemmas.{gave_no_end}
 use Rattle.s2calc.proofs.LineLemmas.{every-append, whole_lines_begun, BeginsWith-more}
 use Rattle.s2calc.proofs.CloseLemmas.{lines_one, lines_none}
-use Rattle.s2calc.proofs.ReadLemmas.{Appends-texts, finishes, stops_at_end}
+use Rattle.s2calc.proofs.ReadLemmas.{Appends-texts, finishes, stops_at_end, halts_well, halts_unflushed}
+use Rattle.s2calc.proofs.RefusedLemmas.{none_before_last}
 use Rattle.s2calc.proofs.StepLemmas.{line_of-kept}
 use Rattle.s2calc.proofs.TakeInLemmas.{Stands-more, Steps-line, begins_line, texts-push}
 
@@ -804,8 +807,9 @@ module _ {W S : Type 0} (contents : W → Option (List ℕ)) (calls : W → Opti
         (λ ms ns ks seen e l. InOrder-last bytes ms ns ks seen e made rest begins ends none l) p q last
 
   -- the end of a run that has come to the end of its script
-  pub Runs-end : (Here : List Reply → ℕ → ℕ → Type 0) (old new : Known) (script : List ℕ) (replies : List Reply)
-      (first : W) (output : Option (List ℕ)) (a d : Option (List (Moment W S))) (mid : Option (List Call))
+  pub Runs-end : (stops : Bool) (Here : List Reply → ℕ → ℕ → Type 0) (old new : Known) (script : List ℕ)
+      (replies : List Reply) (first : W) (output : Option (List ℕ)) (a d : Option (List (Moment W S)))
+      (mid : Option (List Call))
       (result : Result Tally RunFault) →
       Gives old.input new.input script → IsAtEnd new.input.ahead → Appends old.output output (texts replies)
       → Gained old.reads new.reads (ReadsLast (Some 0)) → NoneFailed may_flush old.calls mid
@@ -813,18 +817,106 @@ module _ {W S : Type 0} (contents : W → Option (List ℕ)) (calls : W → Opti
       result → FlushedIfOk may_flush mid new.calls result
       → ((more : List Reply) (begins ends : ℕ) → Here more begins ends → Adds a d (λ ks. InOrder contents calls is_sent
       files may_flush old.world first (replies ++ more) script begins ends old.reads new.reads ks × HasEnded ks))
-      → (run : Runs may_flush old new result)
+      → ((more : List Reply) (begins ends : ℕ) → Here more begins ends → (reads : List (Option ℕ)) →
+      ReadsLast (Some 0) reads → stops ≡ true → NoneAfterRefused script reads (replies ++ more))
+      → (run : Runs stops may_flush old new result)
       × Ordered contents calls is_sent files may_flush old.world first run.ran a d result
-  Runs-end Here old new script replies first output a d mid (Ok tally) r e w reads n closes flushed order = (
-    finishes old new may_flush script replies output r e w tally closes reads
-        (last_flushed_after may_flush old.calls mid new.calls n flushed),
-    order closes.more (length (lines script)) (length (lines script)) closes.seen,
-  )
-  Runs-end Here old new script replies first output a d mid (Err fault) r e w reads n closes failed order =
-      subst (λ (f : RunFault). (run : Runs may_flush old new (Err f))
-      × Ordered contents calls is_sent files may_flush old.world first run.ran a d (Err f)) (sym closes.0)
-      (stops_at_end old new may_flush script replies Here
+  Runs-end stops Here old new script replies first output a d mid (Ok tally) r e w reads n closes flushed order halts =
+      (
+        finishes old new stops may_flush script replies output r e w tally closes reads
+            (last_flushed_after may_flush old.calls mid new.calls n flushed)
+            (halts closes.more (length (lines script)) (length (lines script)) closes.seen reads.more reads.holds),
+        Adds-weaker a d _ _ (λ ks k. (k.0, λ last. k.1))
+            (order closes.more (length (lines script)) (length (lines script)) closes.seen),
+      )
+  Runs-end stops Here old new script replies first output a d mid (Err fault) r e w reads n closes failed order halts =
+      let stopped = stops_at_end old new stops may_flush script replies Here
       (λ rs b begins ends. Adds a d (InOrder contents calls is_sent files may_flush old.world first rs b begins ends
-      old.reads new.reads))
+      old.reads new.reads) × ((reads : List (Option ℕ)) → ReadsLast (Some 0) reads → stops ≡ true →
+      NoneAfterRefused b reads rs)) (λ rs b reads begins ends last seen. seen.1 reads last) (λ reads last. last)
       output r e w reads (last_failed_after may_flush old.calls mid new.calls n failed)
-      (λ more begins ends here. Adds-weaker a d _ _ (λ ks k. k.0) (order more begins ends here)) closes.1)
+      (λ more begins ends here. (
+        Adds-weaker a d _ _ (λ ks k. k.0) (order more begins ends here),
+        halts more begins ends here,
+      )) closes.1 in
+      subst (λ (f : RunFault). (run : Runs stops may_flush old new (Err f))
+      × Ordered contents calls is_sent files may_flush old.world first run.ran a d (Err f)) (sym closes.0)
+      (stopped.0, (stopped.1.0, stopped.1.1.0, stopped.1.2))
+
+  -- the moments of the lines up to the one that stopped the run
+  pub ManySeen-halted : (world : World) (script chunk used unused : List ℕ) (replies more : List Reply)
+      (done : List (List ℕ)) (rest : List ℕ) (before : W) (ms : List (Moment W S))
+      → BeginsWith (script ++ used) done rest → IsUnbroken rest → chunk ≡ used ++ unused
+      → MoreSeen contents calls is_sent files may_flush world script used replies more before ms
+      → ManySeen contents calls is_sent files may_flush world script chunk replies more before (length done)
+      (length done) ms
+  ManySeen-halted world script chunk used unused replies more done rest before ms b u is m =
+      let whole = ap length (whole_lines_begun (script ++ used) done rest b u) in
+      record {
+        none_read = m.none_read;
+        none_made = m.none_made;
+        begun = m.begun ∙ whole;
+        ended = m.ended ∙ whole;
+        each = λ first past later e lines_seen out n.
+            let here : bytes_read past ≡ (script ++ used) ++ (unused ++ later) = e
+            ∙ ap (λ b. (script ++ b) ++ later) is ∙ (simp append_assoc) in
+            m.each first past (unused ++ later) here lines_seen out n;
+      }
+
+  -- the end of a run that was stopped by a refused line
+  module _ (old new : Known) (script chunk used unused : List ℕ) (replies : List Reply) (progress : Progress)
+      (first : W) (output output_mid : Option (List ℕ)) (a d : Option (List (Moment W S)))
+      (read : Gives old.input new.input (script ++ chunk)) (is : chunk ≡ used ++ unused)
+      (s : StandsAfter (point old.world old.noted) script replies used (point new.world new.noted) progress output
+      output_mid)
+      (w : Appends old.output output (texts replies)) (kept : Keeps output_mid new.output)
+      (reads : Gained old.reads new.reads (λ reads. AllGave reads × ReadsLast (Some (length chunk)) reads))
+      (refused : LastIsFirstRefused (replies ++ s.more)) (some : 0 < length s.more)
+      (whole : length (whole_lines script) ≡ length replies)
+      (order : Adds a d (InOrder contents calls is_sent files may_flush old.world first (replies ++ s.more)
+      (script ++ chunk) (length s.stands.done) (length s.stands.done) old.reads new.reads)) where
+    halted_written : Appends old.output new.output (texts (replies ++ s.more))
+    halted_written = Appends-texts old.output output new.output replies s.more w
+        (Appends-kept output output_mid new.output (texts s.more) s.written kept)
+
+    halted_begins : BeginsWith (script ++ chunk) s.stands.done (s.stands.rest ++ unused)
+    halted_begins = subst (λ (b : List ℕ). BeginsWith b s.stands.done (s.stands.rest ++ unused))
+        (append_assoc script used unused ∙ ap (λ b. script ++ b) (sym is))
+        (BeginsWith-more (script ++ used) s.stands.done s.stands.rest unused s.stands.begins)
+
+    abbrev gave : Gained old.reads new.reads AllGave
+    gave = record { more = reads.more; gained = reads.gained; holds = reads.holds.0 }
+
+    none_after : NoneAfterRefused (script ++ chunk) reads.more (replies ++ s.more)
+    none_after = let long = length-append replies s.more in inr (record {
+      earlier = script;
+      bytes = chunk;
+      script_is = refl;
+      read_last = reads.holds.1;
+      read_then = omega (arith, whole, long, some);
+      none_before = none_before_last (replies ++ s.more) refused;
+    })
+
+    pub Runs-halted : (stops : Bool) (mid : Option (List Call)) (result : Result Tally RunFault) → stops ≡ true
+        → NoneFailed may_flush old.calls mid → FlushedIfOk may_flush mid new.calls result
+        → MatchResult result (λ told. told ≡ progress.tally) (λ fault. fault ≡ Output)
+        → (run : Runs stops may_flush old new result)
+        × Ordered contents calls is_sent files may_flush old.world first run.ran a d result
+    Runs-halted stops mid (Ok tally) e n flushed told =
+        subst (λ (b : Bool). (run : Runs b may_flush old new (Ok tally))
+        × Ordered contents calls is_sent files may_flush old.world first run.ran a d (Ok tally)) (sym e) (
+          halts_well old new may_flush (script ++ chunk) s.stands.done (replies ++ s.more) (s.stands.rest ++ unused)
+              read s.stands.run halted_written s.stands.noted halted_begins refused gave none_after tally
+              (told ∙ s.stands.tally_is) (last_flushed_after may_flush old.calls mid new.calls n flushed),
+          Adds-weaker a d _ _ (λ ks k. (k, λ last. absurd (gave_no_end reads.more reads.holds.0 last))) order,
+        )
+    Runs-halted stops mid (Err fault) e n failed told =
+        subst (λ (f : RunFault). (run : Runs stops may_flush old new (Err f))
+        × Ordered contents calls is_sent files may_flush old.world first run.ran a d (Err f)) (sym told)
+        (subst (λ (b : Bool). (run : Runs b may_flush old new (Err Output))
+        × Ordered contents calls is_sent files may_flush old.world first run.ran a d (Err Output)) (sym e) (
+          halts_unflushed old new may_flush (script ++ chunk) s.stands.done (replies ++ s.more)
+              (s.stands.rest ++ unused) read s.stands.run halted_written s.stands.noted halted_begins refused gave
+              none_after (last_failed_after may_flush old.calls mid new.calls n failed),
+          (length s.stands.done, order, inl (refl, refl)),
+        ))

@@ -1,5 +1,5 @@
 -- Lemmas on a whole run.
-use Rattle.std.proofs.Common.{◌≡◌, ◌∙◌, ◌<◌, ◌+◌, ℕ, List, [], ◌∷◌, ◌++◌, Option, Some, Ok, Err}
+use Rattle.std.proofs.Common.{◌≡◌, ◌∙◌, ◌<◌, ◌+◌, ℕ, Bool, true, List, [], ◌∷◌, ◌++◌, Option, Some, Ok, Err}
 use Rattle.std.proofs.Common.{length, take, refl, sym, ap, subst, append-nil, length-append, arith}
 use Rattle.std.proofs.Common.{◌⊎◌, inl, inr}
 use Rattle.std.proofs.lemmas.List.Concat.{flat_map-append}
@@ -8,13 +8,13 @@ use Rattle.std.proofs.KnownBytes.{Appends-nil, Appends-trans, Appends-kept, Cons
 use Rattle.s2calc.specs.declared.engine.Tally.{Tally}
 use Rattle.s2calc.specs.declared.progress.Progress.{Progress}
 use Rattle.s2calc.specs.declared.fault.RunFault.TheVariants.{Input, Output, Memory}
-use Rattle.s2script.specs.Lines.{lines, whole_lines, but_last}
-use Rattle.s2calc.specs.Replies.{Reply, text_of, texts}
+use Rattle.s2script.specs.Lines.{lines, whole_lines, but_last, BeginsWith}
+use Rattle.s2calc.specs.Replies.{Reply, text_of, texts, tally_of, NoneRefused}
 use Rattle.s2calc.specs.World.{World}
 use Rattle.s2calc.specs.Notes.{WritesNotes, notes_of}
 use Rattle.s2calc.specs.Calls.{Call, Gains, Gained, NoneFailed, LastFlushed, LastFailed}
-use Rattle.s2calc.specs.Reads.{ReaderState, Gives, ReadsLast, ReadsStop, ReadsWell}
-use Rattle.s2calc.specs.Run.{Steps, Known, Did, Ran, came_out, Runs}
+use Rattle.s2calc.specs.Reads.{ReaderState, Gives, AllGave, ReadsLast, ReadsStop, ReadsWell}
+use Rattle.s2calc.specs.Run.{Steps, Known, Did, LastIsFirstRefused, NoneAfterRefused, Ran, came_out, Runs}
 use Rattle.s2calc.specs.Working.Stands.{Explains, IsCutOff, point, Stands, StopsIn, Ended}
 use Rattle.s2calc.specs.Working.Stands.{EndsInPart, EndsUnflushed, EndsBefore}
 use Rattle.s2calc.proofs.CallLemmas.{gains_nil, gains_more}
@@ -136,10 +136,10 @@ module _ (old new : Known) where
           noted = subst (λ rs. WritesNotes old.noted (notes_of done rs) new.noted) same n;
         }
 
-  module _ (may : Type 0) (script : List ℕ) (replies : List Reply) where
+  module _ (stops : Bool) (may : Type 0) (script : List ℕ) (replies : List Reply) where
     module _ (progress : Progress) (read : Gives old.input new.input script)
         (s : Stands (point old.world old.noted) script replies (point new.world new.noted) progress)
-        (w : Appends old.output new.output (texts replies)) where
+        (w : Appends old.output new.output (texts replies)) (none : stops ≡ true → NoneRefused replies) where
       pub whole_done : whole_lines script ≡ s.done
       whole_done = whole_lines_begun script s.done s.rest s.begins s.unbroken
 
@@ -152,38 +152,52 @@ module _ (old new : Known) where
           s.noted)
 
       abbrev pub stops_reading : Gained old.reads new.reads ReadsStop → NoneFailed may old.calls new.calls →
-          Runs may old new (Err Input)
-      stops_reading r c = record { ran = whole r c; ends = ((refl, refl), r.holds, c.holds); unchanged = tt }
+          Runs stops may old new (Err Input)
+      stops_reading r c = record {
+        ran = whole r c;
+        ends = inl ((refl, refl), r.holds, c.holds);
+        halts = λ e. inl (none e);
+        unchanged = tt;
+      }
 
       -- a flush before a read failed
       abbrev pub stops_before_read : may → Gained old.reads new.reads ReadsWell → LastFailed may old.calls new.calls →
-          Runs may old new (Err Output)
-      stops_before_read m r c =
-          record { ran = whole r c; ends = (inr (inr (m, inl (refl, refl))), r.holds, c.holds); unchanged = tt }
+          Runs stops may old new (Err Output)
+      stops_before_read m r c = record {
+        ran = whole r c;
+        ends = inl (inr (inr (m, inl (refl, refl))), r.holds, c.holds);
+        halts = λ e. inl (none e);
+        unchanged = tt;
+      }
 
-    module _ (Here : List Reply → ℕ → ℕ → Type 0) (Seen : List Reply → List ℕ → ℕ → ℕ → Type 0) where
+    module _ (Here : List Reply → ℕ → ℕ → Type 0) (Seen : List Reply → List ℕ → ℕ → ℕ → Type 0)
+        {P : List (Option ℕ) → Type 0} (halts : (rs : List Reply) (bytes : List ℕ) (reads : List (Option ℕ))
+        (begins ends : ℕ) → P reads → Seen rs bytes begins ends → stops ≡ true → NoneAfterRefused bytes reads rs) where
       -- a line that ends in the chunk stopped the run
-      pub stops_in_chunk : Gained old.reads new.reads ReadsWell → LastFailed may old.calls new.calls
+      pub stops_in_chunk : ((reads : List (Option ℕ)) → P reads → ReadsWell reads) → Gained old.reads new.reads P →
+          LastFailed may old.calls new.calls
           → (input : ReaderState) (output : Option (List ℕ)) (chunk : List ℕ) →
           Gives old.input input script → Gives input new.input chunk → Appends old.output output (texts replies)
           → ((more : List Reply) (begins ends : ℕ) → Here more begins ends →
           Seen (replies ++ more) (script ++ chunk) begins ends)
           → StopsIn may Here (point old.world old.noted) script replies chunk (point new.world new.noted) output
           new.output
-          → (run : Runs may old new (Err Output)) × Fails Seen run.ran
-      stops_in_chunk reads calls input output chunk r q w seen (inl s) =
+          → (run : Runs stops may old new (Err Output)) × Fails Seen run.ran
+      stops_in_chunk well reads calls input output chunk r q w seen (inl s) =
           let read = Gives-trans old.input input new.input script chunk r q in
           let cut = IsCutOff-after replies s.more s.bytes s.cut_off in (
             record {
               ran = last_cut reads calls (script ++ chunk) s.done (replies ++ s.more) read s.run
                   (texts replies ++ s.bytes)
                   (Appends-trans old.output output new.output (texts replies) s.bytes w s.written) cut s.noted;
-              ends = (inl (inl (s.rest, s.begins), cut.lacking), reads.holds, calls.holds);
+              ends = inl (inl (inl (s.rest, s.begins), cut.lacking), well reads.more reads.holds, calls.holds);
+              halts = halts (replies ++ s.more) (script ++ chunk) reads.more (length s.done) s.ended reads.holds
+                  (seen s.more (length s.done) s.ended s.seen);
               unchanged = tt;
             },
             (s.ended, seen s.more (length s.done) s.ended s.seen, inr s.one_more),
           )
-      stops_in_chunk reads calls input output chunk r q w seen (inr f) =
+      stops_in_chunk well reads calls input output chunk r q w seen (inr f) =
           let s = f.1 in
           let read = Gives-trans old.input input new.input script chunk r q in
           let which : ((length s.before ≡ length s.done) × ([] ≡ [])) ⊎ (length s.before + 1 ≡ length s.done) =
@@ -196,7 +210,7 @@ module _ (old new : Known) where
             record {
               ran = all_came reads calls (script ++ chunk) s.done (replies ++ s.more) read s.run
                   (Appends-texts old.output output new.output replies s.more w s.written) s.noted;
-              ends = (
+              ends = inl (
                 inr (inr (
                   f.0,
                   inr (record {
@@ -208,35 +222,43 @@ module _ (old new : Known) where
                     none_left = refl;
                   }),
                 )),
-                reads.holds,
+                well reads.more reads.holds,
                 calls.holds,
               );
+              halts = halts (replies ++ s.more) (script ++ chunk) reads.more (length s.done) (length s.before)
+                  reads.holds (seen s.more (length s.done) (length s.before) s.seen);
               unchanged = tt;
             },
             (length s.before, seen s.more (length s.done) (length s.before) s.seen, which),
           )
 
       -- the last line or the last flush stopped the run
-      pub stops_at_end : (output : Option (List ℕ)) → Gives old.input new.input script → IsAtEnd new.input.ahead →
-          Appends old.output output (texts replies)
-          → Gained old.reads new.reads (ReadsLast (Some 0)) → LastFailed may old.calls new.calls
+      pub stops_at_end : ((reads : List (Option ℕ)) → P reads → ReadsLast (Some 0) reads) → (output : Option (List ℕ))
+          → Gives old.input new.input script → IsAtEnd new.input.ahead → Appends old.output output (texts replies)
+          → Gained old.reads new.reads P → LastFailed may old.calls new.calls
           → ((more : List Reply) (begins ends : ℕ) → Here more begins ends → Seen (replies ++ more) script begins ends)
           → EndsInPart Here (point old.world old.noted) script replies (point new.world new.noted) output new.output
           ⊎ EndsUnflushed Here (point old.world old.noted) script replies (point new.world new.noted) output new.output
           ⊎ (may × EndsBefore Here (point old.world old.noted) script replies (point new.world new.noted) output
           new.output)
-          → (run : Runs may old new (Err Output)) × Fails Seen run.ran
-      stops_at_end output read at_end w r c seen (inl s) =
+          → (run : Runs stops may old new (Err Output)) × Fails Seen run.ran
+      stops_at_end last output read at_end w r c seen (inl s) =
           let cut = IsCutOff-after replies s.more s.bytes s.cut_off in (
             record {
               ran = last_cut r c script (lines script) (replies ++ s.more) read s.run (texts replies ++ s.bytes)
                   (Appends-trans old.output output new.output (texts replies) s.bytes w s.written) cut s.noted;
-              ends = (inl (inr (refl, (r.holds, at_end)), cut.lacking), inr r.holds, c.holds);
+              ends = inl (
+                inl (inr (refl, (last r.more r.holds, at_end)), cut.lacking),
+                inr (last r.more r.holds),
+                c.holds,
+              );
+              halts = halts (replies ++ s.more) script r.more (length (lines script)) s.ended r.holds
+                  (seen s.more (length (lines script)) s.ended s.seen);
               unchanged = tt;
             },
             (s.ended, seen s.more (length (lines script)) s.ended s.seen, inr s.one_more),
           )
-      stops_at_end output read at_end w r c seen (inr (inl s)) =
+      stops_at_end last output read at_end w r c seen (inr (inl s)) =
           let which : ((s.ended ≡ length (lines script)) × ([] ≡ [])) ⊎ (s.ended + 1 ≡ length (lines script)) =
           elim s.ended_are [
             | inl e ↦ inl (e, refl)
@@ -245,62 +267,100 @@ module _ (old new : Known) where
             record {
               ran = all_came r c script (lines script) (replies ++ s.more) read s.run
                   (Appends-texts old.output output new.output replies s.more w s.written) s.noted;
-              ends = (inr (inl (refl, (r.holds, at_end), refl)), inr r.holds, c.holds);
+              ends = inl (
+                inr (inl (refl, (last r.more r.holds, at_end), refl)),
+                inr (last r.more r.holds),
+                c.holds,
+              );
+              halts = halts (replies ++ s.more) script r.more (length (lines script)) s.ended r.holds
+                  (seen s.more (length (lines script)) s.ended s.seen);
               unchanged = tt;
             },
             (s.ended, seen s.more (length (lines script)) s.ended s.seen, which),
           )
-      stops_at_end output read at_end w r c seen (inr (inr f)) =
-          let s = f.1 in (
+      stops_at_end last output read at_end w r c seen (inr (inr f)) =
+          let s = f.1 in
+          let here = subst (λ rs. Seen rs script (length s.before) (length s.before)) (append-nil replies)
+          (seen [] (length s.before) (length s.before) s.seen) in (
             record {
               ran = all_came r c script s.before replies read s.run
                   (Appends-kept old.output output new.output (texts replies) w s.kept) s.noted;
-              ends = (
+              ends = inl (
                 inr (inr (
                   f.0,
                   inr (record {
                     before = s.before;
                     line = s.line;
-                    read_whole = inr (s.lines_are, (r.holds, at_end));
+                    read_whole = inr (s.lines_are, (last r.more r.holds, at_end));
                     has_file = s.has_file;
                     done_are = inl refl;
                     none_left = refl;
                   }),
                 )),
-                inr r.holds,
+                inr (last r.more r.holds),
                 c.holds,
               );
+              halts = halts replies script r.more (length s.before) (length s.before) r.holds here;
               unchanged = tt;
             },
-            (
-              length s.before,
-              subst (λ rs. Seen rs script (length s.before) (length s.before)) (append-nil replies)
-                  (seen [] (length s.before) (length s.before) s.seen),
-              inl (refl, refl),
-            ),
+            (length s.before, here, inl (refl, refl)),
           )
 
     module _ (output : Option (List ℕ)) (read : Gives old.input new.input script) (at_end : IsAtEnd new.input.ahead)
         (w : Appends old.output output (texts replies)) where
       abbrev pub finishes : (tally : Tally) →
           {Seen : List Reply → ℕ → ℕ → Type 0} →
-          Ended Seen (point old.world old.noted) script replies (point new.world new.noted) output new.output tally
-          → Gained old.reads new.reads (ReadsLast (Some 0)) → LastFlushed may old.calls new.calls →
-          Runs may old new (Ok tally)
-      finishes tally s r c = record {
+          (s : Ended Seen (point old.world old.noted) script replies (point new.world new.noted) output new.output
+          tally)
+          → (r : Gained old.reads new.reads (ReadsLast (Some 0))) → LastFlushed may old.calls new.calls
+          → (stops ≡ true → NoneAfterRefused script r.more (replies ++ s.more)) → Runs stops may old new (Ok tally)
+      finishes tally s r c halts = record {
         ran = all_came r c script (lines script) (replies ++ s.more) read s.run
             (Appends-texts old.output output new.output replies s.more w s.written) s.noted;
-        ends = ((refl, (r.holds, at_end), refl), s.tally_is, r.holds, c.holds);
+        ends = inl ((refl, (r.holds, at_end), refl), s.tally_is, r.holds, c.holds);
+        halts = halts;
         unchanged = tt;
       }
 
+  -- The lines that end in the bytes of the last read, or some of them, were carried out up to a refused line, which
+  -- stopped the run.
+  module _ (may : Type 0) (script : List ℕ) (done : List (List ℕ)) (replies : List Reply) (unused : List ℕ)
+      (read : Gives old.input new.input script) (steps : Steps old.world done replies new.world)
+      (w : Appends old.output new.output (texts replies))
+      (n : Explains (point old.world old.noted) (point new.world new.noted) done replies)
+      (begins : BeginsWith script done unused) (refused : LastIsFirstRefused replies)
+      (r : Gained old.reads new.reads AllGave) (halts : NoneAfterRefused script r.more replies) where
+    abbrev pub halts_well : (tally : Tally) → tally ≡ tally_of replies → LastFlushed may old.calls new.calls →
+        Runs true may old new (Ok tally)
+    halts_well tally t c = record {
+      ran = all_came r c script done replies read steps w n;
+      ends = inr (
+        refl,
+        (record { unused = unused; begins = begins; refused = refused; none_left = refl }, t, r.holds, c.holds),
+      );
+      halts = λ e. halts;
+      unchanged = tt;
+    }
+
+    abbrev pub halts_unflushed : LastFailed may old.calls new.calls → Runs true may old new (Err Output)
+    halts_unflushed c = record {
+      ran = all_came r c script done replies read steps w n;
+      ends = inr (
+        refl,
+        (record { unused = unused; begins = begins; refused = refused; none_left = refl }, r.holds, c.holds),
+      );
+      halts = λ e. halts;
+      unchanged = tt;
+    }
+
 -- no memory: nothing has happened
-abbrev pub never_begins : (may : Type 0) (at : Known) → Runs may at at (Err Memory)
-never_begins may at = record {
+abbrev pub never_begins : (stops : Bool) (may : Type 0) (at : Known) → Runs stops may at at (Err Memory)
+never_begins stops may at = record {
   ran = all_came at at {P = λ _. Unit {0}} {Q = λ _. Unit {0}}
       (record { more = []; gained = gains_nil at.reads; holds = tt })
       (record { more = []; gained = gains_nil at.calls; holds = tt }) [] [] [] (Gives-nil at.input) refl
       (Appends-nil at.output) (WritesNotes-none at.noted);
-  ends = (refl, refl, refl);
+  ends = inl (refl, refl, refl);
+  halts = λ e. inl refl;
   unchanged = refl;
 }

@@ -1,5 +1,5 @@
 -- Lemmas on taking in the bytes of a script.
-use Rattle.std.proofs.Common.{◌≡◌, ℕ, ◌+◌, ◌<◌, true, List, [], ◌∷◌, ◌++◌, Option, length, take}
+use Rattle.std.proofs.Common.{◌≡◌, ℕ, ◌+◌, ◌<◌, Bool, true, List, [], ◌∷◌, ◌++◌, Option, length, take}
 use Rattle.std.proofs.Common.{refl, sym, ap, ◌∙◌, inl, inr}
 use Rattle.std.proofs.Common.{subst, append_assoc, append-nil, arith, length-append}
 use Rattle.std.proofs.lemmas.List.Concat.{flat_map-append}
@@ -16,7 +16,7 @@ use Rattle.s2calc.specs.Step.{Step, asks_for_file}
 use Rattle.s2calc.specs.Run.{Steps}
 use Rattle.s2calc.specs.Working.Stands.{Point, Explains}
 use Rattle.s2calc.specs.Working.Stands.{Stands, Answered, AnsweredInPart, AnsweredUnflushed, StandsAfter, StopsInside}
-use Rattle.s2calc.specs.Working.Stands.{StopsBeside}
+use Rattle.s2calc.specs.Working.Stands.{StopsBeside, TakenIn}
 use Rattle.s2calc.proofs.LineLemmas.{every-append, BeginsWith-more, BeginsWith-line, kept_more, but_last-append}
 use Rattle.s2calc.proofs.NoteLemmas.{WritesNotes-none, WritesNotes-more, notes_from-push, notes_from-cut, note_of-kept}
 use Rattle.s2calc.proofs.RunLemmas.{Steps-push, Steps-lengths}
@@ -27,8 +27,8 @@ texts-push replies reply = flat_map-append text_of replies (reply ∷ [])
     ∙ ap (λ s. texts replies ++ s) (append-nil (text_of reply))
 
 -- a run that stands somewhere has seen no byte since
-pub StandsAfter-none : (start : Point) (script : List ℕ) (replies : List Reply) (now : Point) (progress : Progress)
-    (output : Option (List ℕ)) → Stands start script replies now progress
+abbrev pub StandsAfter-none : (start : Point) (script : List ℕ) (replies : List Reply) (now : Point)
+    (progress : Progress) (output : Option (List ℕ)) → Stands start script replies now progress
     → StandsAfter start script replies [] now progress output output
 StandsAfter-none start script replies now progress output s =
     record {
@@ -300,3 +300,12 @@ Stands-start start progress e tally_is lines_are = record {
   lines_are = lines_are;
   noted = WritesNotes-none start.noted;
 }
+
+-- what is taken in, by what a call has answered
+pub taken_to : (Seen : List ℕ → List Reply → Type 0) (stops halted b : Bool) (start : Point) (script : List ℕ)
+    (replies : List Reply) (chunk : List ℕ) (now : Point) (progress : Progress)
+    (output_old output_new : Option (List ℕ)) → halted ≡ b
+    → TakenIn Seen stops halted start script replies chunk now progress output_old output_new
+    → TakenIn Seen stops b start script replies chunk now progress output_old output_new
+taken_to Seen stops halted b start script replies chunk now progress output_old output_new e taken = subst (λ h.
+    TakenIn Seen stops h start script replies chunk now progress output_old output_new) e taken

@@ -26,7 +26,7 @@ reason_of line Format = codes "the file is not a union file"
 reason_of line Session = codes "the file is not a session file"
 reason_of line TooDeep = codes "the session has more states than the depth"
 reason_of line TooMany =
-    codes "too many cells: a register has up to 10000 (--limit raises that, up to 1000000), denorm lists 1000000"
+    codes "too many cells: a register has up to 10000 (regions of the Earth: --limit 1000000), denorm lists 1000000"
 reason_of line Nothing = codes "there is nothing to undo or redo"
 reason_of line Memory = codes "out of memory"
 

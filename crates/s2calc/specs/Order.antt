@@ -1,5 +1,5 @@
 -- The order in which a run reads, carries out lines, and writes.
-use Rattle.std.specs.Prelude.{◌≡◌, ℕ, ◌⊎◌, true, List, [], ◌∷◌, ◌++◌, length, ◌+◌, Option, Result, Ok, Err}
+use Rattle.std.specs.Prelude.{◌≡◌, ℕ, ◌⊎◌, true, List, [], ◌∷◌, ◌++◌, length, ◌+◌, Option, Some, Result, Ok, Err}
 use Rattle.std.specs.Io.KnownBytes.{Appends}
 use Rattle.s2shelf.specs.Shelf.{Files}
 use Rattle.s2script.specs.Line.{line_of}
@@ -12,6 +12,7 @@ use Rattle.s2calc.specs.Replies.{Reply, texts}
 use Rattle.s2calc.specs.Step.{asks_for_file}
 use Rattle.s2calc.specs.Run.{Steps, Known, Ran, WereReadWhole}
 use Rattle.s2calc.specs.Calls.{Call, Flushed, AllWell, EndsWith, Gains, Gained}
+use Rattle.s2calc.specs.Reads.{ReadsLast}
 use Rattle.s2calc.specs.Moments.{Event, Came, ReadFailed, LineBegins, LineEnds, Moment, bytes_read, ends_of}
 use Rattle.s2calc.specs.Moments.{reads_seen, begun_in, ended_in, Adds}
 
@@ -112,7 +113,7 @@ module _ {W S : Type 0} (contents : W → Option (List ℕ)) (calls : W → Opti
   abbrev pub Ordered : {old new : Known} → Ran old new → Option (List (Moment W S)) → Option (List (Moment W S)) →
       Result Tally RunFault → Type 0
   Ordered ran old new (Ok tally) = Adds old new
-      (λ moments. Follows ran (length ran.did.done) moments × HasEnded moments)
+      (λ moments. Follows ran (length ran.did.done) moments × (ReadsLast (Some 0) ran.reads → HasEnded moments))
   Ordered ran old new (Err Input) = Adds old new (Follows ran (length ran.did.done))
   Ordered ran old new (Err Output) = (ended : ℕ) × Adds old new (Follows ran ended)
       × (((ended ≡ length ran.did.done) × (ran.did.left ≡ [])) ⊎ (ended + 1 ≡ length ran.did.done))

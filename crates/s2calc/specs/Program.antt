@@ -70,7 +70,7 @@ StopsForInvalid NoMemory = Unit {0}
 
 -- the limit and the depth of a run are in range
 abbrev pub IsInRange : Job → Type 0
-IsInRange (Run limit depth dir explain prompt) =
+IsInRange (Run limit depth dir explain prompt stop) =
     (1 ≤ limit) × (limit ≤ MOST_REGISTER) × (1 ≤ depth) × (depth ≤ MOST_STATES)
 IsInRange (Cell word) = Unit {0}
 IsInRange (Check dir name) = Unit {0}

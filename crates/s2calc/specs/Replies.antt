@@ -1,5 +1,5 @@
 -- The answer to a line.
-use Rattle.std.specs.Prelude.{ℕ, ◌-◌, ◌^◌, Bool, false, true, min, List, [], ◌∷◌, ◌++◌}
+use Rattle.std.specs.Prelude.{◌≡◌, ℕ, ◌-◌, ◌^◌, Bool, false, true, min, List, [], ◌∷◌, ◌++◌}
 use Rattle.std.specs.Prelude.{codes, flat_map, count_by}
 use Rattle.s2calc.specs.declared.refusal.Refusal.{Refusal}
 use Rattle.s2calc.specs.Refusals.{name_of}
@@ -32,6 +32,10 @@ abbrev pub is_refusal : Reply → Bool
 is_refusal Silent = false
 is_refusal (Says text) = false
 is_refusal (Refuses refusal) = true
+
+-- no reply is a refusal
+abbrev pub NoneRefused : List Reply → Type 0
+NoneRefused replies = count_by is_refusal replies ≡ 0
 
 -- how many lines were answered and how many were refused; each count stops at the greatest u64
 abbrev pub tally_of : List Reply → Tally

@@ -1,5 +1,5 @@
 -- What a run does: how far it came, and what its result says of that.
-use Rattle.std.specs.Prelude.{◌≡◌, ◌<◌, ℕ, ◌⊎◌, true, false, List, [], ◌∷◌, ◌++◌, length, Option, None, Some}
+use Rattle.std.specs.Prelude.{◌≡◌, ◌<◌, ℕ, ◌⊎◌, Bool, true, false, List, [], ◌∷◌, ◌++◌, length, Option, None, Some}
 use Rattle.std.specs.Prelude.{Result, Ok, Err}
 use Rattle.std.specs.Io.KnownBytes.{Appends, IsAtEnd}
 use Rattle.s2calc.specs.World.{World}
@@ -8,11 +8,11 @@ use Rattle.s2calc.specs.declared.fault.RunFault.{RunFault}
 use Rattle.s2calc.specs.declared.fault.RunFault.TheVariants.{Input, Output, Memory}
 use Rattle.s2script.specs.Line.{line_of}
 use Rattle.s2script.specs.Lines.{lines, whole_lines, but_last, BeginsWith}
-use Rattle.s2calc.specs.Replies.{Reply, texts, tally_of}
+use Rattle.s2calc.specs.Replies.{Reply, texts, tally_of, is_refusal, NoneRefused}
 use Rattle.s2calc.specs.Notes.{Noted, WritesNotes, notes_of}
 use Rattle.s2calc.specs.Step.{Step, asks_for_file}
 use Rattle.s2calc.specs.Calls.{Call, Flushed, Failed, Gains, AllWell, EndsWith}
-use Rattle.s2calc.specs.Reads.{ReaderState, Gives, ReadsLast, ReadsStop, ReadsWell}
+use Rattle.s2calc.specs.Reads.{ReaderState, Gives, AllGave, ReadsLast, ReadsStop, ReadsWell}
 
 -- these lines, carried out one after another, may have these replies
 abbrev pub Steps : World → List (List ℕ) → List Reply → World → Type 0
@@ -71,10 +71,37 @@ pub record BesideFile (script : List ℕ) (Ended : Type 0) (done : List (List �
   pub done_are : (done ≡ before) ⊎ (done ≡ before ++ line ∷ [])
   pub none_left : left ≡ []
 
+-- the last of these replies refuses its line, and no other does
+pub record LastIsFirstRefused (replies : List Reply) : Type 0 where
+  pub before : List Reply
+  pub last : Reply
+  pub replies_are : replies ≡ before ++ last ∷ []
+  pub refused : is_refusal last ≡ true
+  pub none_before : NoneRefused before
+
+-- What a run did that was stopped by a refused line: the lines that were carried out are the first of the script, the
+-- last of them is the first that was refused, and all answers were written. What follows in the script was read, and
+-- not used.
+pub record IsHalted (script : List ℕ) (done : List (List ℕ)) (replies : List Reply) (left : List ℕ) : Type 0 where
+  pub unused : List ℕ
+  pub begins : BeginsWith script done unused
+  pub refused : LastIsFirstRefused replies
+  pub none_left : left ≡ []
+
 module _ {start now : World} {written : List ℕ} (script : List ℕ) where
   -- exactly the lines that were read whole were carried out, and exactly their answers were written
   abbrev pub WholeLines : Did start now written → Type 0
   WholeLines did = (did.done ≡ whole_lines script) × (did.left ≡ [])
+
+  -- What a run did that was stopped by a refused line, by its result, which says how the last flush ended. Each read
+  -- gave some bytes.
+  abbrev pub Halts : Type 0 → List (Option ℕ) → List Call → Did start now written → Result Tally RunFault → Type 0
+  Halts may_flush reads called did (Ok tally) = IsHalted script did.done did.replies did.left
+      × (tally ≡ tally_of did.replies) × AllGave reads × EndsWith Flushed may_flush called
+  Halts may_flush reads called did (Err Input) = ⊥
+  Halts may_flush reads called did (Err Output) = IsHalted script did.done did.replies did.left × AllGave reads
+      × EndsWith Failed may_flush called
+  Halts may_flush reads called did (Err Memory) = ⊥
 
   -- `Ended` says that the script has ended
   module _ (Ended : Type 0) where
@@ -98,6 +125,27 @@ module _ {start now : World} {written : List ℕ} (script : List ℕ) where
         × ReadsWell reads × EndsWith Failed may_flush called
     Ends may_flush reads called did (Err Memory) = (did.done ≡ []) × (reads ≡ []) × (called ≡ [])
 
+    -- The same of a run that stops at its first refused line if `stops`: it was stopped by that line, or ended as any
+    -- run does.
+    abbrev pub EndsOrHalts : Bool → Type 0 → List (Option ℕ) → List Call → Did start now written →
+        Result Tally RunFault → Type 0
+    EndsOrHalts stops may_flush reads called did result =
+        Ends may_flush reads called did result ⊎ ((stops ≡ true) × Halts may_flush reads called did result)
+
+-- Only the last of these replies refuses its line, and that line was not read to its end before the last read, which
+-- gave these bytes.
+pub record LastRefused (script : List ℕ) (reads : List (Option ℕ)) (replies : List Reply) : Type 0 where
+  pub earlier : List ℕ
+  pub bytes : List ℕ
+  pub script_is : script ≡ earlier ++ bytes
+  pub read_last : ReadsLast (Some (length bytes)) reads
+  pub read_then : length (whole_lines earlier) < length replies
+  pub none_before : NoneRefused (but_last replies)
+
+-- nothing came after a refused line: no other line was carried out, and nothing was read
+abbrev pub NoneAfterRefused : List ℕ → List (Option ℕ) → List Reply → Type 0
+NoneAfterRefused script reads replies = NoneRefused replies ⊎ LastRefused script reads replies
+
 -- What a run did, and what is known of it before and after: by these reads the reader gave the script, and by these
 -- calls the writer took what was written; and the notes are those on the replies that came out whole.
 pub record Ran (old new : Known) : Type 0 where
@@ -117,10 +165,12 @@ abbrev pub Unchanged : Known → Known → Result Tally RunFault → Type 0
 Unchanged old new (Err Memory) = new ≡ old
 Unchanged old new result = Unit {0}
 
--- What a run does, by its result; `may_flush` says whether there are flushes before the end. Its script has ended if
--- the last read gave nothing, and then the reader has nothing left.
-pub record Runs (may_flush : Type 0) (old new : Known) (result : Result Tally RunFault) : Type 0 where
+-- What a run does, by its result; `stops` says whether it stops at its first refused line, and `may_flush` whether
+-- there are flushes before the end. Its script has ended if the last read gave nothing, and then the reader has nothing
+-- left.
+pub record Runs (stops : Bool) (may_flush : Type 0) (old new : Known) (result : Result Tally RunFault) : Type 0 where
   pub ran : Ran old new
-  pub ends : Ends ran.script (ReadsLast (Some 0) ran.reads × IsAtEnd new.input.ahead) may_flush ran.reads ran.called
-      ran.did result
+  pub ends : EndsOrHalts ran.script (ReadsLast (Some 0) ran.reads × IsAtEnd new.input.ahead) stops may_flush ran.reads
+      ran.called ran.did result
+  pub halts : stops ≡ true → NoneAfterRefused ran.script ran.reads ran.did.replies
   pub unchanged : Unchanged old new result

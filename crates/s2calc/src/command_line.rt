@@ -90,6 +90,7 @@ fn run_job(alloc: Global, run: &ArgMatches<'_>) -> Result<Option<Job>, AllocErro
         dir: text(alloc, run, "dir")?,
         explain: run.get_flag("explain") || run.get_flag("prompt"),
         prompt: run.get_flag("prompt"),
+        stop: run.get_flag("stop"),
     }))
 }
 
@@ -188,6 +189,7 @@ enum ArgumentName {
     DirOfFiles,
     Explain,
     Prompt,
+    Stop,
     Cell,
     File,
     Cells,
@@ -251,6 +253,7 @@ fn arg_of<'a>(alloc: Global, named: ArgumentName) -> Result<Arg<'a>, AllocError>
         ArgumentName::DirOfFiles => dir(alloc).conflicts_with("cells"),
         ArgumentName::Explain => Ok(explain(alloc)),
         ArgumentName::Prompt => Ok(prompt(alloc)),
+        ArgumentName::Stop => Ok(stop(alloc)),
         ArgumentName::Cell => Ok(word(
             alloc,
             "CELL",
@@ -278,6 +281,7 @@ fn run_command<'a>(alloc: Global) -> Result<Command<'a>, AllocError> {
             ArgumentName::Dir,
             ArgumentName::Explain,
             ArgumentName::Prompt,
+            ArgumentName::Stop,
         ],
     )
 }
@@ -395,6 +399,14 @@ fn prompt<'a>(alloc: Global) -> Arg<'a> {
         .help(
             "Shows a prompt on standard error, and explains; 'rlwrap s2calc run --prompt' edits lines",
         )
+        .action(ArgAction::SetTrue)
+}
+
+/// The flag that asks for an end at the first error.
+fn stop<'a>(alloc: Global) -> Arg<'a> {
+    Arg::new(alloc, "stop")
+        .long("stop")
+        .help("Stops at the first line with an error; without it a script goes on, and save replaces a file")
         .action(ArgAction::SetTrue)
 }
 

@@ -1,6 +1,6 @@
 //! The run of a script.
 ghost use Rattle.std.specs.Prelude.{◌≡◌, ◌<◌, ◌+◌, ℕ, List, [], ◌∷◌, ◌++◌, OnOk, IfOk, IfErr, IfSome, IfNone};
-ghost use Rattle.std.specs.Prelude.{length, take, MatchResult};
+ghost use Rattle.std.specs.Prelude.{length, take, MatchResult, true, false, IsTrue};
 ghost use Rattle.std.specs.Io.KnownBytes.{Keeps};
 ghost use Rattle.s2list.specs.Union.{IsNormalForm, has_leaf};
 ghost use Rattle.s2edit.specs.History.{EachList};
@@ -67,24 +67,37 @@ fn newline_in(bytes: &[u8]) -> Option<usize>
     bytes.iter().position(|b| *b == b'\n')
 }
 
-/// Takes the next bytes of a script, and carries out each line that ends in them.
+/// Takes the next bytes of a script, and carries out each line that ends in them. If the run `stops` at a refused line,
+/// nothing after the first of these is carried out, and it answers that the run is halted.
 fn take_in<W: Sink, S: Shelf, F: Flushing<W>, N: Notes, O: Observer<W, S>>(
     desk: &mut Desk<'_, '_, '_, '_, '_, W, S, N, O>,
     progress: &mut Progress,
     chunk: &[u8],
-) -> Result<(), RunFault>
+    stops: bool,
+) -> Result<bool, RunFault>
     ensures same { SameReferences desk.old desk.new }
-    ensures takes_in { TakesIn W.contents W.calls F.is_sent F.may_fail S.files N.noted O.seen desk.old progress.old
-        chunk.now desk.new progress.new result }
+    ensures takes_in { TakesIn W.contents W.calls F.is_sent F.may_fail S.files N.noted O.seen stops desk.old
+        progress.old chunk.now desk.new progress.new result }
     ensures calls { FailedIfErr F.may_fail (W.calls desk.old.writer.now) (W.calls desk.new.writer.now) result }
 {
     let mut rest = chunk;
     while let Some(at) = newline_in(rest) {
         answer_next::<W, S, F, N, O>(desk, progress, &rest[..at])?;
+        if is_halted(stops, progress.tally) {
+            return Ok(true);
+        }
         rest = &rest[at + 1..];
     }
     progress.kept.keep(rest);
-    Ok(())
+    Ok(false)
+}
+
+/// Whether a run ends there: it `stops` at a refused line, and has refused one.
+fn is_halted(stops: bool, tally: Tally) -> bool
+    ensures halted { IsTrue result → (stops ≡ true) × (0 < tally.refused) }
+    ensures goes_on { result ≡ false → stops ≡ true → tally.refused ≡ 0 }
+{
+    stops && tally.refused > 0
 }
 
 /// Carries out the line that these bytes end, as `answer_line` does. A line that was read at once isn't copied.
@@ -182,7 +195,7 @@ pub fn run<R: Source, W: Sink, S: Shelf>(
     writer: &mut W,
     shelf: &mut S,
 ) -> Result<Tally, RunFault>
-    ensures runs { Runs ⊥
+    ensures runs { Runs false ⊥
         (known (world editor.old (S.files shelf.old)) (input_of R.remaining R.given reader.old) (R.reads reader.old)
         (W.contents writer.old) (W.calls writer.old) no_notes)
         (known (world editor.new (S.files shelf.new)) (input_of R.remaining R.given reader.new) (R.reads reader.new)
@@ -198,10 +211,15 @@ pub fn run<R: Source, W: Sink, S: Shelf>(
         shelf,
         &mut NoNotes,
         &mut Unobserved::new(),
+        false,
     )
 }
 
 /// Runs a script as [`run`] does, with notes on refused lines and an observer. `F` says when it is flushed.
+///
+/// If it `stops` at a refused line, the first line that is refused is the last that is carried out and answered.
+/// Nothing is read after it, what follows it in the bytes that were read is not used, and the run ends as at the end of
+/// its script. A last line without a newline is carried out only at the end of the script, so nothing follows it.
 ///
 /// With `AtTheEnd` the writer is flushed once, at the end. With `Promptly` it is a buffer of answers, which is flushed
 /// before each read too, and before and after each command with a file. So the answers go out before the run waits for
@@ -233,8 +251,9 @@ pub fn run_with<W: Sink, S: Shelf, F: Flushing<W>, N: Notes, O: Observer<W, S>>(
     shelf: &mut S,
     notes: &mut N,
     observer: &mut O,
+    stops: bool,
 ) -> Result<Tally, RunFault>
-    ensures runs { (run : Runs F.may_fail
+    ensures runs { (run : Runs stops F.may_fail
         (known (world editor.old (S.files shelf.old)) (input_of O.Reader.remaining O.Reader.given reader.old)
         (O.Reader.reads reader.old) (W.contents writer.old) (W.calls writer.old) (N.noted notes.old))
         (known (world editor.new (S.files shelf.new)) (input_of O.Reader.remaining O.Reader.given reader.new)
@@ -259,6 +278,7 @@ pub fn run_with<W: Sink, S: Shelf, F: Flushing<W>, N: Notes, O: Observer<W, S>>(
             notes,
             observer,
         },
+        stops,
     );
     let _ = editor.limit();
     result
@@ -277,10 +297,11 @@ fn run_over<W: Sink, S: Shelf, F: Flushing<W>, N: Notes, O: Observer<W, S>>(
     input: &mut [u8],
     reader: &mut O::Reader,
     desk: &mut Desk<'_, '_, '_, '_, '_, W, S, N, O>,
+    stops: bool,
 ) -> Result<Tally, RunFault>
     requires { 0 < length input.old }
     ensures same { SameReferences desk.old desk.new }
-    ensures runs { RunsOver W.contents W.calls F.is_sent F.may_fail S.files N.noted O.seen desk.old
+    ensures runs { RunsOver W.contents W.calls F.is_sent F.may_fail S.files N.noted O.seen stops desk.old
         (input_of O.Reader.remaining O.Reader.given reader.old) (O.Reader.reads reader.old) desk.new
         (input_of O.Reader.remaining O.Reader.given reader.new) (O.Reader.reads reader.new) result }
     ensures sent { MatchResult result (λ _. F.is_sent desk.new.writer.now) (λ fault. fault ≡ RunFault.Input →
@@ -291,7 +312,11 @@ fn run_over<W: Sink, S: Shelf, F: Flushing<W>, N: Notes, O: Observer<W, S>>(
         F::in_between(desk.writer)?;
         match desk.observer.read(reader, desk.writer, desk.shelf, input) {
             Ok(0) => return finish::<W, S, F, N, O>(desk, progress),
-            Ok(count) => take_in::<W, S, F, N, O>(desk, &mut progress, &input[..count])?,
+            Ok(count) => {
+                if take_in::<W, S, F, N, O>(desk, &mut progress, &input[..count], stops)? {
+                    return flush_at_the_end::<W, F>(progress.tally, desk.writer);
+                }
+            }
             Err(_) => return Err(RunFault::Input),
         }
     }

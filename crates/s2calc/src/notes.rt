@@ -87,7 +87,7 @@ fn put_reason<T: TextSink>(line: &[u8], refusal: Refusal, text: &mut T)
         Refusal::Session => put_part(b"the file is not a session file", text),
         Refusal::TooDeep => put_part(b"the session has more states than the depth", text),
         Refusal::TooMany => put_part(
-            b"too many cells: a register has up to 10000 (--limit raises that, up to 1000000), denorm lists 1000000",
+            b"too many cells: a register has up to 10000 (regions of the Earth: --limit 1000000), denorm lists 1000000",
             text,
         ),
         Refusal::Nothing => put_part(b"there is nothing to undo or redo", text),

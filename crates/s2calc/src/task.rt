@@ -8,13 +8,15 @@ use std::alloc::Global;
 #[derive(Debug, PartialEq, Eq, Drop)]
 pub enum Job {
     /// To answer a script, with at most this many cells in a register and this many kept states, and files in a folder,
-    /// and if asked, to say why lines are refused, and to show a prompt before each read.
+    /// and if asked, to say why lines are refused, to show a prompt before each read, and to stop at the first refused
+    /// line.
     Run {
         limit: usize,
         depth: usize,
         dir: String,
         explain: bool,
         prompt: bool,
+        stop: bool,
     },
     /// To answer `cell WORD`.
     Cell {

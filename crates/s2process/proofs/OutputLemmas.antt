@@ -151,11 +151,19 @@ module _ (R W E F : Type 0) {S : Type 0} (files : S → Files) (opened : S → L
         (taken ended.streams.output ++ run.runs.waiting)
     did_in = run.runs.runs.did
 
+    -- such a run isn't stopped by a refused line
+    unstopped : Ends (given ended.streams.input) (ReadsLast (Some 0) (reads ended.streams.input)) (Unit {0})
+        (reads ended.streams.input) (called ended.streams.output) did_in run.runs.result
+    unstopped = elim run.runs.runs.ends [
+      | inl ends ↦ ends
+      | inr halts ↦ let no = halts.0 in absurd cc
+    ]
+
     abbrev ends_in : (result : Result Tally RunFault) → run.runs.result ≡ result →
         Ends (given ended.streams.input) (ReadsLast (Some 0) (reads ended.streams.input)) (Unit {0})
         (reads ended.streams.input) (called ended.streams.output) did_in result
     ends_in result e = subst (λ r. Ends (given ended.streams.input) (ReadsLast (Some 0) (reads ended.streams.input))
-        (Unit {0}) (reads ended.streams.input) (called ended.streams.output) did_in r) e run.runs.runs.ends
+        (Unit {0}) (reads ended.streams.input) (called ended.streams.output) did_in r) e unstopped
 
     -- nothing waits after a result that says so
     none_waits : (result : Result Tally RunFault) → run.runs.result ≡ result →
@@ -176,7 +184,7 @@ module _ (R W E F : Type 0) {S : Type 0} (files : S → Files) (opened : S → L
 
     first_lines : (more : List (List ℕ)) × (did_in.done ++ more ≡ lines script)
     first_lines = done_first did_in script (given ended.streams.input) (reads ended.streams.input) run.read
-        (called ended.streams.output) run.runs.result run.runs.runs.ends
+        (called ended.streams.output) run.runs.result unstopped
 
     -- a run that came to the end has read the whole script
     all_read : (tally : Tally) → run.runs.result ≡ Ok tally → did_in.done ≡ lines script

@@ -10,7 +10,7 @@ use Rattle.s2calc.specs.declared.limits.TheConstants.{MOST_WAITING}
 use Rattle.s2calc.specs.World.{World}
 use Rattle.s2calc.specs.Replies.{Reply}
 use Rattle.s2calc.specs.Notes.{Noted}
-use Rattle.s2calc.specs.Run.{Known, known, Did, WereReadWhole, Ends, Ran, Runs}
+use Rattle.s2calc.specs.Run.{Known, known, Did, WereReadWhole, Ends, EndsOrHalts, NoneAfterRefused, Ran, Runs}
 use Rattle.s2calc.specs.Calls as calls
 use Rattle.s2calc.specs.Calls.{Call, Gains, Gained, AllWell}
 use Rattle.s2calc.specs.Buffered.{Buffered, written_to}
@@ -149,16 +149,32 @@ module _ {V S : Type 0} (taken : V → List ℕ) (called : V → List Call) (fil
       )
       by_reads (Err Memory) e = e
 
+      -- the same of a run that may have been stopped by a refused line
+      by_lists : (stops : Bool) (result : Result Tally RunFault) →
+          EndsOrHalts ran.script (ReadsLast (Some 0) ran.reads × IsAtEnd ahead_new) stops (Unit {0}) ran.reads
+          ran.called did result
+          → EndsOrHalts ran.script (ReadsLast (Some 0) ran.reads) stops (Unit {0}) ran.reads ran.called did result
+      by_lists stops result (inl e) = inl (by_reads result e)
+      by_lists stops result (inr h) = inr h
+
       -- the end of the run, by its lists
-      ends_of : (result : Result Tally RunFault) →
-          Ends ran.script (ReadsLast (Some 0) ran.reads × IsAtEnd ahead_new) (Unit {0}) ran.reads ran.called did result
-          → Ends given_new (ReadsLast (Some 0) reads_new) (Unit {0}) reads_new (called last.writer) did result
-      ends_of result e =
-          subst (λ s. Ends s (ReadsLast (Some 0) reads_new) (Unit {0}) reads_new (called last.writer) did result)
-          (sym script_is) (subst (λ rs. Ends ran.script (ReadsLast (Some 0) rs) (Unit {0}) rs (called last.writer) did
+      ends_of : (stops : Bool) (result : Result Tally RunFault) →
+          EndsOrHalts ran.script (ReadsLast (Some 0) ran.reads × IsAtEnd ahead_new) stops (Unit {0}) ran.reads
+          ran.called did result
+          → EndsOrHalts given_new (ReadsLast (Some 0) reads_new) stops (Unit {0}) reads_new (called last.writer) did
+          result
+      ends_of stops result e =
+          subst (λ s. EndsOrHalts s (ReadsLast (Some 0) reads_new) stops (Unit {0}) reads_new (called last.writer) did
+          result) (sym script_is)
+          (subst (λ rs. EndsOrHalts ran.script (ReadsLast (Some 0) rs) stops (Unit {0}) rs (called last.writer) did
           result) (sym reads_are)
-          (subst (λ cs. Ends ran.script (ReadsLast (Some 0) ran.reads) (Unit {0}) ran.reads cs did result)
-          (sym calls_are) (by_reads result e)))
+          (subst (λ cs. EndsOrHalts ran.script (ReadsLast (Some 0) ran.reads) stops (Unit {0}) ran.reads cs did result)
+          (sym calls_are) (by_lists stops result e)))
+
+      halts_of : NoneAfterRefused ran.script ran.reads ran.did.replies →
+          NoneAfterRefused given_new reads_new ran.did.replies
+      halts_of h = subst (λ s. NoneAfterRefused s reads_new ran.did.replies) (sym script_is)
+          (subst (λ rs. NoneAfterRefused ran.script rs ran.did.replies) (sym reads_are) h)
 
       made_are : {begun ended : ℕ} {moments : List (Moment (Buffered V) S)} → InOrder ran begun ended moments →
           reads_seen moments ≡ reads_new
@@ -170,43 +186,54 @@ module _ {V S : Type 0} (taken : V → List ℕ) (called : V → List Call) (fil
     counted moments done left ended is (inl e) = inl (is ∙ e.0, e.1)
     counted moments done left ended is (inr e) = inr (ap (λ n. n + 1) is ∙ e)
 
-    pub process : (seen_old seen_new : List (Moment (Buffered V) S)) (result : Result Tally RunFault) → seen_old ≡ []
-        → (runs : (r : Runs (Unit {0}) old new result)
+    -- a run without memory wasn't stopped by a line
+    memory_ends : (stops : Bool) (ran : Ran old new) (Ended : Type 0) →
+        EndsOrHalts ran.script Ended stops (Unit {0}) ran.reads ran.called ran.did (Err Memory) →
+        Ends ran.script Ended (Unit {0}) ran.reads ran.called ran.did (Err Memory)
+    memory_ends stops ran Ended (inl e) = e
+    memory_ends stops ran Ended (inr h) = absurd h.1
+
+    pub process : (stops : Bool) (seen_old seen_new : List (Moment (Buffered V) S)) (result : Result Tally RunFault)
+        → seen_old ≡ []
+        → (runs : (r : Runs stops (Unit {0}) old new result)
         × Ordered contents known_calls sent files (Unit {0}) start first r.ran (Some seen_old) (Some seen_new) result)
         → MatchResult result (λ _. last.waiting ≡ []) (λ fault. fault ≡ Input → last.waiting ≡ [])
         → length last.waiting ≤ MOST_WAITING
-        → RunsListed taken called files given_new reads_new start now seen_new last.writer last.waiting result
-    process seen_old seen_new (Ok tally) none (r, ordered) waits few =
+        → RunsListed taken called files stops given_new reads_new start now seen_new last.writer last.waiting result
+    process stops seen_old seen_new (Ok tally) none (r, ordered) waits few =
         let s = all_seen seen_old seen_new none ordered in
         record {
           did = did r.ran;
           read = s.0.read ∙ sym (script_is r.ran);
           made = made_are r.ran s.0;
-          ends = ends_of r.ran (Ok tally) r.ends;
+          ends = ends_of r.ran stops (Ok tally) r.ends;
+          halts = λ e. halts_of r.ran (r.halts e);
           none_wait = waits;
           few_wait = few;
           each = each r.ran.did.replies seen_new s.0.each;
           counts = (s.0.begins, s.0.ends);
         }
-    process seen_old seen_new (Err Input) none (r, ordered) waits few =
+    process stops seen_old seen_new (Err Input) none (r, ordered) waits few =
         let s = all_seen seen_old seen_new none ordered in
         record {
           did = did r.ran;
           read = s.read ∙ sym (script_is r.ran);
           made = made_are r.ran s;
-          ends = ends_of r.ran (Err Input) r.ends;
+          ends = ends_of r.ran stops (Err Input) r.ends;
+          halts = λ e. halts_of r.ran (r.halts e);
           none_wait = waits;
           few_wait = few;
           each = each r.ran.did.replies seen_new s.each;
           counts = (s.begins, s.ends);
         }
-    process seen_old seen_new (Err Output) none (r, ordered) waits few =
+    process stops seen_old seen_new (Err Output) none (r, ordered) waits few =
         let s = all_seen seen_old seen_new none ordered.1 in
         record {
           did = did r.ran;
           read = s.read ∙ sym (script_is r.ran);
           made = made_are r.ran s;
-          ends = ends_of r.ran (Err Output) r.ends;
+          ends = ends_of r.ran stops (Err Output) r.ends;
+          halts = λ e. halts_of r.ran (r.halts e);
           none_wait = waits;
           few_wait = few;
           each = each r.ran.did.replies seen_new s.each;
@@ -215,15 +242,17 @@ module _ {V S : Type 0} (taken : V → List ℕ) (called : V → List Call) (fil
             counted seen_new (length r.ran.did.done) r.ran.did.left ordered.0 s.ends ordered.2,
           );
         }
-    process seen_old seen_new (Err Memory) none (r, ordered) waits few =
+    process stops seen_old seen_new (Err Memory) none (r, ordered) waits few =
         let s = all_seen seen_old seen_new none ordered in
-        let none_done = ap length r.ends.0 in
+        let ends = memory_ends stops r.ran (ReadsLast (Some 0) r.ran.reads × IsAtEnd ahead_new) r.ends in
+        let none_done = ap length ends.0 in
         record {
           did = did r.ran;
           read = ap (λ (ms : List (Moment (Buffered V) S)). bytes_read ms) s
               ∙ sym (ap (λ (k : Known). inside [] k.input.given) r.unchanged ∙ not_given);
-          made = ap (λ (ms : List (Moment (Buffered V) S)). reads_seen ms) s ∙ sym (reads_are r.ran ∙ r.ends.1);
-          ends = ends_of r.ran (Err Memory) r.ends;
+          made = ap (λ (ms : List (Moment (Buffered V) S)). reads_seen ms) s ∙ sym (reads_are r.ran ∙ ends.1);
+          ends = ends_of r.ran stops (Err Memory) r.ends;
+          halts = λ e. halts_of r.ran (r.halts e);
           none_wait = waits;
           few_wait = few;
           each = subst (Each r.ran.did.replies) (sym s) tt;
@@ -278,17 +307,18 @@ module _ {V S : Type 0} (taken : V → List ℕ) (called : V → List Call) (fil
             ap (inside []) (sym new_calls ∙ same_calls ∙ old_calls) ∙ none_called,
           )
 
-      pub explains : (seen_old seen_new : List (Moment (Buffered V) S)) (result : Result Tally RunFault) →
+      pub explains : (stops : Bool) (seen_old seen_new : List (Moment (Buffered V) S))
+          (result : Result Tally RunFault) →
           (none : seen_old ≡ [])
-          → (runs : (r : Runs (Unit {0}) old new result)
+          → (runs : (r : Runs stops (Unit {0}) old new result)
           × Ordered contents known_calls sent files (Unit {0}) start first r.ran (Some seen_old) (Some seen_new) result)
           → (waits : MatchResult result (λ _. last.waiting ≡ []) (λ fault. fault ≡ Input → last.waiting ≡ []))
           → (few : length last.waiting ≤ MOST_WAITING)
           → (noted_old.stopped ≡ false
-          → Explains (process seen_old seen_new result none runs waits few).did taken_new called_new stopped)
+          → Explains (process stops seen_old seen_new result none runs waits few).did taken_new called_new stopped)
           × (noted_old.stopped ≡ true → (taken_new ≡ []) × (called_new ≡ []))
       unfolding process
-      explains seen_old seen_new (Ok tally) none (r, ordered) waits few = (notes_written r.ran, silent r.ran)
-      explains seen_old seen_new (Err Input) none (r, ordered) waits few = (notes_written r.ran, silent r.ran)
-      explains seen_old seen_new (Err Output) none (r, ordered) waits few = (notes_written r.ran, silent r.ran)
-      explains seen_old seen_new (Err Memory) none (r, ordered) waits few = (notes_written r.ran, silent r.ran)
+      explains stops seen_old seen_new (Ok tally) none (r, ordered) waits few = (notes_written r.ran, silent r.ran)
+      explains stops seen_old seen_new (Err Input) none (r, ordered) waits few = (notes_written r.ran, silent r.ran)
+      explains stops seen_old seen_new (Err Output) none (r, ordered) waits few = (notes_written r.ran, silent r.ran)
+      explains stops seen_old seen_new (Err Memory) none (r, ordered) waits few = (notes_written r.ran, silent r.ran)

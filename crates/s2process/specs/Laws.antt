@@ -1,6 +1,6 @@
 -- Laws about what the program did.
-use Rattle.std.specs.Prelude.{◌≡◌, ◌≤◌, ℕ, ◌⊎◌, Bool, true, List, [], ◌∷◌, ◌++◌, replicate, Option, Some, Ok, Err}
-use Rattle.std.specs.Prelude.{count_by}
+use Rattle.std.specs.Prelude.{◌≡◌, ◌≤◌, ℕ, ◌⊎◌, Bool, true, false, List, [], ◌∷◌, ◌++◌, replicate, Option, Some, Ok}
+use Rattle.std.specs.Prelude.{Err, count_by}
 use Rattle.s2shelf.specs.Shelf.{Files, Found, Holding, Written}
 use Rattle.s2edit.specs.History.{History, untouched}
 use Rattle.s2edit.specs.Leads.{list_at}
@@ -58,21 +58,22 @@ module _ (R W E F : Type 0) {S : Type 0} (files : S → Files) (opened : S → L
   -- a run of a script that ends with status 0, over the folder at this path, has answered all lines of the script
   abbrev pub AllAnswered : Type 0
   AllAnswered =
-      (limit depth : ℕ) (path : List ℕ) (explains : Bool) (moments : List (Moment (Buffered (ListedWriter W)) S))
-      (ended : Ended R W E F S)
-      → RunsScript files opened moments ended limit depth path explains → ended.status ≡ 0
+      (limit depth : ℕ) (path : List ℕ) (explains stops : Bool)
+      (moments : List (Moment (Buffered (ListedWriter W)) S)) (ended : Ended R W E F S)
+      → RunsScript files opened moments ended limit depth path explains stops → ended.status ≡ 0
       → (first last : S) × (now : History (List ℕ)) × opened first path × (ended.folder ≡ Opened last)
       × AnswersAll (world (untouched limit depth (replicate REGISTERS [])) (files first)) (world now (files last))
       (given ended.streams.input) (reads ended.streams.input) (taken ended.streams.output)
       (called ended.streams.output)
 
-  -- A run of this script from this state of the editor. It read the script as far as it came, found in files what the
-  -- folder had to hand over at each time, and answered no line with `error memory` or `error file`.
+  -- A run of this script from this state of the editor, which doesn't stop at a refused line. It read the script as far
+  -- as it came, found in files what the folder had to hand over at each time, and answered no line with `error memory`
+  -- or `error file`.
   pub record RunOf (script : List ℕ) (held : Held) (start : History (List ℕ)) (ended : Ended R W E F S) : Type 0 where
     pub moments : List (Moment (Buffered (ListedWriter W)) S)
     pub path : List ℕ
     pub explains : Bool
-    pub runs : RunsFrom files opened moments ended start path explains
+    pub runs : RunsFrom files opened moments ended start path explains false
     pub read : IsReadOf script (given ended.streams.input) (reads ended.streams.input)
     pub found : List Found
     pub unasked : (files runs.first).found ≡ Some []
@@ -113,7 +114,8 @@ module _ (R W E F : Type 0) {S : Type 0} (files : S → Files) (opened : S → L
     pub moments : List (Moment (Buffered (ListedWriter W)) S)
     pub path : List ℕ
     pub explains : Bool
-    pub runs : RunsFrom files opened moments ended (untouched limit depth (replicate REGISTERS [])) path explains
+    pub stops : Bool
+    pub runs : RunsFrom files opened moments ended (untouched limit depth (replicate REGISTERS [])) path explains stops
     pub before : List (List ℕ)
     pub after : List (List ℕ)
     pub earlier : List Reply

@@ -120,8 +120,9 @@ module _ {R W E F S : Type 0} (files : S → Files) (opened : S → List ℕ →
 -- `moments` are what was seen of the run
 module _ {R W E F S : Type 0} (files : S → Files) (opened : S → List ℕ → Type 0)
     (moments : List (Moment (Buffered (ListedWriter W)) S)) (ended : Ended R W E F S) where
-  -- what was done from this state of the editor, with the folder at this path, and with notes if it explains
-  pub record RunsFrom (start : History (List ℕ)) (path : List ℕ) (explains : Bool) : Type 0 where
+  -- what was done from this state of the editor, with the folder at this path, with notes if it explains, and up to the
+  -- first refused line if it stops there
+  pub record RunsFrom (start : History (List ℕ)) (path : List ℕ) (explains stops : Bool) : Type 0 where
     pub first : S
     pub last : S
     pub at_path : opened first path
@@ -131,24 +132,25 @@ module _ {R W E F S : Type 0} (files : S → Files) (opened : S → List ℕ →
     -- the bytes of answers that still waited when the run ended, and are lost: none but after `Output`
     pub waiting : List ℕ
     pub result : Result Tally RunFault
-    pub runs : RunsListed taken called files (given ended.streams.input) (reads ended.streams.input)
+    pub runs : RunsListed taken called files stops (given ended.streams.input) (reads ended.streams.input)
         (world start (files first)) (world now (files last)) moments ended.streams.output waiting result
     pub tells : explains ≡ false → GetsAlone ended (fault_line_of result)
     pub tells_notes : explains ≡ true → TellsNotes ended runs.did (fault_line_of result)
     pub status_is : ended.status ≡ status_of result
 
   -- the script was run from this state of the editor; or there was no memory to begin with
-  abbrev pub MayRunFrom : History (List ℕ) → List ℕ → Bool → Type 0
-  MayRunFrom start path explains =
-      (NotBegunAt opened ended path × (moments ≡ [])) ⊎ RunsFrom start path explains
+  abbrev pub MayRunFrom : History (List ℕ) → List ℕ → (explains stops : Bool) → Type 0
+  MayRunFrom start path explains stops =
+      (NotBegunAt opened ended path × (moments ≡ [])) ⊎ RunsFrom start path explains stops
 
   -- the script was run, with a new editor; or there was no memory to begin with
-  abbrev pub RunsScript : ℕ → ℕ → List ℕ → Bool → Type 0
-  RunsScript limit depth path explains = MayRunFrom (untouched limit depth (replicate REGISTERS [])) path explains
+  abbrev pub RunsScript : ℕ → ℕ → List ℕ → (explains stops : Bool) → Type 0
+  RunsScript limit depth path explains stops =
+      MayRunFrom (untouched limit depth (replicate REGISTERS [])) path explains stops
 
   -- what was done for a job
   abbrev pub DoesJob : Job → Type 0
-  DoesJob (Run limit depth dir explain prompt) = RunsScript limit depth (string_bytes dir) explain
+  DoesJob (Run limit depth dir explain prompt stop) = RunsScript limit depth (string_bytes dir) explain stop
   DoesJob (Cell word) = AsksNoFolder ended (λ reply. reply ≡ cell_reply (string_bytes word))
   DoesJob (Check dir name) =
       AsksFolder files opened ended (string_bytes dir) (Checks (string_bytes name))

@@ -59,12 +59,14 @@ fn answer<R: Source + Drop, W: Sink + Drop, E: Sink + Drop, F: Folders + Drop>(
             dir,
             explain,
             prompt: _,
+            stop,
         } => match Editor::open(alloc, limit, depth) {
             Ok(editor) => run_script(
                 alloc,
                 editor,
                 dir.as_str(),
                 explain,
+                stop,
                 streams,
                 folders,
                 observer,

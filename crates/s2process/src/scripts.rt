@@ -16,19 +16,21 @@ use s2edit::Editor;
 use std::alloc::Global;
 
 /// Runs the script on standard input, from this state of an editor, over the folder at a path; and if asked, says why
-/// lines are refused.
+/// lines are refused, and `stops` at the first of these.
 pub(crate) fn run_script<R: Source + Drop, W: Sink + Drop, E: Sink + Drop, F: Folders + Drop>(
     alloc: Global,
     editor: Editor,
     dir: &str,
     explain: bool,
+    stops: bool,
     streams: Streams<R, W, E>,
     folders: F,
     observer: &mut ListedObserver<ListedReader<R>, AnswerBuffer<ListedWriter<W>>, F::Folder>,
 ) -> Ended<R, W, E, F, F::Folder>
     requires nothing_called { AreNew streams }
     requires nothing_seen { moments_of observer.old ≡ [] }
-    ensures { MayRunFrom F.Folder.files F.opened (moments_of observer.new) result editor dir.now explain }
+    ensures { MayRunFrom F.Folder.files F.opened (moments_of observer.new) result editor dir.now explain
+        stops }
 {
     let Ok(folder) = folders.open(dir) else {
         return not_begun(streams, Opening::Failed);
@@ -40,7 +42,9 @@ pub(crate) fn run_script<R: Source + Drop, W: Sink + Drop, E: Sink + Drop, F: Fo
     } = streams;
     match AnswerBuffer::new(alloc, output) {
         Ok(answers) => match NoteWriter::new(alloc, errors, explain) {
-            Ok(notes) => run_over(alloc, editor, folder, input, answers, notes, observer),
+            Ok(notes) => run_over(
+                alloc, editor, folder, input, answers, notes, observer, stops,
+            ),
             Err(errors) => not_begun(
                 Streams {
                     input,
@@ -71,6 +75,7 @@ fn run_over<R: Source + Drop, W: Sink + Drop, E: Sink + Drop, F: Folders + Drop>
     mut answers: AnswerBuffer<ListedWriter<W>>,
     mut notes: NoteWriter<ListedWriter<E>>,
     observer: &mut ListedObserver<ListedReader<R>, AnswerBuffer<ListedWriter<W>>, F::Folder>,
+    stops: bool,
 ) -> Ended<R, W, E, F, F::Folder>
     requires nothing_read { calls_of_reader input ≡ [] }
     requires nothing_written { calls_of answers.writer ≡ [] }
@@ -78,7 +83,7 @@ fn run_over<R: Source + Drop, W: Sink + Drop, E: Sink + Drop, F: Folders + Drop>
     requires no_notes { calls_of notes.writer ≡ [] }
     requires nothing_seen { moments_of observer.old ≡ [] }
     ensures { (path : List ℕ) (explains : Bool) → F.opened folder path → notes.stopped ≡ not explains →
-        RunsFrom F.Folder.files F.opened (moments_of observer.new) result editor path explains }
+        RunsFrom F.Folder.files F.opened (moments_of observer.new) result editor path explains stops }
 {
     let result = run_listed(
         alloc,
@@ -88,6 +93,7 @@ fn run_over<R: Source + Drop, W: Sink + Drop, E: Sink + Drop, F: Folders + Drop>
         &mut folder,
         &mut notes,
         observer,
+        stops,
     );
     let mut errors = notes.into_writer();
     let status = end_run(&result, &mut errors);

@@ -91,6 +91,7 @@ pub fn run_over(
                 &mut shelf,
                 &mut NoNotes,
                 &mut Unobserved::<Pieces<'_>>::new(),
+                false,
             );
             (ended, buffer.into_writer())
         }

@@ -45,6 +45,7 @@ pub fn add_seen(
         &mut shelf_with(alloc, &log),
         &mut NoNotes,
         &mut observer,
+        false,
     );
     let Some(moments) = observer.moments() else {
         return Err(AllocError);
@@ -97,6 +98,7 @@ fn log_run(
             &mut shelf,
             &mut NoNotes,
             &mut Unobserved::<&[u8]>::new(),
+            false,
         ),
         Flushing::AtTheEnd => run(alloc, &mut editor, &mut reader, &mut writer, &mut shelf),
     };

@@ -1,5 +1,5 @@
 -- The desk of a run, which has all that the run works with, and what the functions do that hand it on.
-use Rattle.std.specs.Prelude.{◌≡◌, ℕ, ◌⊎◌, List, Option, Result, MatchResult}
+use Rattle.std.specs.Prelude.{◌≡◌, ◌≤◌, ℕ, ◌⊎◌, Bool, true, List, ◌++◌, length, Option, Result, MatchResult}
 use Rattle.s2shelf.specs.Shelf.{Files}
 use Rattle.s2script.specs.Line.{line_of}
 use Rattle.s2calc.specs.declared.desk.Desk.{Desk}
@@ -8,7 +8,8 @@ use Rattle.s2calc.specs.declared.fault.RunFault.{RunFault}
 use Rattle.s2calc.specs.declared.fault.RunFault.TheVariants.{Output}
 use Rattle.s2calc.specs.declared.progress.Progress.{Progress}
 use Rattle.s2calc.specs.World.{World, world}
-use Rattle.s2calc.specs.Replies.{Reply}
+use Rattle.s2script.specs.Lines.{but_last}
+use Rattle.s2calc.specs.Replies.{Reply, NoneRefused}
 use Rattle.s2calc.specs.Notes.{Noted}
 use Rattle.s2calc.specs.Step.{asks_for_file}
 use Rattle.s2calc.specs.Calls.{Call}
@@ -16,7 +17,7 @@ use Rattle.s2calc.specs.Reads.{ReaderState}
 use Rattle.s2calc.specs.Moments.{Moment, Adds}
 use Rattle.s2calc.specs.Run.{Known, known, Runs}
 use Rattle.s2calc.specs.Order.{Ordered}
-use Rattle.s2calc.specs.Working.Stands.{Point, point, Stands, Answered, AnsweredInPart, AnsweredUnflushed, StandsAfter}
+use Rattle.s2calc.specs.Working.Stands.{Point, point, Stands, Answered, AnsweredInPart, AnsweredUnflushed, TakenIn}
 use Rattle.s2calc.specs.Working.Stands.{StopsIn, Closes}
 use Rattle.s2calc.specs.Working.Seen.{LineSeen, LineCut, ManySeen, MoreSeen, EndSeen}
 
@@ -65,33 +66,35 @@ module _ {W S N O : Type 0} where
         (point_at files noted old) before (point_at files noted new) after (contents old.writer.now)
         (contents new.writer.now))))
 
-    -- the lines that end in these bytes were carried out and answered, or the writer or a flush failed
-    abbrev pub TakesIn : Desk W S N O → Progress → List ℕ → Desk W S N O → Progress → Result (Unit {0}) RunFault →
+    -- The lines that end in these bytes were carried out and answered; or, if the run stops at a refused line, those up
+    -- to the first of these were; or the writer or a flush failed.
+    abbrev pub TakesIn : Bool → Desk W S N O → Progress → List ℕ → Desk W S N O → Progress → Result Bool RunFault →
         Type 0
-    TakesIn old before chunk new after result = (start : Point) (script : List ℕ) (replies : List Reply) →
-        Stands start script replies (point_at files noted old) before → MatchResult result
-        (λ _. (stands : StandsAfter start script replies chunk (point_at files noted new) after
+    TakesIn stops old before chunk new after result = (start : Point) (script : List ℕ) (replies : List Reply) →
+        Stands start script replies (point_at files noted old) before → (stops ≡ true → NoneRefused replies) →
+        MatchResult result
+        (λ halted. TakenIn (λ used more. Saw old (MoreSeen contents calls is_sent files may_flush start.world script
+        used replies more old.writer.now) new) stops halted start script replies chunk (point_at files noted new) after
         (contents old.writer.now) (contents new.writer.now))
-        × Saw old (MoreSeen contents calls is_sent files may_flush start.world script chunk replies stands.more
-        old.writer.now) new)
         (λ fault. (fault ≡ Output)
         × StopsIn may_flush (λ more begins ends. Saw old (ManySeen contents calls is_sent files may_flush start.world
-        script chunk replies more old.writer.now begins ends) new) start script replies chunk (point_at files noted new)
-        (contents old.writer.now) (contents new.writer.now))
+        script chunk replies more old.writer.now begins ends) new
+        × (stops ≡ true → NoneRefused (but_last (replies ++ more)))) start script replies chunk
+        (point_at files noted new) (contents old.writer.now) (contents new.writer.now))
 
     -- the script has ended: its last line was carried out and answered, or the writer or a flush failed
     abbrev pub Finishes : Desk W S N O → Progress → Desk W S N O → Result Tally RunFault → Type 0
     Finishes old before new result = (start : Point) (script : List ℕ) (replies : List Reply) →
         Stands start script replies (point_at files noted old) before →
         Closes may_flush (λ more begins ends. Saw old (EndSeen contents calls is_sent files may_flush start.world script
-        replies more old.writer.now begins ends) new) start script replies (point_at files noted new)
-        (contents old.writer.now) (contents new.writer.now) result
+        replies more old.writer.now begins ends) new × (length more ≤ 1)) start script replies
+        (point_at files noted new) (contents old.writer.now) (contents new.writer.now) result
 
     -- what a run does, and in which order; of its reader the bytes to come and the reads are given, before it and after
-    abbrev pub RunsOver : Desk W S N O → ReaderState → Option (List (Option ℕ)) → Desk W S N O → ReaderState →
+    abbrev pub RunsOver : Bool → Desk W S N O → ReaderState → Option (List (Option ℕ)) → Desk W S N O → ReaderState →
         Option (List (Option ℕ)) → Result Tally RunFault → Type 0
-    RunsOver old input reads new input_left reads_then result =
-        (run : Runs may_flush (known_at contents calls files noted old input reads)
+    RunsOver stops old input reads new input_left reads_then result =
+        (run : Runs stops may_flush (known_at contents calls files noted old input reads)
         (known_at contents calls files noted new input_left reads_then) result)
         × Ordered contents calls is_sent files may_flush (world_at files old) old.writer.now run.ran
         (seen old.observer.now) (seen new.observer.now) result

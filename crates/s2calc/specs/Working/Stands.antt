@@ -1,6 +1,6 @@
 -- How far a run has come in its script.
-use Rattle.std.specs.Prelude.{◌≡◌, ◌<◌, ℕ, List, ◌∷◌, [], ◌++◌, ◌⊎◌, ◌+◌, true, Option, Result, MatchResult, length}
-use Rattle.std.specs.Prelude.{take}
+use Rattle.std.specs.Prelude.{◌≡◌, ◌<◌, ℕ, List, ◌∷◌, [], ◌++◌, ◌⊎◌, ◌+◌, Bool, true, false, Option, Result}
+use Rattle.std.specs.Prelude.{MatchResult, length, take}
 use Rattle.s2calc.specs.declared.fault.RunFault.{RunFault}
 use Rattle.s2calc.specs.declared.fault.RunFault.TheVariants.{Output}
 use Rattle.std.specs.Io.KnownBytes.{Appends, Keeps}
@@ -11,10 +11,10 @@ use Rattle.s2script.specs.Line.{line_of}
 use Rattle.s2script.specs.Lines.{BeginsWith, IsUnbroken, lines, but_last}
 use Rattle.s2calc.specs.Output.{AppendsPart}
 use Rattle.s2calc.specs.World.{World}
-use Rattle.s2calc.specs.Replies.{Reply, text_of, texts, tally_of}
+use Rattle.s2calc.specs.Replies.{Reply, text_of, texts, tally_of, NoneRefused}
 use Rattle.s2calc.specs.Notes.{Noted, WritesNotes, note_of, notes_of, number_of}
 use Rattle.s2calc.specs.Step.{Step, asks_for_file}
-use Rattle.s2calc.specs.Run.{Steps}
+use Rattle.s2calc.specs.Run.{Steps, LastIsFirstRefused}
 
 -- what a run has come to: the state and the files, and what was said of refused lines
 pub record Point : Type 0 where
@@ -90,6 +90,19 @@ pub record StandsAfter (start : Point) (script : List ℕ) (replies : List Reply
   pub more : List Reply
   pub stands : Stands start (script ++ chunk) (replies ++ more) now progress
   pub written : Appends output_old output_new (texts more)
+
+-- The run has gone through the chunk, and if it stops at a refused line, none was refused. Or it stops, and has gone
+-- through the chunk to the end of its first refused line. `Seen` says what was seen of the lines that end in these
+-- bytes and have these replies.
+abbrev pub TakenIn : (List ℕ → List Reply → Type 0) → (stops halted : Bool) → Point → List ℕ → List Reply → List ℕ →
+    Point → Progress → Option (List ℕ) → Option (List ℕ) → Type 0
+TakenIn Seen stops false start script replies chunk now progress output_old output_new =
+    (stands : StandsAfter start script replies chunk now progress output_old output_new) × Seen chunk stands.more
+    × (stops ≡ true → NoneRefused (replies ++ stands.more))
+TakenIn Seen stops true start script replies chunk now progress output_old output_new =
+    (used : List ℕ) × (unused : List ℕ) × (chunk ≡ used ++ unused)
+    × (stands : StandsAfter start script replies used now progress output_old output_new) × Seen used stands.more
+    × (stops ≡ true) × LastIsFirstRefused (replies ++ stands.more) × (0 < length stands.more)
 
 -- the writer failed inside the answer to a line that ends in the chunk; `Seen` says how many lines were seen to begin
 -- and to end, where those that were carried out have `more` replies

@@ -1,6 +1,6 @@
-use Rattle.std.proofs.Common.{ℕ, List}
+use Rattle.std.proofs.Common.{◌≡◌, ℕ, true, List}
 use Rattle.std.specs.Io.KnownBytes.{Appends}
-use Rattle.s2calc.specs.Replies.{Reply, texts}
+use Rattle.s2calc.specs.Replies.{Reply, texts, NoneRefused}
 use Rattle.s2calc.specs.Working.Desk.{SameReferences, world_at, point_at}
 use Rattle.s2calc.specs.Working.Stands.{Stands}
 use Rattle.s2calc.specs.Calls.{NoneFailed}
@@ -10,8 +10,8 @@ use Rattle.s2calc.specs.Moments.{Adds}
 use Rattle.s2calc.specs.Working.Seen.{SeenSoFar}
 use Rattle.s2calc.proofs.engine.run_over.Given as goal
 
--- what was read is taken in, its answers are written, no call failed, each read gave some bytes, and reads and lines
--- were observed
+-- what was read is taken in, its answers are written, no call failed, each read gave some bytes, reads and lines were
+-- observed, and if the run stops at a refused line, none was refused
 abbrev pub invariant-loop : goal.invariant-loop
 invariant-loop g l = (script : List ℕ) × (replies : List Reply) × record {
   read : Gives (input_of g.O.Reader.Source.remaining g.O.Reader.Source.given l.fn.reader)
@@ -26,5 +26,6 @@ invariant-loop g l = (script : List ℕ) × (replies : List Reply) × record {
       (SeenSoFar g.W.Sink.contents g.W.Sink.calls g.F.Flushing.is_sent g.S.Shelf.files g.F.Flushing.may_fail
       (world_at g.S.Shelf.files l.fn.desk) l.fn.desk.writer.now script replies (g.O.Reader.Source.reads l.fn.reader)
       (g.O.Reader.Source.reads l.reader));
+  none_refused : l.fn.stops ≡ true → NoneRefused replies;
   same : SameReferences l.fn.desk l.desk;
 }

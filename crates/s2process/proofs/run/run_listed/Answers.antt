@@ -13,12 +13,12 @@ returns g c =
     c.requires.nothing_waits (ap called_in c.requires.nothing_written) _ last.writer _ _ _ _ _ _ _ _
     (ap given_in c.requires.nothing_read) (ap reads_in c.requires.nothing_read) (taken c.args.notes.now.writer)
     (taken last.notes.writer) (called c.args.notes.now.writer) (called last.notes.writer) last.notes.stopped
-    (ap taken_in c.requires.no_notes) (ap called_in c.requires.no_notes) refl refl refl refl refl
+    (ap taken_in c.requires.no_notes) (ap called_in c.requires.no_notes) refl refl refl refl refl c.args.stops
     (moments_of c.args.observer.now) (moments_of last.observer) _ c.requires.nothing_seen ran.runs ran.sent few in (
       process taken called _ _ c.args.writer.now (ap taken_in c.requires.nothing_written) c.requires.nothing_waits
           (ap called_in c.requires.nothing_written) _ last.writer _ _ _ _ _ _ _ _
-          (ap given_in c.requires.nothing_read) (ap reads_in c.requires.nothing_read) (moments_of c.args.observer.now)
-          (moments_of last.observer) _ c.requires.nothing_seen ran.runs ran.sent few,
+          (ap given_in c.requires.nothing_read) (ap reads_in c.requires.nothing_read) c.args.stops
+          (moments_of c.args.observer.now) (moments_of last.observer) _ c.requires.nothing_seen ran.runs ran.sent few,
       noted.0,
       noted.1,
     )
