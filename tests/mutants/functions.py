@@ -263,8 +263,8 @@ def words_of(crates):
 
 
 def tried(chosen, takes_kept=True):
-    """What was found of each of these mutants, counted; each crate's are tried beside those of others. One that can't be
-    tried would keep those of its crate from being checked together."""
+    """What was found of each of these mutants, counted; each crate's are tried beside those of others. One that can't
+    be tried would keep those of its crate from being checked together."""
     crates, found = collections.defaultdict(list), []
     for mutant in chosen:
         if takes_kept and verdicts.is_kept(mutant.verdict):

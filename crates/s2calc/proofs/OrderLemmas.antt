@@ -899,20 +899,20 @@ module _ {W S : Type 0} (contents : W → Option (List ℕ)) (calls : W → Opti
 
     pub Runs-halted : (stops : Bool) (mid : Option (List Call)) (result : Result Tally RunFault) → stops ≡ true
         → NoneFailed may_flush old.calls mid → FlushedIfOk may_flush mid new.calls result
-        → MatchResult result (λ told. told ≡ progress.tally) (λ fault. fault ≡ Output)
+        → MatchResult result (λ t. t ≡ progress.tally) (λ fault. fault ≡ Output)
         → (run : Runs stops may_flush old new result)
         × Ordered contents calls is_sent files may_flush old.world first run.ran a d result
-    Runs-halted stops mid (Ok tally) e n flushed told =
+    Runs-halted stops mid (Ok tally) e n flushed answer_is =
         subst (λ (b : Bool). (run : Runs b may_flush old new (Ok tally))
         × Ordered contents calls is_sent files may_flush old.world first run.ran a d (Ok tally)) (sym e) (
           halts_well old new may_flush (script ++ chunk) s.stands.done (replies ++ s.more) (s.stands.rest ++ unused)
               read s.stands.run halted_written s.stands.noted halted_begins refused gave none_after tally
-              (told ∙ s.stands.tally_is) (last_flushed_after may_flush old.calls mid new.calls n flushed),
+              (answer_is ∙ s.stands.tally_is) (last_flushed_after may_flush old.calls mid new.calls n flushed),
           Adds-weaker a d _ _ (λ ks k. (k, λ last. absurd (gave_no_end reads.more reads.holds.0 last))) order,
         )
-    Runs-halted stops mid (Err fault) e n failed told =
+    Runs-halted stops mid (Err fault) e n failed answer_is =
         subst (λ (f : RunFault). (run : Runs stops may_flush old new (Err f))
-        × Ordered contents calls is_sent files may_flush old.world first run.ran a d (Err f)) (sym told)
+        × Ordered contents calls is_sent files may_flush old.world first run.ran a d (Err f)) (sym answer_is)
         (subst (λ (b : Bool). (run : Runs b may_flush old new (Err Output))
         × Ordered contents calls is_sent files may_flush old.world first run.ran a d (Err Output)) (sym e) (
           halts_unflushed old new may_flush (script ++ chunk) s.stands.done (replies ++ s.more)

@@ -1,5 +1,5 @@
 //! A folder as a shelf.
-ghost use Rattle.std.specs.Prelude.{◌≡◌, ◌≢◌, ◌⊎◌, ◌↔◌, [], ◌++◌, IfErr, IfOk, IfSome, IsOk, MatchResult, OnOk};
+ghost use Rattle.std.specs.Prelude.{◌≡◌, ◌≢◌, ◌↔◌, [], ◌++◌, IfErr, IfOk, IfSome, IsOk, MatchResult, OnOk};
 ghost use Rattle.std.specs.Prelude.{Some, None, Ok, Err, IsErrOf, true, option_map};
 ghost use Rattle.std.specs.Fs.{IsFile, file_type};
 ghost use Rattle.std.specs.IoError.{error_kind};
