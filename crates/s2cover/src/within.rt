@@ -1,0 +1,62 @@
+//! Regions that are asked about each cell anew, walked down from the faces.
+ghost use Rattle.std.specs.Prelude.{◌≡◌};
+ghost use Rattle.s2cell.specs.Square.{IsPlacedCell};
+
+use crate::quadrant::{Quadrant, Quartered};
+use crate::region::{Part, Region};
+use s2cell::{CellId, PlacedCell};
+use std::alloc::{AllocError, Global};
+
+/// A region, to be walked down from the faces.
+#[derive(Clone, Copy)]
+pub(crate) struct Walked<'a, R> {
+    /// The region.
+    pub(crate) region: &'a R,
+}
+
+/// A cell of the walk, with its square.
+#[derive(Clone, Copy)]
+pub(crate) struct Within<'a, R> {
+    region: &'a R,
+    placed: PlacedCell,
+}
+
+impl<'a, R: Region> Quadrant for Within<'a, R> {
+    ghost id = { λ w. w.placed.cell };
+
+    ghost sound = { λ w. IsPlacedCell w.placed };
+
+    ghost outer = { λ w. R.holds w.region.now };
+
+    ghost inner = { λ w. R.holds w.region.now };
+
+    fn cell(&self) -> CellId {
+        self.placed.cell
+    }
+
+    fn part(&self) -> Part {
+        self.region.part_of_placed(&self.placed)
+    }
+
+    fn child(&self, _alloc: Global, digit: u8) -> Result<Within<'a, R>, AllocError> {
+        Ok(Within {
+            region: self.region,
+            placed: self.placed.child(digit),
+        })
+    }
+}
+
+impl<'a, R: Region> Quartered for Walked<'a, R> {
+    ghost outer = { λ w. R.holds w.region.now };
+
+    ghost inner = { λ w. R.holds w.region.now };
+
+    type At = Within<'a, R>;
+
+    fn face(&self, _alloc: Global, face: u8) -> Result<Within<'a, R>, AllocError> {
+        Ok(Within {
+            region: self.region,
+            placed: PlacedCell::face(face),
+        })
+    }
+}
