@@ -7,7 +7,7 @@ use Rattle.std.proofs.lemmas.Result.{IfOk-weaker, IfErr-weaker}
 use Rattle.std.proofs.Math.Seq.{take-append_seam}
 use Rattle.std.proofs.Math.Nat.{pow-suc, mul-le-mul_right}
 use Rattle.s2cover.specs.Coverings.{filled, touched}
-use Rattle.s2cover.specs.Working.Descent.{blocks, form, joined, cell_at, depth_of}
+use Rattle.s2cover.specs.Working.Descent.{blocks, form, joined, cell_at, depth_of, set_for}
 use Rattle.s2cell.specs.Cell.{IsCell, level_of, place_of, size_of, first_leaf, covers, child_of}
 use Rattle.s2cell.proofs.CellLemmas.{four_pos, own_place, level_of_cell, place_of_cell}
 use Rattle.s2cell.proofs.Calls.{IsCellAt-child_of, IsCell-child_of}
@@ -86,6 +86,25 @@ cross_nothing whole R g c b e h =
     (λ f. h (λ x w. let l = leaf_at c x w in filled_each R (m * 4 ^ d) (4 ^ d) f x l.0 l.1)) in
     subst (λ (w : Bool). Nothing (blocks w R g) g d m) (sym b) (subst (λ (z : ℕ). Nothing (blocks false R z) z d m)
     e (nothing_from (blocks false R d) d d m (omega arith) (inner_here R d m t)))
+
+-- ---- the two sets of a quadrant
+
+-- what is true of both sets is true of the one that the covering is made of
+pub set_for_all : (P : (ℕ → Bool) → Type 0) (whole : Bool) {outer inner : ℕ → Bool} → P outer → P inner →
+    P (set_for whole outer inner)
+set_for_all P true o i = o
+set_for_all P false o i = i
+
+pub set_for_outer : {whole : Bool} (outer inner : ℕ → Bool) → whole ≡ true → set_for whole outer inner ≡ outer
+set_for_outer outer inner e = ap (λ w. set_for w outer inner) e
+
+pub set_for_inner : {whole : Bool} (outer inner : ℕ → Bool) → whole ≡ false → set_for whole outer inner ≡ inner
+set_for_inner outer inner e = ap (λ w. set_for w outer inner) e
+
+-- a child's sets are its parent's
+pub same_set : (whole : Bool) {outer inner outer2 inner2 : ℕ → Bool} → outer2 ≡ outer → inner2 ≡ inner →
+    set_for whole outer2 inner2 ≡ set_for whole outer inner
+same_set whole {outer} {inner2 = inner2} e f = ap (λ z. set_for whole z inner2) e ∙ ap (set_for whole outer) f
 
 -- ---- what a call's outcome says then
 

@@ -1,13 +1,14 @@
-//! The descent through the cells, for any region.
+//! The descent through the cells, by what is known of a region in each.
 ghost use Rattle.std.specs.Prelude.{◌≡◌, ◌+◌, ◌-◌, ◌*◌, ◌<◌, ◌≤◌, true, false};
 ghost use Rattle.std.specs.Prelude.{◌++◌, ◌∷◌, [], length, vec_len, IfOk, IfErr};
-ghost use Rattle.s2cell.specs.Cell.{level_of, place_of};
-ghost use Rattle.s2cell.specs.Square.{IsPlacedCell};
-ghost use Rattle.s2cover.specs.Working.Descent.{blocks, depth_of, filled_in, form_in, is_outer};
+ghost use Rattle.s2cell.specs.Cell.{IsCell, level_of, place_of};
+ghost use Rattle.s2cover.specs.Working.Descent.{blocks, depth_of, filled_in, form_in, is_outer, set_for};
 
 use crate::MOST_COVERING;
-use crate::region::{CoverFault, Part, Region};
-use s2cell::{CellId, GREATEST_LEVEL, PlacedCell};
+use crate::quadrant::Quadrant;
+use crate::region::{CoverFault, Part};
+use s2cell::{CellId, GREATEST_LEVEL};
+use std::alloc::{AllocError, Global};
 
 /// Which covering is made.
 #[derive(Clone, Copy, Debug, PartialEq, Eq)]
@@ -32,39 +33,43 @@ impl Kind {
 
 /// Adds the cells of a covering that lie in one cell; the last `loose` cells of the list may still merge. Answers
 /// whether the covering has the whole cell.
-pub(crate) fn visit<R: Region>(
-    region: &R,
+pub(crate) fn visit<Q: Quadrant>(
+    alloc: Global,
+    quadrant: &Q,
     kind: Kind,
     level: u8,
-    placed: &PlacedCell,
     loose: usize,
     max: usize,
     list: &mut Vec<CellId>,
 ) -> Result<bool, CoverFault>
-    requires placed { IsPlacedCell placed.now }
-    requires above { level_of placed.now.cell ≤ level }
+    requires sound { Q.sound quadrant.now }
+    requires above { level_of (Q.id quadrant.now) ≤ level }
     requires level { level ≤ GREATEST_LEVEL }
-    requires loose { loose ≤ 3 * level_of placed.now.cell }
+    requires loose { loose ≤ 3 * level_of (Q.id quadrant.now) }
     requires max { max ≤ MOST_COVERING }
     requires room { vec_len list.old ≤ max + loose }
-    ensures list { IfOk result (λ full. list.new.items ≡ list.old.items
-        ++ form_in (blocks (is_outer kind) (R.holds region.now) (30 - level)) (30 - level) placed.now.cell) }
-    ensures full { IfOk result (λ full. full ≡ filled_in (blocks (is_outer kind) (R.holds region.now) (30 - level))
-        placed.now.cell) }
+    ensures list { IfOk result (λ full. list.new.items ≡ list.old.items ++ form_in
+        (blocks (is_outer kind) (set_for (is_outer kind) (Q.outer quadrant.now) (Q.inner quadrant.now)) (30 - level))
+        (30 - level) (Q.id quadrant.now)) }
+    ensures full { IfOk result (λ full. full ≡ filled_in
+        (blocks (is_outer kind) (set_for (is_outer kind) (Q.outer quadrant.now) (Q.inner quadrant.now)) (30 - level))
+        (Q.id quadrant.now)) }
     ensures room { IfOk result (λ full. full ≡ false → vec_len list.new ≤ max) }
-    ensures many { IfErr result (λ fault. fault ≡ CoverFault.TooMany →
-        (filled_in (blocks (is_outer kind) (R.holds region.now) (30 - level)) placed.now.cell ≡ false)
-        × (max < vec_len list.old + length (form_in (blocks (is_outer kind) (R.holds region.now) (30 - level))
-        (30 - level)
-        placed.now.cell))) }
+    ensures many { IfErr result (λ fault. fault ≡ CoverFault.TooMany → (filled_in
+        (blocks (is_outer kind) (set_for (is_outer kind) (Q.outer quadrant.now) (Q.inner quadrant.now)) (30 - level))
+        (Q.id quadrant.now) ≡ false) × (max < vec_len list.old + length (form_in
+        (blocks (is_outer kind) (set_for (is_outer kind) (Q.outer quadrant.now) (Q.inner quadrant.now)) (30 - level))
+        (30 - level) (Q.id quadrant.now)))) }
 {
-    match region.part_of_placed(placed) {
+    let cell = quadrant.cell();
+    let _ = cell.id();
+    match quadrant.part() {
         Part::Out => settle(max, list),
-        Part::In => take(placed.cell, list),
-        Part::Cross if placed.cell.level() == level => {
+        Part::In => take(cell, list),
+        Part::Cross if cell.level() == level => {
             let whole = kind.has_crossing();
             if whole {
-                take(placed.cell, list)
+                take(cell, list)
             } else {
                 settle(max, list)
             }
@@ -74,7 +79,8 @@ pub(crate) fn visit<R: Region>(
             let mut full = true;
             for digit in 0..4u8 {
                 let held = if full { loose + digit as usize } else { 0 };
-                let inside = visit(region, kind, level, &child(placed, digit), held, max, list)?;
+                let child = child(alloc, quadrant, digit)?;
+                let inside = visit(alloc, &child, kind, level, held, max, list)?;
                 full = full && inside;
                 if !full && list.len() > max {
                     return Err(CoverFault::TooMany);
@@ -82,7 +88,7 @@ pub(crate) fn visit<R: Region>(
             }
             if full {
                 list.truncate(before);
-                take(placed.cell, list)
+                take(cell, list)
             } else {
                 Ok(false)
             }
@@ -90,17 +96,20 @@ pub(crate) fn visit<R: Region>(
     }
 }
 
-/// A child of a cell, by its depth and place.
-fn child(placed: &PlacedCell, digit: u8) -> PlacedCell
-    requires placed { IsPlacedCell placed.now }
-    requires inner { level_of placed.now.cell < GREATEST_LEVEL }
+/// A child of a quadrant, by its depth and place.
+fn child<Q: Quadrant>(alloc: Global, quadrant: &Q, digit: u8) -> Result<Q, AllocError>
+    requires sound { Q.sound quadrant.now }
+    requires cell { IsCell (Q.id quadrant.now) }
+    requires inner { level_of (Q.id quadrant.now) < GREATEST_LEVEL }
     requires digit { digit < 4 }
-    ensures placed { IsPlacedCell result }
-    ensures level { level_of result.cell ≡ level_of placed.now.cell + 1 }
-    ensures depth { depth_of result.cell + 1 ≡ depth_of placed.now.cell }
-    ensures place { place_of result.cell ≡ 4 * place_of placed.now.cell + digit }
+    ensures sound { IfOk result (λ child. Q.sound child) }
+    ensures level { IfOk result (λ child. level_of (Q.id child) ≡ level_of (Q.id quadrant.now) + 1) }
+    ensures depth { IfOk result (λ child. depth_of (Q.id child) + 1 ≡ depth_of (Q.id quadrant.now)) }
+    ensures place { IfOk result (λ child. place_of (Q.id child) ≡ 4 * place_of (Q.id quadrant.now) + digit) }
+    ensures outer { IfOk result (λ child. Q.outer child ≡ Q.outer quadrant.now) }
+    ensures inner { IfOk result (λ child. Q.inner child ≡ Q.inner quadrant.now) }
 {
-    placed.child(digit)
+    quadrant.child(alloc, digit)
 }
 
 /// Adds a cell to the list.

@@ -32,7 +32,7 @@ mod union;
 mod within;
 
 pub use clip::{clip_inner, clip_outer};
-pub use covering::{inner, outer};
+pub use covering::{inner, outer, quartered_inner, quartered_outer};
 pub use cut::{put_inner, put_outer, union_inner, union_outer};
 pub use grid::{rect_inner, rect_outer};
 pub use listed::{clip_inner_of, clip_outer_of};

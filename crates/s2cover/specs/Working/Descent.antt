@@ -28,6 +28,10 @@ filled_in S c = filled S (place_of c * 4 ^ depth_of c) (4 ^ depth_of c)
 abbrev pub blocks : Bool → (ℕ → Bool) → ℕ → ℕ → Bool
 blocks whole R g x = cond whole (touched R (x / 4 ^ g * 4 ^ g) (4 ^ g)) (filled R (x / 4 ^ g * 4 ^ g) (4 ^ g))
 
+-- the leaves that the covering of this kind is made of: those of `outer` if `whole`, else those of `inner`
+abbrev pub set_for : Bool → (ℕ → Bool) → (ℕ → Bool) → ℕ → Bool
+set_for whole outer inner = cond whole outer inner
+
 -- the same for the numbers of leaves only; the cells of the covering have the level `k`
 abbrev pub covering_set : Bool → (ℕ → Bool) → ℕ → ℕ → Bool
 covering_set whole R k x = cond whole (outer_set R k x) (inner_set R k x)
