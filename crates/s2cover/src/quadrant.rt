@@ -28,7 +28,8 @@ pub trait Quadrant: Drop {
         ensures { result ≡ id self.now };
 
     /// How the cell lies relative to the region: `Out` if it has no leaf of `outer`, `In` if all its leaves are in
-    /// `inner`, else `Cross`. It has no leaf of `inner` if it is `Out`, and all its leaves are in `outer` if it is `In`.
+    /// `inner`, else `Cross`. If it is `Out` it has no leaf of `inner` either, and if it is `In` all its leaves are in
+    /// `outer` too.
     fn part(&self) -> Part
         requires { sound self.now }
         ensures out { (result ≡ Part.Out) ↔ LiesOutside (outer self.now) (id self.now) }

@@ -1,5 +1,4 @@
-//! Regions that are asked about each cell anew, walked down from the faces.
-ghost use Rattle.std.specs.Prelude.{◌≡◌};
+//! Regions that can say of any cell how it lies, walked down from the faces.
 ghost use Rattle.s2cell.specs.Square.{IsPlacedCell};
 
 use crate::quadrant::{Quadrant, Quartered};

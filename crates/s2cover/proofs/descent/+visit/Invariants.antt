@@ -9,6 +9,7 @@ decreases-visit g l = depth_of (g.Q.Quadrant.id l.quadrant.now)
 
 abbrev pub invariant-loop-digit : goal.invariant-loop-digit
 invariant-loop-digit g l = Visited
-    (blocks (is_outer l.kind) (set_for (is_outer l.kind) (g.Q.Quadrant.outer l.quadrant) (g.Q.Quadrant.inner l.quadrant))
-    (30 - l.level)) (30 - l.level) (depth_of (g.Q.Quadrant.id l.quadrant)) (place_of (g.Q.Quadrant.id l.quadrant)) l.digit
-    l.fn.list.items l.list.items (vec_len l.fn.list) (vec_len l.list) l.full l.loose l.max l.before
+    (blocks (is_outer l.kind) (set_for (is_outer l.kind) (g.Q.Quadrant.outer l.quadrant)
+    (g.Q.Quadrant.inner l.quadrant)) (30 - l.level)) (30 - l.level) (depth_of (g.Q.Quadrant.id l.quadrant))
+    (place_of (g.Q.Quadrant.id l.quadrant)) l.digit l.fn.list.items l.list.items (vec_len l.fn.list) (vec_len l.list)
+    l.full l.loose l.max l.before

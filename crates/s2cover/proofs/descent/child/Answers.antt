@@ -1,6 +1,6 @@
-use Rattle.std.proofs.Common.{◌≡◌, ◌+◌, ◌*◌, ◌∙◌, ap}
+use Rattle.std.proofs.Common.{◌+◌, ◌∙◌, ap}
 use Rattle.std.proofs.lemmas.Result.{IfOk-weaker}
-use Rattle.s2cell.specs.Cell.{level_of, place_of, child_of}
+use Rattle.s2cell.specs.Cell.{level_of, place_of}
 use Rattle.s2cover.specs.Working.Descent.{depth_of}
 use Rattle.s2cover.proofs.Visits.{child_at}
 use Rattle.s2cover.proofs.descent.child.Goals as goal
