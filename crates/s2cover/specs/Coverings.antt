@@ -1,6 +1,6 @@
 -- Regions of leaves, and their outer and inner coverings.
 use Rattle.std.specs.Prelude.{◌≡◌, ℕ, zero, suc, ◌+◌, ◌-◌, ◌*◌, ◌/◌, ◌^◌, Bool, true, false, ◌&&◌}
-use Rattle.std.specs.Prelude.{◌||◌, nat_lt, ◌<◌, List, length}
+use Rattle.std.specs.Prelude.{◌||◌, nat_lt, ◌<◌, ◌≤◌, List, All, length}
 use Rattle.s2cell.specs.Cell.{IsCell, level_of, covers}
 use Rattle.s2cell.specs.Rectangles.{Rect, rect_set}
 use Rattle.s2cell.specs.declared.TheConstants.{LEAVES}
@@ -59,3 +59,15 @@ TooManyMeans S max fault = fault ≡ TooMany → (u : List ℕ) → IsNormalForm
 -- the leaves of the cells `u` that are in the rectangle
 abbrev pub clipped : List ℕ → Rect → ℕ → Bool
 clipped u r x = has_leaf u x && rect_set r x
+
+-- the cells `u` have each leaf of `S`
+abbrev pub HasAllOf : (ℕ → Bool) → List ℕ → Type 0
+HasAllOf S u = (x : ℕ) → x < LEAVES → S x ≡ true → has_leaf u x ≡ true
+
+-- each of the cells `u` shares a leaf with `S`
+abbrev pub EachShares : (ℕ → Bool) → List ℕ → Type 0
+EachShares S u = All (λ c. ShareSome (covers c) S) u
+
+-- none of the cells `u` is deeper than level `k`
+abbrev pub NoneDeeper : ℕ → List ℕ → Type 0
+NoneDeeper k u = All (λ c. level_of c ≤ k) u

@@ -4,3 +4,4 @@ pub mod Around
 pub mod Cut
 pub mod Descent
 pub mod Rows
+pub mod Splitting

@@ -18,6 +18,7 @@ mod covering;
 mod cut;
 mod cut_to_level;
 mod descent;
+mod family;
 mod grid;
 pub mod laws;
 mod listed;
@@ -28,6 +29,7 @@ mod quadrant;
 mod rect;
 mod region;
 mod rounding;
+mod splitting;
 mod union;
 mod within;
 
@@ -40,6 +42,7 @@ pub use looks::Looks;
 pub use quadrant::{Quadrant, Quartered};
 pub use region::{CoverFault, Part, Region};
 pub use s2cell::FaceRect;
+pub use splitting::{inner_up_to, outer_up_to};
 pub use union::Clip;
 
 /// The most cells that a call may allow a covering: the greatest `max`.

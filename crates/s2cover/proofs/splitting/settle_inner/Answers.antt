@@ -1,0 +1,16 @@
+use Rattle.std.proofs.Common.{◌∙◌, ap, take, inl, inr, refl}
+use Rattle.std.proofs.lemmas.Result.{IfOk-weaker}
+use Rattle.s2cover.proofs.Splittings.{front_inner}
+use Rattle.s2cover.proofs.splitting.settle_inner.Goals as goal
+
+pub returns-then-len-max-clause-front : goal.returns-then-len-max-clause-front
+returns-then-len-max-clause-front g c = IfOk-weaker c.join-then-len-max.result _ _ (λ y e o i d k rest fam fr.
+    front_inner g.Q.Quadrant.id g.Q.Quadrant.sound g.Q.Quadrant.outer g.Q.Quadrant.inner c.args.most
+    c.truncate.new.self.items c.args.family.inside.items c.join-then-len-max.new.list.items c.args.family.across.items
+    (c.truncate.ensures.items ∙ ap (take c.args.most) c.in_ok-join.ensures) (inl e) fam fr) c.join-then-len-max.ensures
+
+pub returns-clause-front : goal.returns-clause-front
+returns-clause-front g c o i d k rest fam fr =
+    front_inner g.Q.Quadrant.id g.Q.Quadrant.sound g.Q.Quadrant.outer g.Q.Quadrant.inner c.args.most
+    c.truncate.new.self.items c.args.family.inside.items c.args.ahead.now.items c.args.family.across.items
+    (c.truncate.ensures.items ∙ ap (take c.args.most) c.in_ok-join.ensures) (inr refl) fam fr

@@ -1,0 +1,99 @@
+use Rattle.std.proofs.Common.{arith, ◌≡◌, ◌+◌, ◌≤◌, length, subst}
+use Rattle.std.specs.Prelude.{Some}
+use Rattle.std.proofs.lemmas.List.Elements.{All-pop}
+use Rattle.s2cover.specs.Working.Descent.{is_outer}
+use Rattle.s2cover.specs.Working.Splitting.{IsFamily, Sizes, any_covers}
+use Rattle.s2cover.proofs.Splittings.{settled_none, settled_sizes, settled_next, settled_other, popped, ended}
+use Rattle.s2cover.proofs.Splittings.{right_leaf, front_rest}
+use Rattle.s2cover.proofs.splitting.settle_some.Goals as goal
+
+pub loop-family-init : goal.loop-family-init
+loop-family-init g c = settled_none g.Q.Quadrant.id g.Q.Quadrant.sound g.Q.Quadrant.outer g.Q.Quadrant.inner
+    (λ f. f.cell) (λ f. length f.inside.items + length f.across.items ≤ 4)
+    (λ o i k f. IsFamily g.Q.Quadrant.id g.Q.Quadrant.sound g.Q.Quadrant.outer g.Q.Quadrant.inner o i k f.cell
+    f.inside.items f.across.items)
+    c.new-others.ensures.items c.requires.few c.requires.sizes
+
+pub turn_of-requires : goal.turn_of-requires
+turn_of-requires g c = (All-pop (λ f. length f.inside.items + length f.across.items ≤ 4) c.loop-family.families.items
+    c.pop.new.self.items (Some c.in-Some.family) c.in-Some.ensures.items c.loop-family.invariant.few).1
+
+pub settle-requires : goal.settle-requires
+settle-requires g c =
+    let waiting : c.len.result + c.len-then-turn_of-limit.result ≡ length c.pop.new.self.items
+    + length c.loop-family.others.items = omega (
+      arith,
+      c.len.ensures,
+      c.len-then-turn_of-limit.ensures,
+      c.pop.new.self.ok.0,
+      c.loop-family.others.ok.0,
+    ) in
+    record {
+      few = (All-pop (λ f. length f.inside.items + length f.across.items ≤ 4) c.loop-family.families.items
+          c.pop.new.self.items (Some c.in-Some.family) c.in-Some.ensures.items c.loop-family.invariant.few).1;
+      most = c.requires.most;
+      sizes = settled_sizes g.Q.Quadrant.id g.Q.Quadrant.sound g.Q.Quadrant.outer g.Q.Quadrant.inner
+          (λ f. f.cell) (λ f. length f.inside.items + length f.across.items ≤ 4)
+          (λ o i k f. IsFamily g.Q.Quadrant.id g.Q.Quadrant.sound g.Q.Quadrant.outer g.Q.Quadrant.inner o i k f.cell
+          f.inside.items f.across.items)
+          c.pop.new.self.items c.in-Some.family c.in-Some.ensures.items waiting c.loop-family.invariant;
+    }
+
+pub loop-family-smaller : goal.loop-family-smaller
+loop-family-smaller g c = popped c.loop-family.families.items c.pop.new.self.items c.in-Some.family
+    c.in-Some.ensures.items
+
+pub loop-family-smaller-in-Continue-1 : goal.loop-family-smaller-in-Continue-1
+loop-family-smaller-in-Continue-1 g c = popped c.loop-family.families.items c.pop.new.self.items c.in-Some.family
+    c.in-Some.ensures.items
+
+pub loop-family-preserved : goal.loop-family-preserved
+loop-family-preserved g c = settled_other g.Q.Quadrant.id g.Q.Quadrant.sound g.Q.Quadrant.outer g.Q.Quadrant.inner
+    (λ f. f.cell) (λ f. length f.inside.items + length f.across.items ≤ 4)
+    (λ o i k f. IsFamily g.Q.Quadrant.id g.Q.Quadrant.sound g.Q.Quadrant.outer g.Q.Quadrant.inner o i k f.cell
+    f.inside.items f.across.items)
+    c.pop.new.self.items c.add.new.list.items c.in-Some.family c.in-Some.ensures.items c.in_ok-add.ensures
+    (λ h. let t = c.turn_of.ensures in let f = c.if-turn_of-limit.false in omega arith) c.loop-family.invariant
+
+pub loop-family-preserved-in-Continue-1 : goal.loop-family-preserved-in-Continue-1
+loop-family-preserved-in-Continue-1 g c =
+    let waiting : c.len.result + c.len-then-turn_of-limit.result ≡ length c.pop.new.self.items
+    + length c.loop-family.others.items = omega (
+      arith,
+      c.len.ensures,
+      c.len-then-turn_of-limit.ensures,
+      c.pop.new.self.ok.0,
+      c.loop-family.others.ok.0,
+    ) in
+    settled_next g.Q.Quadrant.id g.Q.Quadrant.sound g.Q.Quadrant.outer g.Q.Quadrant.inner
+    (λ f. f.cell) (λ f. length f.inside.items + length f.across.items ≤ 4)
+    (λ o i k f. IsFamily g.Q.Quadrant.id g.Q.Quadrant.sound g.Q.Quadrant.outer g.Q.Quadrant.inner o i k f.cell
+    f.inside.items f.across.items)
+    c.pop.new.self.items c.settle.new.kept.items c.settle.new.ahead.items c.in-Some.family c.in-Some.ensures.items
+    waiting c.in_ok-settle.ensures.sizes c.in_ok-settle.ensures.front c.loop-family.invariant
+
+pub returns-clause-none : goal.returns-clause-none
+returns-clause-none g c = c.loop-family.invariant.none
+
+pub returns-clause-few : goal.returns-clause-few
+returns-clause-few g c = c.loop-family.invariant.few_others
+
+pub returns-clause-sizes : goal.returns-clause-sizes
+returns-clause-sizes g c =
+    let none : length c.loop-family.families.items + length c.loop-family.others.items
+    ≡ length c.loop-family.others.items =
+    omega (arith, c.in_default.ensures.cases.0, c.loop-family.families.ok) in
+    subst (λ n. Sizes (is_outer c.args.kind) c.args.most n (length c.loop-family.kept.items)
+    (length c.loop-family.ahead.items)) none c.loop-family.invariant.sizes
+
+pub returns-clause-families : goal.returns-clause-families
+returns-clause-families g c o i k a = (c.loop-family.invariant.families_are o i k a).1
+
+pub returns-clause-front : goal.returns-clause-front
+returns-clause-front g c o i d k a fr =
+    let none = ended c.loop-family.families.items
+    (omega (arith, c.in_default.ensures.cases.0, c.loop-family.families.ok)) in
+    front_rest g.Q.Quadrant.id g.Q.Quadrant.sound g.Q.Quadrant.outer g.Q.Quadrant.inner
+    (any_covers (λ f. f.cell) c.loop-family.others.items)
+    (λ x v. right_leaf (λ f. f.cell) (λ f. f.cell) c.loop-family.families.items c.loop-family.others.items x none v)
+    (c.loop-family.invariant.front o i d k a fr)

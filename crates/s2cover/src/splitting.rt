@@ -1,0 +1,340 @@
+//! Coverings of few cells, for any region that is walked down from the faces: level by level, each cell
+//! that crosses the region is split if its children fit, those first that have the fewest.
+ghost use Rattle.std.specs.Prelude.{◌≡◌, ◌+◌, ◌*◌, ◌<◌, ◌≤◌, ◌||◌, [], ℕ, Bool, true, false, All, IfOk};
+ghost use Rattle.std.specs.Prelude.{IsTrue, length, max, take};
+ghost use Rattle.s2cell.specs.Cell.{covers, level_of};
+ghost use Rattle.s2list.specs.Union.{IsLocal, IsWithin, has_leaf};
+ghost use Rattle.s2cover.specs.Coverings.{EachShares, HasAllOf, NoneDeeper};
+ghost use Rattle.s2cover.specs.Working.Descent.{is_outer};
+ghost use Rattle.s2cover.specs.Working.Splitting.{Front, IsAcross, IsFamily, IsKept, Sizes, any_covers};
+
+use crate::MOST_COVERING;
+use crate::descent::Kind;
+use crate::family::{Family, add, families_of, join, sort_in};
+use crate::quadrant::{Quadrant, Quartered};
+use s2cell::{CellId, GREATEST_LEVEL};
+use s2union::CellUnion;
+use std::alloc::{AllocError, Global};
+
+/// How many cells an outer covering may have whatever it is allowed: one for each face.
+const FACES: usize = 6;
+
+/// An outer covering of at most `most` cells, or 6 if that is more, none of them deeper than the level `deepest`, of a
+/// region that is walked down from the faces: it has each leaf of `outer`, and each of its cells has one.
+///
+/// Goes down level by level. A cell that crosses the region is split if its children that don't lie outside fit, those
+/// first that have the fewest; else it is kept whole. Each level looks at no more than four cells for each that the
+/// covering may have. Fails only if there is no memory. S2: `GetCovering` with `max_cells` and `max_level`.
+pub fn outer_up_to<R: Quartered>(
+    alloc: Global,
+    region: &R,
+    deepest: u8,
+    most: usize,
+) -> Result<CellUnion, AllocError>
+    requires level { deepest ≤ GREATEST_LEVEL }
+    requires most { most ≤ MOST_COVERING }
+    ensures leaves { IfOk result (λ u. HasAllOf (R.outer region.now) u.cells) }
+    ensures shares { IfOk result (λ u. EachShares (R.outer region.now) u.cells) }
+    ensures within { IfOk result (λ u. length u.cells ≤ max most 6) }
+    ensures level { IfOk result (λ u. NoneDeeper deepest u.cells) }
+    ensures local { IfOk result (λ u. IsLocal u.cells) }
+{
+    cover_up_to(alloc, region, Kind::Outer, deepest, most)
+}
+
+/// An inner covering of at most `most` cells, none of them deeper than the level `deepest`, of a region that is walked
+/// down from the faces: its leaves are all in `inner`.
+///
+/// Goes down level by level, and keeps the cells inside until they are as many as it may have, the largest first. Of
+/// the cells that cross the region it looks into no more than that at each level, or 6, those first with the fewest
+/// children outside. Fails only if there is no memory. S2: `GetInteriorCovering` with `max_cells` and `max_level`.
+pub fn inner_up_to<R: Quartered>(
+    alloc: Global,
+    region: &R,
+    deepest: u8,
+    most: usize,
+) -> Result<CellUnion, AllocError>
+    requires level { deepest ≤ GREATEST_LEVEL }
+    requires most { most ≤ MOST_COVERING }
+    ensures leaves { IfOk result (λ u. IsWithin (has_leaf u.cells) (R.inner region.now)) }
+    ensures within { IfOk result (λ u. length u.cells ≤ most) }
+    ensures level { IfOk result (λ u. NoneDeeper deepest u.cells) }
+    ensures local { IfOk result (λ u. IsLocal u.cells) }
+{
+    cover_up_to(alloc, region, Kind::Inner, deepest, most)
+}
+
+/// The covering of this kind, of at most `most` cells or 6.
+fn cover_up_to<R: Quartered>(
+    alloc: Global,
+    region: &R,
+    kind: Kind,
+    deepest: u8,
+    most: usize,
+) -> Result<CellUnion, AllocError>
+    requires level { deepest ≤ GREATEST_LEVEL }
+    requires most { most ≤ MOST_COVERING }
+    ensures all { is_outer kind ≡ true → IfOk result (λ u. HasAllOf (R.outer region.now) u.cells) }
+    ensures shares { is_outer kind ≡ true → IfOk result (λ u. EachShares (R.outer region.now) u.cells) }
+    ensures only { is_outer kind ≡ false → IfOk result (λ u. IsWithin (has_leaf u.cells) (R.inner region.now)) }
+    ensures most { is_outer kind ≡ true → IfOk result (λ u. length u.cells ≤ max most 6) }
+    ensures within { is_outer kind ≡ false → IfOk result (λ u. length u.cells ≤ most) }
+    ensures level { IfOk result (λ u. NoneDeeper deepest u.cells) }
+    ensures local { IfOk result (λ u. IsLocal u.cells) }
+{
+    let mut kept = Vec::new(alloc);
+    let mut ahead = Vec::new(alloc);
+    enter(alloc, region, &mut kept, &mut ahead)?;
+    trim(kind, most, &mut kept);
+    for level in 0..deepest {
+        split(alloc, kind, most, &mut kept, &mut ahead)?;
+    }
+    close(kind, &mut ahead, &mut kept)?;
+    Ok(CellUnion::from_cells(kept))
+}
+
+/// Sorts the faces: those that lie inside the region, and those that cross it.
+fn enter<R: Quartered>(
+    alloc: Global,
+    region: &R,
+    kept: &mut Vec<CellId>,
+    ahead: &mut Vec<R::At>,
+) -> Result<(), AllocError>
+    requires kept { kept.old.items ≡ [] }
+    requires ahead { ahead.old.items ≡ [] }
+    ensures few { IfOk result (λ _. length kept.new.items + length ahead.new.items ≤ 6) }
+    ensures front { IfOk result (λ _. (whole : Bool) (deepest : ℕ)
+        → Front R.At.id R.At.sound R.At.outer R.At.inner whole (R.outer region.now) (R.inner region.now) deepest 0
+        (λ _. false) kept.new.items ahead.new.items) }
+{
+    for face in 0..6u8 {
+        let top = region.face(alloc, face)?;
+        sort_in(top, kept, ahead)?;
+    }
+    Ok(())
+}
+
+/// Cuts the cells of an inner covering to as many as it may have.
+fn trim(kind: Kind, most: usize, kept: &mut Vec<CellId>)
+    ensures outer { is_outer kind ≡ true → kept.new.items ≡ kept.old.items }
+    ensures inner { is_outer kind ≡ false → kept.new.items ≡ take most kept.old.items }
+{
+    match kind {
+        Kind::Outer => {}
+        Kind::Inner => kept.truncate(most),
+    }
+}
+
+/// Goes down one level: splits the quadrants that may be split, as far as their children fit.
+fn split<Q: Quadrant>(
+    alloc: Global,
+    kind: Kind,
+    most: usize,
+    kept: &mut Vec<CellId>,
+    ahead: &mut Vec<Q>,
+) -> Result<(), AllocError>
+    requires ahead { All (λ q. Q.sound q × (level_of (Q.id q) < GREATEST_LEVEL)) ahead.old.items }
+    requires most { most ≤ MOST_COVERING }
+    requires sizes { Sizes (is_outer kind) most 0 (length kept.old.items) (length ahead.old.items) }
+    ensures sizes { IfOk result (λ _.
+        Sizes (is_outer kind) most 0 (length kept.new.items) (length ahead.new.items)) }
+    ensures front { IfOk result (λ _. (o i : ℕ → Bool) (deepest k : ℕ) → k + 1 ≤ deepest
+        → Front Q.id Q.sound Q.outer Q.inner (is_outer kind) o i deepest k (λ _. false) kept.old.items ahead.old.items
+        → Front Q.id Q.sound Q.outer Q.inner (is_outer kind) o i deepest (k + 1) (λ _. false) kept.new.items
+        ahead.new.items) }
+{
+    let mut families = families_of(alloc, ahead)?;
+    for limit in 1..5usize {
+        families = settle_some(alloc, families, kind, limit, most, kept, ahead)?;
+    }
+    Ok(())
+}
+
+/// Keeps the cells of an outer covering that were not split.
+fn close<Q: Quadrant>(
+    kind: Kind,
+    ahead: &mut Vec<Q>,
+    kept: &mut Vec<CellId>,
+) -> Result<(), AllocError>
+    ensures outer { is_outer kind ≡ true → IfOk result (λ _. (x : ℕ)
+        → (has_leaf kept.old.items x || any_covers Q.id ahead.old.items x) ≡ true → has_leaf kept.new.items x ≡ true) }
+    ensures len { is_outer kind ≡ true → IfOk result (λ _.
+        length kept.new.items ≤ length kept.old.items + length ahead.old.items) }
+    ensures inner { is_outer kind ≡ false → kept.new.items ≡ kept.old.items }
+    ensures kept { is_outer kind ≡ true → IfOk result (λ _. (o i : ℕ → Bool) (deepest k : ℕ) → k ≤ deepest
+        → All (IsAcross Q.id Q.sound Q.outer Q.inner o i k) ahead.old.items
+        → All (IsKept true o i deepest) kept.old.items → All (IsKept true o i deepest) kept.new.items) }
+{
+    match kind {
+        Kind::Outer => keep_whole(ahead, kept),
+        Kind::Inner => Ok(()),
+    }
+}
+
+/// Adds the cells of quadrants to those that are kept.
+fn keep_whole<Q: Quadrant>(ahead: &mut Vec<Q>, kept: &mut Vec<CellId>) -> Result<(), AllocError>
+    ensures leaves { IfOk result (λ _. (x : ℕ)
+        → (has_leaf kept.old.items x || any_covers Q.id ahead.old.items x) ≡ true → has_leaf kept.new.items x ≡ true) }
+    ensures len { IfOk result (λ _. length kept.new.items ≤ length kept.old.items + length ahead.old.items) }
+    ensures kept { IfOk result (λ _. (o i : ℕ → Bool) (deepest k : ℕ) → k ≤ deepest
+        → All (IsAcross Q.id Q.sound Q.outer Q.inner o i k) ahead.old.items
+        → All (IsKept true o i deepest) kept.old.items → All (IsKept true o i deepest) kept.new.items) }
+{
+    while let Some(quadrant) = ahead.pop() {
+        add(kept, quadrant.cell())?;
+    }
+    Ok(())
+}
+
+/// Settles the families whose turn is at most `limit`, and answers the others.
+fn settle_some<Q: Quadrant>(
+    alloc: Global,
+    mut families: Vec<Family<Q>>,
+    kind: Kind,
+    limit: usize,
+    most: usize,
+    kept: &mut Vec<CellId>,
+    ahead: &mut Vec<Q>,
+) -> Result<Vec<Family<Q>>, AllocError>
+    requires few { All (λ f. length f.inside.items + length f.across.items ≤ 4) families.items }
+    requires most { most ≤ MOST_COVERING }
+    requires sizes { Sizes (is_outer kind) most (length families.items) (length kept.old.items)
+        (length ahead.old.items) }
+    ensures none { IfOk result (λ others. 4 ≤ limit → others.items ≡ []) }
+    ensures few { IfOk result (λ others. All (λ f. length f.inside.items + length f.across.items ≤ 4) others.items) }
+    ensures sizes { IfOk result (λ others.
+        Sizes (is_outer kind) most (length others.items) (length kept.new.items) (length ahead.new.items)) }
+    ensures families { IfOk result (λ others. (o i : ℕ → Bool) (k : ℕ)
+        → All (λ f. IsFamily Q.id Q.sound Q.outer Q.inner o i k f.cell f.inside.items f.across.items) families.items
+        → All (λ f. IsFamily Q.id Q.sound Q.outer Q.inner o i k f.cell f.inside.items f.across.items) others.items) }
+    ensures front { IfOk result (λ others. (o i : ℕ → Bool) (deepest k : ℕ)
+        → All (λ f. IsFamily Q.id Q.sound Q.outer Q.inner o i k f.cell f.inside.items f.across.items) families.items
+        → Front Q.id Q.sound Q.outer Q.inner (is_outer kind) o i deepest k (any_covers (λ f. f.cell) families.items)
+        kept.old.items ahead.old.items
+        → Front Q.id Q.sound Q.outer Q.inner (is_outer kind) o i deepest k (any_covers (λ f. f.cell) others.items)
+        kept.new.items ahead.new.items) }
+{
+    let mut others = Vec::new(alloc);
+    while let Some(family) = families.pop() {
+        if turn_of(kind, &family) <= limit {
+            let waiting = families.len() + others.len();
+            settle(family, kind, waiting, most, kept, ahead)?;
+        } else {
+            add(&mut others, family)?;
+        }
+    }
+    Ok(others)
+}
+
+/// The turn of a family: in an outer covering those with the fewest children come first, in an inner one those with the
+/// most.
+fn turn_of<Q: Quadrant>(kind: Kind, family: &Family<Q>) -> usize
+    requires { length family.now.inside.items + length family.now.across.items ≤ 4 }
+    ensures { result ≤ 4 }
+{
+    let count = family.inside.len() + family.across.len();
+    match kind {
+        Kind::Outer => count,
+        Kind::Inner => 4 - count,
+    }
+}
+
+/// Settles a family.
+fn settle<Q: Quadrant>(
+    family: Family<Q>,
+    kind: Kind,
+    waiting: usize,
+    most: usize,
+    kept: &mut Vec<CellId>,
+    ahead: &mut Vec<Q>,
+) -> Result<(), AllocError>
+    requires few { length family.inside.items + length family.across.items ≤ 4 }
+    requires most { most ≤ MOST_COVERING }
+    requires sizes { Sizes (is_outer kind) most (waiting + 1) (length kept.old.items) (length ahead.old.items) }
+    ensures sizes { IfOk result (λ _.
+        Sizes (is_outer kind) most waiting (length kept.new.items) (length ahead.new.items)) }
+    ensures front { IfOk result (λ _. (o i : ℕ → Bool) (deepest k : ℕ) (rest : ℕ → Bool)
+        → IsFamily Q.id Q.sound Q.outer Q.inner o i k family.cell family.inside.items family.across.items
+        → Front Q.id Q.sound Q.outer Q.inner (is_outer kind) o i deepest k (λ x. covers family.cell x || rest x)
+        kept.old.items ahead.old.items
+        → Front Q.id Q.sound Q.outer Q.inner (is_outer kind) o i deepest k rest kept.new.items ahead.new.items) }
+{
+    match kind {
+        Kind::Outer => settle_outer(family, waiting, most, kept, ahead),
+        Kind::Inner => settle_inner(family, waiting, most, kept, ahead),
+    }
+}
+
+/// Settles a family of an outer covering: its children take its place if they fit, else its cell is kept whole.
+fn settle_outer<Q: Quadrant>(
+    family: Family<Q>,
+    waiting: usize,
+    most: usize,
+    kept: &mut Vec<CellId>,
+    ahead: &mut Vec<Q>,
+) -> Result<(), AllocError>
+    requires few { length family.inside.items + length family.across.items ≤ 4 }
+    requires most { most ≤ MOST_COVERING }
+    requires sizes { Sizes true most (waiting + 1) (length kept.old.items) (length ahead.old.items) }
+    ensures sizes { IfOk result (λ _. Sizes true most waiting (length kept.new.items) (length ahead.new.items)) }
+    ensures front { IfOk result (λ _. (o i : ℕ → Bool) (deepest k : ℕ) (rest : ℕ → Bool)
+        → IsFamily Q.id Q.sound Q.outer Q.inner o i k family.cell family.inside.items family.across.items
+        → Front Q.id Q.sound Q.outer Q.inner true o i deepest k (λ x. covers family.cell x || rest x) kept.old.items
+        ahead.old.items
+        → Front Q.id Q.sound Q.outer Q.inner true o i deepest k rest kept.new.items ahead.new.items) }
+{
+    let Family {
+        cell,
+        mut inside,
+        mut across,
+    } = family;
+    let count = inside.len() + across.len();
+    if fits(count, kept.len() + ahead.len() + waiting, most) {
+        join(kept, &mut inside)?;
+        join(ahead, &mut across)
+    } else {
+        add(kept, cell)
+    }
+}
+
+/// Whether `count` children may take the place of one cell, if there are `others` besides.
+fn fits(count: usize, others: usize, most: usize) -> bool
+    requires few { count ≤ 4 }
+    requires small { others ≤ 4 * MOST_COVERING }
+    ensures { IsTrue result → others + 1 ≤ max most 6 → others + count ≤ max most 6 }
+{
+    count <= 1 || others + count <= most
+}
+
+/// Settles a family of an inner covering: its children inside are kept while there is room, and those that cross are
+/// looked into if they are few enough.
+fn settle_inner<Q: Quadrant>(
+    family: Family<Q>,
+    waiting: usize,
+    most: usize,
+    kept: &mut Vec<CellId>,
+    ahead: &mut Vec<Q>,
+) -> Result<(), AllocError>
+    requires few { length family.inside.items + length family.across.items ≤ 4 }
+    requires most { most ≤ MOST_COVERING }
+    requires sizes { Sizes false most (waiting + 1) (length kept.old.items) (length ahead.old.items) }
+    ensures sizes { IfOk result (λ _. Sizes false most waiting (length kept.new.items) (length ahead.new.items)) }
+    ensures front { IfOk result (λ _. (o i : ℕ → Bool) (deepest k : ℕ) (rest : ℕ → Bool)
+        → IsFamily Q.id Q.sound Q.outer Q.inner o i k family.cell family.inside.items family.across.items
+        → Front Q.id Q.sound Q.outer Q.inner false o i deepest k (λ x. covers family.cell x || rest x) kept.old.items
+        ahead.old.items
+        → Front Q.id Q.sound Q.outer Q.inner false o i deepest k rest kept.new.items ahead.new.items) }
+{
+    let Family {
+        cell: _,
+        mut inside,
+        mut across,
+    } = family;
+    join(kept, &mut inside)?;
+    kept.truncate(most);
+    if ahead.len() + across.len() <= most.max(FACES) {
+        join(ahead, &mut across)
+    } else {
+        Ok(())
+    }
+}
