@@ -1,0 +1,81 @@
+-- What is known of a cell of a polygon, and of its children.
+use Rattle.std.proofs.Common.{◌≡◌, sym, ap, ◌∙◌, ℕ, suc, ◌+◌, ◌-◌, ◌/◌, ◌^◌, ◌<◌, arith, All}
+use Rattle.s2cell.specs.Cell.{level_of, child_of, face_of}
+use Rattle.s2cell.specs.Square.{IsPlacedCell}
+use Rattle.s2cell.specs.declared.placed.PlacedCell.{PlacedCell}
+use Rattle.s2polygon.proofs.Indexes.{cell_on_grid, child_of_grid}
+use Rattle.s2polygon.specs.Faces.{edges_on}
+use Rattle.s2polygon.specs.Leaves.{Region}
+use Rattle.s2polygon.specs.Working.Descent.{IsRight}
+use Rattle.s2polygon.specs.Working.Known.{IsKnown, top_in}
+use Rattle.s2polygon.specs.Working.Sizes.{IsFramed}
+use Rattle.s2polygon.specs.declared.descent.Known.{Known}
+
+abbrev pub IsKnownOf : Region → PlacedCell → Known → Type 0
+IsKnownOf r placed known = IsKnown r placed.cell placed.square.face placed.square.i placed.square.j
+    placed.square.size known
+
+module _ (r : Region) (placed child : PlacedCell) (p : ℕ) (h : IsPlacedCell placed) (g : IsPlacedCell child)
+    (deep : level_of placed.cell < 30)
+    (digit : p < 4) (is : child.cell ≡ child_of placed.cell p)
+    (level : level_of child.cell ≡ level_of placed.cell + 1) where
+  one_up : 30 - level_of placed.cell ≡ suc (30 - level_of child.cell)
+  one_up = omega arith
+
+  pub parent_right : (known : Known) → IsKnownOf r placed known
+      → IsRight r.margin (top_in r placed.square.face) (edges_on placed.square.face r.edges) (level_of placed.cell)
+      (suc (30 - level_of child.cell)) (child.square.i / child.square.size / 2)
+      (child.square.j / child.square.size / 2) known
+  parent_right known k =
+      let q = child_of_grid p h g deep digit is level in
+      let u = q.1.column in
+      let v = q.1.row in
+      let up = sym one_up in
+      rw (up, u, v) k.right
+
+  pub child_known : (found : Known)
+      → IsRight r.margin (top_in r placed.square.face) (edges_on placed.square.face r.edges)
+      (suc (level_of placed.cell))
+      (30 - level_of child.cell) (child.square.i / child.square.size) (child.square.j / child.square.size) found
+      → All IsFramed found.edges.items → IsKnownOf r child found
+  child_known found right framed =
+      let q = child_of_grid p h g deep digit is level in
+      let face = sym q.0 in
+      let down : suc (level_of placed.cell) ≡ level_of child.cell = omega arith in
+      record {
+        cell = g.cell;
+        square = g.square;
+        right = rw (face, down) at right;
+        framed = framed;
+      }
+
+pub face_known : (r : Region) (placed : PlacedCell) (f : ℕ) (found : Known) → IsPlacedCell placed
+    → level_of placed.cell ≡ 0
+    → face_of placed.cell ≡ f → IsRight r.margin (top_in r f) (edges_on f r.edges) 0 30 0 0 found
+    → All IsFramed found.edges.items
+    → IsKnownOf r placed found
+face_known r placed f found h top face right framed =
+    let grid = cell_on_grid h.cell h.square in
+    let whole : 30 - (30 - level_of placed.cell) ≡ 0 = omega arith in
+    let one = ap (λ (t : ℕ). 2 ^ t) whole in
+    let u : 0 ≡ placed.square.i / placed.square.size = (let l = grid.column_within in omega arith) in
+    let v : 0 ≡ placed.square.j / placed.square.size = (let l = grid.row_within in omega arith) in
+    let side : f ≡ placed.square.face = sym (h.square.face_is ∙ face) in
+    let none : 0 ≡ level_of placed.cell = sym top in
+    let all : 30 ≡ 30 - level_of placed.cell = omega arith in
+    record {
+      cell = h.cell;
+      square = h.square;
+      right = at_cell side none all u v;
+      framed = framed;
+    }
+  where
+    at_cell : {g n k x y : ℕ} → f ≡ g → 0 ≡ n → 30 ≡ k → 0 ≡ x → 0 ≡ y → IsRight r.margin (top_in r g)
+        (edges_on g r.edges) n k x y found
+    at_cell {g} {n} {k} {x} {y} a b c d e =
+        let b1 = sym b in
+        let c1 = sym c in
+        let d1 = sym d in
+        let e1 = sym e in
+        let a1 = sym a in
+        rw (a1, b1, c1, d1, e1) right

@@ -1,0 +1,22 @@
+use Rattle.s2polygon.proofs.Sizes.{minor_steps}
+use Rattle.s2polygon.proofs.frames.normal_w.Goals as goal
+
+pub overflow_mul-result : goal.overflow_mul-result
+overflow_mul-result c =
+    (minor_steps c.args.a.u c.args.b.v c.args.a.v c.args.b.u c.requires.a.u c.requires.b.v c.requires.a.v
+    c.requires.b.u).first_fits
+
+pub overflow_mul-result-2 : goal.overflow_mul-result-2
+overflow_mul-result-2 c =
+    (minor_steps c.args.a.u c.args.b.v c.args.a.v c.args.b.u c.requires.a.u c.requires.b.v c.requires.a.v
+    c.requires.b.u).last_fits
+
+pub overflow_sub-result : goal.overflow_sub-result
+overflow_sub-result c =
+    (minor_steps c.args.a.u c.args.b.v c.args.a.v c.args.b.u c.requires.a.u c.requires.b.v c.requires.a.v
+    c.requires.b.u).fits
+
+pub returns : goal.returns
+returns c =
+    (minor_steps c.args.a.u c.args.b.v c.args.a.v c.args.b.u c.requires.a.u c.requires.b.v c.requires.a.v
+    c.requires.b.u).is

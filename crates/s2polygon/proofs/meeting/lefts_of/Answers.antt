@@ -1,0 +1,13 @@
+use Rattle.std.proofs.Common.{rules, FitsSigned, w64, ℤ}
+use mir.Syntax.{w128}
+use Rattle.s2polygon.specs.Meets.{left_of}
+use Rattle.s2polygon.proofs.Pairs.{pair_is}
+use Rattle.s2polygon.proofs.meeting.lefts_of.Goals as goal
+
+pub returns : goal.returns
+returns c =
+    let line : FitsSigned w64 c.args.q.u1 = search rules in
+    let first : FitsSigned w128 c.left_by.result = search rules in
+    let last : FitsSigned w128 c.left_by-2.result = search rules in
+    pair_is (λ (u : ℤ). left_of u c.args.a) (λ (u : ℤ). left_of u c.args.b) c.args.q.u1 c.left_by.result
+    c.left_by-2.result line first last c.left_by.ensures c.left_by-2.ensures

@@ -1,0 +1,31 @@
+use Rattle.std.proofs.Common.{arith, sym}
+use Rattle.s2cell.specs.Cell.{level_of}
+use Rattle.s2polygon.specs.Faces.{edges_on}
+use Rattle.s2polygon.specs.Working.Known.{top_in}
+use Rattle.s2polygon.proofs.Quartering.{child_known, parent_right}
+use Rattle.s2polygon.proofs.quadrant.PolygonCellQuadrant.child.Goals as goal
+
+pub known_of_child-requires-clause-inner : goal.known_of_child-requires-clause-inner
+known_of_child-requires-clause-inner c = let l = c.child-placed.ensures.level in omega arith
+
+pub known_of_child-requires-clause-framed : goal.known_of_child-requires-clause-framed
+known_of_child-requires-clause-framed c = c.requires.sound.1.framed
+
+pub returns-clause-sound : goal.returns-clause-sound
+returns-clause-sound c =
+    let r = c.args.self.now.polygon.now in
+    let placed = c.args.self.now.placed in
+    let child = c.child-placed.result in
+    let same = c.margin.ensures.value in
+    let back = sym same in
+    let parent = rw back at (parent_right r placed child c.args.digit c.requires.sound.0 c.child-placed.ensures.placed
+    c.requires.deep c.requires.digit c.child-placed.ensures.cell c.child-placed.ensures.level c.args.self.now.known
+    c.requires.sound.1) in
+    let found = c.in_ok-known.ensures.right (top_in r placed.square.face) (edges_on placed.square.face r.edges)
+    (level_of placed.cell) parent in (
+      c.child-placed.ensures.placed,
+      child_known r placed child c.args.digit c.requires.sound.0 c.child-placed.ensures.placed c.requires.deep
+          c.requires.digit c.child-placed.ensures.cell c.child-placed.ensures.level c.in_ok-known.known
+          (rw same at found)
+          c.in_ok-known.ensures.framed,
+    )

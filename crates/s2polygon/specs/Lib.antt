@@ -1,0 +1,13 @@
+pub mod Cells
+pub mod Crosses
+pub mod Directions
+pub mod Faces
+pub mod Frames
+pub mod Leaves
+pub mod Meets
+pub mod Parity
+pub mod Places
+pub mod Rings
+pub mod Tests
+pub mod Ways
+pub mod Working

@@ -1,0 +1,65 @@
+-- What is known of a cell of a polygon.
+use Rattle.std.specs.Prelude.{◌≡◌, ℕ, zero, suc, ◌-◌, ◌/◌, ◌≤◌, ◌^◌, Bool, true, false, List, All}
+use Rattle.std.specs.Bool.{xor}
+use Rattle.s2cell.specs.Cell.{IsCell, level_of}
+use Rattle.s2cell.specs.Square.{IsSquareOf}
+use Rattle.s2cover.specs.declared.region.Part.{Part}
+use Rattle.s2cover.specs.declared.region.Part.TheVariants.{Out, In, Cross}
+use Rattle.s2polygon.specs.Faces.{edges_on, top_of}
+use Rattle.s2polygon.specs.Leaves.{Region, odd_at}
+use Rattle.s2polygon.specs.Working.Descent.{IsRight}
+use Rattle.s2polygon.specs.Working.Sizes.{IsFramed}
+use Rattle.s2polygon.specs.declared.descent.Known.{Known}
+use Rattle.s2polygon.specs.declared.directions.Edge.{Edge}
+use Rattle.s2polygon.specs.declared.faces.Tops.{Tops}
+
+-- whether the middle of a face lies inside
+abbrev pub top_in : Region → ℕ → Bool
+top_in r f = xor (top_of r.edges f) (odd_at r.edges r.outside)
+
+-- the answer for face `f`
+abbrev pub answer_at : Tops → ℕ → Bool
+answer_at t zero = t.zero
+answer_at t (suc zero) = t.one
+answer_at t (suc (suc zero)) = t.two
+answer_at t (suc (suc (suc zero))) = t.three
+answer_at t (suc (suc (suc (suc zero)))) = t.four
+answer_at t (suc (suc (suc (suc (suc _))))) = t.five
+
+-- the answers of a test of faces
+abbrev pub answers_of : (ℕ → Bool) → Tops
+answers_of test = record { zero = test 0; one = test 1; two = test 2; three = test 3; four = test 4; five = test 5 }
+
+-- the parities of the middles of the faces
+abbrev pub parities_of : List Edge → Tops
+parities_of es = answers_of (top_of es)
+
+-- each answer, exchanged for the other if the first argument says so
+abbrev pub exchanged_by : Bool → Tops → Tops
+exchanged_by odd t = record {
+  zero = xor t.zero odd;
+  one = xor t.one odd;
+  two = xor t.two odd;
+  three = xor t.three odd;
+  four = xor t.four odd;
+  five = xor t.five odd;
+}
+
+-- what a polygon carries is right: which middles of faces lie inside, and a margin that is small enough
+pub record IsPolygon (r : Region) (tops : Tops) : Type 0 where
+  pub answers : tops ≡ answers_of (top_in r)
+  pub small : r.margin ≤ 2 ^ 60
+
+-- how a cell lies, by whether no edge is left for it, and whether its middle lies inside
+abbrev pub part_by : Bool → Bool → Part
+part_by false odd = Cross
+part_by true true = In
+part_by true false = Out
+
+-- of the cell `c` with this square it is known whether its middle lies inside, and which edges meet it
+pub record IsKnown (r : Region) (c face i j size : ℕ) (known : Known) : Type 0 where
+  pub cell : IsCell c
+  pub square : IsSquareOf c face i j size
+  pub right : IsRight r.margin (top_in r face) (edges_on face r.edges) (level_of c) (30 - level_of c) (i / size)
+      (j / size) known
+  pub framed : All IsFramed known.edges.items

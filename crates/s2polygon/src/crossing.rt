@@ -1,0 +1,86 @@
+//! Whether edges cross a piece of a way, and whether they do an odd number of times.
+ghost use Rattle.std.specs.Prelude.{◌≡◌, ◌↔◌, IsTrue, All};
+ghost use Rattle.s2polygon.specs.Crosses.{crosses_column_at, crosses_row_at};
+ghost use Rattle.s2polygon.specs.Parity.{is_odd_by};
+ghost use Rattle.s2polygon.specs.Working.Crossed.{AreBeside, AreCrossed};
+ghost use Rattle.s2polygon.specs.Working.Descent.{crosses_step_at};
+ghost use Rattle.s2polygon.specs.Working.Sizes.{HasPlaces, HasPlacesOfLine, IsFramed};
+
+use crate::frames::FramedEdge;
+use crate::meeting::{above_by, left_by, side_of};
+use crate::places::{Line, Step};
+
+/// Whether the signs are those of a crossing.
+fn are_crossed(a: i128, b: i128, p: i128, q: i128) -> bool
+    ensures { IsTrue result ↔ AreCrossed a b p q }
+{
+    if a < 0 {
+        b >= 0 && p >= 0 && q < 0
+    } else {
+        b < 0 && p < 0 && q >= 0
+    }
+}
+
+/// Whether two distances are on one side.
+fn are_beside(a: i128, b: i128) -> bool
+    ensures { IsTrue result → AreBeside a b }
+{
+    (a < 0) == (b < 0)
+}
+
+/// Whether an edge crosses a piece of a row. Most edges don't, since both ends are on one side of the row.
+#[tactic(none)]
+pub(crate) fn crosses_row(e: FramedEdge, line: Line) -> bool
+    requires edge { IsFramed e }
+    requires line { HasPlacesOfLine line }
+    ensures { result ≡ crosses_row_at line.at line.low line.high e }
+{
+    let from = above_by(line.at, e.a);
+    let to = above_by(line.at, e.b);
+    if are_beside(from, to) {
+        return false;
+    }
+    let low = side_of(line.low, line.at, e.n);
+    let high = side_of(line.high, line.at, e.n);
+    are_crossed(from, to, low, high)
+}
+
+/// Whether an edge crosses a piece of a column.
+#[tactic(none)]
+pub(crate) fn crosses_column(e: FramedEdge, line: Line) -> bool
+    requires edge { IsFramed e }
+    requires line { HasPlacesOfLine line }
+    ensures { result ≡ crosses_column_at line.at line.low line.high e }
+{
+    let from = left_by(line.at, e.a);
+    let to = left_by(line.at, e.b);
+    if are_beside(from, to) {
+        return false;
+    }
+    let low = side_of(line.at, line.low, e.n);
+    let high = side_of(line.at, line.high, e.n);
+    are_crossed(from, to, low, high)
+}
+
+/// Whether an edge crosses just one of the two pieces of a step.
+#[tactic(none)]
+fn crosses_step(e: FramedEdge, s: Step) -> bool
+    requires edge { IsFramed e }
+    requires step { HasPlaces s }
+    ensures { result ≡ crosses_step_at s e }
+{
+    crosses_row(e, s.row) ^ crosses_column(e, s.column)
+}
+
+/// Whether the edges cross a step an odd number of times.
+pub(crate) fn is_odd_step(edges: &[FramedEdge], s: Step) -> bool
+    requires edges { All IsFramed edges.now }
+    requires step { HasPlaces s }
+    ensures { result ≡ is_odd_by (crosses_step_at s) edges.now }
+{
+    let mut odd = false;
+    for e in edges {
+        odd = odd ^ crosses_step(*e, s);
+    }
+    odd
+}

@@ -1,0 +1,36 @@
+//! Laws about the definitions themselves: functions that do nothing, whose clauses are proved.
+ghost use Rattle.std.specs.Prelude.{◌≡◌, ◌↔◌, ◌≤◌, ◌<ℤ◌, ℕ, IsTrue, List, not, true};
+ghost use Rattle.std.specs.List.Sorted.{IsPermutation};
+ghost use Rattle.s2polygon.specs.Leaves.{Region, inner_leaf, inside, is_touched, outer_leaf};
+ghost use Rattle.s2polygon.specs.Meets.{MeetsSquare};
+ghost use Rattle.s2polygon.specs.Tests.{meets_square};
+ghost use Rattle.s2polygon.specs.declared.directions.Edge.{Edge};
+ghost use Rattle.s2polygon.specs.declared.frames.FramedEdge.{FramedEdge};
+ghost use Rattle.s2polygon.specs.declared.places.Square.{Square};
+
+/// The ten tests of signs say whether a direction of an edge lies in a square.
+pub fn law_of_tests()
+    ensures { (q : Square) (e : FramedEdge) → q.u0 <ℤ q.u1 → q.v0 <ℤ q.v1
+        → IsTrue (meets_square q e) ↔ MeetsSquare e.a e.b q }
+{}
+
+/// A greater margin takes no leaf from the outer ones, and gives none to the inner ones.
+pub fn law_of_margins()
+    ensures outer { (r : Region) (margin x : ℕ) → r.margin ≤ margin → outer_leaf r x ≡ true
+        → outer_leaf (record r { margin = margin }) x ≡ true }
+    ensures inner { (r : Region) (margin x : ℕ) → r.margin ≤ margin → inner_leaf (record r { margin = margin }) x ≡ true
+        → inner_leaf r x ≡ true }
+{}
+
+/// With a leaf inside for the leaf outside, inside and outside are exchanged.
+pub fn law_of_complements()
+    ensures { (r : Region) (y x : ℕ) → inside r y ≡ true → inside (record r { outside = y }) x ≡ not (inside r x) }
+{}
+
+/// The order of the edges changes nothing.
+pub fn law_of_orders()
+    ensures inside { (r : Region) (edges : List Edge) (x : ℕ) → IsPermutation r.edges edges
+        → inside (record r { edges = edges }) x ≡ inside r x }
+    ensures touched { (r : Region) (edges : List Edge) (x : ℕ) → IsPermutation r.edges edges
+        → is_touched (record r { edges = edges }) x ≡ is_touched r x }
+{}

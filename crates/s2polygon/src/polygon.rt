@@ -1,0 +1,162 @@
+//! Polygons, and which leaves lie inside them.
+ghost use Rattle.std.specs.Prelude.{◌≡◌, ◌<◌, ◌≤◌, ◌^◌, All, IfErr, IfOk, length};
+ghost use Rattle.s2cell.specs.Cell.{level_of, first_leaf};
+ghost use Rattle.s2polygon.specs.Cells.{odd_of};
+ghost use Rattle.s2polygon.specs.Faces.{edges_on};
+ghost use Rattle.s2polygon.specs.Leaves.{inside};
+ghost use Rattle.s2polygon.specs.Rings.{AreRings, FaultMeans, rings_edges};
+ghost use Rattle.s2polygon.specs.Working.Descent.{IsRight};
+ghost use Rattle.s2polygon.specs.Working.Known.{top_in};
+ghost use Rattle.s2polygon.specs.Working.Sizes.{IsFramed};
+
+use crate::descent::{Known, descend_to_leaf, known_of_face};
+use crate::directions::{Direction, Edge};
+use crate::faces::{Tops, exchanged, top_at, tops_of};
+use crate::fault::PolygonFault;
+use crate::rings::edges_of;
+use s2cell::{CellId, GREATEST_LEVEL};
+use std::alloc::{AllocError, Global};
+use std::marker::Model;
+
+/// The greatest margin.
+pub const MOST_MARGIN: u64 = 1 << 60;
+
+/// A region between closed rings of edges, with a leaf that is known to lie outside.
+#[derive(Drop)]
+pub struct Polygon {
+    edges: Vec<Edge>,
+    outside: CellId,
+    margin: u64,
+    tops: Tops,
+}
+
+impl Model for Polygon {
+    ghost use Rattle.s2cell.specs.Cell.{first_leaf};
+    ghost use Rattle.s2polygon.specs.Leaves.{Region};
+
+    ghost Value = { Region };
+
+    ghost use Rattle.s2polygon.specs.Working.Known.{IsPolygon};
+
+    ghost view = { λ p. record { edges = p.edges.items; outside = first_leaf p.outside; margin = p.margin } };
+
+    ghost invariant = { λ p. IsPolygon
+        (record { edges = p.edges.items; outside = first_leaf p.outside; margin = p.margin }) p.tops };
+}
+
+/// The parity of the leaf at a place, by way of all cells that have it. `top` is the parity of the face's middle.
+fn parity_of_leaf(
+    alloc: Global,
+    edges: &[Edge],
+    margin: u64,
+    face: u8,
+    top: bool,
+    i: u32,
+    j: u32,
+) -> Result<bool, AllocError>
+    requires margin { margin ≤ 2 ^ 60 }
+    requires face { face < 6 }
+    requires i { i < 2 ^ 30 }
+    requires j { j < 2 ^ 30 }
+    ensures { IfOk result (λ odd. odd ≡ odd_of top (edges_on face edges.now) 30 0 i j) }
+{
+    let whole = known_of_face(alloc, face, edges, top, margin)?;
+    let leaf = descend_to_leaf(alloc, whole, u64::from(i), u64::from(j), margin)?;
+    Ok(leaf.odd)
+}
+
+/// The polygon of these edges, with the parities of the faces' middles.
+pub(crate) fn placed(
+    alloc: Global,
+    edges: Vec<Edge>,
+    outside: CellId,
+    margin: u64,
+) -> Result<Polygon, AllocError>
+    requires leaf { level_of outside ≡ GREATEST_LEVEL }
+    requires margin { margin ≤ 2 ^ 60 }
+    ensures { IfOk result (λ p. p ≡ record { edges = edges.items; outside = first_leaf outside; margin = margin }) }
+{
+    let tops = tops_of(&edges);
+    let face = outside.face();
+    let at = outside.square();
+    let odd = parity_of_leaf(alloc, &edges, margin, face, top_at(tops, face), at.i, at.j)?;
+    Ok(Polygon {
+        edges,
+        outside,
+        margin,
+        tops: exchanged(tops, odd),
+    })
+}
+
+impl Polygon {
+    /// The polygon of rings of corners. Ring after ring, the corners of each follow one another, and the first follows
+    /// the last; `ends` has the number of corners up to the end of each ring. `outside` is a leaf that lies outside.
+    /// The margin, in units of which a face has 6 * 2^60 a side, is how near an edge has to come to touch a leaf.
+    ///
+    /// Rings may cross, touch and repeat each other: what is crossed an odd number of times on the way from the leaf
+    /// outside is inside. Corners may repeat each other too. Each fault says what is so of the corners, of the leaf or
+    /// of the margin. S2: `S2Polygon`, whose rings may not cross.
+    pub fn new(
+        alloc: Global,
+        corners: &[Direction],
+        ends: &[usize],
+        outside: CellId,
+        margin: u64,
+    ) -> Result<Polygon, PolygonFault>
+        ensures made { IfOk result (λ p. p ≡ record {
+          edges = rings_edges corners.now ends.now (length ends.now);
+          outside = first_leaf outside;
+          margin = margin;
+        }) }
+        ensures rings { IfOk result (λ p. AreRings corners.now ends.now) }
+        ensures leaf { IfOk result (λ p. level_of outside ≡ GREATEST_LEVEL) }
+        ensures margin { IfOk result (λ p. margin ≤ MOST_MARGIN) }
+        ensures fault { IfErr result (FaultMeans corners.now ends.now outside margin) }
+    {
+        if margin > MOST_MARGIN {
+            return Err(PolygonFault::MarginTooLarge);
+        }
+        if !outside.is_leaf() {
+            return Err(PolygonFault::NotALeaf);
+        }
+        let edges = edges_of(alloc, corners, ends)?;
+        Ok(placed(alloc, edges, outside, margin)?)
+    }
+
+    /// Whether a leaf lies inside: whether its parity is not that of the leaf outside. The cell must be a leaf.
+    ///
+    /// The edges are looked at once, those near the leaf up to thirty times. S2: `S2Polygon::Contains`.
+    pub fn holds(&self, alloc: Global, leaf: CellId) -> Result<bool, AllocError>
+        requires { level_of leaf ≡ GREATEST_LEVEL }
+        ensures { IfOk result (λ held. held ≡ inside self.now (first_leaf leaf)) }
+    {
+        let face = leaf.face();
+        let at = leaf.square();
+        let top = top_at(self.tops, face);
+        parity_of_leaf(alloc, &self.edges, self.margin, face, top, at.i, at.j)
+    }
+
+    /// What is known of a face.
+    pub(crate) fn known_face(&self, alloc: Global, face: u8) -> Result<Known, AllocError>
+        requires { face < 6 }
+        ensures right { IfOk result (IsRight self.now.margin (top_in self.now face)
+            (edges_on face self.now.edges) 0 30 0 0) }
+        ensures framed { IfOk result (λ known. All IsFramed known.edges.items) }
+    {
+        known_of_face(
+            alloc,
+            face,
+            &self.edges,
+            top_at(self.tops, face),
+            self.margin,
+        )
+    }
+
+    /// The margin.
+    pub fn margin(&self) -> u64
+        ensures value { result ≡ self.now.margin }
+        ensures most { result ≤ 2 ^ 60 }
+    {
+        self.margin
+    }
+}

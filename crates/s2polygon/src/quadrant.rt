@@ -1,0 +1,120 @@
+//! Cells of a polygon, with what is known of them.
+ghost use Rattle.std.specs.Prelude.{◌≡◌, ◌↔◌, ◌-◌, ◌/◌, ◌<◌, ◌≤◌, ◌^◌, [], ℕ, suc, All, Bool, IfOk, IsTrue, List};
+ghost use Rattle.s2cell.specs.Cell.{level_of};
+ghost use Rattle.s2cell.specs.Square.{IsPlacedCell};
+ghost use Rattle.s2polygon.specs.Leaves.{inner_leaf, outer_leaf};
+ghost use Rattle.s2polygon.specs.Working.Descent.{IsRight};
+ghost use Rattle.s2polygon.specs.Working.Known.{IsKnown, part_by};
+ghost use Rattle.s2polygon.specs.Working.Sizes.{IsFramed};
+ghost use Rattle.s2polygon.specs.declared.frames.FramedEdge.{FramedEdge};
+
+use crate::descent::{Known, descend};
+use crate::polygon::Polygon;
+use s2cell::{CellId, GREATEST_LEVEL, PlacedCell};
+use s2cover::{Part, Quadrant, Quartered};
+use std::alloc::{AllocError, Global};
+
+/// A cell of a polygon.
+#[derive(Drop)]
+pub struct PolygonCell<'a> {
+    polygon: &'a Polygon,
+    placed: PlacedCell,
+    known: Known,
+}
+
+/// A polygon that is walked down from the faces.
+#[derive(Clone, Copy)]
+pub struct Walked<'a> {
+    pub(crate) polygon: &'a Polygon,
+}
+
+/// What is known of a child with this square.
+#[tactic(none)]
+fn known_of_child(
+    alloc: Global,
+    parent: &Known,
+    child: &PlacedCell,
+    margin: u64,
+) -> Result<Known, AllocError>
+    requires placed { IsPlacedCell child.now }
+    requires inner { 0 < level_of child.now.cell }
+    requires margin { margin ≤ 2 ^ 60 }
+    requires framed { All IsFramed parent.now.edges.items }
+    ensures right { (top : Bool) (edges : List FramedEdge) (n : ℕ)
+        → IsRight margin top edges n (suc (30 - level_of child.now.cell))
+        (child.now.square.i / child.now.square.size / 2) (child.now.square.j / child.now.square.size / 2) parent.now
+        → IfOk result (IsRight margin top edges (suc n) (30 - level_of child.now.cell)
+        (child.now.square.i / child.now.square.size) (child.now.square.j / child.now.square.size)) }
+    ensures framed { IfOk result (λ known. All IsFramed known.edges.items) }
+{
+    let k = u32::from(GREATEST_LEVEL - child.cell.level());
+    let i = u64::from(child.square.i / child.square.size);
+    let j = u64::from(child.square.j / child.square.size);
+    descend(alloc, parent, k, i, j, margin)
+}
+
+/// Whether no edge is left.
+fn is_bare(known: &Known) -> bool
+    ensures { IsTrue result ↔ (known.now.edges.items ≡ []) }
+{
+    known.edges.is_empty()
+}
+
+/// How a cell lies, by whether no edge is left for it, and whether its middle lies inside.
+fn part_of(bare: bool, odd: bool) -> Part
+    ensures { result ≡ part_by bare odd }
+{
+    if !bare {
+        Part::Cross
+    } else if odd {
+        Part::In
+    } else {
+        Part::Out
+    }
+}
+
+impl<'a> Quadrant for PolygonCell<'a> {
+    ghost id = { λ q. q.placed.cell };
+
+    ghost sound = { λ q. IsPlacedCell q.placed × IsKnown q.polygon.now q.placed.cell q.placed.square.face
+        q.placed.square.i q.placed.square.j q.placed.square.size q.known };
+
+    ghost outer = { λ q. outer_leaf q.polygon.now };
+
+    ghost inner = { λ q. inner_leaf q.polygon.now };
+
+    fn cell(&self) -> CellId {
+        self.placed.cell
+    }
+
+    fn part(&self) -> Part {
+        part_of(is_bare(&self.known), self.known.odd)
+    }
+
+    fn child(&self, alloc: Global, digit: u8) -> Result<PolygonCell<'a>, AllocError> {
+        let placed = self.placed.child(digit);
+        let known = known_of_child(alloc, &self.known, &placed, self.polygon.margin())?;
+        Ok(PolygonCell {
+            polygon: self.polygon,
+            placed,
+            known,
+        })
+    }
+}
+
+impl<'a> Quartered for Walked<'a> {
+    ghost outer = { λ w. outer_leaf w.polygon.now };
+
+    ghost inner = { λ w. inner_leaf w.polygon.now };
+
+    type At = PolygonCell<'a>;
+
+    fn face(&self, alloc: Global, face: u8) -> Result<PolygonCell<'a>, AllocError> {
+        let known = self.polygon.known_face(alloc, face)?;
+        Ok(PolygonCell {
+            polygon: self.polygon,
+            placed: PlacedCell::face(face),
+            known,
+        })
+    }
+}
