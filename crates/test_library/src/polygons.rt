@@ -1,0 +1,135 @@
+//! Calls of `s2polygon`: polygons of rings of corners, the leaves inside them, and their coverings.
+
+use crate::texts::{add_cells, cut, numbers_of, small, yes_or_no};
+use s2cell::{CellId, GREATEST_LEVEL};
+use s2cover::{CoverFault, MOST_COVERING};
+use s2polygon::{Direction, Polygon, PolygonFault};
+use s2union::CellUnion;
+use std::alloc::{AllocError, Global};
+use test_table::{add_line, number};
+
+/// Corners, and where their rings end.
+#[derive(Drop)]
+struct Rings {
+    corners: Vec<Direction>,
+    ends: Vec<usize>,
+}
+
+/// Makes a call `polygon`, `outer LEVEL MOST`, `inner LEVEL MOST` or `holds LEAF`, each followed by `/ MARGIN OUTSIDE /
+/// X Y Z X Y Z .. / X Y Z ..`, and adds its answer. False for the name of another call.
+pub fn answer(
+    alloc: Global,
+    name: &str,
+    words: &str,
+    found: &mut Vec<u8>,
+) -> Result<bool, AllocError> {
+    if name != "polygon" {
+        return Ok(false);
+    }
+    let (question, rest) = cut(words);
+    let (place, rings) = cut(rest);
+    let Some(rings) = rings_of(alloc, rings)? else {
+        add_line(found, "no direction")?;
+        return Ok(true);
+    };
+    let (margin, outside) = place.split_once(" ").unwrap_or((place, ""));
+    let Some(outside) = CellId::from_token(outside.as_bytes()) else {
+        add_line(found, "no cell")?;
+        return Ok(true);
+    };
+    match Polygon::new(alloc, &rings.corners, &rings.ends, outside, number(margin)) {
+        Ok(polygon) => add_answer(alloc, &polygon, question, found)?,
+        Err(fault) => add_line(found, name_of(fault))?,
+    }
+    Ok(true)
+}
+
+/// The corners of rings, which slashes part. None if three numbers are no direction.
+fn rings_of(alloc: Global, text: &str) -> Result<Option<Rings>, AllocError> {
+    let mut corners = Vec::new(alloc);
+    let mut ends = Vec::new(alloc);
+    for ring in text.split("/") {
+        // The coordinates of the corner that is being read.
+        let mut x = None;
+        let mut y = None;
+        for word in ring.split_whitespace() {
+            let number = coordinate_of(word);
+            match (x, y) {
+                (None, _) => x = Some(number),
+                (_, None) => y = Some(number),
+                (Some(a), Some(b)) => {
+                    match Direction::new(a, b, number) {
+                        Ok(corner) => corners.push(corner)?,
+                        Err(_) => return Ok(None),
+                    }
+                    x = None;
+                    y = None;
+                }
+            }
+        }
+        ends.push(corners.len())?;
+    }
+    Ok(Some(Rings { corners, ends }))
+}
+
+/// A number, which may be below 0.
+fn coordinate_of(word: &str) -> i64 {
+    match word.strip_prefix("-") {
+        Some(size) => -i64::try_from(number(size)).unwrap_or(i64::MAX),
+        None => i64::try_from(number(word)).unwrap_or(i64::MAX),
+    }
+}
+
+fn name_of(fault: PolygonFault) -> &'static str {
+    match fault {
+        PolygonFault::NoRing => "no ring",
+        PolygonFault::WrongEnd(_) => "wrong end",
+        PolygonFault::TooFewCorners(_) => "too few corners",
+        PolygonFault::Antipodal(_) => "antipodal",
+        PolygonFault::NotALeaf => "not a leaf",
+        PolygonFault::MarginTooLarge => "margin too large",
+        PolygonFault::Memory => "memory",
+    }
+}
+
+/// Adds the answer to a question about a polygon.
+fn add_answer(
+    alloc: Global,
+    polygon: &Polygon,
+    question: &str,
+    found: &mut Vec<u8>,
+) -> Result<(), AllocError> {
+    let (what, words) = question.split_once(" ").unwrap_or((question, ""));
+    if what == "holds" {
+        let Some(leaf) = CellId::from_token(words.as_bytes()) else {
+            return add_line(found, "no cell");
+        };
+        if !leaf.is_leaf() {
+            return add_line(found, "no leaf");
+        }
+        return add_line(found, yes_or_no(polygon.holds(alloc, leaf)?));
+    }
+    let [level, most, ..] = numbers_of(words);
+    let level = small(level);
+    if level > GREATEST_LEVEL || most > MOST_COVERING as u64 {
+        return add_line(found, "out of range");
+    }
+    let made = if what == "outer" {
+        polygon.outer(alloc, level, most as usize)
+    } else {
+        polygon.inner(alloc, level, most as usize)
+    };
+    add_covering(found, made)
+}
+
+/// Adds the cells of a covering, or why there is none.
+fn add_covering(
+    found: &mut Vec<u8>,
+    made: Result<CellUnion, CoverFault>,
+) -> Result<(), AllocError> {
+    match made {
+        Ok(union) => add_cells(found, union.cells()),
+        Err(CoverFault::TooMany) => add_line(found, "too many"),
+        Err(CoverFault::Memory) => add_line(found, "memory"),
+    }
+}
