@@ -11,6 +11,7 @@ mod descent;
 mod directions;
 mod faces;
 mod fault;
+mod few;
 mod frames;
 pub mod laws;
 mod meeting;

@@ -1,0 +1,55 @@
+//! The coverings of a polygon by few cells.
+ghost use Rattle.std.specs.Prelude.{◌≤◌, length, max, IfOk};
+ghost use Rattle.s2list.specs.Union.{IsLocal, IsWithin, has_leaf};
+ghost use Rattle.s2cover.specs.Coverings.{EachShares, HasAllOf, NoneDeeper};
+ghost use Rattle.s2polygon.specs.Leaves.{inner_leaf, outer_leaf};
+
+use crate::polygon::Polygon;
+use crate::quadrant::Walked;
+use s2cell::GREATEST_LEVEL;
+use s2cover::{MOST_COVERING, inner_up_to, outer_up_to};
+use s2union::CellUnion;
+use std::alloc::{AllocError, Global};
+
+impl Polygon {
+    /// An outer covering of at most `most` cells, or 6 if that is more, none of them deeper than the level `deepest`.
+    /// No outer leaf is missing, and each cell has one. Fails only if there is no memory.
+    ///
+    /// S2: `GetCovering` of an `S2Polygon` with `max_cells` and `max_level`.
+    pub fn outer_up_to(
+        &self,
+        alloc: Global,
+        deepest: u8,
+        most: usize,
+    ) -> Result<CellUnion, AllocError>
+        requires level { deepest ≤ GREATEST_LEVEL }
+        requires most { most ≤ MOST_COVERING }
+        ensures leaves { IfOk result (λ u. HasAllOf (outer_leaf self.now) u.cells) }
+        ensures shares { IfOk result (λ u. EachShares (outer_leaf self.now) u.cells) }
+        ensures within { IfOk result (λ u. length u.cells ≤ max most 6) }
+        ensures level { IfOk result (λ u. NoneDeeper deepest u.cells) }
+        ensures local { IfOk result (λ u. IsLocal u.cells) }
+    {
+        outer_up_to(alloc, &Walked { polygon: self }, deepest, most)
+    }
+
+    /// An inner covering of at most `most` cells, none of them deeper than the level `deepest`. Its leaves are inner
+    /// ones. Fails only if there is no memory.
+    ///
+    /// S2: `GetInteriorCovering` of an `S2Polygon` with `max_cells` and `max_level`.
+    pub fn inner_up_to(
+        &self,
+        alloc: Global,
+        deepest: u8,
+        most: usize,
+    ) -> Result<CellUnion, AllocError>
+        requires level { deepest ≤ GREATEST_LEVEL }
+        requires most { most ≤ MOST_COVERING }
+        ensures leaves { IfOk result (λ u. IsWithin (has_leaf u.cells) (inner_leaf self.now)) }
+        ensures within { IfOk result (λ u. length u.cells ≤ most) }
+        ensures level { IfOk result (λ u. NoneDeeper deepest u.cells) }
+        ensures local { IfOk result (λ u. IsLocal u.cells) }
+    {
+        inner_up_to(alloc, &Walked { polygon: self }, deepest, most)
+    }
+}
