@@ -15,8 +15,9 @@ struct Rings {
     ends: Vec<usize>,
 }
 
-/// Makes a call `polygon`, `outer LEVEL MOST`, `inner LEVEL MOST` or `holds LEAF`, each followed by `/ MARGIN OUTSIDE /
-/// X Y Z X Y Z .. / X Y Z ..`, and adds its answer. False for the name of another call.
+/// Makes a call `polygon`, `outer LEVEL MOST`, `inner LEVEL MOST`, `outer_up_to LEVEL MOST`, `inner_up_to LEVEL MOST` or
+/// `holds LEAF`, each followed by `/ MARGIN OUTSIDE / X Y Z X Y Z .. / X Y Z ..`, and adds its answer. False for the name
+/// of another call.
 pub fn answer(
     alloc: Global,
     name: &str,
@@ -114,12 +115,13 @@ fn add_answer(
     if level > GREATEST_LEVEL || most > MOST_COVERING as u64 {
         return add_line(found, "out of range");
     }
-    let made = if what == "outer" {
-        polygon.outer(alloc, level, most as usize)
-    } else {
-        polygon.inner(alloc, level, most as usize)
-    };
-    add_covering(found, made)
+    let most = most as usize;
+    match what {
+        "outer" => add_covering(found, polygon.outer(alloc, level, most)),
+        "inner" => add_covering(found, polygon.inner(alloc, level, most)),
+        "outer_up_to" => add_cells(found, polygon.outer_up_to(alloc, level, most)?.cells()),
+        _ => add_cells(found, polygon.inner_up_to(alloc, level, most)?.cells()),
+    }
 }
 
 /// Adds the cells of a covering, or why there is none.
