@@ -30,6 +30,7 @@ questions() { PYTHONPATH=$top/tests /usr/bin/python3 -B -m model.vectors "$round
 step "questions" questions
 step "against the model" node "$tests/vectors.mjs" "$module" "$work/vectors"
 step "what is refused, and what stays" node "$tests/refusals.mjs" "$module" "$version" "$cells"
+step "the page's own code, without a browser" node "$tests/page.mjs" "$top"
 
 places() { PYTHONPATH=$top/tests /usr/bin/python3 -B -c 'from model.places import POINTS
 for place in POINTS: print(*place)' >"$work/places"; }
