@@ -241,6 +241,16 @@ class Keys(unittest.TestCase):
             self.assertEqual(it.read(), "count a\n")  # which stands once, though it was given twice
         self.assertEqual(os.stat(it.name).st_mode & 0o777, 0o600)
 
+    def test_a_long_history(self):
+        """Of more than 2,000 lines the last 1,000 stay at the next start."""
+        path = os.path.join(self.room, "state/s2calc/history")
+        os.makedirs(os.path.dirname(path))
+        with open(path, "w", encoding="ascii") as it:
+            it.writelines(f"# {number}\n" for number in range(3000))
+        self.assertEqual(self.status(self.started()), 0)
+        with open(path, encoding="ascii") as it:
+            self.assertEqual(it.read().split("\n")[:-1], [f"# {number}" for number in range(2000, 3000)])
+
     def test_tab(self):
         for name in ("parks", "paths", "no name", ".hidden"):
             with open(os.path.join(self.room, name), "wb"):
@@ -270,7 +280,7 @@ class Keys(unittest.TestCase):
         self.answered(shell, "add a 04")
         shell.send("count b" + BACKSPACE)
         self.shown(shell, "count b\b\x1b[K")
-        self.signaled(shell, STOP, self.child(shell))
+        self.signaled(shell, STOP, self.child(shell.pid))
         self.shown(shell, "Stopped")
         self.shown(shell, "$ ")
         shell.send("fg\r")
@@ -282,6 +292,37 @@ class Keys(unittest.TestCase):
         self.shown(shell, "$ ")
         shell.send("echo $?\r")
         shell.expect(r"\n0\r\n")
+
+    def test_stop_during_an_answer(self):
+        """Ctrl-Z while nobody reads the answer: the program is stopped too. After `fg` it goes on to its end."""
+        path = os.path.join(self.room, "answers")
+        os.mkfifo(path)
+        shell = self.spawned("bash", "--norc", "--noprofile", "-i", PS1="$ ")
+        self.shown(shell, "$ ")
+        shell.send(f"{LAUNCHER} run >answers\r")
+        with open(path, "rb") as answers:
+            self.shown(shell)
+            self.answered(shell, "add a 1")
+            self.assertEqual(answers.readline(), b"ok 0 1\n")
+            prompt = self.child(shell.pid)
+            program, until = self.child(prompt), time.monotonic() + SECONDS
+            shell.send("denorm a 9 1\r")
+            self.assertNotEqual(answers.readline(), b"")
+            shell.send(STOP)
+            self.shown(shell, "Stopped")
+            while [self.state(process) for process in (prompt, program)] != ["T", "T"]:
+                self.assertLess(time.monotonic(), until)
+                time.sleep(0.01)
+            self.shown(shell, "$ ")
+            shell.send("fg\r")
+            rest = [answers.readline() for _ in range(4**9)]
+            self.assertEqual(rest[-1], b"end\n")
+            self.shown(shell)
+            self.assertEqual(self.answered(shell, "count b"), "")
+            self.assertEqual(answers.readline(), b"cells 0 leaves 0\n")
+            shell.send(END)
+            self.assertEqual(answers.read(), b"")
+        self.shown(shell, "$ ")
 
     # ---- lines and answers
 
@@ -432,13 +473,13 @@ class Keys(unittest.TestCase):
         self.assertEqual(self.answered(session, UP, "count a"), "cells 0 leaves 0\n")
         self.assertEqual(self.status(session), 0)
 
-    def child(self, session):
-        with open(f"/proc/{session.pid}/task/{session.pid}/children", encoding="ascii") as it:
+    def child(self, process):
+        with open(f"/proc/{process}/task/{process}/children", encoding="ascii") as it:
             return int(it.read().split()[0])
 
     def test_the_program_ends(self):
         session = self.started()
-        os.kill(self.child(session), signal.SIGKILL)
+        os.kill(self.child(session.pid), signal.SIGKILL)
         session.send("count a\r")
         self.assertIn("\ns2calc: the program was ended by signal 9\n", self.shown(session, pexpect.EOF))
         session.close()
@@ -455,7 +496,7 @@ class Keys(unittest.TestCase):
         session = self.started()
         session.send("add a 04")
         self.shown(session, "add a 04")
-        child, until = self.child(session), time.monotonic() + SECONDS
+        child, until = self.child(session.pid), time.monotonic() + SECONDS
         session.close(True)
         while os.path.exists(f"/proc/{child}"):
             if self.state(child) == "Z":
