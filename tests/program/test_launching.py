@@ -290,6 +290,17 @@ class Scripts(unittest.TestCase):
                                   stderr=subprocess.PIPE, check=False, timeout=60)
         self.assertEqual((done.returncode, done.stderr), (2, b"s2calc: output\n"))
 
+    def test_statuses_of_draw(self):
+        """Those of the program, also where it stops in the middle of a picture."""
+        with tempfile.TemporaryDirectory() as room:
+            program = os.path.join(room, "program")
+            for status in 0, 2, 3:
+                with open(program, "w", encoding="ascii") as it:
+                    it.write(f"#!/bin/sh\nprintf '<svg'\nexit {status}\n")
+                os.chmod(program, 0o755)
+                found = launched("draw", "a", env={**ENVIRONMENT, "S2CALC_PROGRAM": program})
+                self.assertEqual(found, (status, b"<svg", b""))
+
     def test_no_picture_stays(self):
         """In the folder for temporary files, whether it is drawn or not."""
         with tempfile.TemporaryDirectory() as room:
