@@ -35,6 +35,7 @@ python() {
 }
 step "against the model, and the module" python -m pytest test_library.py
 step "the functions of its module in C" python -m pytest test_calls.py
+step "what all languages are asked" python -m pytest test_questions.py
 step "the edges" python -m pytest test_edges.py
 without_memory() { # Python's memory is the C library's own
   gcc -std=c11 -O2 "${strict[@]}" -fPIC -shared "$top/tests/refuse.c" -o "$work/refuse.so" &&

@@ -210,6 +210,14 @@ class Polygons(unittest.TestCase):
                 self.assertFalse((~outer.contains_cells(cells[lies >= 0])).any(), (corners, most))
                 self.assertFalse(inner.contains_cells(cells[lies < 0]).any(), (corners, most))
 
+    def test_steps_of_long_edges(self):
+        """An edge has as few steps as keep its bend in each to 10 m. None is longer than 5 degrees."""
+        along = polygons._edges_of([[numpy.array([[0.0, 0.0], [20.0, 0.0]])]])
+        self.assertEqual(len(along.slack), math.ceil(math.sqrt(math.radians(20)**2 / 8 / polygons.BEND)))
+        self.assertLessEqual(along.slack.max(), polygons.BEND + polygons.NOISE)
+        around = polygons._edges_of([[numpy.array([[0.0, 90.0], [12.5, 90.0]])]])
+        self.assertEqual(len(around.slack), 3)
+
     def test_bends(self):
         """Of random lines on the map, as far as they go from the chords between their ends, or a little more."""
         random = Random(9)
