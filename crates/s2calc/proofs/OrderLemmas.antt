@@ -821,14 +821,13 @@ module _ {W S : Type 0} (contents : W → Option (List ℕ)) (calls : W → Opti
       ReadsLast (Some 0) reads → stops ≡ true → NoneAfterRefused script reads (replies ++ more))
       → (run : Runs stops may_flush old new result)
       × Ordered contents calls is_sent files may_flush old.world first run.ran a d result
-  Runs-end stops Here old new script replies first output a d mid (Ok tally) r e w reads n closes flushed order halts =
-      (
-        finishes old new stops may_flush script replies output r e w tally closes reads
-            (last_flushed_after may_flush old.calls mid new.calls n flushed)
-            (halts closes.more (length (lines script)) (length (lines script)) closes.seen reads.more reads.holds),
-        Adds-weaker a d _ _ (λ ks k. (k.0, λ last. k.1))
-            (order closes.more (length (lines script)) (length (lines script)) closes.seen),
-      )
+  Runs-end stops Here old new script replies first output a d mid (Ok tally) r e w reads n closes sent order halts = (
+    finishes old new stops may_flush script replies output r e w tally closes reads
+        (last_flushed_after may_flush old.calls mid new.calls n sent)
+        (halts closes.more (length (lines script)) (length (lines script)) closes.seen reads.more reads.holds),
+    Adds-weaker a d _ _ (λ ks k. (k.0, λ last. k.1))
+        (order closes.more (length (lines script)) (length (lines script)) closes.seen),
+  )
   Runs-end stops Here old new script replies first output a d mid (Err fault) r e w reads n closes failed order halts =
       let stopped = stops_at_end old new stops may_flush script replies Here
       (λ rs b begins ends. Adds a d (InOrder contents calls is_sent files may_flush old.world first rs b begins ends

@@ -406,7 +406,9 @@ fn prompt<'a>(alloc: Global) -> Arg<'a> {
 fn stop<'a>(alloc: Global) -> Arg<'a> {
     Arg::new(alloc, "stop")
         .long("stop")
-        .help("Stops at the first line with an error; without it a script goes on, and save replaces a file")
+        .help(
+            "Stops at the first line with an error; without it a script goes on, and save replaces a file",
+        )
         .action(ArgAction::SetTrue)
 }
 

@@ -15,9 +15,9 @@ struct Rings {
     ends: Vec<usize>,
 }
 
-/// Makes a call `polygon`, `outer LEVEL MOST`, `inner LEVEL MOST`, `outer_up_to LEVEL MOST`, `inner_up_to LEVEL MOST` or
-/// `holds LEAF`, each followed by `/ MARGIN OUTSIDE / X Y Z X Y Z .. / X Y Z ..`, and adds its answer. False for the name
-/// of another call.
+/// Makes a call `polygon`, `outer LEVEL MOST`, `inner LEVEL MOST`, `outer_up_to LEVEL MOST`, `inner_up_to LEVEL MOST`
+/// or `holds LEAF`, each followed by `/ MARGIN OUTSIDE / X Y Z X Y Z .. / X Y Z ..`, and adds its answer. False for the
+/// name of another call.
 pub fn answer(
     alloc: Global,
     name: &str,

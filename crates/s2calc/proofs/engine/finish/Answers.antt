@@ -12,20 +12,18 @@ pub returns-then-is_empty-clause-finishes : goal.returns-then-is_empty-clause-fi
 returns-then-is_empty-clause-finishes g c =
     let none : c.args.progress.kept ≡ [] = grind (arith, common_steps) in
     λ start script replies s. MatchResult-weaker c.flush_at_the_end.result c.flush_at_the_end.ensures.result
-    (λ told t. Ended-none start script replies _ _ s _ told _ _ none c.flush_at_the_end.ensures.kept t
-    (
+    (λ told t. Ended-none start script replies _ _ s _ told _ _ none c.flush_at_the_end.ensures.kept t (
       Adds-none _ _ (LastSeen-none g.W.Sink.contents g.W.Sink.calls g.F.Flushing.is_sent g.S.Shelf.files
           g.F.Flushing.may_fail start script replies [] _ _ _ s none),
       omega arith,
     ))
     (λ fault f. (
       f,
-      inr (inl (EndsUnflushed-none start script replies _ _ s _ _ _ none c.flush_at_the_end.ensures.kept
-          (
-            Adds-none _ _ (LastSeen-none g.W.Sink.contents g.W.Sink.calls g.F.Flushing.is_sent g.S.Shelf.files
-                g.F.Flushing.may_fail start script replies [] _ _ _ s none),
-            omega arith,
-          ))),
+      inr (inl (EndsUnflushed-none start script replies _ _ s _ _ _ none c.flush_at_the_end.ensures.kept (
+        Adds-none _ _ (LastSeen-none g.W.Sink.contents g.W.Sink.calls g.F.Flushing.is_sent g.S.Shelf.files
+            g.F.Flushing.may_fail start script replies [] _ _ _ s none),
+        omega arith,
+      ))),
     ))
 
 pub returns-in_err-answer_line-clause-finishes : goal.returns-in_err-answer_line-clause-finishes
@@ -37,10 +35,10 @@ returns-in_err-answer_line-clause-finishes g c =
       done.0,
       elim done.1 [
         | inl part ↦ inl (EndsInPart-part start script replies _ _ s _ some _ _ _ _ part (λ reply begun. (
-              Adds-weaker _ _ _ _ (λ ms l. EndSeen-cut g.W.Sink.contents g.W.Sink.calls g.F.Flushing.is_sent
-                  g.S.Shelf.files g.F.Flushing.may_fail start script replies _ _ _ s reply _ ms some refl l) begun,
-              omega arith,
-            )))
+          Adds-weaker _ _ _ _ (λ ms l. EndSeen-cut g.W.Sink.contents g.W.Sink.calls g.F.Flushing.is_sent
+              g.S.Shelf.files g.F.Flushing.may_fail start script replies _ _ _ s reply _ ms some refl l) begun,
+          omega arith,
+        )))
         | inr failed ↦ inr (Ends-unflushed start script replies _ _ s _ some _ _ _ _ _ _ _ failed.0 failed.1
             (λ unseen. (
               Adds-same _ _ _ _ (Adds-none _ _ (EndSeen-none g.W.Sink.contents g.W.Sink.calls g.F.Flushing.is_sent

@@ -203,4 +203,3 @@ returns-clause-runs g c =
           (none_failed_more _ _ _ _ i.none_failed gone_out.none_failed),
       i.seen,
     )
-

@@ -134,15 +134,16 @@ loop-at-preserved g c =
       (i.0 ++ take c.in-Some.at rest) ++ 10 ∷ [],
       cut_after _ i.0 rest c.in-Some.at i.1 ends,
       λ start script replies s none. let here = i.2 start script replies s none in
-      let after = StandsAfter-line start script replies i.0 (take c.in-Some.at rest) _ _ _ _ _ _ _ _ _ here.0
-      ends.before refl refl refl done.0 c.in_ok-answer_next.ensures.cleared refl refl in (
-        after,
-        Adds-trans _ _ _ _ _ _ (λ ms ns p q. MoreSeen-line g.W.Sink.contents g.W.Sink.calls g.F.Flushing.is_sent
-            g.S.Shelf.files g.F.Flushing.may_fail start script replies i.0 (take c.in-Some.at rest) _ _ _ _ _ _ _ _ _ _
-            ms ns here.0 ends.before refl refl refl done.0 i.3 well refl refl p q) here.1 done.1,
-        λ e. none_by_tally (replies ++ after.more) c.answer_next.new.progress.tally after.stands.tally_is
-            (c.is_halted.ensures.goes_on c.if-is_halted.false e),
-      ),
+          let after = StandsAfter-line start script replies i.0 (take c.in-Some.at rest) _ _ _ _ _ _ _ _ _ here.0
+          ends.before refl refl refl done.0 c.in_ok-answer_next.ensures.cleared refl refl in (
+            after,
+            Adds-trans _ _ _ _ _ _ (λ ms ns p q. MoreSeen-line g.W.Sink.contents g.W.Sink.calls g.F.Flushing.is_sent
+                g.S.Shelf.files g.F.Flushing.may_fail start script replies i.0 (take c.in-Some.at rest)
+                _ _ _ _ _ _ _ _ _ _ ms ns here.0 ends.before refl refl refl done.0 i.3 well refl refl p q)
+                here.1 done.1,
+            λ e. none_by_tally (replies ++ after.more) c.answer_next.new.progress.tally after.stands.tally_is
+                (c.is_halted.ensures.goes_on c.if-is_halted.false e),
+          ),
       none_failed_more _ _ _ _ i.3 well,
       SameReferences-trans c.args.desk.now c.loop-at.desk c.answer_next.new.desk i.4 c.answer_next.ensures.same,
     )
