@@ -30,6 +30,21 @@ with_serde() ( # by Debian's sources of serde, in place of a registry
 )
 step "against the model, the edges, what is refused, and the examples" for_rust
 step "docs/RUST.md" by_rust
+by_cargo() ( # COMMAND WORD..: in the program's folder
+  cd "$work/by-rust" && CARGO_TARGET_DIR=$work/target "$@" 2>&1
+)
+built_again() { # where libs2union.a is a newer file than what was built of it
+  by_cargo cargo build --offline && touch "$work/usr/lib/libs2union.a" &&
+    by_cargo cargo build --offline | grep "Compiling s2union "
+}
+step "built again, if the library is another" built_again
+without_library() { # where pkg-config answers nothing: it is said what is missing, before anything is linked
+  mkdir "$work/no-library" && printf '#!/bin/sh\necho\n' >"$work/no-library/pkg-config" &&
+    chmod +x "$work/no-library/pkg-config" &&
+    ! by_cargo env PATH="$work/no-library:$PATH" PKG_CONFIG_PATH=none cargo build --offline >"$work/refused" &&
+    grep "libs2union.a is not found: set S2UNION_LIB_DIR" "$work/refused"
+}
+step "without the library" without_library
 step "with serde" with_serde
 packed_crate() ( # cargo package finds nothing missing
   cp -r "$top/bindings/rust" "$work/packed-crate" && rm -r "$work/packed-crate/serde" &&
