@@ -42,7 +42,7 @@ not_stored path bytes calls (inr (inl is)) = subst (AllAt path) (sym is) (refl, 
 not_stored path bytes calls (inr (inr is)) = subst (AllAt path) (sym is) (refl, (refl, (refl, (refl, tt))))
 
 found_at : (f : Finding) (path : List ℕ) (calls : List FileCall) → CallsFor f path calls → AllAt path calls
-found_at NoFile path calls none = not_read path calls none
+found_at NoFile path calls none = not_opened path calls none
 found_at Opened path calls is = subst (AllAt path) (sym is) (refl, (refl, (refl, tt)))
 found_at (Holding bytes) path calls is = subst (AllAt path) (sym is) (refl, (refl, (refl, (refl, (refl, tt)))))
 found_at (Beginning bytes) path calls (more, is) =
