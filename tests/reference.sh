@@ -21,5 +21,16 @@ by_man() { # each call has a page, which names its errors; the header's name is 
     [ -s "$work/made/man/man3/$call.3" ] && grep -q "$call *(" "$work/said" || { echo "$call" && return 1; }
   done
 }
+by_sql() { ! grep -F "&#x27;&#x27;" "$work/made/sql/index.html"; }
+step "SQL: the quotes of comments, once each" by_sql
+of_python() { [ ! -e "$work/made/python/objects.inv" ]; }
+step "Python: no list of names for other references" of_python
+warned() ( # a text in a docstring that has no end: sphinx warns of it, and goes on
+  mkdir "$work/copy" && cd "$top" &&
+    cp -r --parents VERSION tools crates/s2union_c/include bindings/python "$work/copy" && cd "$work/copy" &&
+    sed -i 's/^def face(.*/&\n    """``has no end"""/' bindings/python/s2union/__init__.py &&
+    ! /usr/bin/python3 tools/reference "$work/refused" python >"$work/said" && grep -q WARNING "$work/said"
+)
+step "Python: a warning is an error" warned
 if command -v man >/dev/null; then step "the manual pages" by_man; fi
 finish
