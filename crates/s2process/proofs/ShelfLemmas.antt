@@ -24,7 +24,7 @@ found_more calls c = fold-append found_after [] calls (c ∷ [])
 -- what a folder asks for a file that it finds is what it may ask for one for which there is no memory
 failed_after : (f : Finding) (content : Option (List ℕ)) → Allows f content → (path : List ℕ) (calls : List FileCall) →
     CallsFor f path calls → CallsFor (ItFailed Memory) path calls
-failed_after NoFile content allows path calls asked = inr asked
+failed_after NoFile content allows path calls asked = inr (inl asked)
 failed_after Opened content allows path calls asked = absurd allows
 failed_after (Holding bytes) content allows path calls asked = inr (inr (bytes, asked))
 failed_after (Beginning bytes) content allows path calls (more, asked) = inr (inr (bytes ++ more, asked))
