@@ -60,12 +60,12 @@ final class Refusals {
       for (int status : new int[] {-99, -1, -7, -14}) {
         check(refusal.newInstance(status, 0L).kind() == Refusal.Kind.OTHER, "the kind of " + status);
       }
-      var room = Class.forName("s2union.Calls").getDeclaredMethod("roomOf", long.class);
-      room.setAccessible(true);
-      check(room.invoke(null, Integer.MAX_VALUE - 8L).equals(Integer.MAX_VALUE - 8), "the longest list");
+      var length = Class.forName("s2union.Calls").getDeclaredMethod("lengthOf", long.class);
+      length.setAccessible(true);
+      check(length.invoke(null, Integer.MAX_VALUE - 8L).equals(Integer.MAX_VALUE - 8), "the longest list");
       for (long more : new long[] {Integer.MAX_VALUE - 7L, Integer.MAX_VALUE, 1L << 31, 1L << 40, -1}) {
         try {
-          check(false, "a list of " + more + ": " + room.invoke(null, more));
+          check(false, "a list of " + more + ": " + length.invoke(null, more));
         } catch (java.lang.reflect.InvocationTargetException error) {
           check(error.getCause() instanceof Refusal many && many.kind() == Refusal.Kind.MANY, "" + more);
         }
