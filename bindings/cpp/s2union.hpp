@@ -145,7 +145,7 @@ class Room {
   Room& operator=(const Room&) = delete;
   ~Room() { ::operator delete(heap_); }
 
-  /// Whether it has this many now, at least. What it had before is lost.
+  /// Whether it has this many now, at least. Its numbers of before are lost.
   bool has(size_t n) {
     if (n <= size_) return true;
     ::operator delete(heap_);

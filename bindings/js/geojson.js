@@ -121,8 +121,8 @@ function lengthOf({lines}) {
 
 /**
  * How far a line that is straight on the map is at most from the chord between its ends, in radii of the earth. A curve
- * is nowhere farther from its chord than an eighth of its greatest acceleration. That of a line which in a unit of time
- * goes `wide` and `high`, in radians, has the square cos^2 wide^4 + 2 (1 + sin^2) wide^2 high^2 + high^4 at a latitude
+ * is nowhere farther from its chord than an eighth of its greatest acceleration. For a line which in a unit of time
+ * goes `wide` and `high`, in radians, its square is cos^2 wide^4 + 2 (1 + sin^2) wide^2 high^2 + high^4 at a latitude
  * of this cosine and sine.
  */
 function bendOf([x, y], [toX, toY]) {

@@ -1,5 +1,5 @@
 """docs/MARIADB.md: each user function over columns of files, texts, cells, numbers and degrees, row by row beside the
-function of SQLite. What differs is in BESIDE and in the functions below it."""
+function of SQLite. BESIDE and the functions below it have the differences."""
 
 import itertools
 import re

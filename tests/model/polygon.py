@@ -97,7 +97,7 @@ class Polygon:
 
     def way(self, face, i, j, size):
         """Whether the way to the middle of the cell, from that of each of its ancestors to the next, first along the
-        row and then along the column, is crossed an odd number of times. What was found of a cell is kept."""
+        row and then along the column, is crossed an odd number of times. The answer about a cell is kept."""
         key = face, i, j, size
         if key not in self.ways:
             self.ways[key] = self.is_odd_face(face) if size == SIDE else self.way_from_parent(face, i, j, size)

@@ -208,9 +208,9 @@ def _number(value: Any, most: int, what: str) -> int:
 def _bends(start: Any, across: Any) -> Any:
     """How far lines that are straight on the map are at most from the chords between their ends, in radii of the earth.
 
-    A curve is nowhere farther from its chord than an eighth of its greatest acceleration. That of a line which in a
-    unit of time goes `wide` and `high`, in radians, has the square cos^2 wide^4 + 2 (1 + sin^2) wide^2 high^2 + high^4
-    at a latitude of this cosine and sine."""
+    A curve is nowhere farther from its chord than an eighth of its greatest acceleration. For a line
+    which in a unit of time goes `wide` and `high`, in radians, its square is
+    cos^2 wide^4 + 2 (1 + sin^2) wide^2 high^2 + high^4 at a latitude of this cosine and sine."""
     wide, high = numpy.radians(across.T)**2
     south, north = numpy.sort([start[:, 1], start[:, 1] + across[:, 1]], axis=0)
     least = numpy.radians(numpy.maximum(0, numpy.maximum(south, -north)))

@@ -215,7 +215,7 @@ def points(cells: Any) -> Any:
 
 
 def _ids_of(cells: Any) -> Any:
-    """The numbers of cells as they lie, or else in bytes. What is no cell is an error of the first that is none."""
+    """The numbers of cells as they lie, or else in bytes. The first number that is no cell is an error."""
     if isinstance(cells, CellUnion):
         return cells.ids
     if isinstance(cells, numpy.ndarray) and cells.ndim == 1 and cells.dtype in ("uint64", "int64"):
