@@ -287,8 +287,7 @@ def ends_of_parts(counts, room):
             contextlib.redirect_stdout(io.StringIO()) as said:
         lacking = [module.lacks_kit(module.chosen([], tier)) for tier in ("quick", "gate")]
     counts.tell("the quick tier without the kit", lacking == [False, True], said.getvalue())
-    for name in "needs", "sources":
-        (room / f"{name}.py").write_text("raise ImportError\n")
+    (room / "sources.py").write_text("raise ImportError\n")
     done = subprocess.run([TOP / "tests" / "run", "--list"], capture_output=True, text=True, check=False,
                           env={**os.environ, "PYTHONPATH": str(room), "LC_ALL": "xx_YY"})
     counts.tell("modules of the user's in the place of its own", done.returncode == 0, done.stderr)

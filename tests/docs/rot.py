@@ -2,7 +2,7 @@
 twice, word for word, functions with many arms, lines of more than 120 characters, hosts of package registries, words
 that the house avoids, habits of tests/docs/prose.py, and proofs that grow. tests/docs/pages.py looks for paths.
 
-UNCITED, DOUBLES, WORDS and PROOFS are the most that may stand, and MANY_ARMS what may: what stood there when this check
+UNCITED, DOUBLES and PROOFS are the most that may stand, and MANY_ARMS what may: what stood there when this check
 came, and less from time to time. The last line is 'N passed, M failed', where N counts the declarations, the files, the
 words, the pages and the files of proofs. A check that has nothing to look at fails.
 """
@@ -36,7 +36,7 @@ MANY_ARMS = {"s2calc/src/command_line.rt: arg_of", "s2calc/src/edits.rt: edit_re
              "s2calc/src/notes.rt: put_reason", "s2calc/src/questions.rt: answer_to", "s2calc/src/refusal.rt: name",
              "s2script/src/misfit.rt: refusal", "s2script/src/misfit_text.rt: put_wanted",
              "s2script/src/refusal.rt: name"}
-WORDS = {"told": 58, "asked about": 0, "so many": 0, "refused where": 0, "exactly if": 26}
+AVOIDED = ("asked about", "so many", "refused where")
 # Lines of proof, which may only fall; the body of a commit that raises them says why.
 PROOFS = 55_121
 # Files whose lines may be long: pages and tables of rows, which are not wrapped, texts of others, and what pins a line.
@@ -231,16 +231,11 @@ def hosts():
 
 
 def avoided():
-    """The number of words that the house avoids, and those that stand more often than they did, with where."""
-    files = [name for name in tracked(ROOT) if not name.endswith(("/mutants.txt", "/rot.py"))]
-    texts = {name: re.sub(r"\s+", " ", text_of(name)) for name in files}
-    more = []
-    for word, most in WORDS.items():
-        form = re.compile(rf"\b{word}\b", re.I)
-        found = {name: count for name, text in texts.items() if (count := len(form.findall(text)))}
-        if sum(found.values()) > most:
-            more.append(f"'{word}' {sum(found.values())} times, where {most} is the most: {found}")
-    return len(WORDS), more
+    """The number of words that the house avoids, and those that stand somewhere, with where."""
+    texts = {name: re.sub(r"\s+", " ", text_of(name)) for name in tracked(ROOT)
+             if not name.endswith(("/mutants.txt", "/rot.py"))}
+    return len(AVOIDED), [f"'{word}' in {name}" for word in AVOIDED for name, text in texts.items()
+                          if re.search(rf"\b{word}\b", text, re.I)]
 
 
 def proofs():
