@@ -60,6 +60,11 @@ own_heap() { # tools/runtime's, which stands for the kit's where the kit has non
     program traps "$noheap" -fsanitize=address,undefined -fno-sanitize-recover "$work/heap.o"
 }
 step "each allocation refused in turn, and traps, by the heap for other processors" own_heap
+outlined() {
+  program outline "$static" -fsanitize=address,undefined "$work/refuse.o" -lm &&
+    g++ -x c++ -std=c++11 "${strict[@]}" -I"$include" -fsyntax-only "$include/s2union_outline.h"
+}
+step "outlines on a map, each allocation refused in turn" outlined
 step "200,000 lists of garbage" program garbage "$static" -fsanitize=address
 step "few pages read of the cells that a search passes" program pages "$static"
 step "8 threads" program threads "$static"

@@ -20,8 +20,8 @@ import pywraps2 as s2
 import s2union_geo.frames
 from earth import all_pairs, points_of_the_sphere
 from model import borders
-from s2union import CellUnion, from_tokens, to_signed, tokens
-from s2union_geo import area, boundary, coverings, leaves, points, to_geojson
+from s2union import CellUnion, child, from_tokens, to_signed, tokens
+from s2union_geo import area, boundary, coverings, leaves, outline, points, to_geojson
 from s2union_geo.geojson import rings
 from s2union_geo.sphere import sphere
 from shapely.geometry import Point, shape
@@ -208,6 +208,19 @@ SQL
             theirs = [corners_of(numpy.array(next(lines).split(), float).reshape(-1, 2)) for _ in range(int(count))]
             ours = [corners_of(numpy.array(line)) for line in boundary(union)["coordinates"]]
             self.assertEqual((len(ours), set(ours)), (len(theirs), set(theirs)))
+
+    def test_outlines_are_valid(self):
+        """Of all coverings of countries, and of unions with faces, poles and corners that touch: for GEOS, with the
+        middles of the cells' children and none of the complement's."""
+        made = ("1", "5", "7", "1 3 5 7 9 b", "04 0c 1c", "04 14", "2c 5c", "")
+        countries = (self.union(f"countries/{name}") for name in sorted(os.listdir(self.file("countries"))))
+        for union in [*map(CellUnion.from_tokens, made), *countries]:
+            polygon = shape(outline(union))
+            self.assertTrue(polygon.is_valid)
+            contains = prep(polygon).contains
+            for cells, is_in in ((union, True), (~union, False)):
+                for place in zip(*points([child(cell, k) for cell in cells if not cell & 1 for k in range(4)])):
+                    self.assertEqual(contains(Point(*place)), is_in)
 
     def test_gdal_reads_union_files(self):
         """Each covering of a country is a layer with its cells, which go through GeoPackage; and what is no union."""

@@ -101,6 +101,10 @@ def test_places_in_degrees():
     assert array("Q", calls.leaves(memoryview(x), memoryview(y))).tolist() == [paris, 0, other]
     assert [calls.leaf(*place) for place in zip(x, y)] == [paris, 0, other]
     assert array("d", calls.middles(memoryview(array("Q", [FACE, CELL])))).tolist()[::2] == [0.0, 0.0]
+    assert [len(it) // 8 for it in calls.boundary(memoryview(array("Q", [FACE])))] == [10, 1, 0]
+    for call in calls.boundary, calls.outline:
+        with pytest.raises(ValueError, match="not normalized"):
+            call(memoryview(array("Q", [FACE, CELL])))
     with pytest.raises(ValueError, match="not a cell: 0x2$"):
         calls.middles(memoryview(array("Q", [FACE, 2])))
 

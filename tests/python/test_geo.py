@@ -22,7 +22,7 @@ import numpy
 import pytest
 import s2union_geo
 from s2union import Union, from_face_ij, from_token, level, parent, square, tokens
-from s2union_geo import (area, boundary, covering, coverings, interior, leaf, leaves, points, read_geojson,
+from s2union_geo import (area, boundary, covering, coverings, interior, leaf, leaves, outline, points, read_geojson,
                          to_geojson)
 from s2union_geo import crossings, geojson, interrupts, polygons, sphere
 from s2union_geo.__main__ import main
@@ -550,6 +550,45 @@ class Maps(unittest.TestCase):
         self.assertEqual({(round(x % 360, 9), round(y, 9)) for x, y in line},
                          {(round(x % 360, 9), round(y, 9)) for x, y in ring})
 
+    def test_outlines(self):
+        """Parts that hang together by their sides, the holes of each, and the middles of all squares."""
+        random = Random(13)
+        for turn in range(20):
+            squares = {(i, j) for i in range(1, 9) for j in range(1, 9) if random.random() < turn / 20}
+            place = random.choice([2**28, 2**29 - 4 * SIDE])  # or around the middle of a face
+            cells = {(i, j): parent(from_face_ij(turn % 6, place + SIDE * i, place + SIDE * j), 6)
+                     for i in range(10) for j in range(10)}
+            union = Union(cells[it] for it in squares)
+            polygons = outline(union)["coordinates"]
+            if place == 2**28 or turn % 6 in (0, 1, 4):  # not cut by the date line
+                self.assertEqual(sorted(map(len, polygons)),
+                                 sorted(len(parts_of(set(cells) - part)) for part in parts_of(squares)))
+            found = points(cells.values())
+            for it, *middle in zip(cells, *found):
+                self.assertEqual([sum(is_in(ring, *middle) for ring in polygon) % 2 for polygon in polygons].count(1),
+                                 it in squares)
+            for polygon in polygons:
+                for k, ring in enumerate(polygon):
+                    self.assertEqual((ring[0], len(ring)), (ring[-1], 1 + len({*map(tuple, ring)})))
+                    twice = sum(x * b - a * y for (x, y), (a, b) in zip(ring, ring[1:]))
+                    self.assertEqual(twice < 0, k > 0)
+
+    def test_outlines_around_poles_and_the_whole_sphere(self):
+        def ends(token):
+            polygons = outline(Union.from_tokens(token))["coordinates"]
+            positions = [position for polygon in polygons for ring in polygon for position in ring]
+            return [[len(it) for it in polygons], *([pick(it) for it in zip(*positions)] for pick in (min, max))]
+
+        self.assertEqual(ends("1 3 5 7 9 b"), [[1], [-180, -90], [180, 90]])
+        (parts, (west, south), (east, north)) = ends("5")
+        self.assertEqual((parts, west, east, north), ([1], -180, 180, 90))
+        self.assertAlmostEqual(south, 35.2643896827546)
+        self.assertEqual([ends(token)[0] for token in ("7", "1 9", "5c", "2c 5c")], [[1, 1], [1], [1], [1, 1]])
+        self.assertEqual(outline(Union()), {"type": "MultiPolygon", "coordinates": []})
+        self.assertEqual(to_geojson(Union.from_tokens("14 1c"), dissolve=True, name="x")["features"],
+                         [{"type": "Feature", "properties": {"name": "x"},
+                           "geometry": outline(Union.from_tokens("14 1c"))}])
+
     def test_the_command_line(self):
         self.assertEqual(said("leaves", text="2.3522 48.8566 Paris\n\n0 90 North Pole\n").stdout,
                          "47e66e1d8f8be23b\n5000000000000001\n")
@@ -571,12 +610,42 @@ def sides(union):
     """The steps of the boundary of a union, in parts as long as the side of a cell of level 6, on a cube whose faces
     are 2**30 from its middle."""
     found = set()
-    for line in outlines._lines(union):
-        for start, end in zip(line, line[1:]):
+    for line in boundary(union)["coordinates"]:
+        corners = [on_the_cube(*position) for position in line]
+        for start, end in zip(corners, corners[1:]):
             count = max(abs(b - a) for a, b in zip(start, end)) // (2 * SIDE)
             stops = [tuple(a + (b - a) * k // count for a, b in zip(start, end)) for k in range(count + 1)]
             found |= set(zip(stops, stops[1:]))
     return found
+
+
+def on_the_cube(longitude, latitude):
+    """Where a corner of a cell of level 6 lies on a cube whose faces are 2**30 from its middle."""
+    turn, height = math.radians(longitude), math.radians(latitude)
+    point = math.cos(turn) * math.cos(height), math.sin(turn) * math.cos(height), math.sin(height)
+    far = max(map(abs, point))
+    return tuple(SIDE * round(math.copysign(64 * (math.sqrt(1 + 3 * abs(x / far)) - 1), x)) for x in point)
+
+
+def parts_of(squares):
+    """The parts of squares that hang together by their sides."""
+    left, parts = set(squares), []
+    while left:
+        waiting = [left.pop()]
+        parts.append(set(waiting))
+        while waiting:
+            i, j = waiting.pop()
+            beside = {(i + 1, j), (i - 1, j), (i, j + 1), (i, j - 1)} & left
+            left -= beside
+            waiting += beside
+            parts[-1] |= beside
+    return parts
+
+
+def is_in(ring, longitude, latitude):
+    """Whether a ring goes around a place, by the sides that lie north of it."""
+    return sum((x < longitude) != (a < longitude) and latitude < y + (b - y) * (longitude - x) / (a - x)
+               for (x, y), (a, b) in zip(ring, ring[1:])) % 2 == 1
 
 
 def said(*words, text="", **options):

@@ -1,17 +1,22 @@
-/* Places in degrees for sphere.py of s2union_geo: by s2union_geo.h, so that cells are S2's bit for bit. */
+/* Places in degrees for sphere.py of s2union_geo: by s2union_geo.h, so that cells are S2's bit for bit. And outlines of
+ * unions for its outlines.py, by s2union_outline.h. */
 
 /* The library's calls that the header makes. They are the same for each interpreter, as the library is. */
 static __typeof__(s2u_from_face_ij)* from_face_ij_there;
 static __typeof__(s2u_square_of)* square_of_there;
+static __typeof__(s2u_is_union)* is_union_there;
 #define s2u_from_face_ij from_face_ij_there
 #define s2u_square_of square_of_there
-#include <s2union_geo.h>
+#define s2u_is_union is_union_there
+#include <s2union_outline.h>
 #undef s2u_from_face_ij
 #undef s2u_square_of
+#undef s2u_is_union
 
 static void use_places(const Calls* calls) {
   from_face_ij_there = calls->s2u_from_face_ij;
   square_of_there = calls->s2u_square_of;
+  is_union_there = calls->s2u_is_union;
 }
 
 /* Whether it is a float or an int itself. Of what can become one, Python's side makes it. */
@@ -69,4 +74,32 @@ static PyObject* py_middles(PyObject* module, PyObject* given) {
   if (n == cells.n) return found;
   Py_DECREF(found);
   return refused_number(id, NULL);
+}
+
+/* Rings on a map: longitudes and latitudes in turn, how many positions there are up to the end of each ring, and how
+ * many rings up to the end of each polygon. */
+static PyObject* rings_of(PyObject* given, __typeof__(s2u_geo_outline)* call) {
+  HELD List cells = {0};
+  s2u_geo_rings rings;
+  int32_t status;
+  if (!as_list(given, sizeof(uint64_t), &cells)) return NULL;
+  UNLOCKED(status = call(cells.at, cells.n, &rings));
+  if (status != S2U_OK) return refused(status, NULL);
+  size_t positions = rings.rings ? rings.ring_ends[rings.rings - 1] : 0;
+  PyObject* found = Py_BuildValue("(y#y#y#)", rings.positions, (Py_ssize_t)(positions * 2 * sizeof(double)),
+                                  rings.ring_ends, (Py_ssize_t)(rings.rings * sizeof(size_t)),
+                                  rings.polygon_ends, (Py_ssize_t)(rings.polygons * sizeof(size_t)));
+  s2u_geo_free(&rings);
+  return found;
+}
+
+/* The outline of a union as polygons on a map, and its boundary as lines. */
+static PyObject* py_outline(PyObject* module, PyObject* given) {
+  (void)module;
+  return rings_of(given, s2u_geo_outline);
+}
+
+static PyObject* py_boundary(PyObject* module, PyObject* given) {
+  (void)module;
+  return rings_of(given, s2u_geo_boundary);
 }

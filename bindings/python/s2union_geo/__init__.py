@@ -1,9 +1,9 @@
 """Points and polygons, in degrees, for unions of S2 cells: by numpy, tested beside S2, and not proved.
 
 `leaves` takes longitudes and latitudes to S2's leaves and `points` goes back; `covering` and `interior` make unions of
-polygons, in GeoJSON or of shapely, and `to_geojson` makes GeoJSON of unions. `area` and `boundary` measure a union. The
-longitude comes first, as in GeoJSON. Beside these, `s2union_geo.frames` gives frames of geopandas and pandas an
-accessor `.s2`, and gdal_S2UNION.py in this folder lets GDAL read union files.
+polygons, in GeoJSON or of shapely, and `to_geojson` makes GeoJSON of unions. `area` and `boundary` measure a union, and
+`outline` draws it. The longitude comes first, as in GeoJSON. Beside these, `s2union_geo.frames` gives frames of
+geopandas and pandas an accessor `.s2`, and gdal_S2UNION.py in this folder lets GDAL read union files.
 
 >>> from s2union_geo import covering, interior, leaf
 >>> square = {"type": "Polygon", "coordinates": [[[0, 0], [10, 0], [10, 10], [0, 10], [0, 0]]]}
@@ -14,8 +14,8 @@ accessor `.s2`, and gdal_S2UNION.py in this folder lets GDAL read union files.
 
 from .polygons import MOST_CELLS, covering, coverings, interior
 from .geojson import MOST_BYTES, MOST_POSITIONS, read_geojson, to_geojson
-from .outlines import area, boundary
+from .outlines import area, boundary, outline
 from .sphere import leaf, leaves, points
 
 __all__ = ["leaf", "leaves", "points", "covering", "interior", "coverings", "to_geojson", "read_geojson",
-           "area", "boundary", "MOST_CELLS", "MOST_POSITIONS", "MOST_BYTES"]
+           "area", "boundary", "outline", "MOST_CELLS", "MOST_POSITIONS", "MOST_BYTES"]

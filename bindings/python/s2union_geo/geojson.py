@@ -11,6 +11,7 @@ import numpy
 from s2union import CellUnion, tokens
 
 from .interrupts import look
+from .outlines import outline
 from .sphere import MOST, NO_NUMBERS, geographic, number_of, on_cube, range_of, squares_of
 
 MOST_BYTES = 2**28  # of a text or a file
@@ -142,8 +143,8 @@ def rings(cells: Any) -> Iterator[list[list[float]]]:
         yield ring + ring[:1]
 
 
-def to_geojson(union: CellUnion, **properties: Any) -> dict[str, Any]:
-    """The cells of a union as polygons of GeoJSON.
+def to_geojson(union: CellUnion, *, dissolve: bool = False, **properties: Any) -> dict[str, Any]:
+    """The cells of a union, or its outline, as polygons of GeoJSON.
 
     .. versionadded:: 1.1
 
@@ -151,15 +152,17 @@ def to_geojson(union: CellUnion, **properties: Any) -> dict[str, Any]:
     ----------
     union : CellUnion
         Any union. Faces are cut, since two of them have a pole inside.
+    dissolve : bool
+        Whether one feature with the `outline` of the union is made.
     **properties : object
         Properties of each feature, as JSON has them.
 
     Returns
     -------
     dict
-        A FeatureCollection with a feature for each cell, which has these properties and its token, ``cell``. In a
-        position the longitude comes first, then the latitude, in degrees. A cell across the date line goes on beyond
-        180 or -180 degrees.
+        A FeatureCollection with a feature for each cell, which has these properties and its token, ``cell``; or with
+        one feature that has these properties. In a position the longitude comes first, then the latitude, in degrees.
+        A cell across the date line goes on beyond 180 or -180 degrees.
 
     Raises
     ------
@@ -173,6 +176,9 @@ def to_geojson(union: CellUnion, **properties: Any) -> dict[str, Any]:
     >>> [(feature["properties"], feature["geometry"]["type"]) for feature in found]
     [({'name': 'pond', 'cell': '14'}, 'Polygon')]
     """
+    if dissolve:
+        features = [{"type": "Feature", "properties": properties, "geometry": outline(union)}]
+        return {"type": "FeatureCollection", "features": features}
     cells = numpy.array(union.denormalised(1), "uint64")
     features = [{"type": "Feature", "properties": {**properties, "cell": token},
                  "geometry": {"type": "Polygon", "coordinates": [ring]}}

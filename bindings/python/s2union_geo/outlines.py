@@ -1,13 +1,13 @@
-"""The area of unions in square kilometers, and their boundary as lines."""
+"""The area of unions in square kilometers, their boundary as lines, and their outline as polygons."""
 
 from __future__ import annotations
 
-from typing import Any, Iterator
+from typing import Any
 
 import numpy
-from s2union import CellUnion
+from s2union import CellUnion, _library
 
-from .sphere import SIDE, geographic, on_axes, on_cube_line, squares_of
+from .sphere import SIDE, on_cube_line, squares_of
 
 EARTH = 6371.01  # its mean radius in km, as S2Earth has it
 NODES = 6  # of Gauss and Legendre's rule, along a side
@@ -78,7 +78,7 @@ def boundary(union: CellUnion) -> dict[str, Any]:
     Raises
     ------
     OutOfMemoryError
-        There is no memory for the cells.
+        There is no memory for the lines.
 
     Notes
     -----
@@ -92,59 +92,52 @@ def boundary(union: CellUnion) -> dict[str, Any]:
     >>> [len(line) for line in boundary(CellUnion.from_tokens("04 0c 1c"))["coordinates"]]
     [9]
     """
-    return {"type": "MultiLineString", "coordinates": [_on_map(line) for line in _lines(union)]}
+    rings, _ = _lists_of(*_library.boundary(union.ids))
+    return {"type": "MultiLineString", "coordinates": rings}
 
 
-def _segments(union: CellUnion) -> Any:
-    """Between two corners each, the parts of sides that one cell alone has, in the direction that has it on the left.
-    Corners are whole numbers on a cube, so that those of two faces are the same."""
-    face, i, j, side = squares_of(union)
-    right, up = ((0, side, side, 0), (0, 0, side, side))
-    corners = [numpy.array(on_axes(face, 2 * (i + a) - SIDE, 2 * (j + b) - SIDE, numpy.full_like(face, SIDE)))
-               for a, b in zip(right, up)]
-    start, end = (numpy.hstack(corners[k:] + corners[:k]) for k in (0, 1))
-    axis = (start != end).argmax(axis=0)
-    line = numpy.where(numpy.arange(3)[:, None] == axis, 0, start)
-    # On each line along an axis, a way adds 1 where it starts and takes 1 where it ends: those of two cells that share
-    # a part are opposite, and the sum is 0 there.
-    at = [numpy.vstack([axis, line, numpy.take_along_axis(points, axis[None], 0)]) for points in (start, end)]
-    places, which = numpy.unique(numpy.hstack(at), axis=1, return_inverse=True)
-    change = numpy.repeat([1, -1], len(axis))
-    sums = numpy.cumsum(numpy.bincount(which.ravel(), change, places.shape[1]))
-    corner = numpy.where(numpy.arange(3)[:, None] == places[0], places[4], places[1:4]).T.tolist()
-    for k in numpy.flatnonzero(numpy.rint(sums)):
-        yield (corner[k], corner[k + 1]) if sums[k] > 0 else (corner[k + 1], corner[k])
+def outline(union: CellUnion) -> dict[str, Any]:
+    """The outline of a union, as polygons that a map can fill: without the borders between its cells.
+
+    .. versionadded:: 1.4
+
+    Parameters
+    ----------
+    union : CellUnion
+        Any union.
+
+    Returns
+    -------
+    dict
+        A MultiPolygon of GeoJSON, valid by the rules of simple features: for each part that hangs together a ring
+        around it, counterclockwise, and then its holes, clockwise. Parts that touch in a corner alone are two. In a
+        position the longitude comes first, from -180 to 180 degrees, then the latitude: the date line cuts polygons in
+        two, and one with a pole goes along the map's upper or lower edge. A side that is curved on the map has
+        positions between its corners, so many that no two rings cross.
+
+    Raises
+    ------
+    OutOfMemoryError
+        There is no memory for the polygons.
+
+    Notes
+    -----
+    S2 has none: its polygons are not flat, ``S2Polygon::InitToCellUnionBorder`` is `boundary`.
+
+    Examples
+    --------
+    >>> from s2union import CellUnion
+    >>> [len(polygon) for polygon in outline(CellUnion.from_tokens("14 1c"))["coordinates"]]
+    [1]
+    >>> outline(CellUnion())
+    {'type': 'MultiPolygon', 'coordinates': []}
+    """
+    rings, ends = _lists_of(*_library.outline(union.ids))
+    return {"type": "MultiPolygon", "coordinates": [rings[begin:end] for begin, end in zip([0, *ends], ends)]}
 
 
-def _lines(union: CellUnion) -> Iterator[list[tuple[int, ...]]]:
-    """The segments, one after the other, as closed lines that have no corner twice."""
-    after: dict[tuple[int, ...], list[tuple[int, ...]]] = {}
-    for start, end in _segments(union):
-        after.setdefault(tuple(start), []).append(tuple(end))
-    for begin in list(after):
-        line, places = [begin], {begin: 0}
-        while after[line[-1]]:
-            corner = after[line[-1]].pop()
-            line.append(corner)
-            if corner in places:
-                closed = line[places[corner]:]
-                yield closed
-                del line[places[corner] + 1:]
-                for gone in closed[1:-1]:
-                    del places[gone]
-            else:
-                places[corner] = len(line) - 1
-
-
-def _on_map(line: list[tuple[int, ...]]) -> list[list[float]]:
-    """The longitudes and latitudes of corners, each by the shorter way from the one before. A pole has every longitude:
-    that of the corner before it, and that of the one after it."""
-    part = numpy.array(line, float).T / SIDE
-    positions = numpy.transpose(geographic(*(numpy.sign(part) * ((1 + abs(part))**2 - 1) / 3))).tolist()
-    for k in reversed(range(len(positions))):
-        if abs(positions[k][1]) == 90:
-            before, after = positions[k - 1 if k else -2][0], positions[k + 1 if k + 1 < len(positions) else 1][0]
-            positions[k:k + 1] = [[before, positions[k][1]], [after, positions[k][1]]]
-    for (before, _), position in zip(positions, positions[1:]):
-        position[0] += 360 * round((before - position[0]) / 360)
-    return positions
+def _lists_of(positions: bytes, *ends: bytes) -> tuple[list[list[list[float]]], list[int]]:
+    """The positions of each ring, and how many rings there are up to the end of each polygon."""
+    ring_ends, polygon_ends = (numpy.frombuffer(end, numpy.uintp).tolist() for end in ends)
+    places = numpy.frombuffer(positions, "float64").reshape(-1, 2).tolist()
+    return [places[begin:end] for begin, end in zip([0, *ring_ends], ring_ends)], polygon_ends

@@ -1,0 +1,44 @@
+/* Outlines and boundaries of unions by s2union_outline.h: how many polygons, rings and positions, each allocation
+ * refused in turn, lists that are no unions, and that nothing stays allocated. */
+#include <s2union_outline.h>
+#include "../refuse.h"
+#include "tests.h"
+
+typedef int32_t Way(const uint64_t* ids, size_t n, s2u_geo_rings* rings);
+
+/* A union has so many polygons and rings, whichever allocation is refused on the way to them. */
+static void check_rings(Way* way, const uint64_t* ids, size_t n, size_t polygons, size_t count) {
+  s2u_geo_rings rings;
+  int32_t status = S2U_MEMORY;
+  long blocks = blocks_taken();
+  for (long turn = 1; status == S2U_MEMORY && turn < 1000; turn++) {
+    refuse_memory(turn);
+    status = way(ids, n, &rings);
+    refuse_memory(0);
+    if (status == S2U_MEMORY) CHECK(!rings.positions && !rings.rings && blocks_taken() == blocks);
+  }
+  CHECK(status == S2U_OK && rings.polygons == polygons && rings.rings == count);
+  if (polygons) CHECK(rings.polygon_ends[polygons - 1] == count);
+  s2u_geo_free(&rings);
+  CHECK(blocks_taken() == blocks && !rings.positions);
+}
+
+int main(void) {
+  enum { N = 4096 };
+  static uint64_t ids[N];
+  const uint64_t half = UINT64_C(1) << 60, sphere[6] = {half, 3 * half, 5 * half, 7 * half, 9 * half, 11 * half};
+  const uint64_t nine[9] = {half, half, half, half, half, half, half, half, half}, none[] = {half, 2};
+  s2u_geo_rings rings;
+  check_rings(s2u_geo_outline, ids, 0, 0, 0);
+  check_rings(s2u_geo_outline, sphere, 6, 1, 1);
+  check_rings(s2u_geo_boundary, sphere, 6, 0, 0);
+  check_rings(s2u_geo_outline, sphere + 2, 1, 1, 1); /* around a pole */
+  check_rings(s2u_geo_outline, sphere + 3, 1, 2, 2); /* on the date line */
+  check_rings(s2u_geo_outline, sphere + 1, 5, 1, 2);
+  CHECK(s2u_geo_outline(none, 2, &rings) == S2U_NO_UNION && !rings.positions);
+  CHECK(s2u_geo_outline(nine, 9, &rings) == S2U_NO_UNION && !rings.positions);
+  for (size_t k = 0; k < N; k++) ids[k] = 3 * half + 1 + 16 * k; /* leaves that lie apart */
+  check_rings(s2u_geo_outline, ids, N, N, N);
+  check_rings(s2u_geo_boundary, ids, N, 0, N);
+  return report();
+}
