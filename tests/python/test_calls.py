@@ -103,7 +103,7 @@ def test_places_in_degrees():
     assert array("d", calls.middles(memoryview(array("Q", [FACE, CELL])))).tolist()[::2] == [0.0, 0.0]
     assert [len(it) // 8 for it in calls.boundary(memoryview(array("Q", [FACE])))] == [10, 1, 0]
     for call in calls.boundary, calls.outline:
-        with pytest.raises(ValueError, match="not normalized"):
+        with pytest.raises(ValueError, match="not a normalized list"):
             call(memoryview(array("Q", [FACE, CELL])))
     with pytest.raises(ValueError, match="not a cell: 0x2$"):
         calls.middles(memoryview(array("Q", [FACE, 2])))
