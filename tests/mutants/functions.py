@@ -242,13 +242,13 @@ def restore(texts):
 
 def verdict_on(mutant, lines):
     """What a check said of a mutant's functions. One that only calls a function which isn't proved is not judged: the
-    mistake may be another's."""
+    mistake may be another's. One that depends on holes alone is proved."""
     names = "|".join(map(re.escape, mutant.functions))
     said = [match[1] for line in lines if (match := re.match(rf"^fn (?:\S*::)?(?:{names}): (.*)", line))]
     wrong = [it for it in said if it.startswith(("not proved", "no proof"))]
     if wrong:
         return NOT_TRIED if all(it.startswith("no proof: it calls") for it in wrong) else REFUSED
-    return NOT_REFUSED if said and all(it.startswith("proved") for it in said) else NOT_TRIED
+    return NOT_REFUSED if said and all(it.startswith(("proved", DEPENDS)) for it in said) else NOT_TRIED
 
 
 def words_of(crates):
