@@ -123,7 +123,8 @@ abbrev pub SoughtAlong : (before after all at start result : ℕ) → Type 0
 SoughtAlong before after all at start result = (k : ℕ) → result - start < 2 ^ k →
     (at ≡ 0 → start < result → all < 2 ^ k) → after ≤ before + 2 * k + 2
 
-pub sought_here : (looks all at start : ℕ) → SoughtAlong looks looks all at start start
+-- a search that got nowhere may have looked twice
+pub sought_here : (looks all at start : ℕ) → SoughtAlong looks (looks + 2) all at start start
 sought_here looks all at start k h g = omega arith
 
 -- the same, if the count goes on from `old`
@@ -254,7 +255,7 @@ spent_turn {a} {b} {e} {f} {x} {y} next s ea sb ee sf en = record {
 
 -- and one that ends the walk, which is counted to get twice through both lists at most, with `more` looks
 spent_last : {looks turns far a b x : ℕ} (last more cells d : ℕ) → Spent looks turns far → a ≤ looks + 1 → Sought a b x
-    → last ≤ b + 1 + more → turns ≤ d → more ≤ 2 → (cells ≤ d + 1 → 4 * turns + more ≤ 4 * d) → far + x ≤ 2 * cells
+    → last ≤ b + 1 + more → turns ≤ d → more ≤ 4 → (cells ≤ d + 1 → 4 * turns + more ≤ 4 * d) → far + x ≤ 2 * cells
     → FewForTurns cells d last
 spent_last {looks} {turns} {far} {a} {b} {x} last more cells d s ea sb el ht hm hz hf zero h =
     let p : looks * 1 + 2 * turns ≤ 6 * (1 * turns) + 2 * far = s.most zero in
@@ -389,7 +390,7 @@ few_from a b d k last e some h all =
 -- the looks of a walk that ends in a turn, and `more` before it: by its turns, by the sizes of the lists, for each cell
 pub walked_to_end : {D : ℕ → Type 0} {xs ys : List ℕ} {looks i j a b : ℕ} (p last more : ℕ) →
     Walked D xs ys looks i j → a ≤ looks + 1 → SoughtAlong a b (length xs) i i p → i ≤ p → p ≤ length xs →
-    j ≤ length ys → last ≤ b + 1 + more → more ≤ 2 → more ≤ 2 * length xs → more ≤ 2 * (length ys - j) →
+    j ≤ length ys → last ≤ b + 1 + more → more ≤ 4 → more ≤ 4 * length xs → more ≤ 4 * (length ys - j) →
     (j < length ys) ⊎ (p ≡ i) → FewLooks D xs ys last
 walked_to_end {D} {xs} {ys} {looks} {i} {j} {a} {b} p last more w ea sb ip in_p in_j el two by_m by_n end =
     let m = length xs in

@@ -50,7 +50,8 @@ pub fn places_of_four<C: Cells>(
     places_of_four_counted(cells, first, second, third, fourth, &mut Uncounted)
 }
 
-/// The same, counted: it looks at most as often as four searches that don't take turns.
+/// The same, counted. A quarter takes three looks, and two halvings take two: it looks about one and a half times as
+/// often as four searches that don't take turns.
 pub fn places_of_four_counted<C: LookedAt<K>, K: Count>(
     cells: &C,
     first: CellId,

@@ -1,10 +1,11 @@
 //! Whether a union has the leaves of another: by a walk along both, in which whichever is behind leaps to where the
 //! other one stands.
-ghost use Rattle.std.specs.Prelude.{◌≡◌, ◌+◌, ◌-◌, ◌*◌, ◌^◌, ◌<◌, ◌≤◌, ◌↔◌, ◌⊎◌};
+ghost use Rattle.std.specs.Prelude.{◌≡◌, ◌+◌, ◌-◌, ◌*◌, ◌^◌, ◌<◌, ◌≤◌, ◌↔◌};
 ghost use Rattle.std.specs.Prelude.{ℕ, IsTrue, false, min, length, slice_index};
 ghost use Rattle.s2cell.specs.Cell.{IsCell, first_leaf, size_of};
 ghost use Rattle.s2list.specs.Union.{IsLocal, IsWithin, ShareSome, has_leaf};
 ghost use Rattle.s2list.specs.Looks.{Alternates, FewForTurns, FewForUnion, KnownToHold, KnownToMeet};
+ghost use Rattle.s2list.specs.declared.walk.Question.TheVariants.{Contains};
 ghost use Rattle.s2list.specs.Working.Walk.{Decides, LeavesOpen, Lacks, Settles, OpenTo, After, FewLooks};
 
 use crate::along::find_along;
@@ -12,24 +13,8 @@ use crate::cells::Cells;
 use crate::find::{end_of, first_of};
 use crate::looks::{Count, LookedAt, Uncounted};
 
-/// Whether a union has all leaves of another. Its work follows how the two interleave, as `holds_all` says. The ends of
-/// both are compared first: they decide most questions about regions that lie apart.
+/// Whether a union has all leaves of another. Its work follows how the two interleave, as `holds_all` says.
 pub fn contains<X: Cells, Y: Cells>(whole: &X, part: &Y) -> bool
-    ensures { IsLocal (X.ids whole.now) → IsLocal (Y.ids part.now)
-        → (IsTrue result ↔ IsWithin (has_leaf (Y.ids part.now)) (has_leaf (X.ids whole.now))) }
-{
-    if ends_later(part, whole, &mut Uncounted) {
-        return false;
-    }
-    if begins_earlier(part, whole) {
-        return false;
-    }
-    contains_by_walk(whole, part)
-}
-
-/// The same, by a walk. Its code is not where the ends are compared, since it saves registers.
-#[inline(never)]
-fn contains_by_walk<X: Cells, Y: Cells>(whole: &X, part: &Y) -> bool
     ensures { IsLocal (X.ids whole.now) → IsLocal (Y.ids part.now)
         → (IsTrue result ↔ IsWithin (has_leaf (Y.ids part.now)) (has_leaf (X.ids whole.now))) }
 {
@@ -57,7 +42,8 @@ pub enum Question {
 /// cells, which in the order of their first leaves are in turns `d` runs of each, up to where the answer is known. Then
 /// it looks at most `8 (d + 1) (1 + log2((m + n) / (d + 1)))` times at a number of either list, the logarithm rounded
 /// up: neither list is gone through. By the sizes alone it is at most `42 m (1 + k) + 42` times if the shorter list has
-/// `m` cells and the longer one at most `(m + 1) 2^k`, and at most `8 (m + n) + 8` times.
+/// `m` cells and the longer one at most `(m + 1) 2^k`, and at most `8 (m + n) + 8` times. The ends of both are compared
+/// first, and then their beginnings: they decide most questions about regions that lie apart.
 pub fn holds_all<X: LookedAt<K>, Y: LookedAt<K>, K: Count>(xs: &X, ys: &Y, count: &mut K) -> bool
     ensures answer { IsLocal (X.ids xs.now) → IsLocal (Y.ids ys.now)
         → (IsTrue result ↔ IsWithin (has_leaf (Y.ids ys.now)) (has_leaf (X.ids xs.now))) }
@@ -73,7 +59,10 @@ pub fn holds_all<X: LookedAt<K>, Y: LookedAt<K>, K: Count>(xs: &X, ys: &Y, count
     if ends_later(ys, xs, count) {
         return false;
     }
-    !is_decided(Question::Contains, xs, ys, count)
+    if begins_earlier(ys, xs, count) {
+        return false;
+    }
+    !lacks_one(xs, ys, count)
 }
 
 /// Whether `xs` and `ys` share a leaf, counted, with the bounds of `holds_all`.
@@ -98,8 +87,7 @@ fn ends_later<X: LookedAt<K>, Y: LookedAt<K>, K: Count>(ys: &Y, xs: &X, count: &
     ensures answer { IsLocal (X.ids xs.now) → IsLocal (Y.ids ys.now) → IsTrue result
         → IsWithin (has_leaf (Y.ids ys.now)) (has_leaf (X.ids xs.now)) → ⊥ }
     ensures looks { K.looks count.new ≤ K.looks count.old + 2 }
-    ensures none { length (X.ids xs.now) ≡ 0 ⊎ length (Y.ids ys.now) ≡ 0
-        → K.looks count.new ≡ K.looks count.old }
+    ensures none { length (X.ids xs.now) ≡ 0 → K.looks count.new ≡ K.looks count.old }
     ensures least { min (K.looks count.old) K.most ≤ K.looks count.new }
     ensures some { 0 < length (X.ids xs.now) → 0 < length (Y.ids ys.now)
         → min (K.looks count.old + 2) K.most ≤ K.looks count.new }
@@ -114,14 +102,34 @@ fn ends_later<X: LookedAt<K>, Y: LookedAt<K>, K: Count>(ys: &Y, xs: &X, count: &
 
 /// Whether both have cells, and the first of `ys` begins before the first of `xs`.
 #[inline(always)]
-fn begins_earlier<X: Cells, Y: Cells>(ys: &Y, xs: &X) -> bool
-    ensures { IsLocal (X.ids xs.now) → IsLocal (Y.ids ys.now) → IsTrue result
+fn begins_earlier<X: LookedAt<K>, Y: LookedAt<K>, K: Count>(ys: &Y, xs: &X, count: &mut K) -> bool
+    ensures answer { IsLocal (X.ids xs.now) → IsLocal (Y.ids ys.now) → IsTrue result
         → IsWithin (has_leaf (Y.ids ys.now)) (has_leaf (X.ids xs.now)) → ⊥ }
+    ensures looks { K.looks count.new ≤ K.looks count.old + 2 }
+    ensures none { length (X.ids xs.now) ≡ 0 → K.looks count.new ≡ K.looks count.old }
+    ensures least { min (K.looks count.old) K.most ≤ K.looks count.new }
 {
     if xs.len() == 0 || ys.len() == 0 {
         return false;
     }
-    first_of(ys.id(0)) < first_of(xs.id(0))
+    first_of(ys.look(0, count)) < first_of(xs.look(0, count))
+}
+
+/// Whether `xs` lacks a leaf of a cell of `ys`, by a walk. Its code is not where the ends are compared, since it saves
+/// registers.
+#[inline(never)]
+fn lacks_one<X: LookedAt<K>, Y: LookedAt<K>, K: Count>(xs: &X, ys: &Y, count: &mut K) -> bool
+    ensures found { IsLocal (X.ids xs.now) → IsLocal (Y.ids ys.now) → IsTrue result
+        → (k : ℕ) × (k < length (Y.ids ys.now)) × Decides Contains (X.ids xs.now) (slice_index (Y.ids ys.now) k) }
+    ensures none { IsLocal (X.ids xs.now) → IsLocal (Y.ids ys.now) → result ≡ false
+        → (k : ℕ) → k < length (Y.ids ys.now) → LeavesOpen Contains (X.ids xs.now) (slice_index (Y.ids ys.now) k) }
+    ensures looks { IsLocal (X.ids xs.now) → IsLocal (Y.ids ys.now) → (more : ℕ) → more ≤ 4
+        → more ≤ 4 * length (X.ids xs.now)
+        → FewLooks (λ k. Decides Contains (X.ids xs.now) (slice_index (Y.ids ys.now) k)) (X.ids xs.now) (Y.ids ys.now)
+        (K.looks count.new - K.looks count.old + more) }
+    ensures least { min (K.looks count.old) K.most ≤ K.looks count.new }
+{
+    is_decided(Question::Contains, xs, ys, count)
 }
 
 /// Whether a cell of `ys` decides the question. Each turn passes the cells of `xs` before the next of `ys`, and then
@@ -137,8 +145,8 @@ fn is_decided<X: LookedAt<K>, Y: LookedAt<K>, K: Count>(
         → (k : ℕ) × (k < length (Y.ids ys.now)) × Decides question (X.ids xs.now) (slice_index (Y.ids ys.now) k) }
     ensures none { IsLocal (X.ids xs.now) → IsLocal (Y.ids ys.now) → result ≡ false
         → (k : ℕ) → k < length (Y.ids ys.now) → LeavesOpen question (X.ids xs.now) (slice_index (Y.ids ys.now) k) }
-    ensures looks { IsLocal (X.ids xs.now) → IsLocal (Y.ids ys.now) → (more : ℕ) → more ≤ 2
-        → more ≤ 2 * length (X.ids xs.now) → more ≤ 2 * length (Y.ids ys.now)
+    ensures looks { IsLocal (X.ids xs.now) → IsLocal (Y.ids ys.now) → (more : ℕ) → more ≤ 4
+        → more ≤ 4 * length (X.ids xs.now)
         → FewLooks (λ k. Decides question (X.ids xs.now) (slice_index (Y.ids ys.now) k)) (X.ids xs.now) (Y.ids ys.now)
         (K.looks count.new - K.looks count.old + more) }
     ensures least { min (K.looks count.old) K.most ≤ K.looks count.new }

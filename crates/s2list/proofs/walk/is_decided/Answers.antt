@@ -40,11 +40,11 @@ found g c lx ly =
 -- what a walk that ends here has looked at
 ended : (g : Over) (c : After-find_along-i g) (last more : ℕ) → IsLocal (g.X.Listed.ids c.args.xs.now) →
     IsLocal (g.Y.Listed.ids c.args.ys.now) →
-    last ≤ g.K.Count.looks c.find_along-i.new.count - g.K.Count.looks c.args.count.now + 1 + more → more ≤ 2 →
-    more ≤ 2 * length (g.X.Listed.ids c.args.xs.now) →
+    last ≤ g.K.Count.looks c.find_along-i.new.count - g.K.Count.looks c.args.count.now + 1 + more → more ≤ 4 →
+    more ≤ 4 * length (g.X.Listed.ids c.args.xs.now) →
     FewLooks (λ k. Decides c.args.question (g.X.Listed.ids c.args.xs.now) (get_or (g.Y.Listed.ids c.args.ys.now) k 0))
     (g.X.Listed.ids c.args.xs.now) (g.Y.Listed.ids c.args.ys.now) last
-ended g c last more lx ly few two by_m =
+ended g c last more lx ly few four by_m =
     let n = c.len-n.ensures in
     let fi = c.find_along-i.ensures in
     let more_y = c.look-y.ensures.count in
@@ -53,7 +53,7 @@ ended g c last more lx ly few two by_m =
     c.find_along-i.result last more (c.loop-j.invariant.walked lx ly) (omega arith)
     (sought_from (g.K.Count.looks c.args.count.now) (g.K.Count.looks c.look-y.new.count)
     (g.K.Count.looks c.find_along-i.new.count) _ _ _ _ fi.looks)
-    fi.from fi.within (omega arith) few two by_m (omega arith) (inl (omega arith))
+    fi.from fi.within (omega arith) few four by_m (omega arith) (inl (omega arith))
 
 pub returns-then-i-m-clause-found : goal.returns-then-i-m-clause-found
 returns-then-i-m-clause-found g c lx ly e =
@@ -74,8 +74,8 @@ returns-then-i-m-clause-none g c lx ly e =
     (c.loop-j.invariant.left_open lx ly) (sym c.lacks.ensures ∙ e)
 
 pub returns-then-i-m-clause-looks : goal.returns-then-i-m-clause-looks
-returns-then-i-m-clause-looks g c lx ly more two by_m by_n =
-    ended g (goal.at.returns-then-i-m-clause-looks g c).After-find_along-i _ more lx ly (omega arith) two by_m
+returns-then-i-m-clause-looks g c lx ly more four by_m =
+    ended g (goal.at.returns-then-i-m-clause-looks g c).After-find_along-i _ more lx ly (omega arith) four by_m
 
 pub returns-then-settles-clause-found : goal.returns-then-settles-clause-found
 returns-then-settles-clause-found g c lx ly e =
@@ -91,12 +91,12 @@ returns-then-settles-clause-found g c lx ly e =
     (c.loop-j.j, omega arith, settled c.args.question i c.loop-j.j lx (omega arith) p (test.0 c.if-settles.true))
 
 pub returns-then-settles-clause-looks : goal.returns-then-settles-clause-looks
-returns-then-settles-clause-looks g c lx ly more two by_m by_n =
+returns-then-settles-clause-looks g c lx ly more four by_m =
     let more_x = c.look-x.ensures.count in
-    ended g (goal.at.returns-then-settles-clause-looks g c).After-find_along-i _ more lx ly (omega arith) two by_m
+    ended g (goal.at.returns-then-settles-clause-looks g c).After-find_along-i _ more lx ly (omega arith) four by_m
 
 pub returns-clause-looks : goal.returns-clause-looks
-returns-clause-looks g c lx ly more two by_m by_n =
+returns-clause-looks g c lx ly more four by_m =
     let v = c.loop-j.invariant in
     let in_x = v.in_x in
     let in_y = v.in_y in

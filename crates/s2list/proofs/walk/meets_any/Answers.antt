@@ -10,10 +10,10 @@ returns-clause-answer g c lx ly =
 
 pub returns-clause-looks : goal.returns-clause-looks
 returns-clause-looks g c lx ly d i j cut known k h =
-    let l = (c.is_decided.ensures.looks lx ly 0 (omega arith) (omega arith) (omega arith)).turns d i j cut known k h in
+    let l = (c.is_decided.ensures.looks lx ly 0 (omega arith) (omega arith)).turns d i j cut known k h in
     omega arith
 
 pub returns-clause-sizes : goal.returns-clause-sizes
 returns-clause-sizes g c lx ly k h =
-    let l = (c.is_decided.ensures.looks lx ly 0 (omega arith) (omega arith) (omega arith)).sizes k h in
+    let l = (c.is_decided.ensures.looks lx ly 0 (omega arith) (omega arith)).sizes k h in
     omega arith
