@@ -145,6 +145,10 @@ int main(int argc, char** argv) {
   normalising(table, "normalise_shuffled", drawn);
   std::sort(drawn.begin(), drawn.end());
   normalising(table, "normalise_sorted", drawn);
+  for (size_t count : {8, 1000, 100000, 1000000}) {
+    List cells(x.begin(), x.begin() + std::min(count, x.size()));
+    normalising(table, ("normalise_union_" + std::to_string(count)).c_str(), cells);
+  }
   ancestors(table, x);
   texts(table, x);
   if (table.wants("_10000000")) rows(table, "_10000000", 10 * N);

@@ -127,6 +127,26 @@ pub record Compacting (xs ys : List ℕ) (n i : ℕ) : Type 0 where
   pub starts : (j : ℕ) → i ≤ j → j < length xs → All (λ c. 2 * first_leaf c < get_or xs j 0) (take n ys)
   pub same_length : length ys ≡ length xs
 
+-- packed cells at the front stay where they are
+pub compacting_front : (xs : List ℕ) (n : ℕ) → IsNonDecreasing xs → n ≤ length xs → IsPacked (take n xs) →
+    Compacting xs xs n n
+compacting_front xs n up h packed = record {
+  within = omega arith;
+  packed = packed;
+  leaves = λ x. refl;
+  rest = λ k g. refl;
+  starts = λ j g l k d b.
+      let len : length (take n xs) ≡ n = length-take-le n xs h in
+      let is : get_or (take n xs) k d ≡ get_or xs k d = get_or-take n xs k d (omega arith) in
+      let other : get_or xs k d ≡ get_or xs k 0 = grind (arith, gets) in
+      let cell = cell_leaves (get_or (take n xs) k d) (packed.cells k d b) in
+      let middle = cell.middle in
+      let some = cell.some in
+      let le : get_or xs k 0 ≤ get_or xs j 0 = up k j 0 (omega arith) l in
+      omega arith;
+  same_length = refl;
+}
+
 pub compacting_step : (xs ys zs : List ℕ) (n i m cell : ℕ) → IsNonDecreasing xs → Compacting xs ys n i → i < length xs →
     cell ≡ get_or ys i cell → m ≤ n + 1 → IsPacked (take m zs) → All (λ c. 2 * first_leaf c < cell) (take m zs) →
     ((x : ℕ) → has_leaf (take m zs) x ≡ (has_leaf (take n ys) x || covers cell x)) →

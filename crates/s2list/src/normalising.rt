@@ -7,9 +7,11 @@ ghost use Rattle.s2list.specs.Packed.{IsPacked};
 
 use crate::appending::new_end;
 use crate::cells::CellsMut;
+use crate::whole::union_at_front;
 use s2cell::CellId;
 
-/// Packs cells that are in order into the front of their list, and answers how many they are then. One pass.
+/// Packs cells that are in order into the front of their list, and answers how many they are then. One pass: cells at
+/// the front that are a union are only tested, and stay.
 pub fn pack<C: CellsMut>(list: &mut C) -> usize
     requires readable { C.readable list.old }
     requires order { IsNonDecreasing (C.ids list.old) }
@@ -19,8 +21,9 @@ pub fn pack<C: CellsMut>(list: &mut C) -> usize
     ensures len { length (C.ids list.new) ≡ length (C.ids list.old) }
     ensures place { C.place list.new ≡ C.place list.old }
 {
-    let mut n = 0;
-    for i in 0..list.len() {
+    let front = union_at_front(list);
+    let mut n = front;
+    for i in front..list.len() {
         let cell = list.cell(i);
         n = place_after(list, n, cell);
     }

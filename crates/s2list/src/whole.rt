@@ -25,16 +25,26 @@ const BLOCK: usize = 64;
 pub fn is_union<C: Cells>(cells: &C) -> bool
     ensures { IsTrue result ↔ IsLocal (C.ids cells.now) }
 {
+    union_at_front(cells) >= cells.len()
+}
+
+/// How many numbers from the first on are the cells of a union: all of them, if all are. Linear.
+pub(crate) fn union_at_front<C: Cells>(cells: &C) -> usize
+    ensures within { result ≤ length (C.ids cells.now) }
+    ensures packed { IsPacked (take result (C.ids cells.now)) }
+    ensures whole { IsPacked (C.ids cells.now) → result ≡ length (C.ids cells.now) }
+{
     let len = cells.len();
     let mut k = 0;
     while k < len {
         let stop = k + (len - k).min(BLOCK);
-        if !continues_to(cells, k, stop) {
-            return false;
+        let next = continued_to(cells, k, stop);
+        if next < stop {
+            return next;
         }
         k = stop;
     }
-    true
+    k
 }
 
 /// Whether the numbers from index `start` to before `stop` surely continue a union that the numbers before them are.
@@ -77,14 +87,18 @@ fn differ(a: u64, b: u64) -> bool
     a != b
 }
 
-/// Whether the numbers from index `start` to before `stop` continue a union that the numbers before them are.
-fn continues_to<C: Cells>(cells: &C, start: usize, stop: usize) -> bool
+/// Up to which index, `stop` at most, the numbers from index `start` on continue a union that the numbers before them
+/// are.
+fn continued_to<C: Cells>(cells: &C, start: usize, stop: usize) -> usize
     requires order { start ≤ stop }
     requires within { stop ≤ length (C.ids cells.now) }
-    ensures { IsPacked (take start (C.ids cells.now)) → (IsTrue result ↔ IsPacked (take stop (C.ids cells.now))) }
+    ensures to { result ≤ stop }
+    ensures packed { IsPacked (take start (C.ids cells.now)) → IsPacked (take result (C.ids cells.now)) }
+    ensures whole { IsPacked (take start (C.ids cells.now)) → IsPacked (take stop (C.ids cells.now))
+        → result ≡ stop }
 {
     if surely_continues(cells, start, stop) {
-        return true;
+        return stop;
     }
     // The last three cells, and where they end. 0 is the identifier of no cell.
     let mut a = before(cells, start, 3);
@@ -94,14 +108,14 @@ fn continues_to<C: Cells>(cells: &C, start: usize, stop: usize) -> bool
     for k in start..stop {
         let d = cells.id(k);
         if !continues(a, b, c, d, end) {
-            return false;
+            return k;
         }
         a = b;
         b = c;
         c = d;
         end = end_of(d);
     }
-    true
+    stop
 }
 
 /// The number `back` places before index `k`, or 0 if there is none.

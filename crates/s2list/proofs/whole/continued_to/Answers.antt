@@ -1,4 +1,4 @@
-use Rattle.std.proofs.Common.{◌≡◌, ◌+◌, ◌-◌, ◌<◌, ◌≤◌, ℕ, take, length, get_or, refl, sym, ◌∙◌, arith}
+use Rattle.std.proofs.Common.{◌≡◌, ◌+◌, ◌-◌, ◌<◌, ◌≤◌, ℕ, take, length, get_or, sym, ◌∙◌, arith}
 use Rattle.std.proofs.Math.Logic.{⊎_elim}
 use Rattle.std.proofs.lemmas.Bool.{cases_lt, false≢true}
 use Rattle.std.proofs.lemmas.List.{length-take-le, take-take}
@@ -6,11 +6,11 @@ use Rattle.s2cell.specs.Cell.{IsCell, first_leaf}
 use Rattle.s2list.specs.Packed.{IsFamily, IsPacked}
 use Rattle.s2list.proofs.Families.{cell_from, follows_from, no_family, no_family_from_zero, packed_more}
 use Rattle.s2list.proofs.Packing.{packed_take}
-use Rattle.s2list.proofs.whole.continues_to.Goals as goal
+use Rattle.s2list.proofs.whole.continued_to.Goals as goal
 
-pub returns-then-surely_continues : goal.returns-then-surely_continues
-returns-then-surely_continues g c packed =
-    (λ _. c.surely_continues.ensures c.if-surely_continues.true c.requires.order packed, λ _. refl)
+pub returns-then-surely_continues-clause-packed : goal.returns-then-surely_continues-clause-packed
+returns-then-surely_continues-clause-packed g c packed =
+    c.surely_continues.ensures c.if-surely_continues.true c.requires.order packed
 
 pub loop-k-init : goal.loop-k-init
 loop-k-init g c = record {
@@ -59,40 +59,36 @@ loop-k-preserved g c =
       no_end = λ s. absurd (omega arith);
     }
 
-pub returns-then-not-continues : goal.returns-then-not-continues
-returns-then-not-continues g c first =
+pub returns-then-not-continues-clause-whole : goal.returns-then-not-continues-clause-whole
+returns-then-not-continues-clause-whole g c first l =
     let u = g.C.Listed.ids c.args.cells.now in
     let k = c.loop-k.k in
     let v = c.loop-k.invariant in
     let from = v.from in
-    let h : k < length u = omega arith in (
-      λ e. absurd (false≢true e),
-      λ l.
-          let same : take (k + 1) (take c.args.stop u) ≡ take (k + 1) u =
-          take-take (k + 1) c.args.stop u (omega arith) in
-          let len : length (take c.args.stop u) ≡ c.args.stop = length-take-le c.args.stop u c.requires.within in
-          let p : IsPacked (take (k + 1) u) = rw same at (packed_take (k + 1) (take c.args.stop u) (omega arith) l) in
-          let packed = v.packed first in
-          let own : IsCell c.id-d.result = rw c.id-d.ensures (cell_from u k h p) in
-          let follows : c.loop-k.end ≤ first_leaf c.id-d.result =
-          ⊎_elim
-          (λ (s : 0 < k).
-          let up : (k - 1) + 1 ≡ k = omega arith in
-          let e = v.end s (cell_from u (k - 1) (omega arith) (rw up packed)) in
-          rw (e, c.id-d.ensures) (follows_from u k h p s))
-          (λ (s : k ≤ 0). let e = v.no_end (omega arith) in omega arith)
-          (cases_lt 0 k) in
-          let none : (q : ℕ) → IsFamily c.loop-k.a c.loop-k.b c.loop-k.c c.id-d.result q → ⊥ = λ q f. ⊎_elim
-          (λ (s : 2 < k).
-          let ea = v.a s in let eb = v.b (omega arith) in let ec = v.c (omega arith) in
-          no_family u k h p (omega arith) (rw (ea, eb, ec, c.id-d.ensures) at f))
-          (λ (s : k ≤ 2). no_family_from_zero (v.no_a (omega arith)) f) (cases_lt 2 k) in
-          absurd (false≢true (sym c.if-not-continues.true ∙ c.continues.ensures.1 (own, follows, none))),
-    )
+    let h : k < length u = omega arith in
+    let same : take (k + 1) (take c.args.stop u) ≡ take (k + 1) u = take-take (k + 1) c.args.stop u (omega arith) in
+    let len : length (take c.args.stop u) ≡ c.args.stop = length-take-le c.args.stop u c.requires.within in
+    let p : IsPacked (take (k + 1) u) = rw same at (packed_take (k + 1) (take c.args.stop u) (omega arith) l) in
+    let packed = v.packed first in
+    let own : IsCell c.id-d.result = rw c.id-d.ensures (cell_from u k h p) in
+    let follows : c.loop-k.end ≤ first_leaf c.id-d.result =
+    ⊎_elim
+    (λ (s : 0 < k).
+    let up : (k - 1) + 1 ≡ k = omega arith in
+    let e = v.end s (cell_from u (k - 1) (omega arith) (rw up packed)) in
+    rw (e, c.id-d.ensures) (follows_from u k h p s))
+    (λ (s : k ≤ 0). let e = v.no_end (omega arith) in omega arith)
+    (cases_lt 0 k) in
+    let none : (q : ℕ) → IsFamily c.loop-k.a c.loop-k.b c.loop-k.c c.id-d.result q → ⊥ = λ q f. ⊎_elim
+    (λ (s : 2 < k).
+    let ea = v.a s in let eb = v.b (omega arith) in let ec = v.c (omega arith) in
+    no_family u k h p (omega arith) (rw (ea, eb, ec, c.id-d.ensures) at f))
+    (λ (s : k ≤ 2). no_family_from_zero (v.no_a (omega arith)) f) (cases_lt 2 k) in
+    absurd (false≢true (sym c.if-not-continues.true ∙ c.continues.ensures.1 (own, follows, none)))
 
-pub returns : goal.returns
-returns g c first =
+pub returns-clause-packed : goal.returns-clause-packed
+returns-clause-packed g c first =
     let v = c.loop-k.invariant in
     let within = v.within in
     let same : c.loop-k.k ≡ c.args.stop = omega arith in
-    (λ _. rw same at (v.packed first), λ _. refl)
+    rw same at (v.packed first)

@@ -1,6 +1,6 @@
 use Rattle.std.proofs.Common.{◌-◌, ◌≤◌, length, take}
 use Rattle.s2list.specs.Packed.{IsPacked}
-use Rattle.s2list.proofs.whole.is_union.Given as goal
+use Rattle.s2list.proofs.whole.union_at_front.Given as goal
 
 abbrev pub invariant-loop-k : goal.invariant-loop-k
 invariant-loop-k g l = record {
