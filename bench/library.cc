@@ -83,6 +83,14 @@ static void questions(Table& table, const std::string& size, const List& xs, Lis
   all("contains_cells_in_order", walk, s2u_contains_cells);
 }
 
+// Many questions about a union as small as a covering, in any order.
+static void small_union(Table& table, size_t count) {
+  List x;
+  for (size_t drawn = count; x.size() < count; drawn++) x = ids_of(S2CellUnion(peer_cells(Random(4).cells(drawn, 4, 8))));
+  x.resize(count);
+  questions(table, "_of_" + std::to_string(count), x, Random(9).cells(N, 8, 30));
+}
+
 // S2 has no call for these, so its side does the same one cell at a time.
 static void ancestors(Table& table, const List& xs) {
   std::vector<S2CellId> cells = peer_cells(xs);
@@ -149,6 +157,7 @@ int main(int argc, char** argv) {
     List cells(x.begin(), x.begin() + std::min(count, x.size()));
     normalising(table, ("normalise_union_" + std::to_string(count)).c_str(), cells);
   }
+  for (size_t count : {1, 8, 64, 100}) small_union(table, count);
   ancestors(table, x);
   texts(table, x);
   if (table.wants("_10000000")) rows(table, "_10000000", 10 * N);

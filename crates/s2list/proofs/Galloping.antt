@@ -63,10 +63,25 @@ pub small : (x mark s : ℕ) → Look x mark s → s < 2
 small x mark s (inl a) = let z = a.0 in omega arith
 small x mark s (inr a) = let z = a.0 in omega arith
 
+-- a look at the first place leaves the others
+pub seeking_one : (u : List ℕ) (mark base size s : ℕ) → IsStrictlyIncreasing u → Brackets u mark base (base + size) →
+    0 < size → Look (get_or u base 0) mark s → Brackets u mark (base + s) (base + s + (size - 1))
+seeking_one u mark base size s up b some look =
+    elim look [
+      | inl a ↦
+          let e : base + s ≡ base + 1 = rw a.0 (omega arith) in
+          let here : base + (1 - 1) ≡ base = omega arith in
+          rw e (seeking_up 1 (size - 1) up b (omega arith) (omega arith) refl (rw here a.1))
+      | inr a ↦
+          let e : base + s ≡ base = rw a.0 (omega arith) in
+          let here : base + 0 ≡ base = omega arith in
+          rw e (seeking_down 0 up b (omega arith) (rw here a.1) (size - 1) (omega arith) (omega arith))
+    ]
+
 -- three looks leave a quarter
 pub seeking_quarter : (u : List ℕ) (mark base size q s t r : ℕ) →
     IsStrictlyIncreasing u → Brackets u mark base (base + size) →
-    0 < q → 4 * q ≤ size → Look (get_or u (base + (q - 1)) 0) mark s → Look (get_or u (base + (2 * q - 1)) 0) mark t →
+    0 < q → 4 * q ≤ size + 1 → Look (get_or u (base + (q - 1)) 0) mark s → Look (get_or u (base + (2 * q - 1)) 0) mark t →
     Look (get_or u (base + (3 * q - 1)) 0) mark r →
     Brackets u mark (base + q * ((s + t) + r)) (base + q * ((s + t) + r) + (size - 3 * q))
 seeking_quarter u mark base size q s t r p f z h a b c =

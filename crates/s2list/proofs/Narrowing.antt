@@ -68,7 +68,7 @@ ended_below {u} lo k p e h l j g =
     omega arith
 
 -- three looks leave a quarter of the list
-pub quarter_within : (base size q s t r : ℕ) → s < 2 → t < 2 → r < 2 → 4 * q ≤ size
+pub quarter_within : (base size q s t r : ℕ) → s < 2 → t < 2 → r < 2 → 3 * q ≤ size
     → base + q * ((s + t) + r) + (size - 3 * q) ≤ base + size
 quarter_within base size q s t r a b c h =
     let m : ((s + t) + r) * q ≤ 3 * q = mul-le-mul_right q (omega arith) in

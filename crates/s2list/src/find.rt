@@ -122,6 +122,44 @@ pub(crate) fn find_id_from<C: Cells>(cells: &C, start: usize, mark: u64) -> usiz
     at
 }
 
+/// How many numbers are below `mark`, as `find_id` says, with no branch on what is found. Among few this is quicker. A
+/// step adds up three comparisons: a compiler makes a branch of one that halves.
+#[inline(always)]
+pub(crate) fn find_id_among_few<C: Cells>(cells: &C, mark: u64) -> usize
+    ensures within { result ≤ length (C.ids cells.now) }
+    ensures place { IsPacked (C.ids cells.now) → Brackets (C.ids cells.now) mark result result }
+{
+    let mut base = 0;
+    let mut size = cells.len();
+    while size >= 3 {
+        let quarter = (size - 3) / 4 + 1;
+        let first = is_below(cells.id(base + (quarter - 1)), mark);
+        let second = is_below(cells.id(base + (2 * quarter - 1)), mark);
+        let third = is_below(cells.id(base + (3 * quarter - 1)), mark);
+        base += quarter * (first + second + third);
+        size -= 3 * quarter;
+    }
+    find_id_one_by_one(cells, base, size, mark)
+}
+
+/// The same, if it is known to be from `start` to `start + size`.
+#[inline(always)]
+fn find_id_one_by_one<C: Cells>(cells: &C, start: usize, size: usize, mark: u64) -> usize
+    requires fits { length (C.ids cells.now) < 2 ^ 64 }
+    requires within { start + size ≤ length (C.ids cells.now) }
+    ensures within { result ≤ length (C.ids cells.now) }
+    ensures place { IsPacked (C.ids cells.now) → Brackets (C.ids cells.now) mark start (start + size)
+        → Brackets (C.ids cells.now) mark result result }
+{
+    let mut base = start;
+    let mut left = size;
+    while left > 0 {
+        base += is_below(cells.id(base), mark);
+        left -= 1;
+    }
+    base
+}
+
 /// Whether there is a number at index `at`, and it is below `mark`.
 #[inline(always)]
 fn is_below_at<C: Cells>(cells: &C, at: usize, mark: u64) -> bool

@@ -10,7 +10,7 @@ ghost use Rattle.s2list.specs.Search.{Brackets};
 ghost use Rattle.s2list.specs.Gaps.{IsGap};
 
 use crate::cells::Cells;
-use crate::find::{end_of, find_id_from, first_of};
+use crate::find::{end_of, find_id_among_few, find_id_from, first_of};
 
 /// A gap between two numbers of a list in order. A number lies in it if it is above the one and at most the other.
 #[derive(Clone, Copy)]
@@ -54,11 +54,13 @@ fn before_gap<C: Cells>(cells: &C, at: usize) -> (u64, u64)
         ≡ 2 * (first_leaf (slice_index (C.ids cells.now) (at - 1)) + size_of (slice_index (C.ids cells.now) (at - 1))) }
     ensures none { at ≡ 0 → result.1 ≡ 0 }
 {
-    if at == 0 {
+    if cells.len() == 0 {
         return (0, 0);
     }
-    let id = cells.id(at - 1);
-    (id, end_of(id).saturating_mul(2))
+    // Read in any case, so that there is no branch on where the gap is.
+    let id = cells.id(at.saturating_sub(1));
+    let held = end_of(id).saturating_mul(2);
+    if at == 0 { (0, 0) } else { (id, held) }
 }
 
 /// The number after the gap at index `at`, and twice the first leaf of its cell.
@@ -70,11 +72,17 @@ fn after_gap<C: Cells>(cells: &C, at: usize) -> (u64, u64)
     ensures no_ahead { length (C.ids cells.now) ≤ at → result.0 ≡ 2 ^ 64 - 1 }
     ensures no_next { length (C.ids cells.now) ≤ at → result.1 ≡ 2 ^ 64 - 1 }
 {
-    if at >= cells.len() {
+    let len = cells.len();
+    if len == 0 {
         return (u64::MAX, u64::MAX);
     }
-    let id = cells.id(at);
-    (id, first_of(id).saturating_mul(2))
+    let id = cells.id(at.min(len - 1));
+    let next = first_of(id).saturating_mul(2);
+    if at < len {
+        (id, next)
+    } else {
+        (u64::MAX, u64::MAX)
+    }
 }
 
 /// The gap in which a number lies. It is found at once if the number lies in the gap `near`, and logarithmic in how far
@@ -89,6 +97,15 @@ pub fn gap_of<C: Cells>(cells: &C, near: Gap, id: u64) -> Gap
     }
     let start = start_after(near, id);
     gap_at(cells, find_id_from(cells, start, id))
+}
+
+/// The gap in which a number lies, with no branch on what is found. Among few numbers this is quicker.
+#[inline(always)]
+pub fn gap_among_few<C: Cells>(cells: &C, id: u64) -> Gap
+    ensures gap { IsGap (C.ids cells.now) result }
+    ensures place { IsPacked (C.ids cells.now) → Brackets (C.ids cells.now) id result.at result.at }
+{
+    gap_at(cells, find_id_among_few(cells, id))
 }
 
 /// Whether a number lies in a gap.

@@ -55,7 +55,9 @@ pub use find::{
     NEARBY, end_of, find_counted, find_from, find_from_counted, find_id, first_of, first_place,
 };
 pub use four::{Places, places_of_four, places_of_four_counted};
-pub use gap::{Gap, contains_in_gap, gap_at, gap_of, intersects_in_gap, lies_in_gap};
+pub use gap::{
+    Gap, contains_in_gap, gap_among_few, gap_at, gap_of, intersects_in_gap, lies_in_gap,
+};
 pub use intersection::write_intersection;
 pub use looks::{Count, LookedAt, Looks, Uncounted};
 pub use normalising::pack;

@@ -12,12 +12,17 @@ use crate::status::{MADE, NO_CELL, NO_ROOM};
 use s2cell::CellId;
 use s2list::{
     Cells, Gap, IdList, NEARBY, Question, cell_of, contains_cell_at, contains_in_gap, first_wrong,
-    gap_at, gap_of, intersects_cell_at, intersects_in_gap, lies_in_gap, places_of_four,
+    gap_among_few, gap_at, gap_of, intersects_cell_at, intersects_in_gap, lies_in_gap,
+    places_of_four,
 };
+
+/// How many cells a union has at most in which each question is a search of its own.
+const FEW: usize = 128;
 
 /// Whether a union has all leaves of each cell in turn: 1 or 0 for each. `bad` is the index of the first number that is
 /// not a cell, or if there is none, how many answers there are. A search begins at the index of the one before, so
-/// cells in order are quick; cells whose indexes are far apart are searched four at once.
+/// cells in order are quick; cells whose indexes are far apart are searched four at once, and in a union of few cells
+/// each alone.
 #[unsafe(no_mangle)]
 pub extern "C" fn s2u_contains_cells(
     ids: &[u64],
@@ -99,7 +104,8 @@ pub(crate) fn answer_cells<C: Cells>(
 }
 
 /// Answers the question about each cell. Eight cells whose numbers lie in one gap of the list are answered together.
-/// The search for another cell begins at the last index; but if the last two were far apart, the next four cells are
+/// Otherwise each of the eight is searched alone, with no branch on what is found, if the list has few cells. In a longer
+/// list the search for a cell begins at the last index; but if the last two were far apart, the next four cells are
 /// searched at once.
 fn answer_each<C: Cells>(question: Question, ids: &C, cells: &[u64], answers: &mut [u8])
     requires cells { All IsCell cells.now }
@@ -109,6 +115,7 @@ fn answer_each<C: Cells>(question: Question, ids: &C, cells: &[u64], answers: &m
     ensures bits { (k : ℕ) → k < length cells.now → slice_index answers.new k ≤ 1 }
     ensures rest { drop (length cells.now) answers.new ≡ drop (length cells.now) answers.old }
 {
+    let few = ids.len() <= FEW;
     let mut gap = gap_at(ids, 0);
     let mut apart = false;
     let mut k = 0;
@@ -116,11 +123,17 @@ fn answer_each<C: Cells>(question: Question, ids: &C, cells: &[u64], answers: &m
         if apart && cells.len() - k >= 4 {
             let (third, fourth) = answer_four(question, ids, cells, k, answers);
             apart = third.abs_diff(fourth) > NEARBY;
-            gap = gap_at(ids, fourth);
+            if !apart {
+                gap = gap_at(ids, fourth);
+            }
             k += 4;
         } else if eight_lie_in(gap, cells, k) {
             answer_eight(question, ids, gap, cells, k, answers);
             k += 8;
+        } else if few {
+            let stop = k + (cells.len() - k).min(8);
+            gap = answer_among_few(question, ids, cells, k, stop, answers);
+            k = stop;
         } else {
             let id = cells[k];
             let next = gap_of(ids, gap, id);
@@ -132,7 +145,41 @@ fn answer_each<C: Cells>(question: Question, ids: &C, cells: &[u64], answers: &m
     }
 }
 
-/// Whether there are eight numbers from index `k` on, and all of them lie in the gap. The last is looked at first.
+/// Answers the question about the cells from index `k` to before `stop`, each by a search in the whole list. The last
+/// gap in which a number lies.
+fn answer_among_few<C: Cells>(
+    question: Question,
+    ids: &C,
+    cells: &[u64],
+    k: usize,
+    stop: usize,
+    answers: &mut [u8],
+) -> Gap
+    requires cells { All IsCell cells.now }
+    requires order { k ≤ stop }
+    requires there { stop ≤ length cells.now }
+    requires room { length cells.now ≤ length answers.old }
+    ensures gap { IsGap (C.ids ids.now) result }
+    ensures length { length answers.new ≡ length answers.old }
+    ensures exact { IsLocal (C.ids ids.now)
+        → ((i : ℕ) → i < k
+        → IsBit (slice_index answers.old i) (Holds question (C.ids ids.now) (slice_index cells.now i)))
+        → (i : ℕ) → i < stop
+        → IsBit (slice_index answers.new i) (Holds question (C.ids ids.now) (slice_index cells.now i)) }
+    ensures bits { ((i : ℕ) → i < k → slice_index answers.old i ≤ 1)
+        → (i : ℕ) → i < stop → slice_index answers.new i ≤ 1 }
+    ensures rest { drop (length cells.now) answers.new ≡ drop (length cells.now) answers.old }
+{
+    let mut gap = gap_at(ids, 0);
+    for i in k..stop {
+        gap = gap_among_few(ids, cells[i]);
+        answers[i] = bit_in(question, gap, cells[i]);
+    }
+    gap
+}
+
+/// Whether there are eight numbers from index `k` on, and all of them lie in the gap. The first and the last are looked
+/// at first, and together.
 #[inline(always)]
 fn eight_lie_in(gap: Gap, cells: &[u64], k: usize) -> bool
     requires { k ≤ length cells.now }
@@ -143,7 +190,7 @@ fn eight_lie_in(gap: Gap, cells: &[u64], k: usize) -> bool
     if cells.len() - k < 8 {
         return false;
     }
-    if cells[k + 7] > gap.ahead {
+    if (cells[k] <= gap.below) | (cells[k + 7] > gap.ahead) {
         return false;
     }
     let mut all = true;

@@ -46,3 +46,18 @@ loop-k-preserved-then-eight_lie_in g c =
       within = c.eight_lie_in.ensures.room c.if-eight_lie_in.true;
       gap = v.gap;
     }
+
+pub loop-k-preserved-then-few : goal.loop-k-preserved-then-few
+loop-k-preserved-then-few g c =
+    let v = c.loop-k.invariant in
+    let e = c.answer_among_few-gap.ensures in
+    let len = e.length in
+    let room = v.room in
+    record {
+      so_far = λ local. e.exact local (v.so_far local);
+      bits = e.bits v.bits;
+      rest = e.rest ∙ v.rest;
+      room = omega arith;
+      within = omega arith;
+      gap = e.gap;
+    }
