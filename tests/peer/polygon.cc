@@ -3,33 +3,16 @@
 // Random rings of five kinds, whose corners lie on axes, on diagonals, at corners of cells, or anywhere, and which
 // cross themselves: leaves by S2Loop::Contains, and coverings of the levels 0 to 5 by hand-written C++. The countries:
 // their coverings by S2RegionCoverer, cell by cell, outer and inner, at five levels.
-#include "polygon.h"
+#include "rings.h"
 
 #include <s2/s2edge_distances.h>
-#include <s2/s2latlng.h>
-#include <s2/s2loop.h>
-#include <s2/s2polygon.h>
 #include <s2/s2region_coverer.h>
 
-#include <cmath>
-#include <fstream>
-#include <memory>
-#include <nlohmann/json.hpp>
 #include <random>
 
-#include "workload.h"
-
-using limit::Direction;
-using Ring = std::vector<S2Point>;
 using Generator = std::mt19937_64;
 
-static const double SCALE = 2147483647.0, NEAR = 4e-9;  // in radians: what rounding a corner may move
-
-static Direction rounded(const S2Point& p) {
-  return {llrint(p.x() * SCALE), llrint(p.y() * SCALE), llrint(p.z() * SCALE)};
-}
-
-static S2Point point(const Direction& d) { return S2Point(d.x, d.y, d.z).Normalize(); }
+static const double NEAR = 4e-9;  // in radians: what rounding a corner may move
 
 static S2Point anywhere(Generator& generator) {
   std::normal_distribution<double> of;
@@ -42,31 +25,17 @@ static List ids_of(const S2CellUnion& cells) {
   return ids;
 }
 
-// A polygon as the calls take it.
-struct Given {
-  std::vector<Direction> corners;
-  std::vector<size_t> ends;
-  u64 outside;
-
-  Given(const std::vector<Ring>& rings, u64 leaf) : outside(leaf) {
-    for (const Ring& ring : rings) {
-      for (const S2Point& p : ring) corners.push_back(rounded(p));
-      ends.push_back(corners.size());
-    }
+// A polygon as the rows have it.
+static std::string text_of(const Given& given) {
+  std::string text = "0 " + S2CellId(given.outside).ToToken();
+  for (size_t ring = 0, k = 0; ring < given.ends.size(); ring++) {
+    text += " /";
+    for (; k < given.ends[ring]; k++)
+      for (int64_t number : {given.corners[k].x, given.corners[k].y, given.corners[k].z})
+        text += " " + std::to_string(number);
   }
-
-  limit::Polygon plain() const { return limit::Polygon(corners, ends, outside, 0); }
-
-  std::string text() const {
-    std::string text = "0 " + S2CellId(outside).ToToken();
-    for (size_t ring = 0, k = 0; ring < ends.size(); ring++) {
-      text += " /";
-      for (; k < ends[ring]; k++)
-        for (int64_t number : {corners[k].x, corners[k].y, corners[k].z}) text += " " + std::to_string(number);
-    }
-    return text;
-  }
-};
+  return text;
+}
 
 // The rows, one for each polygon.
 class Rows {
@@ -74,7 +43,7 @@ class Rows {
   void row(const std::string& title) { text_ += "\n## " + title + "\n", rows_++; }
 
   void ask(const std::string& question, const Given& given, const std::string& answer) {
-    text_ += "? polygon " + question + " / " + given.text() + "\n" + answer + "\n";
+    text_ += "? polygon " + question + " / " + text_of(given) + "\n" + answer + "\n";
   }
 
   void ask_cells(const std::string& kind, int level, const Given& given, const List& cells) {
@@ -173,40 +142,10 @@ static void hostile(Generator& generator, int rings, Rows& rows) {
   }
 }
 
-static std::vector<Ring> rings_of(const nlohmann::json& geometry) {
-  std::vector<Ring> rings;
-  auto add = [&](const nlohmann::json& polygon) {
-    for (const auto& positions : polygon) {
-      Ring ring;
-      for (const auto& at : positions) {
-        S2Point p = point(rounded(S2LatLng::FromDegrees(at[1], at[0]).Normalized().ToPoint()));
-        if (ring.empty() || ring.back() != p) ring.push_back(p);
-      }
-      if (ring.size() > 1 && ring.front() == ring.back()) ring.pop_back();
-      if (ring.size() > 2) rings.push_back(ring);
-    }
-  };
-  if (geometry["type"] == "Polygon") {
-    add(geometry["coordinates"]);
-  } else {
-    for (const auto& polygon : geometry["coordinates"]) add(polygon);
-  }
-  return rings;
-}
-
 static void country(const std::string& name, const std::vector<Ring>& rings, Rows& rows) {
-  std::vector<std::unique_ptr<S2Loop>> loops;
-  S2Point sum(0, 0, 0);
-  for (const Ring& ring : rings) {
-    loops.push_back(std::make_unique<S2Loop>(ring, S2Debug::DISABLE));
-    loops.back()->Normalize();
-    for (const S2Point& p : ring) sum += p;
-  }
-  S2Polygon polygon;
-  polygon.set_s2debug_override(S2Debug::DISABLE);
-  polygon.InitNested(std::move(loops));
-  S2CellId far(-sum.Normalize());
-  if (polygon.Contains(far.ToPoint())) return;  // S2 takes one country for its outside
+  std::unique_ptr<S2Polygon> polygon = polygon_of(rings);
+  S2CellId far = far_leaf(rings);
+  if (polygon->Contains(far.ToPoint())) return;  // S2 takes one country for its outside
   Given given(rings, far.id());
   rows.row(name);
   for (int level : {4, 6, 8, 10, 12}) {
@@ -214,8 +153,8 @@ static void country(const std::string& name, const std::vector<Ring>& rings, Row
     options.set_max_level(level);
     options.set_max_cells(1 << 30);
     S2RegionCoverer coverer(options);
-    rows.ask_cells("outer", level, given, ids_of(coverer.GetCovering(polygon)));
-    rows.ask_cells("inner", level, given, ids_of(coverer.GetInteriorCovering(polygon)));
+    rows.ask_cells("outer", level, given, ids_of(coverer.GetCovering(*polygon)));
+    rows.ask_cells("inner", level, given, ids_of(coverer.GetInteriorCovering(*polygon)));
   }
 }
 

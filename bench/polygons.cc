@@ -1,0 +1,225 @@
+// Coverings of polygons by S2RegionCoverer, by the library for C and by hand-written C++, of the same corners:
+// polygons COUNTRIES.geojson COASTS.polygons [WORD [ROUNDS]].
+//
+// At one level all make the same cells, and a row counts only if they do. S2's index is built before, except in the
+// rows 'fresh', where S2 begins with its points as the library begins with its directions. Of at most N cells each
+// makes its own; there the row counts if all have the leaves of all corners, and a line tells the cells and the area.
+#include "rings.h"
+
+#include <s2/s2region_coverer.h>
+#include <s2union.h>
+
+#include <random>
+
+#include "lanes.h"
+
+static List ids_of(const std::vector<S2CellId>& cells) {
+  List ids;
+  for (S2CellId cell : cells) ids.push_back(cell.id());
+  return ids;
+}
+
+// A polygon in the three forms.
+struct Shape {
+  std::vector<Ring> rings;
+  std::unique_ptr<S2Polygon> polygon;
+  Given given;
+  std::vector<s2u_direction> corners;
+
+  explicit Shape(const std::vector<Ring>& of)
+      : rings(of), polygon(polygon_of(of)), given(of, far_leaf(of).id()) {
+    for (const Direction& d : given.corners) corners.push_back({d.x, d.y, d.z});
+  }
+
+  bool is_small() const { return !polygon->Contains(S2CellId(given.outside).ToPoint()); }
+};
+
+using Shapes = std::vector<Shape>;
+
+// What is asked: at one level, or of at most so many cells of level 30 or less; outer cells, or inner ones.
+struct Asked {
+  int level;
+  size_t most;
+  bool is_outer;
+};
+
+static std::vector<S2CellId> peer_ids(const List& ids) {
+  std::vector<S2CellId> cells;
+  for (u64 id : ids) cells.push_back(S2CellId(id));
+  return cells;
+}
+
+static List peer_cells(const S2Polygon& polygon, const Asked& asked) {
+  S2RegionCoverer::Options options;
+  options.set_max_level(asked.level);
+  options.set_max_cells(asked.most ? static_cast<int>(asked.most) : 1 << 30);
+  S2RegionCoverer coverer(options);
+  S2CellUnion made = asked.is_outer ? coverer.GetCovering(polygon) : coverer.GetInteriorCovering(polygon);
+  return ids_of(made.cell_ids());
+}
+
+static List plain_cells(const Given& given, const Asked& asked) {
+  limit::Polygon plain = given.plain();
+  if (asked.most) return asked.is_outer ? plain.outer_up_to(asked.most, asked.level)
+                                        : plain.inner_up_to(asked.most, asked.level);
+  return asked.is_outer ? plain.outer(asked.level) : plain.inner(asked.level);
+}
+
+// By the call, into room that is there.
+static List called_cells(const Shape& shape, const Asked& asked, List& room) {
+  const Given& of = shape.given;
+  const s2u_direction* corners = shape.corners.data();
+  size_t n = shape.corners.size(), lists = of.ends.size(), len = 0;
+  int32_t status;
+  if (asked.most) {
+    auto call = asked.is_outer ? s2u_polygon_outer_up_to : s2u_polygon_inner_up_to;
+    status = call(corners, n, of.ends.data(), lists, of.outside, 0, 0, asked.level, asked.most, room.data(),
+                  room.size(), &len);
+  } else {
+    auto call = asked.is_outer ? s2u_polygon_outer : s2u_polygon_inner;
+    status = call(corners, n, of.ends.data(), lists, of.outside, 0, asked.level, S2U_MOST_COVERING, room.data(),
+                  room.size(), &len);
+  }
+  if (status != S2U_OK) {
+    fprintf(stderr, "a covering: %s\n", s2u_status_text(status));
+    exit(1);
+  }
+  return List(room.begin(), room.begin() + len);
+}
+
+// How many of the coverings have the leaves of all corners, as each has to.
+static u64 with_corners(const Shapes& shapes, const std::vector<List>& made) {
+  u64 count = 0;
+  for (size_t k = 0; k < shapes.size(); k++) {
+    S2CellUnion cells = S2CellUnion::FromVerbatim(peer_ids(made[k]));
+    bool has_all = true;
+    for (const Ring& ring : shapes[k].rings)
+      for (const S2Point& corner : ring) has_all = has_all && cells.Contains(S2CellId(corner));
+    count += has_all;
+  }
+  return count;
+}
+
+class Bench {
+ public:
+  Bench(Lanes& lanes, const std::string& name, Shapes shapes)
+      : lanes_(lanes), name_(name), shapes_(std::move(shapes)), room_(S2U_MOST_COVERING) {}
+
+  void at_level(int level, bool is_outer, bool is_fresh = false) {
+    row(std::string(is_outer ? "outer_" : "inner_") + std::to_string(level) + (is_fresh ? "_fresh" : ""),
+        {level, 0, is_outer}, is_fresh);
+  }
+
+  void at_most(size_t most, bool is_fresh = false) {
+    row("at_most_" + std::to_string(most) + (is_fresh ? "_fresh" : ""), {30, most, true}, is_fresh);
+  }
+
+ private:
+  void row(const std::string& what, const Asked& asked, bool is_fresh) {
+    const std::string name = name_ + "_" + what;
+    std::array<std::vector<List>, WAYS> made;
+    auto side = [&](Way way, auto work) {
+      made[way].resize(shapes_.size());
+      return Side{[this, &made, way, work] {
+                    for (size_t k = 0; k < shapes_.size(); k++) made[way][k] = work(shapes_[k]);
+                  },
+                  [this, &made, way, asked] { return asked.most ? with_corners(shapes_, made[way]) : sum_of(made[way]); }};
+    };
+    std::array<Side, WAYS> sides;
+    sides[PEER] = side(PEER, [&](const Shape& it) {
+      return is_fresh ? peer_cells(*polygon_of(it.rings), asked) : peer_cells(*it.polygon, asked);
+    });
+    sides[CALL] = side(CALL, [&](const Shape& it) { return called_cells(it, asked, room_); });
+    sides[LIMIT] = side(LIMIT, [&](const Shape& it) { return plain_cells(it.given, asked); });
+    lanes_.row({name.c_str(), shapes_.size(), 0}, sides);
+    if (asked.most && !made[CALL].empty() && !made[CALL][0].empty()) tell_areas(made);
+  }
+
+  static u64 sum_of(const std::vector<List>& lists) {
+    Sum sum;
+    for (const List& list : lists) sum.add_all(list);
+    return sum.value();
+  }
+
+  void tell_areas(const std::array<std::vector<List>, WAYS>& made) const {
+    size_t cells[WAYS] = {};
+    double worst = 0, area[WAYS] = {};
+    for (size_t k = 0; k < shapes_.size(); k++) {
+      double each[WAYS];
+      for (int way = 0; way < WAYS; way++) {
+        S2CellUnion of(peer_ids(made[way][k]));
+        area[way] += each[way] = of.ApproxArea();
+        cells[way] += of.num_cells();
+      }
+      worst = std::max(worst, each[CALL] / each[PEER]);
+    }
+    printf("  cells %zu, S2 %zu; area by S2's %.3f, the worst %.2f\n", cells[CALL], cells[PEER],
+           area[CALL] / area[PEER], worst);
+  }
+
+  Lanes& lanes_;
+  std::string name_;
+  Shapes shapes_;
+  List room_;
+};
+
+static Shapes countries(const char* file) {
+  nlohmann::json document;
+  std::ifstream(file) >> document;
+  Shapes shapes;
+  for (const auto& feature : document["features"]) {
+    Shape shape(rings_of(feature["geometry"]));
+    if (shape.is_small()) shapes.push_back(std::move(shape));
+  }
+  return shapes;
+}
+
+// The largest polygons of a file that coastlines.py has written.
+static Shapes coasts(const char* file, size_t most) {
+  std::ifstream in(file, std::ios::binary);
+  Shapes shapes;
+  uint32_t count = 0, points;
+  in.read(reinterpret_cast<char*>(&count), sizeof count);
+  for (uint32_t k = 0; k < count && shapes.size() < most; k++) {
+    in.read(reinterpret_cast<char*>(&points), sizeof points);
+    std::vector<std::array<double, 2>> positions(points);
+    in.read(reinterpret_cast<char*>(positions.data()), points * sizeof positions[0]);
+    Shape shape({ring_of(positions)});
+    if (shape.is_small()) shapes.push_back(std::move(shape));
+  }
+  return shapes;
+}
+
+// A ring of so many edges around a place, some 1,200 km wide, whose way in and out drifts as a coast does.
+static Shapes noisy_ring(size_t edges) {
+  std::mt19937_64 generator(7);
+  std::normal_distribution<double> step;
+  double drift = 0;
+  Ring ring;
+  for (size_t k = 0; k < edges; k++) {
+    drift = 0.999 * drift + 0.01 * step(generator);
+    double turn = 2 * M_PI * k / edges, far = 0.1 * (1 + 0.2 * std::tanh(drift));
+    S2LatLng place = S2LatLng::FromRadians(0.7 + far * std::sin(turn), 0.3 + far * std::cos(turn) / std::cos(0.7));
+    ring.push_back(point(rounded(place.ToPoint())));
+  }
+  Shapes shapes;
+  shapes.emplace_back(std::vector<Ring>{ring});
+  return shapes;
+}
+
+int main(int argc, char** argv) {
+  if (argc < 3) return 2;
+  Lanes lanes(argc > 3 ? argv[3] : "", argc > 4 ? atoi(argv[4]) : 5);
+  for (bool is_coast : {false, true}) {
+    Bench bench(lanes, is_coast ? "coasts" : "countries", is_coast ? coasts(argv[2], 200) : countries(argv[1]));
+    for (int level : {4, 8, 10, 12})
+      if (!is_coast || level < 12) bench.at_level(level, true), bench.at_level(level, false);
+    for (size_t most : {8, 20, 50, 200, 1000}) bench.at_most(most);
+    bench.at_level(8, true, true), bench.at_most(8, true), bench.at_most(50, true);
+  }
+  for (size_t edges : {100, 1000, 10000, 100000, 1000000}) {
+    Bench bench(lanes, "ring_" + std::to_string(edges), noisy_ring(edges));
+    bench.at_level(12, true), bench.at_level(12, true, true);
+  }
+  return lanes.status();
+}
