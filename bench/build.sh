@@ -18,7 +18,9 @@ logged() { # COMMAND..: says what it said only if it fails
 libraries=()
 if [ -n "${S2_RELEASE:-}" ]; then
   bash s2_sources.sh out/s2
-  for part in s2cell_id s2cell_union s2cell s2region_coverer util/coding/coder; do
+  parts=(s2cell_id s2cell_union s2cell s2region_coverer util/coding/coder)
+  [ "$name" != polygons ] || parts+=(s2loop s2polygon mutable_s2shape_index s2edge_clipping s2edge_crosser)
+  for part in "${parts[@]}"; do
     object=out/$(basename "$part").o
     [ -e "$object" ] || logged "${compile[@]}" -Iout/s2/source/src -c "out/s2/source/src/s2/$part.cc" -o "$object"
     libraries+=("$object")
