@@ -12,13 +12,14 @@ use Rattle.s2polygon.proofs.Cells.{as_above}
 use Rattle.s2polygon.proofs.Descents.{none_left}
 use Rattle.s2polygon.proofs.Indexes.{cell_on_grid, leaf_at, leaf_of, level_within}
 use Rattle.s2polygon.proofs.Insides.{inside_is}
+use Rattle.s2polygon.proofs.Picking.{none_picked, picked_none}
 use Rattle.s2polygon.proofs.Tests.{leaves_out_near}
 use Rattle.s2polygon.proofs.Touching.{meets_around, leaf_touched, none_near, some_kept}
 use Rattle.s2polygon.specs.Cells.{odd_of, square_of, widened}
 use Rattle.s2polygon.specs.Faces.{edges_on}
 use Rattle.s2polygon.specs.Leaves.{Region, inside, is_touched, outer_leaf, inner_leaf}
 use Rattle.s2polygon.specs.Tests.{meets_square}
-use Rattle.s2polygon.specs.Working.Known.{IsKnown, top_in}
+use Rattle.s2polygon.specs.Working.Known.{IsKnown, face_list, top_in}
 use Rattle.s2polygon.specs.declared.descent.Known.{Known}
 use Rattle.s2polygon.specs.declared.frames.FramedEdge.{FramedEdge}
 
@@ -34,7 +35,7 @@ module _ (r : Region) (c face i j size : ℕ) (known : Known) (h : IsKnown r c f
       let at = inside_is r x in
       let missed = none_left (square_of (30 - level_of c) (i / size) (j / size)) kept
       (leaves_out_near r.margin (30 - level_of c) (i / size) (j / size))
-      (edges_on face r.edges) (sym h.right.met ∙ none) in
+      (edges_on face r.edges) (sym h.right.met ∙ none_picked (face_list r face) known.edges.items none) in
       let depth : 30 - level_of c + level_of c ≡ 30 = level_within c h.cell in
       at ∙ ap (λ (f : ℕ). odd_of (top_in r f) (edges_on f r.edges) 30 0 (i_of x) (j_of x)) l.face_is
       ∙ ap (λ (n : ℕ). odd_of (top_in r face) (edges_on face r.edges) n 0 (i_of x) (j_of x)) (sym depth)
@@ -46,7 +47,7 @@ module _ (r : Region) (c face i j size : ℕ) (known : Known) (h : IsKnown r c f
   unfolding is_touched
   bare_untouched none x covered =
       let l = leaf_at x h.cell h.square covered in
-      let far = rw (sym l.column, sym l.row) at (sym h.right.met ∙ none) in
+      let far = rw (sym l.column, sym l.row) at (sym h.right.met ∙ none_picked (face_list r face) known.edges.items none) in
       ap (λ (f : ℕ). list_any (meets_square (widened r.margin (square_of 0 (i_of x) (j_of x)))) (edges_on f r.edges))
       l.face_is
       ∙ none_near (meets_square (widened r.margin (square_of 0 (i_of x) (j_of x))))
@@ -63,7 +64,7 @@ module _ (r : Region) (c face i j size : ℕ) (known : Known) (h : IsKnown r c f
   pub some_touched : ¬ (known.edges.items ≡ []) → Touched
   unfolding is_touched
   some_touched some =
-      let e = some_kept kept (edges_on face r.edges) (λ none. some (h.right.met ∙ none)) in
+      let e = some_kept kept (edges_on face r.edges) (λ none. some (picked_none (face_list r face) known.edges.items (h.right.met ∙ none))) in
       let t = leaf_touched r.margin (30 - level_of c) (i / size) (j / size) e.edge e.far_is in
       let l = leaf_of t.x t.y h.cell h.square t.column t.row in
       record {

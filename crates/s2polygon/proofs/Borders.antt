@@ -1,5 +1,5 @@
 -- The ways between the middles of the faces.
-use Rattle.std.proofs.Common.{◌≡◌, refl, sym, ap, ◌∙◌, ℕ, zero, suc, ◌+◌, ◌%◌, ◌^◌, ◌==◌, ◌≢◌, Bool, true}
+use Rattle.std.proofs.Common.{◌≡◌, refl, sym, ap, ◌∙◌, ℕ, suc, ◌+◌, ◌%◌, ◌^◌, ◌==◌, ◌≢◌, Bool, true}
 use Rattle.std.proofs.Common.{false, not, cond, List, arith, eqb-true}
 use Rattle.std.proofs.Math.Bool.{beq, xor}
 use Rattle.s2polygon.proofs.Parity.{xor_false}

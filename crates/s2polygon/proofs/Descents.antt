@@ -9,16 +9,15 @@ use Rattle.s2polygon.proofs.Tests.{leaves_out_near, child_list}
 use Rattle.s2polygon.specs.Cells.{odd_of, square_of, step_to, widened}
 use Rattle.s2polygon.specs.Parity.{is_odd_by, is_odd_along}
 use Rattle.s2polygon.specs.Tests.{meets_square}
-use Rattle.s2polygon.specs.Working.Descent.{crosses_step_at, places_of, IsRight}
+use Rattle.s2polygon.specs.Working.Descent.{Near, crosses_step_at, places_of, IsRight}
 use Rattle.s2polygon.specs.Working.Holding.{Misses, LeavesOutWhatMisses}
 use Rattle.s2polygon.specs.declared.frames.FramedEdge.{FramedEdge}
-use Rattle.s2polygon.specs.declared.descent.Known.{Known}
 use Rattle.s2polygon.specs.declared.places.Square.{Square}
 use Rattle.s2polygon.specs.declared.places.Step.{Step}
 
-module _ (m : ℕ) (top : Bool) (edges : List FramedEdge) (n k i j : ℕ) (parent : Known)
+module _ (m : ℕ) (top : Bool) (edges : List FramedEdge) (n k i j : ℕ) (parent : Near)
     (right : IsRight m top edges n (suc k) (i / 2) (j / 2) parent) (xs : List FramedEdge)
-    (same : xs ≡ parent.edges.items) where
+    (same : xs ≡ parent.edges) where
   abbrev above : FramedEdge → Bool
   above = meets_square (widened m (square_of (suc k) (i / 2) (j / 2)))
 

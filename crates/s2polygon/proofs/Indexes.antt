@@ -7,7 +7,8 @@ use Rattle.s2cell.specs.Cell.{IsCell, level_of, place_of, face_of, child_of, cov
 use Rattle.s2cell.specs.Curve.{i_of, j_of, i_within, j_within, quadrant}
 use Rattle.s2cell.specs.Square.{IsSquareOf, IsPlacedCell, orientation_of}
 use Rattle.s2cell.specs.declared.placed.PlacedCell.{PlacedCell}
-use Rattle.s2cell.proofs.CellLemmas.{four_pos, own_place}
+use Rattle.s2cell.proofs.Calls.{face_bits}
+use Rattle.s2cell.proofs.CellLemmas.{face_of_cell, four_pos, own_place}
 use Rattle.s2cell.proofs.Places.{at_within, place_is}
 use Rattle.s2cell.proofs.Quadrants.{quadrant_below}
 use Rattle.s2cell.proofs.Quarters.{orientation_small, square_of_child}
@@ -56,6 +57,9 @@ cell_on_grid {c} {face} {i} {j} {size} ic sq =
     let own = one_square c face i j size (face_of c) (x * 2 ^ (30 - k)) (y * 2 ^ (30 - k)) (2 ^ (30 - k)) ic sq
     (square_from_place c x y ic there) in
     on_grid (30 - k) i j size x y (omega arith) own.size own.first own.second sq.fits.0 sq.fits.1
+
+pub face_within : {p : PlacedCell} → IsPlacedCell p → p.square.face < 6
+face_within {p} h = let is = h.square.face_is in rw (is, ← face_bits h.cell) (face_of_cell p.cell h.cell)
 
 pub level_within : (c : ℕ) → IsCell c → 30 - level_of c + level_of c ≡ 30
 level_within c ic = let h = (own_place c ic).level in omega arith

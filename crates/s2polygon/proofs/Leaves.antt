@@ -2,9 +2,8 @@
 use Rattle.std.proofs.Common.{◌≡◌, sym, ap, ◌∙◌, ℕ, suc, ◌+◌, ◌-◌, ◌*◌, ◌/◌, ◌^◌, ◌≤◌, ◌<◌, Bool, List, arith}
 use Rattle.std.proofs.Common.{pow-add, pow-suc, div-one, div-mul-le_self, lt_of_mul-lt-mul_right}
 use Rattle.std.proofs.Math.Nat.{div-div-eq-div-mul, div-eq_of_lt}
-use Rattle.s2polygon.specs.Working.Descent.{IsRight}
+use Rattle.s2polygon.specs.Working.Descent.{IsRight, Near}
 use Rattle.s2polygon.specs.declared.frames.FramedEdge.{FramedEdge}
-use Rattle.s2polygon.specs.declared.descent.Known.{Known}
 
 pub in_range : (k x : ℕ) → k ≤ 30 → x < 2 ^ 30 → x / 2 ^ k < 2 ^ (30 - k)
 in_range k x h l =
@@ -16,15 +15,15 @@ in_range k x h l =
 halved : (k x : ℕ) → x / 2 ^ k / 2 ≡ x / 2 ^ suc k
 halved k x = div-div-eq-div-mul x (2 ^ k) 2 ∙ ap (λ (t : ℕ). x / t) (sym (pow-suc 2 k))
 
-module _ (margin : ℕ) (face : Known) (x y : ℕ) where
-  abbrev pub Reaches : ℕ → Known → Type 0
+module _ (margin : ℕ) (face : Near) (x y : ℕ) where
+  abbrev pub Reaches : ℕ → Near → Type 0
   Reaches k known = (top : Bool) (edges : List FramedEdge) → IsRight margin top edges 0 30 0 0 face
       → IsRight margin top edges (30 - k) k (x / 2 ^ k) (y / 2 ^ k) known
 
   pub start : x < 2 ^ 30 → y < 2 ^ 30 → Reaches 30 face
   start h l top edges r = let e = div-eq_of_lt h in let f = div-eq_of_lt l in rw (e, f) r
 
-  pub one_down : (k : ℕ) (known child : Known) → 0 < k → k ≤ 30 → Reaches k known
+  pub one_down : (k : ℕ) (known child : Near) → 0 < k → k ≤ 30 → Reaches k known
       → ((top : Bool) (edges : List FramedEdge) (n : ℕ) → IsRight margin top edges n (suc (k - 1))
       (x / 2 ^ (k - 1) / 2) (y / 2 ^ (k - 1) / 2) known
       → IsRight margin top edges (suc n) (k - 1) (x / 2 ^ (k - 1)) (y / 2 ^ (k - 1)) child)
@@ -36,7 +35,7 @@ module _ (margin : ℕ) (face : Known) (x y : ℕ) where
       rw (halved (k - 1) x, halved (k - 1) y, one) (reached top edges r) in
       rw level at (descends top edges (30 - k) parent)
 
-  pub arrived : (k : ℕ) (known : Known) → k ≡ 0 → Reaches k known → (top : Bool) (edges : List FramedEdge)
+  pub arrived : (k : ℕ) (known : Near) → k ≡ 0 → Reaches k known → (top : Bool) (edges : List FramedEdge)
       → IsRight margin top edges 0 30 0 0 face → IsRight margin top edges 30 0 x y known
   arrived k known e reached top edges r =
       let there = rw e at (reached top edges r) in

@@ -18,6 +18,7 @@ mod Meetings
 mod Pairs
 mod Parts
 mod Parity
+mod Picking
 mod PlaceSteps
 mod Polygons
 mod Quartering

@@ -1,17 +1,24 @@
 -- The parities of leaves, and what a polygon carries.
-use Rattle.std.proofs.Common.{◌≡◌, refl, sym, ap, ap₂, ◌∙◌, IfOk, Result, Ok, Err, ℕ, zero, suc, ◌/◌, ◌^◌, ◌<◌, ◌≤◌}
-use Rattle.std.proofs.Common.{arith, Bool, List}
+use Rattle.std.proofs.Common.{◌≡◌, refl, sym, ap, ◌∙◌, IfOk, Result, Ok, Err, ℕ, zero, suc, ◌/◌, ◌^◌, ◌<◌, ◌≤◌}
+use Rattle.std.proofs.Common.{arith, Bool, List, All, subst}
+use Rattle.std.proofs.lemmas.List.Elements.{All-filter}
 use Rattle.s2cell.specs.Curve.{IsPlaceOf, i_of, j_of}
 use Rattle.s2cell.proofs.Places.{place_is}
 use Rattle.s2cell.proofs.Squares.{one_place}
+use Rattle.s2polygon.proofs.Framing.{all_framed}
 use Rattle.s2polygon.proofs.Insides.{inside_is}
-use Rattle.s2polygon.specs.Cells.{odd_of}
+use Rattle.s2polygon.specs.Cells.{odd_of, square_of, widened}
 use Rattle.s2polygon.specs.Faces.{edges_on, top_of}
 use Rattle.s2polygon.specs.Leaves.{Region, inside, odd_at}
-use Rattle.s2polygon.specs.Working.Known.{IsPolygon, answer_at, answers_of, exchanged_by, parities_of, top_in}
+use Rattle.s2polygon.specs.Tests.{meets_square}
+use Rattle.s2polygon.specs.Working.Descent.{near_face}
+use Rattle.s2polygon.specs.Working.Known.{AreLists, IsPolygon, answer_at, answers_of, exchanged_by, face_list, parities_of}
+use Rattle.s2polygon.specs.Working.Known.{top_in}
+use Rattle.s2polygon.specs.Working.Sizes.{IsFramed}
 use Rattle.s2polygon.specs.declared.directions.Edge.{Edge}
 use Rattle.s2polygon.specs.declared.faces.Tops.{Tops}
 use Rattle.s2polygon.specs.declared.frames.FramedEdge.{FramedEdge}
+use Rattle.s2polygon.specs.declared.lists.Lists.{Lists}
 
 pub answer_is : (test : ℕ → Bool) (f : ℕ) → f < 6 → answer_at (answers_of test) f ≡ test f
 answer_is test zero h = refl
@@ -37,11 +44,10 @@ module _ (n face i j : ℕ) (p : IsPlaceOf n face i j) where
       f ∙ ap (λ (t : Bool). odd_of t (edges_on face es) 30 0 i j) e
       ∙ at_place (top_of es) (λ (g : ℕ). edges_on g es)
 
-  pub held_is : (r : Region) (tops : Tops) (odd : Bool) → IsPolygon r tops → face < 6
-      → odd ≡ odd_of (answer_at tops face) (edges_on face r.edges) 30 0 i j → odd ≡ inside r n
-  held_is r tops odd h l f =
-      f ∙ ap (λ (t : Bool). odd_of t (edges_on face r.edges) 30 0 i j)
-      (ap (λ (t : Tops). answer_at t face) h.answers ∙ answer_is (top_in r) face l)
+  pub held_is : (r : Region) (top odd : Bool) → top ≡ top_in r face → odd ≡ odd_of top
+      (edges_on face r.edges) 30 0 i j → odd ≡ inside r n
+  held_is r top odd e f =
+      f ∙ ap (λ (t : Bool). odd_of t (edges_on face r.edges) 30 0 i j) e
       ∙ at_place (top_in r) (λ (g : ℕ). edges_on g r.edges)
       ∙ sym (inside_is r n)
 
@@ -50,32 +56,46 @@ pub if_ok : {A E : Type 0} {P Q : A → Type 0} (r : Result A E) → ((x : A) �
 if_ok (Ok x) f p = f x p
 if_ok (Err e) f p = tt
 
-module _ (n face i j : ℕ) (p : IsPlaceOf n face i j) where
-  pub held_of : (view r : Region) (es : List Edge) (tops : Tops) (top odd : Bool) → view ≡ r → es ≡ view.edges
-      → IsPolygon view tops → face < 6
-      → top ≡ answer_at tops face → odd ≡ odd_of top (edges_on face es) 30 0 i j → odd ≡ inside r n
-  held_of view r es tops top odd e f h l t is =
-      held_is n face i j p view tops odd h l
-      (is ∙ ap₂ (λ (b : Bool) (l : List Edge). odd_of b (edges_on face l) 30 0 i j) t f)
-      ∙ ap (λ (v : Region). inside v n) e
+-- which lists a polygon has
+pub all_lists : (es : List Edge) (margin : ℕ) (l : Lists) → l.zero.items ≡ near_face margin (edges_on 0 es)
+    → l.one.items ≡ near_face margin (edges_on 1 es) → l.two.items ≡ near_face margin (edges_on 2 es)
+    → l.three.items ≡ near_face margin (edges_on 3 es) → l.four.items ≡ near_face margin (edges_on 4 es)
+    → l.five.items ≡ near_face margin (edges_on 5 es) → AreLists es margin l
+all_lists es margin l a b c d e f zero h = a
+all_lists es margin l a b c d e f (suc zero) h = b
+all_lists es margin l a b c d e f (suc (suc zero)) h = c
+all_lists es margin l a b c d e f (suc (suc (suc zero))) h = d
+all_lists es margin l a b c d e f (suc (suc (suc (suc zero)))) h = e
+all_lists es margin l a b c d e f (suc (suc (suc (suc (suc zero))))) h = f
+all_lists es margin l a b c d e f (suc (suc (suc (suc (suc (suc g)))))) h = absurd (omega arith)
 
-pub polygon_right : (es : List Edge) (outside margin : ℕ) (tops shifted : Tops) (odd : Bool) → tops ≡ parities_of es
-    → odd ≡ odd_at es outside
-    → shifted ≡ exchanged_by odd tops → margin ≤ 2 ^ 60
-    → IsPolygon (record { edges = es; outside = outside; margin = margin }) shifted
-polygon_right es outside margin tops shifted odd e f g h = record {
+pub list_met_framed : (margin f : ℕ) (es : List Edge) (l : List FramedEdge) → l ≡ near_face margin (edges_on f es)
+    → All IsFramed l
+list_met_framed margin f es l e =
+    subst (λ (l : List FramedEdge). All IsFramed l) (sym e)
+    (All-filter (meets_square (widened margin (square_of 30 0 0))) IsFramed (edges_on f es) (all_framed f es))
+
+pub list_framed : (r : Region) (f : ℕ) (l : List FramedEdge) → l ≡ face_list r f → All IsFramed l
+list_framed r f l e = list_met_framed r.margin f r.edges l e
+
+pub polygon_right : (es : List Edge) (outside margin : ℕ) (tops shifted : Tops) (odd : Bool) (lists : Lists)
+    → tops ≡ parities_of es → odd ≡ odd_at es outside
+    → shifted ≡ exchanged_by odd tops → AreLists es margin lists → margin ≤ 2 ^ 60
+    → IsPolygon (record { edges = es; outside = outside; margin = margin }) shifted lists
+polygon_right es outside margin tops shifted odd lists e f g a h = record {
   answers = g ∙ ap (λ (t : Tops). exchanged_by odd t) e ∙ ap (λ (o : Bool). exchanged_by o (parities_of es)) f;
+  listed = a;
   small = h;
 }
 
 module _ (n face i j : ℕ) (p : IsPlaceOf n face i j) where
-  pub polygon_of : (es first last : List Edge) (margin : ℕ) (tops shifted : Tops) (top odd : Bool) → first ≡ es
-      → last ≡ es
+  pub polygon_of : (es first last : List Edge) (margin : ℕ) (tops shifted : Tops) (top odd : Bool) (lists : Lists)
+      → first ≡ es → last ≡ es
       → tops ≡ parities_of first → top ≡ answer_at tops face → odd ≡ odd_of top (edges_on face last) 30 0 i j
-      → shifted ≡ exchanged_by odd tops → face < 6 → margin ≤ 2 ^ 60
-      → IsPolygon (record { edges = es; outside = n; margin = margin }) shifted
-  polygon_of es first last margin tops shifted top odd e f t a o s l m =
+      → shifted ≡ exchanged_by odd tops → face < 6 → AreLists last margin lists → margin ≤ 2 ^ 60
+      → IsPolygon (record { edges = es; outside = n; margin = margin }) shifted lists
+  polygon_of es first last margin tops shifted top odd lists e f t a o s l h m =
       let own = t ∙ ap parities_of e in
-      polygon_right es n margin tops shifted odd own
+      polygon_right es n margin tops shifted odd lists own
       (leaf_parity n face i j p es top odd (a ∙ ap (λ (x : Tops). answer_at x face) own ∙ answer_is (top_of es) face l)
-      (o ∙ ap (λ (l : List Edge). odd_of top (edges_on face l) 30 0 i j) f)) s m
+      (o ∙ ap (λ (l : List Edge). odd_of top (edges_on face l) 30 0 i j) f)) s (rw f at h) m

@@ -1,14 +1,13 @@
 -- What is known of a cell of a polygon, and of its children.
-use Rattle.std.proofs.Common.{◌≡◌, sym, ap, ◌∙◌, ℕ, suc, ◌+◌, ◌-◌, ◌/◌, ◌^◌, ◌<◌, arith, All}
+use Rattle.std.proofs.Common.{◌≡◌, sym, ap, ◌∙◌, ℕ, suc, ◌+◌, ◌-◌, ◌/◌, ◌^◌, ◌<◌, arith, length, All}
 use Rattle.s2cell.specs.Cell.{level_of, child_of, face_of}
 use Rattle.s2cell.specs.Square.{IsPlacedCell}
 use Rattle.s2cell.specs.declared.placed.PlacedCell.{PlacedCell}
 use Rattle.s2polygon.proofs.Indexes.{cell_on_grid, child_of_grid}
 use Rattle.s2polygon.specs.Faces.{edges_on}
 use Rattle.s2polygon.specs.Leaves.{Region}
-use Rattle.s2polygon.specs.Working.Descent.{IsRight}
-use Rattle.s2polygon.specs.Working.Known.{IsKnown, top_in}
-use Rattle.s2polygon.specs.Working.Sizes.{IsFramed}
+use Rattle.s2polygon.specs.Working.Descent.{IsRight, near_of}
+use Rattle.s2polygon.specs.Working.Known.{IsKnown, face_list, top_in}
 use Rattle.s2polygon.specs.declared.descent.Known.{Known}
 
 abbrev pub IsKnownOf : Region → PlacedCell → Known → Type 0
@@ -25,7 +24,7 @@ module _ (r : Region) (placed child : PlacedCell) (p : ℕ) (h : IsPlacedCell pl
   pub parent_right : (known : Known) → IsKnownOf r placed known
       → IsRight r.margin (top_in r placed.square.face) (edges_on placed.square.face r.edges) (level_of placed.cell)
       (suc (30 - level_of child.cell)) (child.square.i / child.square.size / 2)
-      (child.square.j / child.square.size / 2) known
+      (child.square.j / child.square.size / 2) (near_of (face_list r placed.square.face) known)
   parent_right known k =
       let q = child_of_grid p h g deep digit is level in
       let u = q.1.column in
@@ -36,9 +35,10 @@ module _ (r : Region) (placed child : PlacedCell) (p : ℕ) (h : IsPlacedCell pl
   pub child_known : (found : Known)
       → IsRight r.margin (top_in r placed.square.face) (edges_on placed.square.face r.edges)
       (suc (level_of placed.cell))
-      (30 - level_of child.cell) (child.square.i / child.square.size) (child.square.j / child.square.size) found
-      → All IsFramed found.edges.items → IsKnownOf r child found
-  child_known found right framed =
+      (30 - level_of child.cell) (child.square.i / child.square.size) (child.square.j / child.square.size)
+      (near_of (face_list r placed.square.face) found)
+      → All (λ n. n < length (face_list r placed.square.face)) found.edges.items → IsKnownOf r child found
+  child_known found right within =
       let q = child_of_grid p h g deep digit is level in
       let face = sym q.0 in
       let down : suc (level_of placed.cell) ≡ level_of child.cell = omega arith in
@@ -46,15 +46,16 @@ module _ (r : Region) (placed child : PlacedCell) (p : ℕ) (h : IsPlacedCell pl
         cell = g.cell;
         square = g.square;
         right = rw (face, down) at right;
-        framed = framed;
+        within = rw face at within;
       }
 
 pub face_known : (r : Region) (placed : PlacedCell) (f : ℕ) (found : Known) → IsPlacedCell placed
     → level_of placed.cell ≡ 0
-    → face_of placed.cell ≡ f → IsRight r.margin (top_in r f) (edges_on f r.edges) 0 30 0 0 found
-    → All IsFramed found.edges.items
+    → face_of placed.cell ≡ f
+    → IsRight r.margin (top_in r f) (edges_on f r.edges) 0 30 0 0 (near_of (face_list r f) found)
+    → All (λ n. n < length (face_list r f)) found.edges.items
     → IsKnownOf r placed found
-face_known r placed f found h top face right framed =
+face_known r placed f found h top face right within =
     let grid = cell_on_grid h.cell h.square in
     let whole : 30 - (30 - level_of placed.cell) ≡ 0 = omega arith in
     let one = ap (λ (t : ℕ). 2 ^ t) whole in
@@ -67,11 +68,11 @@ face_known r placed f found h top face right framed =
       cell = h.cell;
       square = h.square;
       right = at_cell side none all u v;
-      framed = framed;
+      within = rw side at within;
     }
   where
     at_cell : {g n k x y : ℕ} → f ≡ g → 0 ≡ n → 30 ≡ k → 0 ≡ x → 0 ≡ y → IsRight r.margin (top_in r g)
-        (edges_on g r.edges) n k x y found
+        (edges_on g r.edges) n k x y (near_of (face_list r g) found)
     at_cell {g} {n} {k} {x} {y} a b c d e =
         let b1 = sym b in
         let c1 = sym c in

@@ -1,7 +1,6 @@
-//! Whether edges cross a piece of a way, and whether they do an odd number of times.
-ghost use Rattle.std.specs.Prelude.{◌≡◌, ◌↔◌, IsTrue, All};
+//! Whether an edge crosses a piece of a way.
+ghost use Rattle.std.specs.Prelude.{◌≡◌, ◌↔◌, IsTrue};
 ghost use Rattle.s2polygon.specs.Crosses.{crosses_column_at, crosses_row_at};
-ghost use Rattle.s2polygon.specs.Parity.{is_odd_by};
 ghost use Rattle.s2polygon.specs.Working.Crossed.{AreBeside, AreCrossed};
 ghost use Rattle.s2polygon.specs.Working.Descent.{crosses_step_at};
 ghost use Rattle.s2polygon.specs.Working.Sizes.{HasPlaces, HasPlacesOfLine, IsFramed};
@@ -64,23 +63,10 @@ pub(crate) fn crosses_column(e: FramedEdge, line: Line) -> bool
 
 /// Whether an edge crosses just one of the two pieces of a step.
 #[tactic(none)]
-fn crosses_step(e: FramedEdge, s: Step) -> bool
+pub(crate) fn crosses_step(e: FramedEdge, s: Step) -> bool
     requires edge { IsFramed e }
     requires step { HasPlaces s }
     ensures { result ≡ crosses_step_at s e }
 {
     crosses_row(e, s.row) ^ crosses_column(e, s.column)
-}
-
-/// Whether the edges cross a step an odd number of times.
-pub(crate) fn is_odd_step(edges: &[FramedEdge], s: Step) -> bool
-    requires edges { All IsFramed edges.now }
-    requires step { HasPlaces s }
-    ensures { result ≡ is_odd_by (crosses_step_at s) edges.now }
-{
-    let mut odd = false;
-    for e in edges {
-        odd = odd ^ crosses_step(*e, s);
-    }
-    odd
 }

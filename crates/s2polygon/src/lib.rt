@@ -14,6 +14,7 @@ mod fault;
 mod few;
 mod frames;
 pub mod laws;
+mod lists;
 mod meeting;
 mod places;
 mod polygon;

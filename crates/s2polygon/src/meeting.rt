@@ -1,5 +1,5 @@
 //! Whether an edge meets a square: by the signs of its ends at the square's lines, and of its normal at the corners.
-ghost use Rattle.std.specs.Prelude.{◌≡◌, ◌*ℤ◌, ◌↔◌, IsTrue, All, IfOk, filter};
+ghost use Rattle.std.specs.Prelude.{◌≡◌, ◌*ℤ◌, ◌↔◌, IsTrue};
 ghost use Rattle.s2polygon.specs.Crosses.{side_by};
 ghost use Rattle.s2polygon.specs.Meets.{MeetsSquare, above, below, left_of, right_of};
 ghost use Rattle.s2polygon.specs.Tests.{aboves, belows, lefts, meets_square, rights};
@@ -8,7 +8,6 @@ ghost use Rattle.s2polygon.specs.Working.Sizes.{IsFramed, IsOfPlaces, IsPlace};
 
 use crate::frames::{Framed, FramedEdge};
 use crate::places::{Square, WHOLE};
-use std::alloc::{AllocError, Global};
 
 /// Two distances: of an edge's two ends from one line.
 #[derive(Clone, Copy)]
@@ -212,23 +211,4 @@ pub(crate) fn is_met(q: Square, e: FramedEdge) -> bool
     ensures { result ≡ meets_square q e }
 {
     meets(e, q)
-}
-
-/// Those of the edges that meet a square.
-pub(crate) fn edges_met(
-    alloc: Global,
-    edges: &[FramedEdge],
-    q: Square,
-) -> Result<Vec<FramedEdge>, AllocError>
-    requires edges { All IsFramed edges.now }
-    requires square { IsOfPlaces q }
-    ensures { IfOk result (λ met. met.items ≡ filter (meets_square q) edges.now) }
-{
-    let mut met = Vec::new(alloc);
-    for e in edges {
-        if is_met(q, *e) {
-            met.push(*e)?;
-        }
-    }
-    Ok(met)
 }

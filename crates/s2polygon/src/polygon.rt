@@ -1,18 +1,21 @@
 //! Polygons, and which leaves lie inside them.
-ghost use Rattle.std.specs.Prelude.{◌≡◌, ◌<◌, ◌≤◌, ◌^◌, All, IfErr, IfOk, length};
+ghost use Rattle.std.specs.Prelude.{◌≡◌, ◌<◌, ◌≤◌, ◌^◌, All, IfErr, IfOk, List, length};
 ghost use Rattle.s2cell.specs.Cell.{level_of, first_leaf};
 ghost use Rattle.s2polygon.specs.Cells.{odd_of};
 ghost use Rattle.s2polygon.specs.Faces.{edges_on};
 ghost use Rattle.s2polygon.specs.Leaves.{inside};
 ghost use Rattle.s2polygon.specs.Rings.{AreRings, FaultMeans, rings_edges};
-ghost use Rattle.s2polygon.specs.Working.Descent.{IsRight};
-ghost use Rattle.s2polygon.specs.Working.Known.{top_in};
+ghost use Rattle.s2polygon.specs.Working.Descent.{IsRight, near_face, near_of};
+ghost use Rattle.s2polygon.specs.Working.Known.{face_list, top_in};
 ghost use Rattle.s2polygon.specs.Working.Sizes.{IsFramed};
+ghost use Rattle.s2polygon.specs.declared.frames.FramedEdge.{FramedEdge};
 
 use crate::descent::{Known, descend_to_leaf, known_of_face};
 use crate::directions::{Direction, Edge};
 use crate::faces::{Tops, exchanged, top_at, tops_of};
 use crate::fault::PolygonFault;
+use crate::frames::FramedEdge;
+use crate::lists::{Lists, list_at, lists_of};
 use crate::rings::edges_of;
 use s2cell::{CellId, GREATEST_LEVEL};
 use std::alloc::{AllocError, Global};
@@ -28,6 +31,7 @@ pub struct Polygon {
     outside: CellId,
     margin: u64,
     tops: Tops,
+    lists: Lists,
 }
 
 impl Model for Polygon {
@@ -41,31 +45,32 @@ impl Model for Polygon {
     ghost view = { λ p. record { edges = p.edges.items; outside = first_leaf p.outside; margin = p.margin } };
 
     ghost invariant = { λ p. IsPolygon
-        (record { edges = p.edges.items; outside = first_leaf p.outside; margin = p.margin }) p.tops };
+        (record { edges = p.edges.items; outside = first_leaf p.outside; margin = p.margin }) p.tops p.lists };
 }
 
-/// The parity of the leaf at a place, by way of all cells that have it. `top` is the parity of the face's middle.
+/// The parity of the leaf at a place of a face, by way of all cells that have it. `all` is the list of the face, and
+/// `top` the parity of its middle.
 fn parity_of_leaf(
     alloc: Global,
-    edges: &[Edge],
+    all: &[FramedEdge],
     margin: u64,
-    face: u8,
     top: bool,
     i: u32,
     j: u32,
 ) -> Result<bool, AllocError>
     requires margin { margin ≤ 2 ^ 60 }
-    requires face { face < 6 }
+    requires framed { All IsFramed all.now }
     requires i { i < 2 ^ 30 }
     requires j { j < 2 ^ 30 }
-    ensures { IfOk result (λ odd. odd ≡ odd_of top (edges_on face edges.now) 30 0 i j) }
+    ensures { (edges : List FramedEdge) → all.now ≡ near_face margin edges
+        → IfOk result (λ odd. odd ≡ odd_of top edges 30 0 i j) }
 {
-    let whole = known_of_face(alloc, face, edges, top, margin)?;
-    let leaf = descend_to_leaf(alloc, whole, u64::from(i), u64::from(j), margin)?;
+    let whole = known_of_face(alloc, all, top)?;
+    let leaf = descend_to_leaf(alloc, all, whole, u64::from(i), u64::from(j), margin)?;
     Ok(leaf.odd)
 }
 
-/// The polygon of these edges, with the parities of the faces' middles.
+/// The polygon of these edges, with the parities of the faces' middles and the lists of the faces.
 pub(crate) fn placed(
     alloc: Global,
     edges: Vec<Edge>,
@@ -79,12 +84,15 @@ pub(crate) fn placed(
     let tops = tops_of(&edges);
     let face = outside.face();
     let at = outside.square();
-    let odd = parity_of_leaf(alloc, &edges, margin, face, top_at(tops, face), at.i, at.j)?;
+    let lists = lists_of(alloc, &edges, margin)?;
+    let all = list_at(&lists, face);
+    let odd = parity_of_leaf(alloc, all, margin, top_at(tops, face), at.i, at.j)?;
     Ok(Polygon {
         edges,
         outside,
         margin,
         tops: exchanged(tops, odd),
+        lists,
     })
 }
 
@@ -125,31 +133,49 @@ impl Polygon {
 
     /// Whether a leaf lies inside: whether its parity is not that of the leaf outside. The cell must be a leaf.
     ///
-    /// The edges are looked at once, those near the leaf up to thirty times. S2: `S2Polygon::Contains`.
+    /// The edges of the leaf's face are looked at once, those near the leaf up to thirty times. S2:
+    /// `S2Polygon::Contains`.
     pub fn holds(&self, alloc: Global, leaf: CellId) -> Result<bool, AllocError>
         requires { level_of leaf ≡ GREATEST_LEVEL }
         ensures { IfOk result (λ held. held ≡ inside self.now (first_leaf leaf)) }
     {
         let face = leaf.face();
         let at = leaf.square();
-        let top = top_at(self.tops, face);
-        parity_of_leaf(alloc, &self.edges, self.margin, face, top, at.i, at.j)
+        parity_of_leaf(
+            alloc,
+            self.list(face),
+            self.margin(),
+            self.top(face),
+            at.i,
+            at.j,
+        )
     }
 
     /// What is known of a face.
     pub(crate) fn known_face(&self, alloc: Global, face: u8) -> Result<Known, AllocError>
         requires { face < 6 }
-        ensures right { IfOk result (IsRight self.now.margin (top_in self.now face)
-            (edges_on face self.now.edges) 0 30 0 0) }
-        ensures framed { IfOk result (λ known. All IsFramed known.edges.items) }
+        ensures right { IfOk result (λ known. IsRight self.now.margin (top_in self.now face)
+            (edges_on face self.now.edges) 0 30 0 0 (near_of (face_list self.now face) known)) }
+        ensures within { IfOk result (λ known. All (λ n. n < length (face_list self.now face)) known.edges.items) }
     {
-        known_of_face(
-            alloc,
-            face,
-            &self.edges,
-            top_at(self.tops, face),
-            self.margin,
-        )
+        known_of_face(alloc, self.list(face), self.top(face))
+    }
+
+    /// Whether the middle of a face lies inside.
+    fn top(&self, face: u8) -> bool
+        requires { face < 6 }
+        ensures { result ≡ top_in self.now face }
+    {
+        top_at(self.tops, face)
+    }
+
+    /// The list of a face: the edges that meet it.
+    pub(crate) fn list(&self, face: u8) -> &[FramedEdge]
+        requires { face < 6 }
+        ensures value { result.now ≡ face_list self.now face }
+        ensures framed { All IsFramed result.now }
+    {
+        list_at(&self.lists, face)
     }
 
     /// The margin.

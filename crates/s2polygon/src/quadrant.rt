@@ -1,14 +1,15 @@
 //! Cells of a polygon, with what is known of them.
-ghost use Rattle.std.specs.Prelude.{◌≡◌, ◌↔◌, ◌-◌, ◌/◌, ◌<◌, ◌≤◌, ◌^◌, [], ℕ, suc, All, Bool, IfOk, IsTrue, List};
+ghost use Rattle.std.specs.Prelude.{◌≡◌, ◌↔◌, ◌-◌, ◌/◌, ◌<◌, ◌≤◌, ◌^◌, [], ℕ, suc, All, Bool, IfOk, IsTrue, List, length};
 ghost use Rattle.s2cell.specs.Cell.{level_of};
 ghost use Rattle.s2cell.specs.Square.{IsPlacedCell};
 ghost use Rattle.s2polygon.specs.Leaves.{inner_leaf, outer_leaf};
-ghost use Rattle.s2polygon.specs.Working.Descent.{IsRight};
+ghost use Rattle.s2polygon.specs.Working.Descent.{IsRight, near_of};
 ghost use Rattle.s2polygon.specs.Working.Known.{IsKnown, part_by};
 ghost use Rattle.s2polygon.specs.Working.Sizes.{IsFramed};
 ghost use Rattle.s2polygon.specs.declared.frames.FramedEdge.{FramedEdge};
 
 use crate::descent::{Known, descend};
+use crate::frames::FramedEdge;
 use crate::polygon::Polygon;
 use s2cell::{CellId, GREATEST_LEVEL, PlacedCell};
 use s2cover::{Part, Quadrant, Quartered};
@@ -32,6 +33,7 @@ pub struct Walked<'a> {
 #[tactic(none)]
 fn known_of_child(
     alloc: Global,
+    all: &[FramedEdge],
     parent: &Known,
     child: &PlacedCell,
     margin: u64,
@@ -39,18 +41,21 @@ fn known_of_child(
     requires placed { IsPlacedCell child.now }
     requires inner { 0 < level_of child.now.cell }
     requires margin { margin ≤ 2 ^ 60 }
-    requires framed { All IsFramed parent.now.edges.items }
+    requires framed { All IsFramed all.now }
+    requires within { All (λ n. n < length all.now) parent.now.edges.items }
     ensures right { (top : Bool) (edges : List FramedEdge) (n : ℕ)
         → IsRight margin top edges n (suc (30 - level_of child.now.cell))
-        (child.now.square.i / child.now.square.size / 2) (child.now.square.j / child.now.square.size / 2) parent.now
-        → IfOk result (IsRight margin top edges (suc n) (30 - level_of child.now.cell)
-        (child.now.square.i / child.now.square.size) (child.now.square.j / child.now.square.size)) }
-    ensures framed { IfOk result (λ known. All IsFramed known.edges.items) }
+        (child.now.square.i / child.now.square.size / 2) (child.now.square.j / child.now.square.size / 2)
+        (near_of all.now parent.now)
+        → IfOk result (λ known. IsRight margin top edges (suc n) (30 - level_of child.now.cell)
+        (child.now.square.i / child.now.square.size) (child.now.square.j / child.now.square.size)
+        (near_of all.now known)) }
+    ensures within { IfOk result (λ known. All (λ n. n < length all.now) known.edges.items) }
 {
     let k = u32::from(GREATEST_LEVEL - child.cell.level());
     let i = u64::from(child.square.i / child.square.size);
     let j = u64::from(child.square.j / child.square.size);
-    descend(alloc, parent, k, i, j, margin)
+    descend(alloc, all, parent, k, i, j, margin)
 }
 
 /// Whether no edge is left.
@@ -93,7 +98,8 @@ impl<'a> Quadrant for PolygonCell<'a> {
 
     fn child(&self, alloc: Global, digit: u8) -> Result<PolygonCell<'a>, AllocError> {
         let placed = self.placed.child(digit);
-        let known = known_of_child(alloc, &self.known, &placed, self.polygon.margin())?;
+        let all = self.polygon.list(self.placed.square.face);
+        let known = known_of_child(alloc, all, &self.known, &placed, self.polygon.margin())?;
         Ok(PolygonCell {
             polygon: self.polygon,
             placed,

@@ -1,5 +1,5 @@
 -- What is known of a cell of a polygon.
-use Rattle.std.specs.Prelude.{◌≡◌, ℕ, zero, suc, ◌-◌, ◌/◌, ◌≤◌, ◌^◌, Bool, true, false, List, All}
+use Rattle.std.specs.Prelude.{◌≡◌, ℕ, zero, suc, ◌-◌, ◌/◌, ◌<◌, ◌≤◌, ◌^◌, Bool, true, false, List, All, length}
 use Rattle.std.specs.Bool.{xor}
 use Rattle.s2cell.specs.Cell.{IsCell, level_of}
 use Rattle.s2cell.specs.Square.{IsSquareOf}
@@ -7,11 +7,12 @@ use Rattle.s2cover.specs.declared.region.Part.{Part}
 use Rattle.s2cover.specs.declared.region.Part.TheVariants.{Out, In, Cross}
 use Rattle.s2polygon.specs.Faces.{edges_on, top_of}
 use Rattle.s2polygon.specs.Leaves.{Region, odd_at}
-use Rattle.s2polygon.specs.Working.Descent.{IsRight}
-use Rattle.s2polygon.specs.Working.Sizes.{IsFramed}
+use Rattle.s2polygon.specs.Working.Descent.{IsRight, near_face, near_of}
 use Rattle.s2polygon.specs.declared.descent.Known.{Known}
 use Rattle.s2polygon.specs.declared.directions.Edge.{Edge}
 use Rattle.s2polygon.specs.declared.faces.Tops.{Tops}
+use Rattle.s2polygon.specs.declared.frames.FramedEdge.{FramedEdge}
+use Rattle.s2polygon.specs.declared.lists.Lists.{Lists}
 
 -- whether the middle of a face lies inside
 abbrev pub top_in : Region → ℕ → Bool
@@ -45,9 +46,28 @@ exchanged_by odd t = record {
   five = xor t.five odd;
 }
 
--- what a polygon carries is right: which middles of faces lie inside, and a margin that is small enough
-pub record IsPolygon (r : Region) (tops : Tops) : Type 0 where
+-- the list of face `f`
+abbrev pub list_of : Lists → ℕ → List FramedEdge
+list_of l zero = l.zero.items
+list_of l (suc zero) = l.one.items
+list_of l (suc (suc zero)) = l.two.items
+list_of l (suc (suc (suc zero))) = l.three.items
+list_of l (suc (suc (suc (suc zero)))) = l.four.items
+list_of l (suc (suc (suc (suc (suc _))))) = l.five.items
+
+-- they are the lists of the edges that meet each face
+abbrev pub AreLists : List Edge → ℕ → Lists → Type 0
+AreLists es margin lists = (f : ℕ) → f < 6 → list_of lists f ≡ near_face margin (edges_on f es)
+
+-- the list of face `f` of a polygon
+abbrev pub face_list : Region → ℕ → List FramedEdge
+face_list r f = near_face r.margin (edges_on f r.edges)
+
+-- what a polygon carries is right: which middles of faces lie inside, the lists of its faces, and a margin that is
+-- small enough
+pub record IsPolygon (r : Region) (tops : Tops) (lists : Lists) : Type 0 where
   pub answers : tops ≡ answers_of (top_in r)
+  pub listed : AreLists r.edges r.margin lists
   pub small : r.margin ≤ 2 ^ 60
 
 -- how a cell lies, by whether no edge is left for it, and whether its middle lies inside
@@ -61,5 +81,5 @@ pub record IsKnown (r : Region) (c face i j size : ℕ) (known : Known) : Type 0
   pub cell : IsCell c
   pub square : IsSquareOf c face i j size
   pub right : IsRight r.margin (top_in r face) (edges_on face r.edges) (level_of c) (30 - level_of c) (i / size)
-      (j / size) known
-  pub framed : All IsFramed known.edges.items
+      (j / size) (near_of (face_list r face) known)
+  pub within : All (λ n. n < length (face_list r face)) known.edges.items

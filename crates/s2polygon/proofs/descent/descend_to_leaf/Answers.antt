@@ -1,13 +1,14 @@
 use Rattle.std.proofs.Common.{arith, ◌-◌}
 use Rattle.std.proofs.lemmas.Result.{err_from_is_err_and}
 use Rattle.s2polygon.proofs.Leaves.{in_range, start, one_down, arrived}
+use Rattle.s2polygon.specs.Working.Descent.{near_of}
 use Rattle.s2polygon.proofs.descent.descend_to_leaf.Goals as goal
 
 pub loop-k-init : goal.loop-k-init
 loop-k-init c = (
   omega arith,
-  c.requires.framed,
-  start c.args.margin c.args.face c.args.x c.args.y c.requires.x
+  c.requires.within,
+  start c.args.margin (near_of c.args.all.now c.args.face) c.args.x c.args.y c.requires.x
       c.requires.y,
 )
 
@@ -41,7 +42,10 @@ pub descend-requires-clause-margin : goal.descend-requires-clause-margin
 descend-requires-clause-margin c = c.requires.margin
 
 pub descend-requires-clause-framed : goal.descend-requires-clause-framed
-descend-requires-clause-framed c = c.loop-k.invariant.1
+descend-requires-clause-framed c = c.requires.framed
+
+pub descend-requires-clause-within : goal.descend-requires-clause-within
+descend-requires-clause-within c = c.loop-k.invariant.1
 
 pub returns-in_err-known : goal.returns-in_err-known
 returns-in_err-known c =
@@ -54,11 +58,13 @@ loop-k-smaller c = omega (arith, c.loop-k.invariant.0, c.loop-k-test.true)
 pub loop-k-preserved : goal.loop-k-preserved
 loop-k-preserved c = (
   omega (arith, c.loop-k.invariant.0, c.loop-k-test.true),
-  c.in_ok-known.ensures.framed,
-  one_down c.args.margin c.args.face c.args.x c.args.y c.loop-k.k c.loop-k.known c.in_ok-known.known
+  c.in_ok-known.ensures.within,
+  one_down c.args.margin (near_of c.args.all.now c.args.face) c.args.x c.args.y c.loop-k.k
+      (near_of c.args.all.now c.loop-k.known) (near_of c.args.all.now c.in_ok-known.known)
       c.loop-k-test.true c.loop-k.invariant.0 c.loop-k.invariant.2 c.in_ok-known.ensures.right,
 )
 
 pub returns : goal.returns
-returns c = arrived c.args.margin c.args.face c.args.x c.args.y c.loop-k.k c.loop-k.known
+returns c = arrived c.args.margin (near_of c.args.all.now c.args.face) c.args.x c.args.y c.loop-k.k
+    (near_of c.args.all.now c.loop-k.known)
     (omega (arith, c.loop-k-test.false)) c.loop-k.invariant.2

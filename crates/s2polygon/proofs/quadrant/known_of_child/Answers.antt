@@ -32,6 +32,9 @@ descend-requires-clause-margin c = c.requires.margin
 pub descend-requires-clause-framed : goal.descend-requires-clause-framed
 descend-requires-clause-framed c = c.requires.framed
 
+pub descend-requires-clause-within : goal.descend-requires-clause-within
+descend-requires-clause-within c = c.requires.within
+
 pub returns-clause-right : goal.returns-clause-right
 returns-clause-right c top edges n right =
     let k = c.from-k.ensures ∙ ap (λ (n : ℕ). 30 - n) c.level.ensures.value in
@@ -39,5 +42,5 @@ returns-clause-right c top edges n right =
     let j = c.from-j.ensures in
     rw (k, i, j) at (c.descend.ensures.right top edges n) right
 
-pub returns-clause-framed : goal.returns-clause-framed
-returns-clause-framed c = c.descend.ensures.framed
+pub returns-clause-within : goal.returns-clause-within
+returns-clause-within c = c.descend.ensures.within

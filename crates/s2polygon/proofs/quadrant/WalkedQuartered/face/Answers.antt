@@ -6,5 +6,5 @@ returns-clause-sound c = (
   c.face.ensures.placed,
   face_known c.args.self.now.polygon.now c.face.result c.args.face c.in_ok-known.known c.face.ensures.placed
       c.face.ensures.level
-      c.face.ensures.face c.in_ok-known.ensures.right c.in_ok-known.ensures.framed,
+      c.face.ensures.face c.in_ok-known.ensures.right c.in_ok-known.ensures.within,
 )

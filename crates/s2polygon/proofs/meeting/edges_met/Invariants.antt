@@ -1,6 +1,0 @@
-use Rattle.std.proofs.Common.{◌≡◌, take, filter}
-use Rattle.s2polygon.specs.Tests.{meets_square}
-use Rattle.s2polygon.proofs.meeting.edges_met.Given as goal
-
-abbrev pub invariant-loop-e : goal.invariant-loop-e
-invariant-loop-e l = l.met.items ≡ filter (meets_square l.q) (take l.e-index l.edges)
