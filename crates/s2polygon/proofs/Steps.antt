@@ -59,7 +59,7 @@ unfolding xor
 either_answer r s t u e f = rw (e, f) refl
 
 -- ---- one more edge
-xor_moves : (a b c : Bool) → xor a (xor b c) ≡ xor (xor a b) c
+pub xor_moves : (a b c : Bool) → xor a (xor b c) ≡ xor (xor a b) c
 unfolding xor
 xor_moves true true true = refl
 xor_moves true true false = refl

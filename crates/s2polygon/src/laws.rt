@@ -1,5 +1,5 @@
 //! Laws about the definitions themselves: functions that do nothing, whose clauses are proved.
-ghost use Rattle.std.specs.Prelude.{◌≡◌, ◌↔◌, ◌≤◌, ◌<ℤ◌, ℕ, IsTrue, List, not, true};
+ghost use Rattle.std.specs.Prelude.{◌≡◌, ◌↔◌, ◌≤◌, ◌<ℤ◌, ◌++◌, ℕ, All, IsTrue, List, false, not, true};
 ghost use Rattle.std.specs.List.Sorted.{IsPermutation};
 ghost use Rattle.s2polygon.specs.Leaves.{Region, inner_leaf, inside, is_touched, outer_leaf};
 ghost use Rattle.s2polygon.specs.Meets.{MeetsSquare};
@@ -33,4 +33,16 @@ pub fn law_of_orders()
         → inside (record r { edges = edges }) x ≡ inside r x }
     ensures touched { (r : Region) (edges : List Edge) (x : ℕ) → IsPermutation r.edges edges
         → is_touched (record r { edges = edges }) x ≡ is_touched r x }
+{}
+
+/// Edges that are listed twice change nothing of what lies inside, so that they are lines: lines alone have no inside,
+/// and nor have points alone, edges that end where they begin. The outer leaves are then those that are touched.
+///
+/// It isn't enough to list an edge there and back: a leaf whose middle lies on it, which is touched, counts as inside.
+pub fn law_of_lines()
+    ensures twice { (r : Region) (lines : List Edge) (x : ℕ)
+        → inside (record r { edges = r.edges ++ (lines ++ lines) }) x ≡ inside r x }
+    ensures lines { (r : Region) (lines : List Edge) (x : ℕ)
+        → inside (record r { edges = lines ++ lines }) x ≡ false }
+    ensures points { (r : Region) (x : ℕ) → All (λ e. e.a ≡ e.b) r.edges → inside r x ≡ false }
 {}

@@ -104,6 +104,9 @@ impl Polygon {
     /// Rings may cross, touch and repeat each other: what is crossed an odd number of times on the way from the leaf
     /// outside is inside. Corners may repeat each other too. Each fault says what is so of the corners, of the leaf or
     /// of the margin. S2: `S2Polygon`, whose rings may not cross.
+    ///
+    /// A line is a ring that runs out and back, listed twice, and a point is a ring of one corner, three times. They
+    /// have no inside (`law_of_lines`): their outer leaves are those that they touch.
     pub fn new(
         alloc: Global,
         corners: &[Direction],
