@@ -47,7 +47,8 @@ module _ (r : Region) (c face i j size : ℕ) (known : Known) (h : IsKnown r c f
   unfolding is_touched
   bare_untouched none x covered =
       let l = leaf_at x h.cell h.square covered in
-      let far = rw (sym l.column, sym l.row) at (sym h.right.met ∙ none_picked (face_list r face) known.edges.items none) in
+      let far = rw (sym l.column, sym l.row) at
+      (sym h.right.met ∙ none_picked (face_list r face) known.edges.items none) in
       ap (λ (f : ℕ). list_any (meets_square (widened r.margin (square_of 0 (i_of x) (j_of x)))) (edges_on f r.edges))
       l.face_is
       ∙ none_near (meets_square (widened r.margin (square_of 0 (i_of x) (j_of x))))
@@ -64,7 +65,8 @@ module _ (r : Region) (c face i j size : ℕ) (known : Known) (h : IsKnown r c f
   pub some_touched : ¬ (known.edges.items ≡ []) → Touched
   unfolding is_touched
   some_touched some =
-      let e = some_kept kept (edges_on face r.edges) (λ none. some (picked_none (face_list r face) known.edges.items (h.right.met ∙ none))) in
+      let e = some_kept kept (edges_on face r.edges)
+      (λ none. some (picked_none (face_list r face) known.edges.items (h.right.met ∙ none))) in
       let t = leaf_touched r.margin (30 - level_of c) (i / size) (j / size) e.edge e.far_is in
       let l = leaf_of t.x t.y h.cell h.square t.column t.row in
       record {

@@ -58,8 +58,8 @@ cell_on_grid {c} {face} {i} {j} {size} ic sq =
     (square_from_place c x y ic there) in
     on_grid (30 - k) i j size x y (omega arith) own.size own.first own.second sq.fits.0 sq.fits.1
 
-pub face_within : {p : PlacedCell} → IsPlacedCell p → p.square.face < 6
-face_within {p} h = let is = h.square.face_is in rw (is, ← face_bits h.cell) (face_of_cell p.cell h.cell)
+pub face_within : {c face i j size : ℕ} → IsCell c → IsSquareOf c face i j size → face < 6
+face_within {c} ic sq = let is = sq.face_is in rw (is, ← face_bits ic) (face_of_cell c ic)
 
 pub level_within : (c : ℕ) → IsCell c → 30 - level_of c + level_of c ≡ 30
 level_within c ic = let h = (own_place c ic).level in omega arith

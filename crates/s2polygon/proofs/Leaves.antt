@@ -35,8 +35,11 @@ module _ (margin : ℕ) (face : Near) (x y : ℕ) where
       rw (halved (k - 1) x, halved (k - 1) y, one) (reached top edges r) in
       rw level at (descends top edges (30 - k) parent)
 
-  pub arrived : (k : ℕ) (known : Near) → k ≡ 0 → Reaches k known → (top : Bool) (edges : List FramedEdge)
-      → IsRight margin top edges 0 30 0 0 face → IsRight margin top edges 30 0 x y known
-  arrived k known e reached top edges r =
-      let there = rw e at (reached top edges r) in
-      rw (div-one x, div-one y) at there
+  pub arrived : (bottom k : ℕ) (known : Near) → k ≡ bottom → Reaches k known → (top : Bool)
+      (edges : List FramedEdge) → IsRight margin top edges 0 30 0 0 face
+      → IsRight margin top edges (30 - bottom) bottom (x / 2 ^ bottom) (y / 2 ^ bottom) known
+  arrived bottom k known e reached top edges r = rw e at (reached top edges r)
+
+pub at_leaf : (margin : ℕ) (top : Bool) (edges : List FramedEdge) (x y : ℕ) (known : Near)
+    → IsRight margin top edges 30 0 (x / 1) (y / 1) known → IsRight margin top edges 30 0 x y known
+at_leaf margin top edges x y known there = rw (div-one x, div-one y) at there

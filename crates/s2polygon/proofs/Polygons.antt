@@ -12,8 +12,8 @@ use Rattle.s2polygon.specs.Faces.{edges_on, top_of}
 use Rattle.s2polygon.specs.Leaves.{Region, inside, odd_at}
 use Rattle.s2polygon.specs.Tests.{meets_square}
 use Rattle.s2polygon.specs.Working.Descent.{near_face}
-use Rattle.s2polygon.specs.Working.Known.{AreLists, IsPolygon, answer_at, answers_of, exchanged_by, face_list, parities_of}
-use Rattle.s2polygon.specs.Working.Known.{top_in}
+use Rattle.s2polygon.specs.Working.Known.{AreLists, IsPolygon, answer_at, answers_of, exchanged_by, face_list}
+use Rattle.s2polygon.specs.Working.Known.{parities_of, top_in}
 use Rattle.s2polygon.specs.Working.Sizes.{IsFramed}
 use Rattle.s2polygon.specs.declared.directions.Edge.{Edge}
 use Rattle.s2polygon.specs.declared.faces.Tops.{Tops}
@@ -55,6 +55,11 @@ module _ (n face i j : ℕ) (p : IsPlaceOf n face i j) where
 pub if_ok : {A E : Type 0} {P Q : A → Type 0} (r : Result A E) → ((x : A) → P x → Q x) → IfOk r P → IfOk r Q
 if_ok (Ok x) f p = f x p
 if_ok (Err e) f p = tt
+
+pub ok_both : {A E : Type 0} {P Q R : A → Type 0} (r : Result A E) → ((x : A) → P x → Q x → R x) → IfOk r P → IfOk r Q
+    → IfOk r R
+ok_both (Ok x) f p q = f x p q
+ok_both (Err e) f p q = tt
 
 -- which lists a polygon has
 pub all_lists : (es : List Edge) (margin : ℕ) (l : Lists) → l.zero.items ≡ near_face margin (edges_on 0 es)

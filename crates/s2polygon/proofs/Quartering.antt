@@ -1,9 +1,9 @@
 -- What is known of a cell of a polygon, and of its children.
 use Rattle.std.proofs.Common.{◌≡◌, sym, ap, ◌∙◌, ℕ, suc, ◌+◌, ◌-◌, ◌/◌, ◌^◌, ◌<◌, arith, length, All}
-use Rattle.s2cell.specs.Cell.{level_of, child_of, face_of}
-use Rattle.s2cell.specs.Square.{IsPlacedCell}
+use Rattle.s2cell.specs.Cell.{IsCell, level_of, child_of, face_of}
+use Rattle.s2cell.specs.Square.{IsPlacedCell, IsSquareOf}
 use Rattle.s2cell.specs.declared.placed.PlacedCell.{PlacedCell}
-use Rattle.s2polygon.proofs.Indexes.{cell_on_grid, child_of_grid}
+use Rattle.s2polygon.proofs.Indexes.{cell_on_grid, child_of_grid, level_within}
 use Rattle.s2polygon.specs.Faces.{edges_on}
 use Rattle.s2polygon.specs.Leaves.{Region}
 use Rattle.s2polygon.specs.Working.Descent.{IsRight, near_of}
@@ -80,3 +80,20 @@ face_known r placed f found h top face right within =
         let e1 = sym e in
         let a1 = sym a in
         rw (a1, b1, c1, d1, e1) right
+
+-- what a walk down to a cell found of it
+pub cell_known : (r : Region) (c face i j size : ℕ) (found : Known) (k : ℕ) → IsCell c → IsSquareOf c face i j size
+    → k ≡ 30 - level_of c
+    → IsRight r.margin (top_in r face) (edges_on face r.edges) (30 - k) k (i / 2 ^ k) (j / 2 ^ k)
+    (near_of (face_list r face) found)
+    → All (λ n. n < length (face_list r face)) found.edges.items
+    → IsKnown r c face i j size found
+cell_known r c face i j size found k ic sq is right within =
+    let side = sym (cell_on_grid ic sq).size_is in
+    let depth : 30 - (30 - level_of c) ≡ level_of c = (let d = level_within c ic in omega arith) in
+    record {
+      cell = ic;
+      square = sq;
+      right = rw (is, depth, side) at right;
+      within = within;
+    }

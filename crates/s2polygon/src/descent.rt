@@ -125,7 +125,39 @@ pub(crate) fn known_of_face(
     Ok(Known { odd, edges })
 }
 
-/// What is known of a leaf, from what is known of its face, by way of all cells that have it.
+/// What is known of the cell of 2^`bottom` leaves a side that has the leaf at a place, from what is known of its face,
+/// by way of all cells that have it.
+#[tactic(none)]
+pub(crate) fn descend_to(
+    alloc: Global,
+    all: &[FramedEdge],
+    face: Known,
+    bottom: u32,
+    x: u64,
+    y: u64,
+    margin: u64,
+) -> Result<Known, AllocError>
+    requires bottom { bottom ≤ 30 }
+    requires x { x < 2 ^ 30 }
+    requires y { y < 2 ^ 30 }
+    requires margin { margin ≤ 2 ^ 60 }
+    requires framed { All IsFramed all.now }
+    requires within { All (λ n. n < length all.now) face.edges.items }
+    ensures right { (top : Bool) (edges : List FramedEdge) → IsRight margin top edges 0 30 0 0 (near_of all.now face)
+        → IfOk result (λ cell. IsRight margin top edges (30 - bottom) bottom (x / 2 ^ bottom) (y / 2 ^ bottom)
+        (near_of all.now cell)) }
+    ensures within { IfOk result (λ cell. All (λ n. n < length all.now) cell.edges.items) }
+{
+    let mut known = face;
+    let mut k = 30u32;
+    while k > bottom {
+        k -= 1;
+        known = descend(alloc, all, &known, k, x >> k, y >> k, margin)?;
+    }
+    Ok(known)
+}
+
+/// What is known of a leaf, from what is known of its face.
 #[tactic(none)]
 pub(crate) fn descend_to_leaf(
     alloc: Global,
@@ -143,11 +175,5 @@ pub(crate) fn descend_to_leaf(
     ensures { (top : Bool) (edges : List FramedEdge) → IsRight margin top edges 0 30 0 0 (near_of all.now face)
         → IfOk result (λ leaf. IsRight margin top edges 30 0 x y (near_of all.now leaf)) }
 {
-    let mut known = face;
-    let mut k = 30u32;
-    while k > 0 {
-        k -= 1;
-        known = descend(alloc, all, &known, k, x >> k, y >> k, margin)?;
-    }
-    Ok(known)
+    descend_to(alloc, all, face, 0, x, y, margin)
 }

@@ -16,6 +16,7 @@ mod frames;
 pub mod laws;
 mod lists;
 mod meeting;
+mod part;
 mod places;
 mod polygon;
 mod quadrant;

@@ -1,5 +1,6 @@
 //! Cells of a polygon, with what is known of them.
-ghost use Rattle.std.specs.Prelude.{◌≡◌, ◌↔◌, ◌-◌, ◌/◌, ◌<◌, ◌≤◌, ◌^◌, [], ℕ, suc, All, Bool, IfOk, IsTrue, List, length};
+ghost use Rattle.std.specs.Prelude.{◌≡◌, ◌↔◌, ◌-◌, ◌/◌, ◌<◌, ◌≤◌, ◌^◌, [], ℕ, suc, All, Bool, IfOk, IsTrue, List};
+ghost use Rattle.std.specs.Prelude.{length};
 ghost use Rattle.s2cell.specs.Cell.{level_of};
 ghost use Rattle.s2cell.specs.Square.{IsPlacedCell};
 ghost use Rattle.s2polygon.specs.Leaves.{inner_leaf, outer_leaf};
@@ -59,14 +60,14 @@ fn known_of_child(
 }
 
 /// Whether no edge is left.
-fn is_bare(known: &Known) -> bool
+pub(crate) fn is_bare(known: &Known) -> bool
     ensures { IsTrue result ↔ (known.now.edges.items ≡ []) }
 {
     known.edges.is_empty()
 }
 
 /// How a cell lies, by whether no edge is left for it, and whether its middle lies inside.
-fn part_of(bare: bool, odd: bool) -> Part
+pub(crate) fn part_of(bare: bool, odd: bool) -> Part
     ensures { result ≡ part_by bare odd }
 {
     if !bare {

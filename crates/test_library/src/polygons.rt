@@ -2,7 +2,7 @@
 
 use crate::texts::{add_cells, cut, numbers_of, small, yes_or_no};
 use s2cell::{CellId, GREATEST_LEVEL};
-use s2cover::{CoverFault, MOST_COVERING};
+use s2cover::{CoverFault, MOST_COVERING, Part};
 use s2polygon::{Direction, Polygon, PolygonFault};
 use s2union::CellUnion;
 use std::alloc::{AllocError, Global};
@@ -15,9 +15,9 @@ struct Rings {
     ends: Vec<usize>,
 }
 
-/// Makes a call `polygon`, `outer LEVEL MOST`, `inner LEVEL MOST`, `outer_up_to LEVEL MOST`, `inner_up_to LEVEL MOST`
-/// or `holds LEAF`, each followed by `/ MARGIN OUTSIDE / X Y Z X Y Z .. / X Y Z ..`, and adds its answer. False for the
-/// name of another call.
+/// Makes a call `polygon`, `outer LEVEL MOST`, `inner LEVEL MOST`, `outer_up_to LEVEL MOST`, `inner_up_to LEVEL MOST`,
+/// `part CELL` or `holds LEAF`, each followed by `/ MARGIN OUTSIDE / X Y Z X Y Z .. / X Y Z ..`, and adds its answer.
+/// False for the name of another call.
 pub fn answer(
     alloc: Global,
     name: &str,
@@ -101,14 +101,11 @@ fn add_answer(
     found: &mut Vec<u8>,
 ) -> Result<(), AllocError> {
     let (what, words) = question.split_once(" ").unwrap_or((question, ""));
-    if what == "holds" {
-        let Some(leaf) = CellId::from_token(words.as_bytes()) else {
+    if what == "holds" || what == "part" {
+        let Some(cell) = CellId::from_token(words.as_bytes()) else {
             return add_line(found, "no cell");
         };
-        if !leaf.is_leaf() {
-            return add_line(found, "no leaf");
-        }
-        return add_line(found, yes_or_no(polygon.holds(alloc, leaf)?));
+        return add_place(alloc, polygon, what, cell, found);
     }
     let [level, most, ..] = numbers_of(words);
     let level = small(level);
@@ -121,6 +118,31 @@ fn add_answer(
         "inner" => add_covering(found, polygon.inner(alloc, level, most)),
         "outer_up_to" => add_cells(found, polygon.outer_up_to(alloc, level, most)?.cells()),
         _ => add_cells(found, polygon.inner_up_to(alloc, level, most)?.cells()),
+    }
+}
+
+/// Adds whether a leaf lies inside a polygon, or how a cell lies relative to it.
+fn add_place(
+    alloc: Global,
+    polygon: &Polygon,
+    what: &str,
+    cell: CellId,
+    found: &mut Vec<u8>,
+) -> Result<(), AllocError> {
+    if what == "part" {
+        return add_line(found, word_of(polygon.part(alloc, cell)?));
+    }
+    if !cell.is_leaf() {
+        return add_line(found, "no leaf");
+    }
+    add_line(found, yes_or_no(polygon.holds(alloc, cell)?))
+}
+
+fn word_of(part: Part) -> &'static str {
+    match part {
+        Part::In => "in",
+        Part::Out => "out",
+        Part::Cross => "cross",
     }
 }
 

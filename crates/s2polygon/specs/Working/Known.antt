@@ -83,3 +83,11 @@ pub record IsKnown (r : Region) (c face i j size : ℕ) (known : Known) : Type 0
   pub right : IsRight r.margin (top_in r face) (edges_on face r.edges) (level_of c) (30 - level_of c) (i / size)
       (j / size) (near_of (face_list r face) known)
   pub within : All (λ n. n < length (face_list r face)) known.edges.items
+
+-- the same, at the square that the cell has
+pub record IsKnownCell (r : Region) (c : ℕ) (known : Known) : Type 0 where
+  pub face : ℕ
+  pub i : ℕ
+  pub j : ℕ
+  pub size : ℕ
+  pub is : IsKnown r c face i j size known

@@ -8,7 +8,7 @@ use Rattle.s2polygon.proofs.Quartering.{child_known, parent_right}
 use Rattle.s2polygon.proofs.quadrant.PolygonCellQuadrant.child.Goals as goal
 
 pub list-all-requires : goal.list-all-requires
-list-all-requires c = face_within c.requires.sound.0
+list-all-requires c = face_within c.requires.sound.0.cell c.requires.sound.0.square
 
 pub known_of_child-requires-clause-inner : goal.known_of_child-requires-clause-inner
 known_of_child-requires-clause-inner c = let l = c.child-placed.ensures.level in omega arith
