@@ -24,35 +24,20 @@ python_on_arm() {
 
 # ---- the same answers
 
-built() { # COMPILER PREFIX NAME LIBRARY FLAGS..: the program that prints sums of answers
-  "$1" -std=c11 -D_DEFAULT_SOURCE -O2 "${strict[@]}" -I"$2/include" "$tests/answers.c" "$4" -o "$work/$3" "${@:5}"
-}
-answers() { # NAME COMMAND..: of three seeds, at once
-  local seed jobs=()
-  for seed in 1 2 3; do
-    "${@:2}" "$seed" "$rounds" >"$work/$1-$seed" &
-    jobs+=($!)
-  done
-  for job in "${jobs[@]}"; do wait "$job" || return 1; done
-}
-same() { # NAME
-  local seed
-  for seed in 1 2 3; do
-    tail -n 1 "$work/$1-$seed"
-    [ -s "$work/here-$seed" ] && cmp "$work/here-$seed" "$work/$1-$seed" || return 1
-  done
-}
-here() { built gcc "$work/usr" here "$work/usr/lib/libs2union.a" && answers here "$work/here"; }
+. "$top/tests/answers.sh"
+here() { asking here gcc "$work/usr/include" "$work/usr/lib/libs2union.a" && answers here "$work/here"; }
 there() {
-  built aarch64-linux-gnu-gcc "$arm" there "$arm/lib/libs2union.a" && answers there on_arm "$work/there" && same there
+  asking there aarch64-linux-gnu-gcc "$arm/include" "$arm/lib/libs2union.a" && answers there on_arm "$work/there" &&
+    same there
 }
 with_musl() {
-  built musl-gcc "$work/usr" musl "$work/usr/lib/libs2union.a" -static && answers musl "$work/musl" && same musl
+  asking musl musl-gcc "$work/usr/include" "$work/usr/lib/libs2union.a" -static && answers musl "$work/musl" &&
+    same musl
 }
 by_musl() { # the shared library, linked again without versions of symbols, and a program of musl that loads it
   mkdir -p "$work/musl-lib" && musl-gcc -shared -Wl,-soname,libs2union.so.1 -Wl,--whole-archive \
     "$work/usr/lib/libs2union.a" -Wl,--no-whole-archive -o "$work/musl-lib/libs2union.so.1" &&
-    built musl-gcc "$work/usr" by-musl "$work/musl-lib/libs2union.so.1" &&
+    asking by-musl musl-gcc "$work/usr/include" "$work/musl-lib/libs2union.so.1" &&
     LD_LIBRARY_PATH=$work/musl-lib answers by-musl "$work/by-musl" && same by-musl
 }
 step "$rounds rounds of all calls, three times" here
