@@ -2,10 +2,11 @@
 """Small polygons, leaf by leaf, by the proved calls and by a plain program: tests/run polygons -- [POLYGONS [SEED]].
 
 Each polygon has its corners in or beside a cell of level 26 to 28, on its borders, its corners and its middles too. It
-crosses itself, repeats corners, and may have a margin. Of three levels the cells of the outer covering on the cell's
-face have to be those of the leaves that tests/model/polygon.py finds there, one by one, and so those of the inner one;
-and so has the answer about a leaf. The proved calls are asked by test_library, a program of rows, which the gate has
-built; S2CALC_ROWS names another. The last line is 'N passed, M failed'.
+crosses itself, repeats corners, and may have a margin. A few have a hundred corners, or rings that are listed twice, or
+reach over all of the sphere but a few leaves. Of three levels the cells of the outer covering on the cell's face have
+to be those of the leaves that tests/model/polygon.py finds there, one by one, and so those of the inner one; and so
+have the answers about a leaf and about a cell. The proved calls are asked by test_library, a program of rows, which the
+gate has built; S2CALC_ROWS names another. The last line is 'N passed, M failed'.
 """
 import math
 import os
@@ -59,8 +60,10 @@ class Small:
 
         self.rings = []
         for _ in range(chance.choice([1, 1, 1, 2])):
-            ring = [direction(self.face, place(self.i), place(self.j)) for _ in range(chance.randrange(3, 9))]
+            corners = chance.randrange(3, 9) if chance.randrange(50) else 100
+            ring = [direction(self.face, place(self.i), place(self.j)) for _ in range(corners)]
             self.rings.append(ring + ring[:1] * chance.randrange(2))
+        self.rings *= 1 + (chance.randrange(10) == 0)  # listed twice, they have no inside
         self.margin = chance.choice([0, 0, 2**29, 2**31, 2**33])
         # half a face away, on the face: in no ring
         self.outside = self.face, (self.i + 2**29) % 2**30, (self.j + 2**29) % 2**30
@@ -79,6 +82,13 @@ def blocks(leaves, level, whole):
     for leaf in leaves:
         counts[leaf // size] = counts.get(leaf // size, 0) + 1
     return joined([(n * size, n * size + size) for n, count in counts.items() if count == size or not whole])
+
+
+def part_of(leaves, outer, inner):
+    """How a cell with these leaves lies."""
+    if not outer.intersection(leaves):
+        return "out"
+    return "in" if inner.issuperset(leaves) else "cross"
 
 
 def tokens_on(face, line):
@@ -102,15 +112,27 @@ class Questions:
         self.wanted.append((face, wanted))
 
     def ask_about(self, small, chance):
-        polygon = Polygon(small.rings, small.outside, small.margin)
         window = small.window()
+        everywhere = chance.randrange(10) == 0
+        if everywhere:  # a leaf beside the corners, or between them, is known to be outside
+            small.outside = small.face, chance.choice(window[1]), chance.choice(window[2])
+        polygon = Polygon(small.rings, small.outside, small.margin)
         outer, inner = polygon.leaves(*window)
+        if not everywhere:
+            self.ask_for_cells(small, chance, outer, inner)
+        place = small.face, chance.choice(window[1]), chance.choice(window[2])
+        level = 30 if everywhere else chance.randrange(27, 31)
+        size = 4 ** (30 - level)
+        cell = leaf_at(*place)[1] // size
+        leaves = range(cell * size, cell * size + size)
+        self.ask(small, f"part {token((level, cell))}", None, part_of(leaves, outer, inner))
+        self.ask(small, f"holds {token(leaf_at(*place))}", None, "yes" if polygon.is_inside(*place) else "no")
+
+    def ask_for_cells(self, small, chance, outer, inner):
         for level in (30, 29, chance.randrange(26, 29)):
             for name, leaves, whole in (("outer", outer, False), ("inner", inner, True)):
                 cells = normal_form(blocks(leaves, level, whole))
                 self.ask(small, f"{name} {level} {MOST}", small.face, [token(cell) for cell in cells])
-        place = small.face, chance.choice(window[1]), chance.choice(window[2])
-        self.ask(small, f"holds {token(leaf_at(*place))}", None, "yes" if polygon.is_inside(*place) else "no")
 
     def differing(self):
         """The rows that have another answer. A row with no answer in it has its answer printed."""
