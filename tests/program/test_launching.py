@@ -181,8 +181,8 @@ class TheProgram(unittest.TestCase):
         self.assertEqual(launched("run", env=missing), (2, b"", b"s2calc: there is no program /dev/null/x\n"))
 
 
-@pytest.mark.parametrize("name,reason", [("absent", "there is no file 'absent'"), (".", "'.' is a folder"),
-                                         ("", "there is no file ''")])
+@pytest.mark.parametrize("name,reason", [("absent", "there is no file 'absent'"), ("", "there is no file ''"),
+                                         (".", "'.' is a folder, or can't be read")])
 def test_a_file_that_can_not_be_read(name, reason, tmp_path):
     assert launched("run", name, cwd=tmp_path) == (2, b"", f"s2calc: input\nerror: {reason}\n".encode())
 
@@ -311,15 +311,14 @@ class Scripts(unittest.TestCase):
 
 class Help(unittest.TestCase):
     def test_what_is_added(self):
-        """Each line of the program's help stays, but its usage, what it says of a prompt, and one that is indented."""
-        for words, changed in ((["--help"], []), (["run", "--help"], ["Usage:", "--prompt"]),
-                               (["cell", "-h"], ["Usage:", "<CELL>", "-h,"])):
-            own, whole = (said(*words)[1].decode().splitlines() for said in (ran, launched))
-            gone = [line for line in own if line not in whole]
-            self.assertEqual([line.split()[0] for line in gone], changed)
+        """The program's help stays as it is, and what stands beside the program comes after it."""
+        for words, added in ((["--help"], "cells"), (["run", "--help"], "-c"), (["cell", "-h"], "--explain")):
+            own, whole = (said(*words)[1].decode() for said in (ran, launched))
+            self.assertEqual(whole[:len(own)], own)
+            self.assertRegex(whole[len(own):], rf"\A\nBeside the proved program, s2calc takes:\n(?:  .*\n)*  {added} ")
         self.assertEqual(launched("help", "run"), launched("run", "--limit", "5", "-h"))
         self.assertEqual(launched("help", "cell"), launched("cell", "--help"))
-        self.assertIn(b"      --explain  Says", launched("help", "cell")[1])
+        self.assertIn(b"  --explain      Says", launched("help", "cell")[1])
         self.assertIn(b"\n  quit    ", launched("help", "quit")[1])
         self.assertIn(b"did you mean 'count'?", launched("help", "COUNT")[2])
         self.assertEqual(launched("help"), launched("-h"))

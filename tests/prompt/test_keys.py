@@ -426,30 +426,37 @@ class Keys(unittest.TestCase):
 
     # ---- what fails
 
-    def test_without_readline_or_python(self):
+    def test_without_readline(self):
         path = os.path.join(self.room, "python3")
         with open(path, "w", encoding="ascii") as it:
             it.write("#!/bin/sh\nexec /usr/bin/python3 -c 'import runpy, sys; sys.modules[\"readline\"] = None; "
                      "del sys.argv[:4]; runpy.run_path(sys.argv[0], run_name=\"__main__\")' \"$@\"\n")
         os.chmod(path, 0o755)
-        for folders, missing in ((f"{self.room}:/usr/bin:/bin", "python3 has no readline"),
-                                 (os.path.join(self.room, "empty"), "python3 is missing")):
+        folders = f"{self.room}:/usr/bin:/bin"
+        session = self.started(PATH=folders)
+        self.assertIn("s2calc: python3 has no readline, so there are no keys and no history", session.banner)
+        self.assertIn("'help' for help, Ctrl-D to leave\n", session.banner)
+        self.assertEqual(self.answered(session, "add a 04"), "ok 0 1\n")
+        for _ in range(2):
+            session.send("clear a" + INTERRUPT)
+            self.assertRegex(self.shown(session), r"^(clear a)?\^C(clear a)?\n")
+        self.assertIn("\n  add r CELL..   ", self.answered(session, "help"))
+        self.assertEqual(self.answered(session, "?"), self.answered(session, "help"))
+        self.assertIn("adds the cells", self.answered(session, "help add"))
+        self.assertNotIn("adds the cells", self.answered(session, "? ad"))
+        self.assertIn("is not a command", self.answered(session, "ad"))
+        self.assertEqual(self.answered(session, "count a"), "cells 1 leaves 288230376151711744\n")
+        for keys in "quit\r", "exit\r", END:
+            self.assertEqual(self.status(session, keys), 0)
             session = self.started(PATH=folders)
-            self.assertIn(f"s2calc: {missing}, so there are no keys and no history", session.banner)
-            self.assertIn("'help' for help, Ctrl-D to leave\n", session.banner)
-            self.assertEqual(self.answered(session, "add a 04"), "ok 0 1\n")
-            for _ in range(2):
-                session.send("clear a" + INTERRUPT)
-                self.assertRegex(self.shown(session), r"^(clear a)?\^C(clear a)?\n")
-            self.assertIn("\n  add r CELL..   ", self.answered(session, "help"))
-            self.assertEqual(self.answered(session, "?"), self.answered(session, "help"))
-            self.assertIn("adds the cells", self.answered(session, "help add"))
-            self.assertNotIn("adds the cells", self.answered(session, "? ad"))
-            self.assertIn("is not a command", self.answered(session, "ad"))
-            self.assertEqual(self.answered(session, "count a"), "cells 1 leaves 288230376151711744\n")
-            for keys in "quit\r", "exit\r", END:
-                self.assertEqual(self.status(session, keys), 0)
-                session = self.started(PATH=folders)
+
+    def test_without_python(self):
+        """Then the program's own prompt serves."""
+        session = self.started(PATH=os.path.join(self.room, "empty"))
+        self.assertEqual(session.banner, "")
+        self.assertEqual(self.answered(session, "add a 04"), "ok 0 1\n")
+        self.assertEqual(self.answered(session, "count a"), "cells 1 leaves 288230376151711744\n")
+        self.assertEqual(self.status(session, END), 0)
 
     def test_an_interrupt_while_it_starts(self):
         """Ctrl-C then ends it without a word: while Python starts, and while the program does."""

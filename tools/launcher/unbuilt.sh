@@ -11,7 +11,6 @@ Commands:
   cell   Tells what is known of a cell
   check  Tells how many cells and leaves a union file has
   draw   Draws union files, or cells, as an SVG image
-  cells  Turns identifiers that other programs print into tokens; not proved
   help   Print this message or the help of the given subcommand(s)
 
 Options:
@@ -28,4 +27,7 @@ Example:
   end
 
 More: 's2calc run --help', and docs/SCRIPT.md.
+
+Beside the proved program, s2calc takes:
+  cells          Turns identifiers that other programs print into tokens; not proved
 HELP

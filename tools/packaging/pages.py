@@ -13,6 +13,7 @@ from pathlib import Path
 from typing import NamedTuple
 
 ENTRY = re.compile(r"^ {2,}(\S.*?)(?: {2,}(\S.*))?$")
+BESIDE = "\nBeside the proved program, s2calc takes:\n"  # after which tools/launcher/words.py has what it adds
 FILES, FOLDERS, NOTHING = "files", "folders", "nothing"
 VALUES = {"FILE": FILES, "PATH": FOLDERS}
 
@@ -28,6 +29,7 @@ class Help(NamedTuple):
 
 def help_of(launcher, *words):
     text = subprocess.run([launcher, *words, "--help"], capture_output=True, text=True, check=True).stdout
+    text, _, beside = text.partition(BESIDE)
     about, usage, body = re.fullmatch(r"(.*?)\n\nUsage: (.*?)\n\n(.*)", text, re.S).groups()
     sections = {}
     while match := re.match(r"(\w+):\n((?: +.*\n?)+)\n?", body):
@@ -35,6 +37,10 @@ def help_of(launcher, *words):
             break
         sections[match[1]] = [ENTRY.match(line).groups() for line in match[2].splitlines()]
         body = body[match.end() :]
+    for line in beside.splitlines():
+        entry_of = ENTRY.match(line).groups()
+        kind = "Options" if entry_of[0][0] == "-" else "Arguments" if words else "Commands"
+        sections[kind] = sections.get(kind, []) + [entry_of]
     return Help(about, usage, sections, body.rstrip("\n"))
 
 

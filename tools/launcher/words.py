@@ -1,0 +1,196 @@
+"""The words of s2calc that its program doesn't take; not proved. tools/launcher/launcher starts it as
+
+    words.py PROGRAM WORD..
+
+`cell` takes several cells with commas between them, decimal identifiers and --explain; `check` and `draw` take paths
+of files that lie in one folder. Where one of them has an error, standard error says why. A picture goes out only if it
+is whole. Help is the program's, with what stands beside it after it; and a word that is no command may mean one.
+"""
+import os
+import re
+import subprocess
+import sys
+
+sys.path.append(os.path.dirname(os.path.realpath(__file__)))
+from cells import DECIMAL, token  # noqa: E402
+from prompt import COMMANDS, show_help  # noqa: E402
+
+BESIDE = "Beside the proved program, s2calc takes:"
+# What it takes, after the help of each command, or of all.
+MORE = {
+    "": [("cells", "Turns identifiers that other programs print into tokens; not proved")],
+    "run": [("[FILE]", "The script, in place of standard input, which is '-'"),
+            ("-c <LINE>", "A line of the script, in place of a file; of several, each is the next line"),
+            ("--no-prompt", "No prompt at a terminal, where there is one")],
+    "cell": [("--explain", "Says on standard error the identifier too"),
+             ("CELL", "Also a decimal identifier, with a sign or of more than 16 digits; or several, with commas")],
+}
+# Words that can stand in a line of a script.
+IN_CELL, IN_NAME = re.compile(r"[0-9A-Za-z/+-]+"), re.compile(r"[0-9A-Za-z_][0-9A-Za-z._-]*")
+
+
+class Program:
+    def __init__(self, path):
+        self.path = path
+
+    def __call__(self, *words, script=None):
+        return subprocess.run([self.path, *words], input=script, stdin=None if script else subprocess.DEVNULL,
+                              capture_output=True, check=False)
+
+    def instead(self, *words):
+        """The program in this process's place."""
+        os.execv(self.path, [self.path, *words])
+
+    def reason(self, line, *options):
+        """Why a line of a script has an error, or nothing."""
+        said = self("run", "--explain", *options, script=line.encode() + b"\n").stderr.decode()
+        return re.sub(r"^line 1: error \S*: ", "", said.rstrip("\n"))
+
+
+def say(reason):
+    if reason:
+        print(f"s2calc: {reason}", file=sys.stderr)
+
+
+def usage(fault):
+    print(f"s2calc: usage\nerror: {fault}\n\nFor more information, try '--help'.", file=sys.stderr)
+    return 2
+
+
+def put(answer):
+    """Writes an answer; if nobody reads it, without a word, as if by SIGPIPE."""
+    try:
+        sys.stdout.buffer.write(answer)
+        sys.stdout.buffer.flush()
+    except BrokenPipeError:
+        os._exit(141)
+    except (OSError, AttributeError):
+        say("output")
+        os._exit(2)
+
+
+# ---- cells
+
+
+def why_cell(program, word):
+    if re.search(r"[^ -~]", word):
+        return "the word is not a cell (a token or a debug text)"
+    if not IN_CELL.fullmatch(word):
+        return f"'{word}' is not a cell (a token or a debug text)"
+    return program.reason(f"cell {word}")
+
+
+def cell(program, words):
+    """The answers to the cells, and why they are errors, or their identifiers; the greatest status."""
+    explains, cells = "--explain" in words, [word for word in words if word != "--explain"]
+    unknown = next((word for word in cells if word.startswith("--")), None)
+    if unknown == "--" or unknown is None and len(cells) != 1:
+        program.instead("cell", *cells)
+    if unknown:
+        return usage(f"unexpected argument '{unknown}' found")
+    parts = [part for part in re.split("[, ]+", cells[0]) if part] if "," in cells[0] else []
+    worst = 0
+    for word in parts or cells:
+        done = program("cell", token(word) if DECIMAL.fullmatch(word) and token(word) else word)
+        put(done.stdout)
+        sys.stderr.buffer.write(done.stderr)
+        if done.returncode == 1:
+            say(why_cell(program, word))
+        elif explains and not done.returncode:
+            first, last = map(int, done.stdout.split()[-2:])
+            number = first + last + 1
+            print(f"identifier {number}, with a sign {number - (number >> 63 << 64)}", file=sys.stderr)
+        worst = max(worst, done.returncode)
+    return worst
+
+
+# ---- files
+
+
+def in_one_folder(words):
+    """The words with the folder of all files as --dir, and that folder, if there is one; else the words as they are."""
+    files = [word for word in words if not word.startswith("-")]
+    folders = {os.path.dirname(word) + "/" * (os.path.dirname(word) != "/") if "/" in word else "./" for word in files}
+    plain = not any(re.match("--dir|--cells|--$", word) for word in words)
+    if not plain or len(folders) != 1 or not any("/" in word for word in files) \
+            or any(re.search("/(-|$)", word[word.rfind("/"):]) for word in files):
+        return words, ""
+    folder = folders.pop()
+    return ["--dir", folder, *(word if word.startswith("-") else word.rpartition("/")[2] for word in words)], folder
+
+
+def first_wrong(program, words, path):
+    """Why the first file or cell that has an error has it. Of a word that isn't the name of a file the program says
+    it."""
+    asks, folder, rest = "check", ".", list(words)
+    while rest:
+        word = rest.pop(0)
+        if word == "--dir" and rest:
+            folder = rest.pop(0)
+        elif word.startswith("--dir="):
+            folder = word[6:]
+        elif word == "--cells":
+            asks = "cell"
+        elif not word.startswith("-") and asks == "cell":
+            if program("cell", word).returncode:
+                return why_cell(program, word)
+        elif not word.startswith("-") and program("check", "--dir", folder, word).returncode:
+            reason = program.reason(f"load a {word}", "--limit", "1000000", "--dir", folder) \
+                if IN_NAME.fullmatch(word) else ""
+            return reason and f"{path}{word}: {reason}"
+    return ""
+
+
+def of_files(program, command, words):
+    words, path = in_one_folder(words)
+    done = program(command, *words)
+    if command != "draw" or done.returncode != 1:
+        put(done.stdout)
+    sys.stderr.buffer.write(done.stderr)
+    if done.returncode == 1:
+        say(first_wrong(program, words, path))
+    return done.returncode
+
+
+# ---- help, and other words
+
+
+def help_of(program, command):
+    """The program's help, and what stands beside the program."""
+    text = program(*filter(None, [command]), "--help").stdout.decode()
+    more = "\n".join(f"  {words:13}  {meaning}" for words, meaning in MORE.get(command, []))
+    put(f"{text}\n{BESIDE}\n{more}\n".encode())
+    return 0
+
+
+def helped(program, words):
+    topic = words[0] if words else ""
+    if topic == "cells":
+        os.execv(sys.executable, [sys.executable, "-I", "-S", "-B", os.path.join(os.path.dirname(__file__), "cells.py"),
+                                  program.path, "cells", "--help"])
+    if topic in MORE:
+        return help_of(program, topic)
+    if topic in ("check", "draw", "help") or topic.startswith("-"):
+        program.instead("help", *words)
+    return show_help(program.path, words)
+
+
+def main(path, *words):
+    program, first, rest = Program(path), words[0], list(words[1:])
+    if first in ("-h", "--help", "help"):
+        return helped(program, rest)
+    if first in MORE and {"-h", "--help"}.intersection(rest):
+        return help_of(program, first)
+    if first == "cell":
+        return cell(program, rest)
+    if first in ("check", "draw"):
+        return of_files(program, first, rest)
+    if os.path.isfile(first):
+        return usage(f"'{first}' is not a command; 's2calc run {first}' answers the script in that file")
+    if first in COMMANDS:
+        return usage(f"'{first}' is a command of scripts: s2calc run -c '{' '.join(words)}'")
+    return program.instead(*words)
+
+
+if __name__ == "__main__":
+    sys.exit(main(*sys.argv[1:]))
