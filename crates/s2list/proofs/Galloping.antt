@@ -81,8 +81,8 @@ seeking_one u mark base size s up b some look =
 -- three looks leave a quarter
 pub seeking_quarter : (u : List ℕ) (mark base size q s t r : ℕ) →
     IsStrictlyIncreasing u → Brackets u mark base (base + size) →
-    0 < q → 4 * q ≤ size + 1 → Look (get_or u (base + (q - 1)) 0) mark s → Look (get_or u (base + (2 * q - 1)) 0) mark t →
-    Look (get_or u (base + (3 * q - 1)) 0) mark r →
+    0 < q → 4 * q ≤ size + 1 → Look (get_or u (base + (q - 1)) 0) mark s →
+    Look (get_or u (base + (2 * q - 1)) 0) mark t → Look (get_or u (base + (3 * q - 1)) 0) mark r →
     Brackets u mark (base + q * ((s + t) + r)) (base + q * ((s + t) + r) + (size - 3 * q))
 seeking_quarter u mark base size q s t r p f z h a b c =
     let w = f.within in

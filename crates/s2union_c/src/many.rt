@@ -104,9 +104,9 @@ pub(crate) fn answer_cells<C: Cells>(
 }
 
 /// Answers the question about each cell. Eight cells whose numbers lie in one gap of the list are answered together.
-/// Otherwise each of the eight is searched alone, with no branch on what is found, if the list has few cells. In a longer
-/// list the search for a cell begins at the last index; but if the last two were far apart, the next four cells are
-/// searched at once.
+/// Otherwise each of the eight is searched alone, with no branch on what is found, if the list has few cells. In a
+/// longer list the search for a cell begins at the last index; but if the last two were far apart, the next four cells
+/// are searched at once.
 fn answer_each<C: Cells>(question: Question, ids: &C, cells: &[u64], answers: &mut [u8])
     requires cells { All IsCell cells.now }
     requires room { length cells.now ≤ length answers.old }

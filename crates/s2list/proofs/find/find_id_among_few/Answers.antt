@@ -26,7 +26,8 @@ loop-size-preserved g c =
           seeking_quarter (g.C.Listed.ids c.args.cells.now) c.args.mark base size ((size - 3) / 4 + 1)
           c.is_below-first.result c.is_below-second.result c.is_below-third.result (ascends _ p)
           (c.loop-size.invariant.brackets p) (omega arith) (omega arith)
-          (rw c.id.ensures at c.is_below-first.ensures.below) (rw c.id-in-loop-size.ensures at c.is_below-second.ensures.below)
+          (rw c.id.ensures at c.is_below-first.ensures.below)
+          (rw c.id-in-loop-size.ensures at c.is_below-second.ensures.below)
           (rw c.id-in-loop-size-2.ensures at c.is_below-third.ensures.below);
     }
 
