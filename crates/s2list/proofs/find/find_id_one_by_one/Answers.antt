@@ -12,7 +12,8 @@ loop-left-preserved g c =
       within = omega arith;
       brackets = λ p b.
           seeking_one (g.C.Listed.ids c.args.cells.now) c.args.mark c.loop-left.base c.loop-left.left
-          c.is_below-base.result (ascends _ p) (v.brackets p b) (omega arith) (rw c.id.ensures at c.is_below-base.ensures.below);
+          c.is_below-base.result (ascends _ p) (v.brackets p b) (omega arith)
+          (rw c.id.ensures at c.is_below-base.ensures.below);
     }
 
 pub overflow_add-base : goal.overflow_add-base
