@@ -86,7 +86,8 @@ static void questions(Table& table, const std::string& size, const List& xs, Lis
 // Many questions about a union as small as a covering, in any order.
 static void small_union(Table& table, size_t count) {
   List x;
-  for (size_t drawn = count; x.size() < count; drawn++) x = ids_of(S2CellUnion(peer_cells(Random(4).cells(drawn, 4, 8))));
+  for (size_t drawn = count; x.size() < count; drawn++)
+    x = ids_of(S2CellUnion(peer_cells(Random(4).cells(drawn, 4, 8))));
   x.resize(count);
   questions(table, "_of_" + std::to_string(count), x, Random(9).cells(N, 8, 30));
 }

@@ -36,7 +36,7 @@ struct Shape {
 
 using Shapes = std::vector<Shape>;
 
-// What is asked: at one level, or of at most so many cells of level 30 or less; outer cells, or inner ones.
+// The question: all cells of one level, or a few cells of level 30 or less; outer cells, or inner ones.
 struct Asked {
   int level;
   size_t most;
@@ -123,7 +123,9 @@ class Bench {
       return Side{[this, &made, way, work] {
                     for (size_t k = 0; k < shapes_.size(); k++) made[way][k] = work(shapes_[k]);
                   },
-                  [this, &made, way, asked] { return asked.most ? with_corners(shapes_, made[way]) : sum_of(made[way]); }};
+                  [this, &made, way, asked] {
+                    return asked.most ? with_corners(shapes_, made[way]) : sum_of(made[way]);
+                  }};
     };
     std::array<Side, WAYS> sides;
     sides[PEER] = side(PEER, [&](const Shape& it) {
@@ -190,7 +192,7 @@ static Shapes coasts(const char* file, size_t most) {
   return shapes;
 }
 
-// A ring of so many edges around a place, some 1,200 km wide, whose way in and out drifts as a coast does.
+// A ring of edges around a place, some 1,200 km wide, whose way in and out drifts as a coast does.
 static Shapes noisy_ring(size_t edges) {
   std::mt19937_64 generator(7);
   std::normal_distribution<double> step;

@@ -6,7 +6,7 @@
 
 typedef int32_t Way(const uint64_t* ids, size_t n, s2u_geo_rings* rings);
 
-/* A union has so many polygons and rings, whichever allocation is refused on the way to them. */
+/* A union has these numbers of polygons and rings, whichever allocation is refused on the way to them. */
 static void check_rings(Way* way, const uint64_t* ids, size_t n, size_t polygons, size_t count) {
   s2u_geo_rings rings;
   int32_t status = S2U_MEMORY;

@@ -113,7 +113,7 @@ def outline(union: CellUnion) -> dict[str, Any]:
         around it, counterclockwise, and then its holes, clockwise. Parts that touch in a corner alone are two. In a
         position the longitude comes first, from -180 to 180 degrees, then the latitude: the date line cuts polygons in
         two, and one with a pole goes along the map's upper or lower edge. A side that is curved on the map has
-        positions between its corners, so many that no two rings cross.
+        positions between its corners, so that no two rings cross.
 
     Raises
     ------
