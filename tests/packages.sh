@@ -43,6 +43,33 @@ others_stay() (
   cd "$work/packages" && [ -e mine_1.deb ] && [ -e mine.tar.gz ] && [ -e mine.whl ] && [ ! -e s2calc_0.1.0_amd64.deb ]
 )
 step "files of others stay in the folder, and older packages don't" others_stay
+names_of() { # PACKAGE: the names of its files
+  case $1 in
+    *.deb) dpkg-deb --fsys-tarfile "$1" | tar -t ;;
+    *.tar.gz) tar -tzf "$1" ;;
+    *) /usr/bin/python3 -c 'import sys, zipfile; print(*zipfile.ZipFile(sys.argv[1]).namelist(), sep="\n")' "$1" ;;
+  esac
+}
+users_files() { # FOLDER: no package in it has tests of Go, or the mistakes that ours have to refuse
+  local package
+  for package in $(sed 's/^[^ ]* [ *]//' "$1/SHA256SUMS"); do
+    names_of "$1/$package" >"$work/names" && [ -s "$work/names" ] || { echo "$package has no files" && return 1; }
+    ! grep -E '_test\.go$|(^|/)mutants\.txt$' "$work/names" || { echo "in $package" && return 1; }
+  done
+  [ -n "${package:-}" ]
+}
+step "no package has Go's tests or mutants" users_files "$work/packages"
+step "nor one for ARM" users_files "$work/packages/aarch64"
+of_another_version() ( # the program says that it is; nothing is made of it
+  local other=$work/other
+  mkdir -p "$other/crates/calculator/out" "$other/tests" "$other/bin" && cd "$other" && cp -r "$top/tools" . &&
+    cp "$top/VERSION" . && cp "$top/tests/steps.sh" tests/ && printf '#!/bin/sh\n' | tee tools/prove >bin/rt &&
+    printf '#!/bin/sh\necho s2calc 7.8.9\n' >crates/calculator/out/calculator &&
+    chmod +x tools/prove bin/rt crates/calculator/out/calculator || return 1
+  ! PATH=$other/bin:$PATH SOURCE_DATE_EPOCH=1 tools/package "$other/made" >said 2>&1 &&
+    grep "^not of version $(cat VERSION): .*/calculator$" said && [ -z "$(ls "$other/made")" ]
+)
+step "refused: a program of another version" of_another_version
 for_arm() (
   cd "$work/packages/aarch64" && sha256sum --quiet -c SHA256SUMS && [ -e s2union-*-aarch64-linux.tar.gz ] &&
     [ -e s2union-*-manylinux_2_17_aarch64.whl ] && [ "$(dpkg-deb -f s2calc_*_arm64.deb Architecture)" = arm64 ]
