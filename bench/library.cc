@@ -111,6 +111,26 @@ static void ancestors(Table& table, const List& xs) {
        [&] { return sum_of(room.made()); }});
 }
 
+// S2's side is a loop here too.
+static void entries(Table& table, const List& xs) {
+  std::vector<S2CellId> cells = peer_cells(xs);
+  List peer(xs.size()), out(xs.size());
+  std::vector<uint8_t> levels(xs.size());
+  size_t bad = 0, n = xs.size();
+  auto of_peer = [&] { return sum_of(peer); };
+  auto at_levels = [&] {
+    for (size_t k = 0; k < n; k++) peer[k] = static_cast<u64>(cells[k].level());
+  };
+  auto at_parents = [&] {
+    for (size_t k = 0; k < n; k++) peer[k] = cells[k].parent(12).id();
+  };
+  table.row({"levels", n, 0}, {at_levels, of_peer},
+            {[&] { made(s2u_levels(xs.data(), n, levels.data(), n, &bad), "levels"); },
+             [&] { return sum_of(List(levels.begin(), levels.end())); }});
+  table.row({"parents", n, 0}, {at_parents, of_peer},
+            {[&] { made(s2u_parents(xs.data(), n, 12, out.data(), n, &bad), "parents"); }, [&] { return sum_of(out); }});
+}
+
 // S2 has no call for these either.
 static void texts(Table& table, const List& xs) {
   std::vector<S2CellId> cells = peer_cells(xs), peer_back;
@@ -160,6 +180,7 @@ int main(int argc, char** argv) {
   }
   for (size_t count : {1, 8, 64, 100}) small_union(table, count);
   ancestors(table, x);
+  entries(table, x);
   texts(table, x);
   if (table.wants("_10000000")) rows(table, "_10000000", 10 * N);
   return table.status();

@@ -12,3 +12,4 @@ mod Pieces
 mod Placed
 mod Naming
 mod Fields
+mod Firsts

@@ -104,10 +104,17 @@ pub extern "C" fn s2u_levels(ids: &[u64], out: &mut [u8], bad: &mut usize) -> i3
     if ids.len() > out.len() {
         return NO_ROOM;
     }
-    *bad = first_without(Relative::FirstLeaf, ids);
+    let mut first = ids.len();
     for k in 0..ids.len() {
-        out[k] = level_of(ids[k]);
+        match CellId::from_id(ids[k]) {
+            Some(cell) => out[k] = cell.level(),
+            None => {
+                out[k] = NO_LEVEL;
+                first = first.min(k);
+            }
+        }
     }
+    *bad = first;
     MADE
 }
 
@@ -216,10 +223,17 @@ fn put_relatives(which: Relative, ids: &[u64], out: &mut [u64], bad: &mut usize)
     if ids.len() > out.len() {
         return NO_ROOM;
     }
-    *bad = first_without(which, ids);
+    let mut first = ids.len();
     for k in 0..ids.len() {
-        out[k] = related_or_zero(which, ids[k]);
+        match related(which, ids[k]) {
+            Some(cell) => out[k] = cell.id(),
+            None => {
+                out[k] = 0;
+                first = first.min(k);
+            }
+        }
     }
+    *bad = first;
     MADE
 }
 
@@ -248,25 +262,5 @@ fn related(which: Relative, id: u64) -> Option<CellId>
         Relative::Parent(_) => None,
         Relative::FirstLeaf => Some(cell.range_min()),
         Relative::LastLeaf => Some(cell.range_max()),
-    }
-}
-
-/// The identifier of a cell's relative, or 0.
-fn related_or_zero(which: Relative, id: u64) -> u64
-    ensures { IsValueOr (HasRelative which id) (relative_of which id) 0 result }
-{
-    match related(which, id) {
-        Some(cell) => cell.id(),
-        None => 0,
-    }
-}
-
-/// The level of a cell, or 255.
-fn level_of(id: u64) -> u8
-    ensures { IsValueOr (IsCell id) (level_of id) NO_LEVEL result }
-{
-    match CellId::from_id(id) {
-        Some(cell) => cell.level(),
-        None => NO_LEVEL,
     }
 }

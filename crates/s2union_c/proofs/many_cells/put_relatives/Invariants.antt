@@ -1,7 +1,8 @@
 use Rattle.std.proofs.Common.{◌≡◌, ◌<◌, ◌≤◌, ℕ, length, drop}
 use Rattle.std.specs.Prelude.{slice_index}
 use Rattle.s2union_c.specs.Working.ManyCells.{HasRelative, relative_of}
-use Rattle.s2union_c.specs.ManyCells.{IsFirstWithout, IsValueOr}
+use Rattle.s2union_c.specs.ManyCells.{IsValueOr}
+use Rattle.s2union_c.proofs.Firsts.{IsFirstSoFar}
 use Rattle.s2union_c.proofs.many_cells.put_relatives.Given as goal
 
 abbrev pub invariant-loop-k : goal.invariant-loop-k
@@ -10,5 +11,5 @@ invariant-loop-k l = record {
       (relative_of l.which (slice_index l.ids i)) 0 (slice_index l.out i);
   rest : drop (length l.ids) l.out ≡ drop (length l.ids) l.fn.out;
   room : length l.ids ≤ length l.out;
-  bad : IsFirstWithout (HasRelative l.which) l.ids l.bad;
+  first : IsFirstSoFar (HasRelative l.which) l.ids l.k l.first;
 }
