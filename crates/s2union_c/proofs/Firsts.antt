@@ -10,9 +10,6 @@ abbrev pub IsFirstSoFar : (P : ℕ → Type 0) → List ℕ → ℕ → ℕ → 
 IsFirstSoFar P xs k at =
     ((at ≡ length xs) × ((i d : ℕ) → i < k → P (get_or xs i d))) ⊎ ((at < k) × IsFirstWithout P xs at)
 
-pub first_none : (P : ℕ → Type 0) (xs : List ℕ) (at : ℕ) → at ≡ length xs → IsFirstSoFar P xs 0 at
-first_none P xs at e = inl (e, λ i d h. absurd (omega arith))
-
 -- at `k` it holds
 pub first_held : (P : ℕ → Type 0) (xs : List ℕ) (k at : ℕ) → k < length xs → IsFirstSoFar P xs k at →
     P (get_or xs k 0) → IsFirstSoFar P xs (k + 1) at

@@ -21,7 +21,8 @@ loop-k-preserved c =
           let e = w.in-Some.ensures in
           let own : IsCell (slice_index ids k) = e.0 in
           rw (w.out-is, w.first-is) (record {
-            so_far = each_more entry c.loop-k.out k w.level.result room v.so_far (inl (own, rw e.1 at w.level.ensures.value));
+            so_far = each_more entry c.loop-k.out k w.level.result room v.so_far
+                (inl (own, rw e.1 at w.level.ensures.value));
             rest = drop-set-lt (length ids) c.loop-k.out k w.level.result h ∙ v.rest;
             room = search rules;
             first = first_held IsCell ids k c.loop-k.first h v.first own;
