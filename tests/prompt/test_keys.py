@@ -1,6 +1,7 @@
 """The prompt of `s2calc run` at a terminal, key by key, beside bc and sqlite3."""
 import os
 import re
+import select
 import signal
 import sys
 import tempfile
@@ -497,6 +498,18 @@ class Keys(unittest.TestCase):
             self.assertIn("\ns2calc: output\n", self.shown(shell, pexpect.EOF))
             shell.close()
             self.assertEqual(shell.exitstatus, 2)
+
+    def test_the_program_ends_and_the_reader_of_its_answers_hears_it(self):
+        """At once, while the prompt waits for a line."""
+        path = os.path.join(self.room, "answers")
+        os.mkfifo(path)
+        session = self.spawned("sh", "-c", f"exec {LAUNCHER} run >answers")
+        with open(path, "rb") as answers:
+            self.shown(session)
+            os.kill(self.child(session.pid), signal.SIGKILL)
+            self.assertEqual(select.select([answers], [], [], SECONDS)[0], [answers])
+            self.assertEqual(answers.read(), b"")
+            self.assertTrue(session.isalive())
 
     def test_the_terminal_goes_away(self):
         """In the middle of a line. Then the program ends too."""
