@@ -1,13 +1,16 @@
 """What pyproject.toml can't say: the module in C, which is one for each Python from 3.8 on.
 
-`tools/library` compiles it for the wheel; where it has, that one is taken. Else s2union.h is looked for in the folder
-$S2UNION_INCLUDE, by pkg-config, and in the compiler's own places. The library itself is needed only at run time.
+`tools/library` compiles it for the wheel; where it has, that one is taken. Where the folder libs2union is, as in what
+tools/portable makes, the library is compiled into the module by the C compiler's driver. Else s2union.h is looked for
+in the folder $S2UNION_INCLUDE, by pkg-config, and in the compiler's own places, and the library is needed at run time.
 """
 import os
 import subprocess
+import sys
 from pathlib import Path
 
 from setuptools import Distribution, Extension, setup
+from setuptools.command.build_ext import build_ext
 
 
 class Compiled(Distribution):
@@ -17,7 +20,17 @@ class Compiled(Distribution):
         return True
 
 
+class Assembling(build_ext):
+    """Builds a module of assembler too, which the C compiler's driver takes."""
+
+    def build_extensions(self):
+        self.compiler.src_extensions.append(".S")
+        super().build_extensions()
+
+
 def include():
+    if carried:
+        return ["libs2union"]
     given = os.environ.get("S2UNION_INCLUDE")
     if given:
         return [given]
@@ -29,8 +42,13 @@ def include():
 
 
 ready = (Path(__file__).parent / "s2union" / "_library.abi3.so").exists()
-module = Extension("s2union._library", ["s2union/_library.c"], depends=["s2union/calls.h", "s2union/places.h"],
-                   include_dirs=include(), libraries=["m"], py_limited_api=True,
+carried = [f"libs2union/{name}" for name in ("s2union.S", "blocks.c", "heap.c")]
+if not (Path(__file__).parent / carried[0]).exists():
+    carried = []
+module = Extension("s2union._library", ["s2union/_library.c", *carried],
+                   depends=["s2union/calls.h", "s2union/places.h"], include_dirs=include(), libraries=["m"],
+                   define_macros=[("S2UNION_WITHIN", None)] if carried else [], py_limited_api=True,
+                   extra_link_args=["-Wl,-Bsymbolic"] if carried and sys.platform == "linux" else [],
                    extra_compile_args=["-std=gnu11", "-fvisibility=hidden", "-ffp-contract=off"])
-setup(distclass=Compiled, ext_modules=[] if ready else [module],
+setup(distclass=Compiled, ext_modules=[] if ready else [module], cmdclass={"build_ext": Assembling},
       options={"bdist_wheel": {"py_limited_api": "cp38"}})

@@ -12,7 +12,9 @@
 #define Py_LIMITED_API 0x03080000
 #include <Python.h>
 
+#ifndef S2UNION_WITHIN
 #include <dlfcn.h>
+#endif
 #include <inttypes.h>
 #include <stdarg.h>
 #include <stdbool.h>
@@ -41,7 +43,7 @@ PyAPI_FUNC(void) PyBuffer_Release(Buffer* buffer);
 #elif defined(__GLIBC__) && defined(__aarch64__)
 #define OLDEST "GLIBC_2.17"
 #endif
-#ifdef OLDEST
+#if defined(OLDEST) && !defined(S2UNION_WITHIN)
 __asm__(".symver dlopen, dlopen@" OLDEST "\n.symver dlsym, dlsym@" OLDEST "\n.symver dlerror, dlerror@" OLDEST);
 #endif
 
@@ -572,6 +574,13 @@ static PyMethodDef methods[] = {
   {NULL, NULL, 0, NULL}
 };
 
+#ifdef S2UNION_WITHIN /* the library is linked into the module */
+static bool load_calls(Calls* calls) {
+#define OWN(name) calls->s2u_##name = s2u_##name;
+  CALLS(OWN)
+  return true;
+}
+#else
 static bool find(Calls* calls, void* library, PyObject* path) {
   void* at;
 #define FIND(name) \
@@ -587,20 +596,25 @@ static bool find(Calls* calls, void* library, PyObject* path) {
 }
 
 /* Loads the library from where _where.py says. It stays loaded, as modules do. */
-static int load(PyObject* module) {
+static bool load_calls(Calls* calls) {
   bool is_found = false;
   PyObject *where = PyImport_ImportModule("s2union._where"), *path = NULL, *bytes = NULL;
   if (where) path = PyObject_CallMethod(where, "path", NULL);
   if (path) bytes = PyUnicode_EncodeFSDefault(path);
   if (bytes) {
     void* library = dlopen(PyBytes_AsString(bytes), RTLD_NOW | RTLD_LOCAL);
-    if (library) is_found = find(PyModule_GetState(module), library, path);
+    if (library) is_found = find(calls, library, path);
     else Py_XDECREF(PyObject_CallMethod(where, "refuse", "s", dlerror()));
   }
   Py_XDECREF(bytes);
   Py_XDECREF(path);
   Py_XDECREF(where);
-  if (!is_found) return -1;
+  return is_found;
+}
+#endif
+
+static int load(PyObject* module) {
+  if (!load_calls(PyModule_GetState(module))) return -1;
   use_places(PyModule_GetState(module));
 #define NUMBER(name) if (PyModule_AddIntConstant(module, #name, S2U_##name) != 0) return -1;
   NUMBERS(NUMBER)

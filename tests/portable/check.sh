@@ -1,0 +1,135 @@
+#!/usr/bin/env bash
+# The archive that tools/portable makes, on each system that can be tried here: tests/run portable -- [ROUNDS]. From the
+# archive alone the library is built for x86-64 with glibc, with musl and for Windows, for ARM and for RISC-V. Each
+# answers ROUNDS of all calls three times, with wrong arguments and memory refused, and the sums have to be those of the
+# library that was proved; 340,000 rounds are asked if none are given. Windows is wine, and ARM and RISC-V are qemu. For
+# macOS it is compiled, and its object files are looked at. Then it is built in a new system in which no prover and
+# nothing of this repository is. It has to run as root, and installs the Debian packages that it needs. The last line is
+# 'N passed, M failed'; the status is 1 if any failed.
+. "$(dirname "$0")/../steps.sh"
+rounds=${1:-340000}
+tests=$top/tests/portable
+
+need gcc gcc libc6-dev
+need cmake cmake
+need make make
+need clang-15 clang-15
+need llvm-nm llvm
+need musl-gcc musl-tools
+need x86_64-w64-mingw32-gcc gcc-mingw-w64-x86-64
+need_file /usr/lib/wine/wine64 wine64
+need aarch64-linux-gnu-gcc gcc-aarch64-linux-gnu libc6-dev-arm64-cross
+need riscv64-linux-gnu-gcc gcc-riscv64-linux-gnu libc6-dev-riscv64-cross
+need qemu-aarch64-static qemu-user-static
+need mmdebstrap mmdebstrap
+need_packages
+need_library
+
+# ---- the archive
+
+step "tools/portable" "$top/tools/portable" "$work/made"
+again() { "$top/tools/portable" "$work/again" && diff -r "$work/made" "$work/again"; }
+step "the same bytes a second time" again
+[ "$failed" -eq 0 ] || finish
+archive=$(echo "$work"/made/s2union-*-source.tar.xz)
+is_small() { [ "$(stat -c %s "$archive")" -lt 1000000 ]; }
+step "less than a megabyte" is_small
+unpacked() {
+  (cd "$work/made" && sha256sum --quiet --strict -c SHA256SUMS) &&
+    mkdir "$work/source" && tar -C "$work/source" --strip-components=1 -xf "$archive"
+}
+step "it is unpacked" unpacked
+names_no_processor() { ! grep -nE '^target|target-|x86|aarch64|llvm\.(arm|ppc|riscv)' "$work/source/src/s2union.ll"; }
+step "LLVM's text names no processor" names_no_processor
+
+# ---- the same answers
+
+export PATH=/usr/bin:/bin # where no kit is
+asked=$work/source/test/answers.c
+include=$work/source/include
+code=("$work/source/src/s2union.S" "$work/source/src/blocks.c")
+. "$top/tests/answers.sh"
+refusing() { asking "$@" -DREFUSING; } # the program is the heap
+
+here() { refusing here gcc "$work/usr/include" "$work/usr/lib/libs2union_noheap.a" && answers here "$work/here"; }
+built() { # NAME COMPILER COMMAND..: what the archive makes answers as the library that was proved
+  refusing "$1" "$2" "$include" "${code[@]}" && answers "$1" "${@:3}" && same "$1"
+}
+static() { refusing musl musl-gcc "$include" "${code[@]}" -static && answers musl "$work/musl" && same musl; }
+export WINEPREFIX=$work/wine WINEDEBUG=-all
+in_windows() { timeout 7200 /usr/lib/wine/wine64 "$@"; }
+windows() {
+  /usr/lib/wine/wine64 wineboot -i # one of the three would else be too early
+  refusing windows.exe x86_64-w64-mingw32-gcc "$include" "${code[@]}" &&
+    answers windows.exe in_windows "$work/windows.exe" && same windows.exe
+}
+on_arm() { timeout 7200 qemu-aarch64-static -L /usr/aarch64-linux-gnu "$@"; }
+on_riscv() { timeout 7200 qemu-riscv64-static -L /usr/riscv64-linux-gnu "$@"; }
+riscv() {
+  clang-15 --target=riscv64-linux-gnu -march=rv64gc -Wno-override-module -O2 -fPIC -c -x ir \
+    "$work/source/src/s2union.ll" -o "$work/riscv.o" &&
+    refusing riscv riscv64-linux-gnu-gcc "$include" "$work/riscv.o" "$work/source/src/blocks.c" &&
+    answers riscv on_riscv "$work/riscv" && same riscv
+}
+step "$rounds rounds of all calls, three times, of the library that was proved" here
+step "x86-64, by gcc" built gcc gcc "$work/gcc"
+step "x86-64 with musl" static
+step "Windows, by mingw-w64 and wine" windows
+step "ARM, by qemu" built arm aarch64-linux-gnu-gcc on_arm "$work/arm"
+step "RISC-V, of LLVM's text by clang 15, and qemu; tried, not promised" riscv
+
+# ---- its own heap, and shared libraries
+
+rounds=20000
+own_heap() { # NAME COMPILER COMMAND..
+  asking "$1" "$2" "$include" "${code[@]}" "$work/source/src/heap.c" && answers "$1" "${@:3}"
+}
+with_heap() { asking heap gcc "$work/usr/include" "$work/usr/lib/libs2union.a" && answers heap "$work/heap"; }
+step "$rounds rounds with the heap of the library that was proved" with_heap
+heap_here() { own_heap heap-here gcc "$work/heap-here" && same heap-here heap; }
+heap_of_windows() { own_heap heap.exe x86_64-w64-mingw32-gcc in_windows "$work/heap.exe" && same heap.exe heap; }
+heap_on_arm() { own_heap heap-arm aarch64-linux-gnu-gcc on_arm "$work/heap-arm" && same heap-arm heap; }
+step "the archive's heap: x86-64" heap_here
+step "the archive's heap: Windows" heap_of_windows
+step "the archive's heap: ARM" heap_on_arm
+dll() { # by the line of the archive's own page
+  local line
+  line=$(grep -o '`x86_64-w64-mingw32-gcc -shared [^`]*`' "$work/source/README.md" | tr -d '`') &&
+    (cd "$work/source" && eval "$line") && mv "$work"/source/{s2union.dll,libs2union.dll.a} "$work/" &&
+    asking of-dll.exe x86_64-w64-mingw32-gcc "$include" "$work/libs2union.dll.a" &&
+    answers of-dll.exe in_windows "$work/of-dll.exe" && same of-dll.exe heap
+}
+step "a DLL with its import library" dll
+exports() { # FILE COMMAND..: exactly the calls of the header
+  diff <(sed -n 's/^  \(s2u_.*\)/\1/p' "$work/source/src/s2union.def") <("${@:2}" "$1" | sort)
+}
+of_dll() {
+  x86_64-w64-mingw32-objdump -p "$1" | sed -n '/Ordinal\/Name Pointer/,/^$/s/^.* \([^ ]*\)$/\1/p' | grep -v Table
+}
+of_elf() { nm -D --defined-only "$1" | awk '$2 == "T" { sub(/@.*/, "", $3); print $3 }'; }
+step "the DLL has the calls of the header alone" exports "$work/s2union.dll" of_dll
+by_cmake() { # FOLDER FLAG..
+  cmake -S "$work/source" -B "$work/$1" "${@:2}" && cmake --build "$work/$1" &&
+    (cd "$work/$1" && ctest --output-on-failure --no-tests=error)
+}
+step "CMake, static" by_cmake static
+step "CMake, shared" by_cmake shared -DBUILD_SHARED_LIBS=ON -DCMAKE_INSTALL_PREFIX="$work/installed"
+step "its shared library has the calls of the header alone" exports "$work/shared/libs2union.so" of_elf
+step "CMake for Windows" by_cmake for-windows -DCMAKE_SYSTEM_NAME=Windows -DBUILD_SHARED_LIBS=ON \
+  -DCMAKE_C_COMPILER=x86_64-w64-mingw32-gcc -DCMAKE_CROSSCOMPILING_EMULATOR=/usr/lib/wine/wine64
+
+# ---- macOS and Windows on ARM: compiled, and looked at
+
+compiled_for() { # TARGET NAME-OF-A-SYMBOL: it defines the calls of the header, and wants memory and blocks alone
+  local object=$work/$1.o wanted
+  clang-15 --target="$1" -c "$work/source/src/s2union.S" -o "$object" &&
+    diff <(sed -n 's/^  \(s2u_.*\)/\1/p' "$work/source/src/s2union.def") \
+      <(llvm-nm --defined-only -g "$object" | awk -v before="$2" '$2 == "T" { print substr($3, length(before) + 1) }' |
+        sort) &&
+    wanted=$(llvm-nm -u "$object" | awk '{ print $NF }') && echo "$wanted" &&
+    ! grep -vxE '_*(bzero|memcpy|memmove|memset)|_?s2u_block_(take|grow|give_back)' <<<"$wanted"
+}
+step "macOS on ARM: compiled, not run" compiled_for arm64-apple-macos11 _
+step "macOS on x86-64: compiled, not run" compiled_for x86_64-apple-macos10.12 _
+step "Windows on ARM: compiled, not run" compiled_for aarch64-w64-windows-gnu ""
+finish
