@@ -132,4 +132,18 @@ compiled_for() { # TARGET NAME-OF-A-SYMBOL: it defines the calls of the header, 
 step "macOS on ARM: compiled, not run" compiled_for arm64-apple-macos11 _
 step "macOS on x86-64: compiled, not run" compiled_for x86_64-apple-macos10.12 _
 step "Windows on ARM: compiled, not run" compiled_for aarch64-w64-windows-gnu ""
+
+# ---- in a new system
+
+of_debian=gcc,libc6-dev,make,cargo,golang-go,python3-venv,python3-dev,python3-setuptools,python3-wheel
+of_debian+=,sqlite3,libsqlite3-dev,postgresql-15,postgresql-client-15
+trial=$work/trial
+mkdir -p "$trial/tests" "$trial/docs"
+cp "$top/tests/steps.sh" "$trial/tests/"
+cp "$tests/trial.sh" "$trial/run"
+cp "$work"/made/s2union-*.tar.gz "$trial/"
+for page in RUST GO PYTHON; do cp "$top/docs/$page.md" "$trial/docs/"; done
+cp -r "$work/source" "$trial/source"
+export PATH=/usr/sbin:/usr/bin:/sbin:/bin
+step "what a new system builds of it" bash "$top/tools/packaging/in_new_system.sh" "$of_debian" "$trial"
 finish
