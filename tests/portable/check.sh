@@ -12,6 +12,7 @@ tests=$top/tests/portable
 
 need gcc gcc libc6-dev
 need cmake cmake
+need go golang-go
 need make make
 need clang-15 clang-15
 need llvm-nm llvm
@@ -117,6 +118,15 @@ step "CMake, shared" by_cmake shared -DBUILD_SHARED_LIBS=ON -DCMAKE_INSTALL_PREF
 step "its shared library has the calls of the header alone" exports "$work/shared/libs2union.so" of_elf
 step "CMake for Windows" by_cmake for-windows -DCMAKE_SYSTEM_NAME=Windows -DBUILD_SHARED_LIBS=ON \
   -DCMAKE_C_COMPILER=x86_64-w64-mingw32-gcc -DCMAKE_CROSSCOMPILING_EMULATOR=/usr/lib/wine/wine64
+
+go_for_windows() ( # the program of docs/GO.md
+  mkdir "$work/go" && cd "$work/go" && block GO.md go >main.go && block GO.md "text go" >wanted && [ -s wanted ] &&
+    export GOPATH=$work/gopath GOCACHE=$work/go-cache GOFLAGS=-mod=mod GOPROXY=off GOTOOLCHAIN=local &&
+    module=$(sed -n 's/^module //p' "$work/source/go/go.mod") && go mod init x &&
+    go mod edit -require "$module@v0.0.0" -replace "$module=$work/source/go" &&
+    GOOS=windows CGO_ENABLED=1 CC=x86_64-w64-mingw32-gcc go build -o x.exe . && in_windows ./x.exe | diff wanted -
+)
+step "Go for Windows, and docs/GO.md" go_for_windows
 
 # ---- macOS and Windows on ARM: compiled, and looked at
 
