@@ -68,8 +68,8 @@ query() {
     CREATE INDEX ON parks USING gin (region); INSERT INTO parks VALUES ('north', '04 0c 14'), ('south', '1c')" &&
     [ "$(psql "SELECT s2_union_agg(region), s2_token(s2_leaf_at(2.3522, 48.8566)) FROM parks")" = "1|47e66e1d8f8be23b" ]
 }
-regression() {
-  apt-get install -y --no-install-recommends gcc libc6-dev make postgresql-server-dev-15 &&
+regression() { # the Containerfile leaves no lists of packages, and no compiler
+  apt-get update && apt-get install -y --no-install-recommends gcc libc6-dev make postgresql-server-dev-15 &&
     chown -R postgres "$source" && as_postgres make -C "$source" PG_CONFIG="$bin/pg_config" &&
     as_postgres env PGHOST="$data" make -C "$source" PG_CONFIG="$bin/pg_config" installcheck
 }
