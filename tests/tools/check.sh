@@ -9,7 +9,7 @@ taken=--no-build
 own_sources() ( # in a copy, where no kit is, the archive stays as long as its sources do
   cd "$top" && mkdir "$work/copy" &&
     cp -r --parents tools crates.txt crates/*/{src,specs,proofs} \
-      crates/s2union_c/out/{libs2union_c.a,heap.o,archive.json} "$work/copy" && cd "$work/copy" &&
+      crates/s2union_c/out/{libs2union_c.a,heap.o,s2union_c.bc,archive.json} "$work/copy" && cd "$work/copy" &&
     export PATH=/usr/bin:/bin XDG_CACHE_HOME=$work/cache &&
     tools/archive && echo >>crates/s2cell/src/lib.rt && ! tools/archive
 )
@@ -26,7 +26,8 @@ without_kit() ( # in that copy, which has no archive and no program: what needs 
     chmod +x "$work/installers/$command"
   done
   export PATH=$work/installers:/usr/bin:/bin XDG_CACHE_HOME=$work/cache SOURCE_DATE_EPOCH=0
-  for command in ".ci/run" "tests/run --tier full" "tests/run docs mutants" "tools/package $work/none"; do
+  for command in ".ci/run" "tests/run --tier full" "tests/run docs mutants" "tools/package $work/none" \
+    "tools/portable $work/none"; do
     ! timeout 60 "$work/copy/"$command >"$work/refused" 2>&1 && grep -q "Rattle's kit is missing" "$work/refused" &&
       [ "$(tail -1 "$work/refused")" = "0 passed, 1 failed" ] || { echo "$command" && cat "$work/refused" && return 1; }
   done
@@ -36,7 +37,7 @@ step ".ci/run, tests/run, tools/package: nothing is installed without the kit" w
 unknown_words() { # and nothing is written for them
   local words
   for words in "calls --chek" "statement --chek" "prove --chek" "library $work/none --chek" \
-    "java $work/none --chek" "package $work/none --chek"; do
+    "java $work/none --chek" "package $work/none --chek" "portable $work/none --chek"; do
     ! "$top/tools/"$words >"$work/refused" 2>&1 && grep -q "tools/.* has no option --chek" "$work/refused" ||
       { echo "$words" && cat "$work/refused" && return 1; }
   done
