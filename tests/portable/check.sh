@@ -14,6 +14,7 @@ need gcc gcc libc6-dev
 need cmake cmake
 need go golang-go
 need make make
+need pkg-config pkg-config
 need clang-15 clang-15
 need llvm-nm llvm
 need musl-gcc musl-tools
@@ -109,6 +110,15 @@ of_dll() {
 }
 of_elf() { nm -D --defined-only "$1" | awk '$2 == "T" { sub(/@.*/, "", $3); print $3 }'; }
 step "the DLL has the calls of the header alone" exports "$work/s2union.dll" of_dll
+handed_out() { # the DLL of the zip, in the folder of a program, by its file for pkg-config
+  local at
+  at=$(cd "$work" && /usr/bin/python3 -m zipfile -e made/s2union-*-windows.zip . && echo "$PWD"/s2union-*-windows) &&
+    mkdir "$work/beside" && cp "$at/bin/s2union.dll" "$work/beside/" &&
+    asking beside/of-zip.exe x86_64-w64-mingw32-gcc "$at/include" \
+      $(PKG_CONFIG_PATH=$at/lib/pkgconfig pkg-config --libs s2union) &&
+    mv "$work/beside" "$work/of-zip" && answers zip in_windows "$work/of-zip/of-zip.exe" && same zip heap
+}
+step "the DLL of the zip" handed_out
 by_cmake() { # FOLDER FLAG..
   cmake -S "$work/source" -B "$work/$1" "${@:2}" && cmake --build "$work/$1" &&
     (cd "$work/$1" && ctest --output-on-failure --no-tests=error)
