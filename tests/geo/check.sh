@@ -12,7 +12,7 @@ export S2CALC=${S2CALC:-$top/crates/calculator/out/calculator}
 
 . "$top/tests/geo/countries.sh"
 need node nodejs
-need_countries make time sqlite3 libsqlite3-dev gdal-bin python3-qgis qgis-providers \
+need_countries make time sqlite3 libsqlite3-dev gdal-bin python3-rtree python3-qgis qgis-providers \
   postgresql-15-postgis-3 postgresql-plpython3-15
 . "$top/tests/postgres/server.sh"
 

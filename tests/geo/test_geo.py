@@ -21,7 +21,7 @@ import s2union_geo.frames
 from earth import all_pairs, points_of_the_sphere
 from model import borders
 from s2union import CellUnion, child, from_tokens, to_signed, tokens
-from s2union_geo import area, boundary, coverings, leaves, outline, points, to_geojson
+from s2union_geo import Index, area, boundary, coverings, leaves, outline, points, to_geojson
 from s2union_geo.geojson import rings
 from s2union_geo.sphere import sphere
 from shapely.geometry import Point, shape
@@ -379,6 +379,15 @@ SQL
                                                                                        latitude[point]))}
         found = countries.s2.sjoin(places, 50)
         self.assertEqual(sorted(zip(found.region, found.point)), sorted(wanted))
+        joined = places.sjoin(countries, predicate="within")
+        self.assertEqual(sorted(zip(joined.index_right, joined.index)), sorted(wanted))
+        Index(countries, "name", 20).save(self.file("countries.index"))
+        made = Index.load(self.file("countries.index"))
+        found = places.s2.sjoin(made)
+        self.assertEqual(sorted(zip(found.region, found.point)),
+                         sorted((countries.name[row], point) for row, point in wanted))
+        self.assertEqual([made.find(longitude[k], latitude[k]) for k in range(2000)],
+                         [[countries.name[row] for row in countries.index if (row, k) in wanted] for k in range(2000)])
         print(f"{len(wanted)} pairs of a country and a point", file=sys.stderr)
 
     def test_frames_that_need_care(self):
@@ -391,6 +400,8 @@ SQL
         self.assertEqual(wide.s2.sjoin(places).values.tolist(), [["wide", "a"], ["wide", "d"]])
         small = geopandas.GeoDataFrame(geometry=[Point(-175, 0).buffer(1e-9)], crs=4326, index=["of leaves"])
         self.assertEqual(small.s2.sjoin(places).values.tolist(), [["of leaves", "a"]])
+        self.assertEqual(places.s2.sjoin(Index(wide)).values.tolist(), [["wide", "a"], ["wide", "d"]])
+        self.assertEqual(places.s2.sjoin(Index(wide.to_crs(3857)[1:], ["it"])).values.tolist(), [])
         self.assertEqual(wide.s2.sjoin(places[2:3]).values.tolist(), [])
         self.assertEqual(wide[1:].s2.sjoin(places).values.tolist(), [])
         degrees_of = {"lon": [-175, 169.999, None, 180], "lat": [0, 0, 0, 4.9999]}

@@ -8,6 +8,7 @@ need gcc gcc libc6-dev
 need clang clang
 need_pytest
 need_modules numpy python3-numpy
+need_modules shapely python3-shapely
 need_modules hypothesis python3-hypothesis
 need_modules pip,setuptools,wheel python3-{pip,setuptools,wheel}
 need_headers
@@ -74,6 +75,7 @@ tutorial() { # its first part, which needs no other package
 export S2CALC=${S2CALC:-$top/s2calc} S2CALC_QUIET=1
 step "with s2calc: docs/TUTORIAL.md, Part 1" tutorial
 step "s2union_geo, points, polygons and maps" python -m pytest test_geo.py
+step "its index, and joins of files" python -m pytest test_index.py
 without_numpy() {
   python -c 'import sys, pytest
 sys.modules["numpy"] = None

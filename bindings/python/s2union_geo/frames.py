@@ -11,10 +11,9 @@ from __future__ import annotations
 
 from typing import Any
 
-import numpy
 import pandas
-from s2union import range_maxes, range_mins
 
+from .index import Index
 from .polygons import coverings
 from .sphere import leaves
 
@@ -130,17 +129,19 @@ class Frame:
         except ValueError as error:
             raise ValueError(f"row {row!r}: {error}") from None
 
-    def sjoin(self, points: Any, max_cells: int = 200, longitude: str | None = None,
+    def sjoin(self, points: Any, max_cells: int = 50, longitude: str | None = None,
               latitude: str | None = None) -> pandas.DataFrame:
         """Each pair of a row of this frame and a row of another whose point lies inside of its polygons.
 
         .. versionadded:: 1.2
+        .. versionchanged:: 1.4
+            An `Index` that was made before.
 
         Parameters
         ----------
-        points : GeoDataFrame or DataFrame
+        points : GeoDataFrame, DataFrame or Index
             The other frame: one of points, or one without geometry, which has columns of degrees. A row without a point
-            or a polygon is in no pair.
+            or a polygon is in no pair. Or an `Index` of polygons; then this frame is the one of points.
         max_cells : int
             The most cells of a covering, 0 to 1,000,000. Coverings decide for most points, and shapely for the rest.
         longitude : str, optional
@@ -151,8 +152,8 @@ class Frame:
         Returns
         -------
         DataFrame
-            The columns ``region`` and ``point``, which are of the index of each frame: the pairs of geopandas'
-            ``points.sjoin(regions, predicate="within")``, and those across the date line.
+            The columns ``region`` and ``point``, which are of the index of each frame, or the names of an `Index`: the
+            pairs of geopandas' ``points.sjoin(regions, predicate="within")``, and those across the date line.
 
         Raises
         ------
@@ -167,27 +168,19 @@ class Frame:
         --------
         >>> from geopandas import GeoDataFrame
         >>> from shapely.geometry import Point, box
+        >>> from s2union_geo import Index
         >>> seas = GeoDataFrame(geometry=[box(0, 0, 10, 10)], index=["sea"])
         >>> ships = GeoDataFrame(geometry=[Point(5, 5), Point(50, 5)], index=["one", "other"])
-        >>> seas.s2.sjoin(ships).values.tolist()
-        [['sea', 'one']]
+        >>> seas.s2.sjoin(ships).values.tolist(), ships.s2.sjoin(Index(seas)).values.tolist()
+        ([['sea', 'one']], [['sea', 'one']])
         """
-        regions = self._whole()
-        index, *places = points.s2._points(longitude, latitude)
-        leaf = leaves(*places)
-        order = leaf.argsort(kind="stable")
-        leaf, found = leaf[order], []
-        x, y = (it[order] for it in places)
-        for row, shape, outer, inner in zip(regions.index, regions.geometry, *regions.s2.coverings(max_cells).T.values):
-            first, last = (numpy.asarray(ends(numpy.asarray(outer))) for ends in (range_mins, range_maxes))
-            ends = zip(leaf.searchsorted(first), leaf.searchsorted(last, "right"))
-            near = numpy.concatenate([numpy.arange(0), *(numpy.arange(*pair) for pair in ends)])
-            inside = inner.contains_cells(leaf[near])
-            asked = near[~inside]
-            inside[~inside] = _contain(shape, zip(x[asked], y[asked]))
-            rows = numpy.sort(order[near[inside]])
-            found.append(pandas.DataFrame({"region": [row] * len(rows), "point": index[rows]}))
-        return pandas.concat(found, ignore_index=True) if found else pandas.DataFrame(columns=["region", "point"])
+        is_made = isinstance(points, Index)
+        made = points if is_made else Index(self._whole(), max_cells=max_cells)
+        rows, *places = (self if is_made else points.s2)._points(longitude, latitude)
+        point, zone = made.join(*places)
+        order = zone.argsort(kind="stable")
+        names = pandas.Index(made.names, tupleize_cols=False)
+        return pandas.DataFrame({"region": names.take(zone[order]), "point": rows.take(point[order])})
 
     def _shapes(self) -> Any:
         if not hasattr(self.frame, "geometry"):
@@ -205,11 +198,3 @@ class Frame:
         x, y = frame.s2._degrees(longitude, latitude)
         is_there = (x.notna() & y.notna()).to_numpy()
         return frame.index[is_there], x.to_numpy()[is_there], y.to_numpy()[is_there]
-
-
-def _contain(shape: Any, places: Any) -> list[bool]:
-    """Whether a polygon contains each place, which a polygon across the date line may have at another longitude."""
-    from shapely.geometry import Point
-    from shapely.prepared import prep
-    exact = prep(shape)
-    return [any(exact.contains(Point(x + turn, y)) for turn in (0, 360, -360)) for x, y in places]

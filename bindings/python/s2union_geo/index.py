@@ -1,0 +1,471 @@
+"""Which points lie in which of many polygons: coverings are made once, and numpy asks them. It is tested, not proved."""
+
+from __future__ import annotations
+
+import functools
+import json
+import math
+import os
+import struct
+import zipfile
+from typing import Any, Iterator
+
+import numpy
+from s2union import range_maxes, range_mins
+
+from .geojson import parsed, polygons_of
+from .polygons import coverings
+from .sphere import MOST, leaf, leaves
+
+__all__ = ["Index"]
+
+KIND = "s2union_geo.Index 1"  # of the files
+ARRAYS = {"cell": "u", "begin": "i", "zone": "i", "sure": "b", "shape": "u", "ends": "i", "spans": "f", "names": "u"}
+
+
+class Index:
+    """Which zones contain a point: both coverings of each zone, in one sorted list of cells, and the zones' polygons.
+
+    A point in an interior covering is in the zone, and one outside of the covering is not. Between the two, shapely
+    decides by the polygon.
+
+    .. versionadded:: 1.4
+
+    Parameters
+    ----------
+    shapes : GeoDataFrame, GeoSeries, dict, str, bytes or iterable
+        The polygons of the zones: a frame, a FeatureCollection of GeoJSON as an object or a text, or a list of what
+        `covering` takes. A frame that has a system of coordinates is taken to degrees first. None has no polygon.
+    names : iterable or str, optional
+        The names of the zones: as many as shapes; or a property of the features, or a column of the frame. Without it,
+        a frame's own index, or the numbers from 0.
+    max_cells : int
+        The most cells of each covering, 0 to 1,000,000. More cells leave fewer points to shapely.
+    max_level : int
+        0 to 30: no cell is deeper.
+    leave : bool
+        Whether zones whose polygons are refused are left without a cell, so that no point is in them. The attribute
+        ``left`` has them.
+
+    Attributes
+    ----------
+    names : list
+        The name of each zone.
+    left : list of tuple
+        The number of each zone that was left, and why.
+
+    Raises
+    ------
+    ValueError
+        The errors of `coverings`, with the zone's name; a feature without the property; or as many names as shapes are
+        not there.
+    TypeError
+        A number of cells or a level is no int.
+
+    Notes
+    -----
+    S2: ``S2CellIndex`` and ``S2ShapeIndex``, with ``S2ContainsPointQuery`` of the model ``OPEN``.
+
+    Examples
+    --------
+    >>> pond = {"type": "Polygon", "coordinates": [[[0, 0], [10, 0], [10, 10], [0, 10], [0, 0]]]}
+    >>> isle = {"type": "Polygon", "coordinates": [[[4, 4], [6, 4], [6, 6], [4, 6], [4, 4]]]}
+    >>> index = Index([pond, isle], ["pond", "isle"])
+    >>> index.find(5, 5), index.find(1, 1), index.find(11, 1)
+    (['pond', 'isle'], ['pond'], [])
+    >>> points, zones = index.join([1, 5, 11], [1, 5, 1])
+    >>> points.tolist(), zones.tolist()
+    ([0, 1, 1], [0, 0, 1])
+    """
+
+    def __init__(self, shapes: Any, names: Any = None, max_cells: int = 50, max_level: int = 30, *,
+                 leave: bool = False) -> None:
+        shapes, self.names = _named(shapes, names)
+        self.left: list[tuple[int, str]] = []
+        self._shapes, self._spans = [_wkb_of(None)] * len(shapes), numpy.zeros((len(shapes), 2))
+        coverings(_NOTHING, max_cells, max_level)  # an error if they are out of range
+        made = []
+        for zone, shape in enumerate(shapes):
+            try:
+                outer, inner = coverings(shape if shape is not None else _NOTHING, max_cells, max_level)
+                self._shapes[zone], self._spans[zone] = _wkb_of(shape), _span_of(shape)
+            except ValueError as error:
+                if not leave:
+                    raise ValueError(f"zone {self.names[zone]!r}: {error}") from None
+                self.left.append((zone, str(error)))
+                continue
+            made += [(zone, False, outer - inner), (zone, True, inner)]
+        counts = [len(union) for _, _, union in made]
+        cell = numpy.concatenate([numpy.zeros(0, "uint64"), *(numpy.asarray(union, "uint64") for _, _, union in made)])
+        zone, sure = (numpy.repeat(numpy.array([it[k] for it in made], kind), counts)
+                      for k, kind in ((0, "int64"), (1, "bool")))
+        order = numpy.lexsort([zone, ~range_maxes(cell), range_mins(cell)])  # a cell comes before those in it
+        cell, zone, sure = cell[order], zone[order], sure[order]
+        is_first = numpy.append(True, cell[1:] != cell[:-1])[:len(cell)]
+        begin = numpy.append(numpy.flatnonzero(is_first), len(cell))
+        self._arrange(cell[is_first], begin, zone, sure)
+
+    def _arrange(self, cell: Any, begin: Any, zone: Any, sure: Any) -> None:
+        """Takes the cells, each once and each before those in it. Of each the places from `begin` on have the zones,
+        and whether the zone contains all of the cell."""
+        self._cell, self._begin, self._zone, self._sure = cell, begin, zone, sure
+        self._first, self._last = range_mins(cell), range_maxes(cell)
+        number = numpy.arange(len(cell))
+        depth = number - numpy.sort(self._last).searchsorted(self._first)  # without the cells that ended before it
+        self._above = numpy.full(len(cell), -1)  # the smallest of the cells that a cell lies in
+        for deep in range(1, depth.max(initial=0) + 1):
+            above, here = number[depth == deep - 1], number[depth == deep]
+            self._above[here] = above[above.searchsorted(here) - 1]
+        self._prepared: dict[Any, Any] = {}
+
+    def __len__(self) -> int:
+        """How many zones there are.
+
+        .. versionadded:: 1.4
+        """
+        return len(self.names)
+
+    def __repr__(self) -> str:
+        return f"<Index of {len(self)} zones, {len(self._cell)} cells>"
+
+    def find(self, longitude: float, latitude: float, exact: bool = True) -> list[Any]:
+        """The names of the zones that contain a point.
+
+        .. versionadded:: 1.4
+
+        Parameters
+        ----------
+        longitude : float
+            From -540 to 540 degrees; it comes first.
+        latitude : float
+            From -90 to 90 degrees.
+        exact : bool
+            Whether shapely is asked for a point between both coverings.
+
+        Returns
+        -------
+        list
+            In the order of the zones.
+
+        Raises
+        ------
+        ValueError
+            A number is out of range.
+        TypeError
+            A value isn't a number.
+        ModuleNotFoundError
+            An exact answer needs shapely.
+
+        Examples
+        --------
+        >>> square = {"type": "Polygon", "coordinates": [[[0, 0], [10, 0], [10, 10], [0, 10], [0, 0]]]}
+        >>> Index([square], ["square"]).find(9.9999, 5)
+        ['square']
+        """
+        found, here = [], numpy.uint64(leaf(longitude, latitude))
+        cell = self._first.searchsorted(here, "right") - 1
+        while cell >= 0:
+            if self._last[cell] >= here:
+                found += range(self._begin[cell], self._begin[cell + 1])
+            cell = self._above[cell]
+        x, y = numpy.array([[longitude], [latitude]], "float64")
+        zones = [int(self._zone[k]) for k in found
+                 if self._sure[k] or not exact or self._contains(self._zone[k], x, y)[0]]
+        return [self.names[zone] for zone in sorted(zones)]
+
+    def join(self, longitude: Any, latitude: Any, exact: bool = True) -> tuple[Any, Any]:
+        """Each pair of a point and a zone that contains it.
+
+        .. versionadded:: 1.4
+
+        Parameters
+        ----------
+        longitude : array of float
+            From -540 to 540 degrees; it comes first.
+        latitude : array of float
+            From -90 to 90 degrees, of the same length.
+        exact : bool
+            Whether shapely is asked about points between both coverings. Else they count as inside: no pair is
+            missing, and points near a border may be in pairs too many.
+
+        Returns
+        -------
+        points : array of int64
+            The places of points in the arrays, in rising order.
+        zones : array of int64
+            The numbers of the zones, which ``names`` names; for each point in rising order.
+
+        Raises
+        ------
+        ValueError
+            A number is out of range, or missing: the message has its place. Or the lengths differ.
+        TypeError
+            A value isn't a number.
+        ModuleNotFoundError
+            An exact answer needs shapely.
+
+        Notes
+        -----
+        A point on the border of a zone is not in it: the pairs are those of geopandas with the predicate ``within``,
+        and those of zones across the date line.
+
+        Examples
+        --------
+        >>> square = {"type": "Polygon", "coordinates": [[[0, 0], [10, 0], [10, 10], [0, 10], [0, 0]]]}
+        >>> points, zones = Index([square]).join([5, 9.999999, 10.000001], [5, 5, 5])
+        >>> points.tolist(), zones.tolist()
+        ([0, 1], [0, 0])
+        """
+        x, y = (numpy.ravel(it) for it in (longitude, latitude))
+        if len(x) != len(y):
+            raise ValueError(f"{len(x)} longitudes and {len(y)} latitudes")
+        point, zone, sure = self._pairs(leaves(x, y))
+        if exact:
+            keep = sure.copy()
+            for number, places in _groups(zone, numpy.flatnonzero(~sure)):
+                keep[places] = self._contains(number, x[point[places]], y[point[places]])
+            point, zone = point[keep], zone[keep]
+        order = numpy.lexsort([zone, point])
+        return point[order], zone[order]
+
+    def _pairs(self, places: Any) -> tuple[Any, Any, Any]:
+        """The pairs of a point and a zone in whose covering its leaf lies, and whether it is in the interior one."""
+        point, cell = numpy.arange(len(places)), self._first.searchsorted(places, "right") - 1
+        found = [(point[:0], self._zone[:0], self._sure[:0])]
+        while True:
+            is_there = cell >= 0
+            point, cell = point[is_there], cell[is_there]
+            if not len(cell):
+                return tuple(numpy.concatenate(it) for it in zip(*found))  # type: ignore[return-value]
+            here = self._last[cell] >= places[point]
+            asked, inside = point[here], cell[here]
+            count = self._begin[inside + 1] - self._begin[inside]
+            of = numpy.repeat(numpy.arange(len(count)), count)
+            entry = self._begin[inside][of] + numpy.arange(len(of)) - (numpy.cumsum(count) - count)[of]
+            found.append((asked[of], self._zone[entry], self._sure[entry]))
+            cell = self._above[cell]
+
+    def _contains(self, zone: Any, x: Any, y: Any) -> Any:
+        """Whether a zone's polygons contain points, which they may have some turns to the east or west."""
+        wkb, prepared, contains = _shapely()
+        if zone not in self._prepared:
+            try:
+                self._prepared[zone] = prepared(wkb.loads(self._shapes[zone]))
+            except Exception as error:  # shapely's own differ between its versions
+                raise ValueError(f"zone {self.names[zone]!r} has no polygons that shapely reads: {error}") from None
+        inside = contains(self._prepared[zone], x, y)
+        west, east = self._spans[zone]
+        for turn in range(math.ceil((west - x.max()) / 360), math.floor((east - x.min()) / 360) + 1):
+            if turn:
+                left = numpy.flatnonzero(~inside)
+                inside[left] = contains(self._prepared[zone], x[left] + 360 * turn, y[left])
+        return inside
+
+    def save(self, path: str | os.PathLike[str]) -> None:
+        """Writes the index into one file, of some 10 bytes a cell and 16 a corner of a polygon.
+
+        .. versionadded:: 1.4
+
+        Parameters
+        ----------
+        path : str or path
+            A file. One that is there is replaced when the new one is whole.
+
+        Raises
+        ------
+        TypeError
+            A name is neither a text nor a number.
+        OSError
+            The file can't be written.
+
+        Notes
+        -----
+        The file is numpy's ``npz``, without compression, and has no objects of Python.
+
+        Examples
+        --------
+        >>> from tempfile import TemporaryDirectory
+        >>> square = {"type": "Polygon", "coordinates": [[[0, 0], [10, 0], [10, 10], [0, 10], [0, 0]]]}
+        >>> with TemporaryDirectory() as folder:
+        ...     Index([square], ["square"]).save(f"{folder}/zones.index")
+        ...     Index.load(f"{folder}/zones.index").find(5, 5)
+        ['square']
+        """
+        text = json.dumps([KIND, *self.names], default=_number_of).encode()
+        arrays = {"cell": self._cell, "spans": self._spans.ravel(), "begin": self._begin.astype("int64"), "zone": self._zone.astype("int32"),
+                  "sure": self._sure, "shape": numpy.frombuffer(b"".join(self._shapes), "uint8"),
+                  "ends": numpy.cumsum([len(shape) for shape in self._shapes], dtype="int64"),
+                  "names": numpy.frombuffer(text, "uint8")}
+        written = f"{os.fspath(path)}.{os.getpid()}.new"
+        try:
+            with open(written, "xb") as file:
+                numpy.savez(file, **arrays)
+            os.replace(written, path)
+        except BaseException:
+            if os.path.exists(written):
+                os.remove(written)
+            raise
+
+    @classmethod
+    def load(cls, path: str | os.PathLike[str]) -> Index:
+        """The index of a file that `save` has written.
+
+        .. versionadded:: 1.4
+
+        Parameters
+        ----------
+        path : str or path
+            The file. It is checked, so it may come from a stranger.
+
+        Returns
+        -------
+        Index
+            The same as was saved, without what it says of zones that were left.
+
+        Raises
+        ------
+        ValueError
+            The file is no index.
+        OSError
+            The file can't be read.
+
+        Examples
+        --------
+        >>> Index.load("/dev/null")
+        Traceback (most recent call last):
+        ValueError: /dev/null is no index: File is not a zip file
+        """
+        with open(path, "rb") as file:
+            try:
+                arrays = _arrays_of(file)
+                kind, *names = json.loads(arrays["names"].tobytes())
+                if kind != KIND:
+                    raise ValueError(f"it is of another kind: {str(kind)[:40]!r}")
+                return cls._of(arrays, names)
+            except Exception as error:  # zipfile and numpy have many
+                raise ValueError(f"{os.fspath(path)} is no index: {error}") from None
+
+    @classmethod
+    def _of(cls, arrays: dict[str, Any], names: list[Any]) -> Index:
+        """An index of arrays that may be wrong."""
+        cell, begin, zone, sure, shape, ends, spans, _ = (arrays[name] for name in ARRAYS)
+        first, last = range_mins(cell), range_maxes(cell)
+        is_sorted = (first[1:] > first[:-1]) | (first[1:] == first[:-1]) & (last[1:] < last[:-1])
+        if not (is_sorted.all() and len(begin) == len(cell) + 1 and _rises(begin, len(zone)) and len(zone) == len(sure)
+                and _rises(numpy.append(0, ends), len(shape)) and len(ends) == len(names)
+                and len(spans) == 2 * len(names) and (abs(spans) <= MOST["longitude"]).all()
+                and ((0 <= zone) & (zone < len(names))).all()):
+            raise ValueError("its arrays don't fit together")
+        self = cls.__new__(cls)
+        self.names, self.left = names, []
+        text = shape.tobytes()
+        self._spans = spans.reshape(-1, 2)
+        self._shapes = [text[a:b] for a, b in zip([0, *ends.tolist()], ends.tolist())]
+        self._arrange(cell, begin.astype("int64"), zone.astype("int64"), sure)
+        return self
+
+
+_NOTHING = {"type": "MultiPolygon", "coordinates": []}
+
+
+def _named(shapes: Any, names: Any) -> tuple[list[Any], list[Any]]:
+    """The shapes and their names, as lists of one length."""
+    if isinstance(shapes, (str, bytes)):
+        shapes = parsed(shapes)
+    if hasattr(shapes, "geometry"):
+        given = shapes.index if names is None else shapes[names] if isinstance(names, str) else names
+        shapes = shapes.geometry if getattr(shapes, "crs", None) is None else shapes.to_crs(4326).geometry
+    elif isinstance(shapes, dict):
+        if not isinstance(shapes.get("features"), list):
+            raise ValueError("one object of GeoJSON is a FeatureCollection; a list takes others")
+        shapes = shapes["features"]
+        given = ([_property(feature, names, place) for place, feature in enumerate(shapes)]
+                 if isinstance(names, str) else names)
+    else:
+        given = names
+    shapes = list(shapes)
+    named = list(range(len(shapes)) if given is None else given)
+    if len(named) != len(shapes):
+        raise ValueError(f"{len(shapes)} shapes and {len(named)} names")
+    return shapes, named
+
+
+def _property(feature: Any, name: str, place: int) -> Any:
+    properties = feature.get("properties") if isinstance(feature, dict) else None
+    if not isinstance(properties, dict) or name not in properties:
+        raise ValueError(f"feature {place} has no property {name!r}")
+    return properties[name]
+
+
+def _wkb_of(shape: Any) -> bytes:
+    """The polygons of a shape in well-known binary, little-endian."""
+    if getattr(shape, "geom_type", None) in ("Polygon", "MultiPolygon"):
+        return bytes(shape.wkb)
+    parts = polygons_of(_NOTHING if shape is None else shape)
+    found = [struct.pack("<BII", 1, 6, len(parts))]
+    for rings in parts:
+        found.append(struct.pack("<BII", 1, 3, len(rings)))
+        for ring in rings:
+            found += [struct.pack("<I", len(ring)), numpy.asarray(ring, "<f8").tobytes()]
+    return b"".join(found)
+
+
+def _span_of(shape: Any) -> tuple[float, float]:
+    """The least and the greatest longitude of polygons; 0 of none."""
+    if hasattr(shape, "bounds"):
+        return (0, 0) if shape.is_empty else shape.bounds[::2]
+    parts = polygons_of(_NOTHING if shape is None else shape)
+    x = numpy.concatenate([[0.0] * (not parts), *(ring[:, 0] for rings in parts for ring in rings)])
+    return x.min(), x.max()
+
+
+@functools.lru_cache(None)
+def _shapely() -> tuple[Any, Any, Any]:
+    """Of shapely what reads well-known binary, what prepares polygons, and what asks them about arrays."""
+    try:
+        from shapely import wkb
+        from shapely.prepared import prep
+    except ImportError:
+        raise ModuleNotFoundError("an exact answer needs shapely; without it, coverings alone can be asked") from None
+    try:
+        from shapely import contains_xy, prepare
+    except ImportError:  # before shapely 2
+        from shapely.vectorized import contains
+        return wkb, prep, contains
+    return wkb, lambda shape: (prepare(shape), shape)[1], contains_xy
+
+
+def _groups(key: Any, places: Any) -> Iterator[tuple[int, Any]]:
+    """Each key of these places, with its places."""
+    places = places[numpy.argsort(key[places], kind="stable")]
+    begins = numpy.flatnonzero(numpy.diff(key[places], prepend=-1))
+    for part in numpy.split(places, begins[1:]) if len(places) else []:
+        yield int(key[part[0]]), part
+
+
+def _number_of(name: Any) -> Any:
+    """A name that JSON has no form for, as a number of numpy is."""
+    if isinstance(name, numpy.generic) and isinstance(name.item(), (int, float, str)):
+        return name.item()
+    raise TypeError(f"a name of a zone is a text or a number, not {type(name).__name__}: {name!r}")
+
+
+def _arrays_of(file: Any) -> dict[str, Any]:
+    """The arrays of a file of numpy, which are stored as they are, of the kinds that an index has."""
+    with zipfile.ZipFile(file) as whole:
+        if any(it.compress_type != zipfile.ZIP_STORED for it in whole.infolist()):
+            raise ValueError("it is compressed")
+        found = {}
+        for name, kind in ARRAYS.items():
+            with whole.open(f"{name}.npy") as member:
+                found[name] = numpy.lib.format.read_array(member, allow_pickle=False)
+            if found[name].ndim != 1 or found[name].dtype.kind != kind:
+                raise ValueError(f"its array {name!r} is of another kind")
+    if found["cell"].dtype != "uint64":
+        raise ValueError("its array 'cell' is of another kind")
+    return found
+
+
+def _rises(ends: Any, end: int) -> bool:
+    """Whether numbers rise from 0 to the end."""
+    return bool(len(ends) and ends[0] == 0 and ends[-1] == end and (ends[1:] >= ends[:-1]).all())

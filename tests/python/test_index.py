@@ -1,0 +1,412 @@
+"""The index of s2union_geo beside a plain loop over all edges of all polygons, its file, and what is refused; and `join`
+and `index` of the command line."""
+
+import csv
+import io
+import json
+import os
+import random
+import subprocess
+import sys
+import tempfile
+import unittest
+import unittest.mock
+
+import numpy
+import pytest
+import s2union_geo
+from s2union_geo import Index, index, tables
+from s2union_geo.__main__ import main
+
+import docstrings
+
+
+def box(west, south, east, north):
+    return [[west, south], [east, south], [east, north], [west, north], [west, south]]
+
+
+def polygon(*rings):
+    return {"type": "Polygon", "coordinates": list(rings)}
+
+
+def star(random, x, y, size, count):
+    """A ring around a place, whose corners are at random distances."""
+    turns = numpy.linspace(0, 2 * numpy.pi, count, endpoint=False)
+    corners = [[x + far * numpy.cos(turn), y + far * numpy.sin(turn)]
+               for turn, far in ((turn, size * random.uniform(0.3, 1)) for turn in turns.tolist())]
+    return [*corners, corners[0]]
+
+
+def some_zones(random):
+    """Zones that overlap, that have holes and several parts, that come twice, that lie in another, and some across the
+    date line and at a pole."""
+    zones = [polygon(star(random, random.uniform(-30, 30), random.uniform(-30, 30), random.uniform(1, 15),
+                          random.randrange(3, 40))) for _ in range(20)]
+    zones += zones[:3]
+    zones.append(polygon(box(-40, -40, 40, 40), box(-20, -20, 20, 20)))
+    zones.append({"type": "MultiPolygon", "coordinates": [[box(0, 0, 5, 5)], [box(6, 0, 9, 5), box(7, 1, 8, 4)]]})
+    zones += [polygon(box(175, -10, 185, 10)), polygon(box(-190, -5, -179, 5)), polygon(box(-180, 80, 180, 90))]
+    zones.append({"type": "Feature", "geometry": None, "properties": {}})
+    return zones
+
+
+def some_points(random, count):
+    """Points around all zones, and beside the date line and a pole."""
+    x = [random.uniform(-45, 45) for _ in range(count)] + [random.uniform(170, 190) for _ in range(count // 8)]
+    y = [random.uniform(-45, 45) for _ in range(count)] + [random.uniform(-12, 12) for _ in range(count // 8)]
+    x += [random.uniform(-190, -170) for _ in range(count // 8)] + [random.uniform(-180, 180) for _ in range(count // 8)]
+    y += [random.uniform(-12, 12) for _ in range(count // 8)] + [random.uniform(75, 90) for _ in range(count // 8)]
+    return numpy.array(x), numpy.array(y)
+
+
+def plain_pairs(zones, x, y):
+    """Each pair of a point and a zone, by the edges that lie to the north of the point, whatever turn it is given at."""
+    found = set()
+    for number, zone in enumerate(zones):
+        shape = zone["geometry"] if zone["type"] == "Feature" else zone
+        parts = [] if shape is None else shape["coordinates"]
+        inside = numpy.zeros(len(x), bool)
+        for rings in parts if shape and shape["type"] == "MultiPolygon" else [parts]:
+            for turn in (-360, 0, 360):
+                odd = numpy.zeros(len(x), bool)
+                for ring in rings:
+                    for (a, b), (c, d) in zip(ring, ring[1:]):
+                        if a != c:
+                            crosses = (min(a, c) <= x + turn) & (x + turn < max(a, c))
+                            odd ^= crosses & (b + (x + turn - a) / (c - a) * (d - b) > y)
+                inside |= odd
+        found |= {(point, number) for point in numpy.flatnonzero(inside).tolist()}
+    return found
+
+
+def pairs(found):
+    return list(zip(*(it.tolist() for it in found)))
+
+
+class Joins(unittest.TestCase):
+    def test_pairs_beside_a_plain_loop(self):
+        """All pairs, exactly, by coverings of few and of many cells, and one by one; by coverings alone none is missing,
+        and with more cells fewer are too many."""
+        chance = random.Random(105)
+        zones = some_zones(chance)
+        x, y = some_points(chance, 2000)
+        wanted = plain_pairs(zones, x, y)
+        self.assertGreater(len(wanted), 1500)
+        too_many = []
+        for most in (0, 8, 50, 200):
+            made = Index(zones, max_cells=most)
+            self.assertEqual(pairs(made.join(x, y)), sorted(wanted))
+            covered = set(pairs(made.join(x, y, exact=False)))
+            self.assertTrue(wanted <= covered)
+            too_many.append(len(covered - wanted))
+        self.assertEqual(too_many, sorted(too_many, reverse=True))
+        self.assertLess(too_many[-1], len(wanted) / 5)
+        for point in range(0, len(x), 17):
+            self.assertEqual([(point, zone) for zone in made.find(x[point], y[point])],
+                             sorted(pair for pair in wanted if pair[0] == point))
+            self.assertLessEqual(set(made.find(x[point], y[point])), set(made.find(x[point], y[point], exact=False)))
+
+    def test_a_zone_a_hundred_times(self):
+        """All have the same cells, and a point in one is in each."""
+        made = Index([polygon(box(0, 0, 1, 1))] * 100, max_cells=8)
+        self.assertEqual(pairs(made.join([0.5, 2.0, 0.25], [0.5, 0.5, 0.999])),
+                         [(point, zone) for point in (0, 2) for zone in range(100)])
+
+    def test_nothing(self):
+        for made in (Index([]), Index([None]), Index({"type": "FeatureCollection", "features": []})):
+            self.assertEqual((made.find(1, 2), pairs(made.join([1], [2]))), ([], []))
+        made = Index([polygon(box(0, 0, 1, 1))])
+        self.assertEqual([(it.dtype, it.shape) for it in made.join([], [])], [("int64", (0,))] * 2)
+
+    def test_names(self):
+        features = [{"type": "Feature", "properties": {"id": name}, "geometry": polygon(box(0, 0, 1, 1))}
+                    for name in ("a", 7, None)]
+        collection = {"type": "FeatureCollection", "features": features}
+        for given in (collection, json.dumps(collection), json.dumps(collection).encode()):
+            self.assertEqual(Index(given, "id").find(0.5, 0.5), ["a", 7, None])
+        self.assertEqual(Index(collection).names, [0, 1, 2])
+        self.assertEqual((len(Index(collection)), repr(Index([None]))), (3, "<Index of 1 zones, 0 cells>"))
+        for shapes, names, wanted in ((features, ["a"], "3 shapes and 1 names"), (collection, "name", "feature 0 has no"),
+                                      (polygon(box(0, 0, 1, 1)), None, "a list takes others"),
+                                      (["x"], ["bad"], "zone 'bad': "), ([polygon(box(0, 0, 1, 1)[1:])], None, "zone 0: p")):
+            with self.assertRaisesRegex(ValueError, wanted):
+                Index(shapes, names)
+
+    def test_zones_that_are_left(self):
+        made = Index([polygon(box(0, 0, 1, 1)), polygon(box(0, 0, 9, 9)[1:]), polygon(box(0, 0, 2, 2))], leave=True)
+        self.assertEqual(made.find(0.5, 0.5), [0, 2])
+        self.assertEqual(made.left, [(1, "polygon 0, ring 0 is open: its last position is not its first")])
+
+    def test_points_that_are_refused(self):
+        made = Index([polygon(box(0, 0, 1, 1))])
+        for x, y, error in (([0], [91], ValueError), ([numpy.nan], [0], ValueError), ([1, 2], [1], ValueError),
+                            (["1"], [0], TypeError)):
+            self.assertRaises(error, made.join, x, y)
+        for place, error in (((0, 91), ValueError), ((numpy.nan, 0), ValueError), (("1", 0), TypeError)):
+            self.assertRaises(error, made.find, *place)
+
+    def test_without_shapely(self):
+        """Coverings alone are asked, and sure points; one near a border is an error in words."""
+        index._shapely.cache_clear()
+        self.addCleanup(index._shapely.cache_clear)
+        with unittest.mock.patch.dict(sys.modules, {"shapely": None}):
+            made = Index([polygon(box(0, 0, 1, 1))])
+            self.assertEqual((made.find(0.5, 0.5), made.find(1.0000001, 0.5, exact=False)), ([0], [0]))
+            with self.assertRaisesRegex(ModuleNotFoundError, "an exact answer needs shapely"):
+                made.find(0.9999999, 0.5)
+
+    def test_with_a_later_shapely(self):
+        """It has one call for arrays, over polygons that it prepares in place."""
+        import shapely
+        from shapely.prepared import prep
+        from shapely.vectorized import contains
+        index._shapely.cache_clear()
+        self.addCleanup(index._shapely.cache_clear)
+        prepared = []
+        with unittest.mock.patch.multiple(shapely, create=True, prepare=prepared.append,
+                                          contains_xy=lambda shape, x, y: contains(prep(shape), x, y)):
+            made = Index([polygon(box(0, 0, 1, 1))], max_cells=1)
+            self.assertEqual(pairs(made.join([0.5, 2], [0.5, 0.5])), [(0, 0)])
+            self.assertEqual(len(prepared), 1)
+
+
+class Files(unittest.TestCase):
+    def setUp(self):
+        folder = tempfile.TemporaryDirectory()
+        self.addCleanup(folder.cleanup)
+        self.path = os.path.join(folder.name, "zones")
+
+    def test_saved_and_loaded(self):
+        chance = random.Random(5)
+        zones = some_zones(chance)
+        x, y = some_points(chance, 500)
+        for names in (None, [f"zone {k}\n" for k in range(len(zones))], list(numpy.arange(len(zones)) / 2)):
+            made = Index(zones, names)
+            made.save(self.path)
+            found = Index.load(self.path)
+            self.assertEqual((found.names, pairs(found.join(x, y)), os.listdir(os.path.dirname(self.path))),
+                             (made.names, pairs(made.join(x, y)), ["zones"]))
+        self.assertRaises(TypeError, Index([None], [object()]).save, self.path)
+        self.assertEqual(Index.load(self.path).names, found.names)  # the file is as it was
+
+    def test_damaged(self):
+        """Cut anywhere, or with one byte changed, it is no index, or it is one, and a join ends well."""
+        Index([polygon(box(0, 0, 1, 1)), polygon(box(0.5, 0.5, 2, 2))], ["a", "b"], max_cells=4).save(self.path)
+        with open(self.path, "rb") as it:
+            whole = it.read()
+        chance = random.Random(8)
+        refused = 0
+        for turn in range(200):
+            damaged = bytearray(whole[:chance.randrange(len(whole))] if turn % 4 == 0 else whole)
+            if turn % 4 and damaged:
+                damaged[chance.randrange(len(damaged))] = chance.randrange(256)
+            with open(self.path, "wb") as it:
+                it.write(damaged)
+            try:
+                Index.load(self.path).join([0.7, 1.0, 3.0], [0.7, 0.99, 3.0])
+            except ValueError as error:
+                self.assertRegex(str(error), "is no index: |has no polygons that shapely reads")
+                refused += 1
+        self.assertGreater(refused, 100)
+
+    def test_what_does_not_fit(self):
+        """Arrays of an index, one of them wrong."""
+        Index([polygon(box(0, 0, 1, 1)), polygon(box(0.5, 0.5, 2, 2))], max_cells=4).save(self.path)
+        arrays = dict(numpy.load(self.path))
+
+        def changed(name, change):
+            other = {**arrays, name: change(arrays[name].copy())}
+            with open(self.path, "wb") as it:
+                numpy.savez(it, **other)
+            with self.assertRaisesRegex(ValueError, "is no index: "):
+                Index.load(self.path)
+
+        for name, array in arrays.items():
+            changed(name, lambda it: it[:-1])
+            changed(name, lambda it: it.astype(object if name == "sure" else "float32" if name != "spans" else "int8"))
+            changed(name, lambda it: it.reshape(1, -1))
+        changed("cell", lambda it: it[::-1].copy())
+        changed("cell", lambda it: it * 0)
+        changed("begin", lambda it: it[::-1].copy())
+        changed("zone", lambda it: it + 1)
+        changed("zone", lambda it: it - 1)
+        changed("ends", lambda it: it[::-1].copy())
+        changed("spans", lambda it: it * numpy.nan)
+        changed("names", lambda it: numpy.frombuffer(b"[]", "uint8"))
+        changed("names", lambda it: numpy.frombuffer(b'["other", 0, 1]', "uint8"))
+        with open(self.path, "wb") as it:
+            numpy.savez_compressed(it, **arrays)
+        with self.assertRaisesRegex(ValueError, "compressed"):
+            Index.load(self.path)
+        self.assertRaises(OSError, Index.load, self.path + "none")
+
+
+def zones_file(folder, by_line=False):
+    features = [{"type": "Feature", "properties": {"zone_id": name, "area": k}, "geometry": polygon(box(*corners))}
+                for k, (name, corners) in enumerate((("a", (0, 0, 10, 10)), ("b", (5, 5, 15, 15))))]
+    path = os.path.join(folder, "zones")
+    with open(path, "w") as it:
+        if by_line:
+            it.writelines(f"\x1e{json.dumps(feature)}\n" for feature in features)
+        else:
+            json.dump({"type": "FeatureCollection", "features": features}, it, indent=1)
+    return path
+
+
+@pytest.fixture
+def zones(tmp_path):
+    return zones_file(tmp_path)
+
+
+def said(*words, text=b""):
+    done = subprocess.run([sys.executable, "-m", "s2union_geo", *words], input=text, stdout=subprocess.PIPE,
+                          stderr=subprocess.PIPE)
+    return done.returncode, done.stdout.decode("utf-8", "surrogateescape"), done.stderr.decode()
+
+
+ROWS = [("1", 2, 3, "a"), ("2", 6, 6, "a"), ("2", 6, 6, "b"), ("7", 9.99999, 9, "a"), ("7", 9.99999, 9, "b")]
+TABLES = [
+    ("id,lon,lat\n1,2,3\n2,6,6\n3,20,20\n7,9.99999,9\n", []),
+    ("\ufeffID;Latitude;Longitude\r\n1;3;2\r\n2;6;6\r\n3;20;20\r\n7;9;9,99999\r\n", []),
+    ("id\tx\ty\n1\t2\t3\n2\t6\t6\n3\t20\t20\n7\t9.99999\t9\n", []),
+    ("id|here|there\n1|3|2\n2|6|6\n3|20|20\n7|9|9.99999\n", ["--longitude", "there", "--latitude", "here"]),
+    ("1 2 3\n2 6 6\n\n3 20 20\n7  9.99999   9\n", ["--longitude", "2", "--latitude", "3"]),
+    ("1/2/3\n2/6/6\n3/20/20\n7/9.99999/9\n", ["--longitude", "2", "--latitude", "3", "--separator", "/"]),
+]
+
+
+@pytest.mark.parametrize("text,options", TABLES, ids=range(len(TABLES)))
+def test_tables_of_each_kind(zones, text, options):
+    status, out, error = said("join", "-", zones, "--name", "zone_id", *options, text=text.encode())
+    assert (status, error) == (0, "")
+    rows = list(csv.reader(io.StringIO(out)))
+    rows = rows if options and "2" in options else rows[1:]
+    assert [(row[0], row[-1]) for row in rows] == [(row[0], row[-1]) for row in ROWS]
+    assert all(len(row) == 4 for row in rows)
+
+
+@pytest.mark.parametrize("by_line", [False, True])
+def test_features_as_points_and_zones(tmp_path, by_line):
+    features = [{"type": "Feature", "properties": {"id": name, "n": k, "more": None if k else [1]},
+                 "geometry": {"type": "Point", "coordinates": place}}
+                for k, (name, place) in enumerate((("one", [2, 3]), ("t\"w,o", [6, 6.5, 0]), ("three", [20, 20])))]
+    text = ("\n".join(map(json.dumps, features)) if by_line else
+            json.dumps({"type": "FeatureCollection", "features": features}, indent=2))
+    zones = zones_file(tmp_path, by_line)
+    status, out, error = said("join", "-", zones, "--name", "zone_id", "--all", text=text.encode())
+    assert (status, error) == (0, "")
+    assert list(csv.reader(io.StringIO(out))) == [
+        ["longitude", "latitude", "id", "n", "more", "zone_id"], ["2", "3", "one", "0", "[1]", "a"],
+        ["6", "6.5", "t\"w,o", "1", "", "a"], ["6", "6.5", "t\"w,o", "1", "", "b"], ["20", "20", "three", "2", "", ""]]
+
+
+def test_an_index_as_zones(zones, tmp_path):
+    kept = str(tmp_path / "kept")
+    assert said("index", zones, kept, "--name", "zone_id") == (0, "2 zones\n", "")
+    assert said("join", "-", kept, text=b"x,y\n6,6\n") == (0, "x,y,zone\n6,6,a\n6,6,b\n", "")
+    assert said("join", "-", kept, text=b"") == (0, "", "")
+    assert said("join", "-", kept, text=b"caf\xe9,lon,lat\n\xff,1,1\n")[:2] == (
+        0, "caf\udce9,lon,lat,zone\n\udcff,1,1,a\n")
+
+
+WRONG = [
+    ("id,lon,lat\n1,2,3\n4,x,3\n", "line 3 has no degrees: 'x' and '3'"),
+    ("id,lon,lat\n1,2,3\n4,,\n", "line 3 has no degrees: '' and ''"),
+    ("id,lon,lat\n1,2,3\n\n5,3,99\n", "line 4: a latitude is from -90 to 90 (the longitude comes first): 99"),
+    ("id,lon,lat\n1,2,3\n5,nan,9\n", "line 3: a longitude is from -540 to 540: nan"),
+    ("id,lon,lat\n1,2,3\n5,\"3\n3\"\n", "line 4 has 2 columns, and the first has 3"),
+    ('{"type": "FeatureCollection", "features": [{"type": "Feature", "properties": {"lon": 5}, "geometry": '
+     '{"type": "Point", "coordinates": [2, 3]}}, {"type": "Feature", "geometry": null}]}', "feature 1 has no point"),
+]
+
+
+@pytest.mark.parametrize("text,wanted", WRONG, ids=range(len(WRONG)))
+def test_rows_that_are_wrong(zones, text, wanted):
+    """The first ends the command, or it is left out; the others come."""
+    status, out, error = said("join", "-", zones, text=text.encode())
+    assert (status, error) == (1, f"s2union_geo: {wanted}; --skip leaves it out\n")
+    status, out, error = said("join", "-", zones, "--skip", text=text.encode())
+    assert (status, error, out.count("\n")) == (0, f"s2union_geo: left out: {wanted}\n", 2)
+
+
+def test_more_rows_than_are_read_at_once(zones, monkeypatch, capsys, tmp_path):
+    monkeypatch.setattr(tables, "AT_ONCE", 3)
+    for name, text in (("rows", "x,y\n" + "1,1\n" * 7),
+                       ("features", '{"type": "Feature", "geometry": {"type": "Point", "coordinates": [1, 1]}}\n' * 7)):
+        path = tmp_path / name
+        path.write_text(text)
+        assert main(["join", str(path), zones]) is None
+        assert capsys.readouterr().out.splitlines()[1:] == ["1,1,0"] * 7
+    path.write_text('{"type": "Feature", "geometry": {"type": "Point", "coordinates": [1, 1]}}\n' * 4 +
+                    '{"type": "Feature", "geometry": {"type": "Point", "coordinates": [1, 1]}, "properties": {"k": 1}}\n')
+    assert main(["join", str(path), zones]).startswith("s2union_geo: line 5 has a property that no earlier one has: 'k'")
+
+
+@pytest.mark.parametrize("words,wanted", [
+    (["join", "-"], "the following arguments are required: ZONES"),
+    (["join", "-", "-"], "points and zones can't both be standard input"),
+    (["join", "-", "{zones}", "--name", "none"], "feature 0 of the zones has no property 'none'"),
+    (["join", "-", "{zones}", "--longitude", "q"], "there is no column 'q'"),
+    (["join", "-", "{zones}", "--max-cells", "-1"], "max_cells is out of range: -1"),
+    (["join", "-", "/dev/null"], "/dev/null: the text is no GeoJSON"),
+    (["join", "-", "none"], "[Errno 2] No such file or directory: 'none'"),
+    (["join", "-", "{zones}", "--separator", "ab"], "\"delimiter\" must be a 1-character string"),
+    (["cover", "x"], "the following arguments are required: folder, max_cells, max_level")])
+def test_words_that_are_wrong(zones, words, wanted):
+    words = [word.format(zones=zones) for word in words]
+    status, out, error = said(*words, text=b"here,there\n1,2\n")
+    assert (status, out) == (1, "")
+    assert error.startswith(f"s2union_geo: {wanted}".replace("ZONES", "zones"))
+
+
+def test_columns_that_are_not_known(zones):
+    assert said("join", "-", zones, text=b"here,there\n1,2\n")[2] == (
+        "s2union_geo: no column is known as longitude, and --longitude names it: here, there\n")
+    assert said("join", "-", zones, "--longitude", "1", "--latitude", "3", text=b"1,2\n")[2] == (
+        "s2union_geo: there is no column '3'\n")
+
+
+def test_zones_that_are_refused(tmp_path):
+    path = tmp_path / "zones"
+    good, bad = ({"type": "Feature", "geometry": polygon(ring), "properties": {"name": name}}
+                 for name, ring in (("good", box(0, 0, 1, 1)), ("bad", box(0, 0, 1, 1)[1:])))
+    path.write_text(json.dumps({"type": "FeatureCollection", "features": [bad, good]}))
+    status, out, error = said("join", "-", str(path), "--name", "name", text=b"0.5,0.5\n")
+    assert (status, out) == (1, "") and error.startswith("s2union_geo: zone 'bad': polygon 0, ring 0 is open")
+    status, out, error = said("join", "-", str(path), "--name", "name", "--skip", text=b"0.5,0.5\n")
+    assert (status, out) == (0, "0.5,0.5,good\n") and error.startswith("s2union_geo: left out: zone 'bad': polygon 0")
+
+
+def test_parquet(zones):
+    """Over a stand-in for pyarrow, which Debian doesn't have; and without it, an error in words."""
+    class Column(list):
+        to_pylist = list.copy
+
+    class File:
+        schema_arrow = unittest.mock.Mock(names=["id", "lon", "lat"])
+
+        def __init__(self, file):
+            pass
+
+        def iter_batches(self, count):
+            yield unittest.mock.Mock(column={"id": Column([1, None]), "lon": Column([2.0, 20.0]),
+                                             "lat": Column([3, 3])}.__getitem__)
+
+    made, wrong = Index([polygon(box(0, 0, 10, 10))]), []
+    with unittest.mock.patch.dict(sys.modules, {"pyarrow": unittest.mock.Mock(),
+                                                "pyarrow.parquet": unittest.mock.Mock(ParquetFile=File)}):
+        columns, parts = tables.read_points(io.BufferedReader(io.BytesIO(b"PAR1")), tables.Options(), wrong.append)
+        part, = parts
+    assert (columns, part.rows, wrong) == (["id", "lon", "lat"], [["1", "2.0", "3"], ["", "20.0", "3"]], [])
+    assert pairs(made.join(part.x, part.y)) == [(0, 0)]
+    with unittest.mock.patch.dict(sys.modules, {"pyarrow": None, "pyarrow.parquet": None}):
+        with pytest.raises(ModuleNotFoundError, match="a file of parquet needs pyarrow"):
+            tables.read_points(io.BufferedReader(io.BytesIO(b"PAR1")), tables.Options(), wrong.append)
+
+
+def test_cover_by_another_property(zones, tmp_path):
+    assert said("cover", zones, str(tmp_path), "8", "9", "--name", "zone_id")[0] == 0
+    assert {"a.outer", "a.inner", "b.outer", "b.inner"} <= {*os.listdir(tmp_path)}
+
+
+Examples = docstrings.tests_of(s2union_geo.index)
