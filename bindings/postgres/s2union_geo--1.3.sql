@@ -33,3 +33,19 @@ RETURNS float8
 LANGUAGE SQL IMMUTABLE STRICT PARALLEL SAFE
 RETURN s2_latitude(s2_cell($1));
 COMMENT ON FUNCTION s2_latitude(text) IS 'the latitude of the middle of a cell, in degrees. Error: an invalid cell';
+
+CREATE FUNCTION s2_box(cell bigint)
+RETURNS box
+AS 'MODULE_PATHNAME'
+LANGUAGE C IMMUTABLE STRICT PARALLEL SAFE;
+COMMENT ON FUNCTION s2_box(bigint)
+  IS 'the longitudes and latitudes between which a cell lies, as a box, which may go on beyond 180 or -180 degrees. '
+  'Error: an invalid cell';
+
+CREATE FUNCTION s2_box(cell text)
+RETURNS box
+LANGUAGE SQL IMMUTABLE STRICT PARALLEL SAFE
+RETURN s2_box(s2_cell($1));
+COMMENT ON FUNCTION s2_box(text)
+  IS 'the longitudes and latitudes between which a cell lies, as a box, which may go on beyond 180 or -180 degrees. '
+  'Error: an invalid cell';

@@ -1,9 +1,10 @@
 """Runs the examples of a page, and compares what they say with what the page shows.
 
-documented.py [--script] [--python] PAGE [COMMAND..]: all ```sql blocks, or ```python blocks, in one session, each with
-the ```text block that follows it. COMMAND reads the session (if there is none, sqlite3, without its user's settings, or
-python3); --script prints it. A block that begins with ```python MODULE is left out where that isn't. S2UNION_FIRST and
-S2UNION_SHARD are the folders of the sockets /run/first and /run/shard.
+documented.py [--script] [--python] [--only MODULE] PAGE [COMMAND..]: all ```sql blocks, or ```python blocks, in one
+session, each with the ```text block that follows it. COMMAND reads the session (if there is none, sqlite3, without its
+user's settings, or python3); --script prints it. A block that begins with ```python MODULE is left out where that
+isn't; --only runs those of one MODULE alone. S2UNION_FIRST and S2UNION_SHARD are the folders of the sockets /run/first
+and /run/shard.
 documented.py --shell PAGE UNTIL: the commands after the prompts of the ```text blocks, as far as the heading UNTIL, in
 one folder, which has docs/ and the calculator that S2CALC names.
 The last line is 'N passed, M failed'.
@@ -27,10 +28,11 @@ def text_of(page):
         return file.read()
 
 
-def examples(page, language):
+def examples(page, language, only):
     block = rf"^```{language}(?: (\w+))?\n(.*?)^```\n(?:\n```text\n(.*?)^```\n)?"
     found = re.findall(block, text_of(page), re.DOTALL | re.M)
-    return [(code, wanted) for module, code, wanted in found if not module or importlib.util.find_spec(module)]
+    return [(code, wanted) for module, code, wanted in found
+            if (module == only if only else not module or importlib.util.find_spec(module))]
 
 
 def session(blocks, mark):
@@ -63,9 +65,10 @@ def main(arguments):
     if arguments[0] == "--shell":
         return in_shell(*arguments[1:])
     options = [word for word in arguments if word in ("--script", "--python")]
-    page, *command = arguments[len(options):]
+    only = arguments[len(options) + 1] if arguments[len(options)] == "--only" else None
+    page, *command = arguments[len(options) + 2 * bool(only):]
     is_python = "--python" in options
-    blocks = examples(page, "python" if is_python else "sql")
+    blocks = examples(page, "python" if is_python else "sql", only)
     mark = f"print({MARK!r})" if is_python else f"\\echo {MARK}" if command else f".print {MARK}"
     script = session(blocks, mark)
     for place in ("first", "shard"):

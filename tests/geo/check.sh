@@ -35,12 +35,18 @@ step "a cluster on a socket" begun data
 mkdir "$work/bin" && printf '#!/bin/sh\nexec /usr/bin/sqlite3 -init /dev/null "$@"\n' >"$work/bin/sqlite3" &&
   chmod 755 "$work/bin/sqlite3"
 export PREFIX=$work/usr PATH=$work/bin:/usr/bin:$PATH PYTHONDONTWRITEBYTECODE=1 PYTHONWARNINGS=ignore
-export PYTHONPATH=$work/usr/lib/python:$top/docs/examples:$top/tests/geo
+export PYTHONPATH=$work/usr/lib/python:$top/docs/examples:$top/tests/geo:$top/tests
 if [ "${1:-}" = --costs ]; then
   mkdir "$work/costs" && /usr/bin/python3 "$top/tests/geo/costs.py" "$work/costs" "${@:2}"
   finish
 fi
 pages() { (cd "$top/tests/geo" && timeout 1800 /usr/bin/python3 -m pytest "$@"); }
+step "exact joins in PostgreSQL" pages test_joins.py
+first_screen() { # its examples that need PostGIS, which the part `postgres` leaves out
+  createdb first && PGOPTIONS="-c client_min_messages=error" /usr/bin/python3 "$top/tests/docs/documented.py" \
+    --only postgis "$top/docs/POSTGRES.md" psql -XAqt -d first
+}
+step "docs/POSTGRES.md, what needs PostGIS" first_screen
 step "docs/GEO.md" pages test_geo.py
 step "docs/TUTORIAL.md" pages test_tutorial.py
 finish

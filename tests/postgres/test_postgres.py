@@ -1258,8 +1258,39 @@ class Points(Tests):
         self.assertEqual(psql("SELECT s2_leaf_at(NULL, 0) IS NULL, s2_leaf_at(0, NULL) IS NULL,"
                               " s2_longitude(NULL::bigint) IS NULL, s2_latitude(NULL::text) IS NULL"), ["t|t|t|t"])
 
+    def test_boxes(self):
+        """The box of a cell has each of 20,000 places that lie in it, at any level, also at poles and the date line; it
+        is hardly larger than its children's boxes together; and that of a leaf is no larger than a leaf."""
+        places = "SELECT random() * 360 - 180 AS x, degrees(asin(random() * 2 - 1)) AS y, k % 31 AS level" \
+            " FROM generate_series(1, 20000) AS k UNION ALL SELECT x, y, level FROM (VALUES" \
+            f" {', '.join(f'({x!r}::float8, {y!r}::float8)' for x, y, _ in POINTS)}) AS p (x, y)," \
+            " generate_series(0, 30) AS level"
+        inside = "box @> point(x + 360 * round(((center(box))[0] - x) / 360), y)"
+        self.assertEqual(psql(f"SELECT bool_and({inside}) FROM ({places}) AS p,"
+                              " s2_box(s2_parent(s2_leaf_at(x, y), level)) AS box"), ["t"])
+        children = "SELECT max((b[0])[0] + turn) AS east, max((b[0])[1]) AS north, min((b[1])[0] + turn) AS west," \
+            " min((b[1])[1]) AS south, min(width(box)) AS width, min((box[0])[1]) AS high, min((box[1])[1]) AS low" \
+            " FROM cells, s2_box(cell) AS box, generate_series(0, 3) AS k, s2_box(s2_child(cell, k)) AS b," \
+            " LATERAL (SELECT 360 * round(((center(box))[0] - (center(b))[0]) / 360) AS turn) AS t" \
+            " WHERE s2_level(cell) < 30 AND width(box) < 180 AND abs((center(box))[1]) < 89.9999 GROUP BY cell"
+        close = "width / (east - west) BETWEEN 0.9 AND 1.3 AND abs(high - north) + abs(low - south) < 1e-8"
+        self.assertEqual(psql(f"WITH cells AS (SELECT DISTINCT s2_parent(s2_leaf_at(x, y), level) AS cell"
+                              f" FROM ({places}) AS p) SELECT bool_and({close}), count(*) > 9000"
+                              f" FROM ({children}) AS c"),
+                         ["t|t"])
+        self.assertEqual(psql("SELECT max(height(box)) < 3e-7 FROM generate_series(-90, 90) AS y,"
+                              " s2_box(s2_leaf_at(7, y)) AS box"), ["t"])
+        for token, *wanted in (("1", -45, -45, 45, 45), ("7", 135, -45, 225, 45),
+                               ("5", -180, 35.264389682754654, 180, 90),
+                               ("b", -180, -90, 180, -35.264389682754654), ("5004", -180, 86.52258405507725, 180, 90)):
+            found, = psql(f"SELECT (b[1])[0], (b[1])[1], (b[0])[0], (b[0])[1] FROM s2_box('{token}') AS b")
+            for number, other in zip(wanted, map(float, found.split("|")), strict=True):
+                self.assertAlmostEqual(number, other, delta=2e-9, msg=token)
+        self.assertEqual(psql("SELECT s2_box(NULL::bigint) IS NULL, s2_box('7') = s2_box(s2_cell('7'))"), ["t|t"])
+
     def test_points_that_are_refused(self):
-        for call, said in (("s2_leaf_at(0, 91)", "s2union: a latitude is a number from -90 to 90: 91"),
+        for call, said in (("s2_box(2)", "s2union: not a cell: 2"), ("s2_box('zz')", 's2union: not a cell: "zz"'),
+                           ("s2_leaf_at(0, 91)", "s2union: a latitude is a number from -90 to 90: 91"),
                            ("s2_leaf_at(0, 'NaN')", "s2union: a latitude is a number from -90 to 90: NaN"),
                            ("s2_leaf_at('-Infinity', 0)", "a longitude is a number from -540 to 540: -Infinity"),
                            ("s2_leaf_at(540.1, 0)", "s2union: a longitude is a number from -540 to 540: 540.1"),

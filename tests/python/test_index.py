@@ -1,4 +1,4 @@
-"""The index of s2union_geo beside a plain loop over all edges of all polygons, its file, and what is refused; and `join`
+"""The index of s2union_geo beside a plain loop over all edges of all polygons, its file, and what is refused; `join`
 and `index` of the command line."""
 
 import csv
@@ -19,64 +19,7 @@ from s2union_geo import Index, index, tables
 from s2union_geo.__main__ import main
 
 import docstrings
-
-
-def box(west, south, east, north):
-    return [[west, south], [east, south], [east, north], [west, north], [west, south]]
-
-
-def polygon(*rings):
-    return {"type": "Polygon", "coordinates": list(rings)}
-
-
-def star(random, x, y, size, count):
-    """A ring around a place, whose corners are at random distances."""
-    turns = numpy.linspace(0, 2 * numpy.pi, count, endpoint=False)
-    corners = [[x + far * numpy.cos(turn), y + far * numpy.sin(turn)]
-               for turn, far in ((turn, size * random.uniform(0.3, 1)) for turn in turns.tolist())]
-    return [*corners, corners[0]]
-
-
-def some_zones(random):
-    """Zones that overlap, that have holes and several parts, that come twice, that lie in another, and some across the
-    date line and at a pole."""
-    zones = [polygon(star(random, random.uniform(-30, 30), random.uniform(-30, 30), random.uniform(1, 15),
-                          random.randrange(3, 40))) for _ in range(20)]
-    zones += zones[:3]
-    zones.append(polygon(box(-40, -40, 40, 40), box(-20, -20, 20, 20)))
-    zones.append({"type": "MultiPolygon", "coordinates": [[box(0, 0, 5, 5)], [box(6, 0, 9, 5), box(7, 1, 8, 4)]]})
-    zones += [polygon(box(175, -10, 185, 10)), polygon(box(-190, -5, -179, 5)), polygon(box(-180, 80, 180, 90))]
-    zones.append({"type": "Feature", "geometry": None, "properties": {}})
-    return zones
-
-
-def some_points(random, count):
-    """Points around all zones, and beside the date line and a pole."""
-    x = [random.uniform(-45, 45) for _ in range(count)] + [random.uniform(170, 190) for _ in range(count // 8)]
-    y = [random.uniform(-45, 45) for _ in range(count)] + [random.uniform(-12, 12) for _ in range(count // 8)]
-    x += [random.uniform(-190, -170) for _ in range(count // 8)] + [random.uniform(-180, 180) for _ in range(count // 8)]
-    y += [random.uniform(-12, 12) for _ in range(count // 8)] + [random.uniform(75, 90) for _ in range(count // 8)]
-    return numpy.array(x), numpy.array(y)
-
-
-def plain_pairs(zones, x, y):
-    """Each pair of a point and a zone, by the edges that lie to the north of the point, whatever turn it is given at."""
-    found = set()
-    for number, zone in enumerate(zones):
-        shape = zone["geometry"] if zone["type"] == "Feature" else zone
-        parts = [] if shape is None else shape["coordinates"]
-        inside = numpy.zeros(len(x), bool)
-        for rings in parts if shape and shape["type"] == "MultiPolygon" else [parts]:
-            for turn in (-360, 0, 360):
-                odd = numpy.zeros(len(x), bool)
-                for ring in rings:
-                    for (a, b), (c, d) in zip(ring, ring[1:]):
-                        if a != c:
-                            crosses = (min(a, c) <= x + turn) & (x + turn < max(a, c))
-                            odd ^= crosses & (b + (x + turn - a) / (c - a) * (d - b) > y)
-                inside |= odd
-        found |= {(point, number) for point in numpy.flatnonzero(inside).tolist()}
-    return found
+from model.zones import box, plain_pairs, polygon, some_points, some_zones
 
 
 def pairs(found):
@@ -85,8 +28,8 @@ def pairs(found):
 
 class Joins(unittest.TestCase):
     def test_pairs_beside_a_plain_loop(self):
-        """All pairs, exactly, by coverings of few and of many cells, and one by one; by coverings alone none is missing,
-        and with more cells fewer are too many."""
+        """All pairs, exactly, by coverings of few and of many cells, and one by one; by coverings alone none is
+        missing, and with more cells fewer are too many."""
         chance = random.Random(105)
         zones = some_zones(chance)
         x, y = some_points(chance, 2000)
@@ -126,9 +69,11 @@ class Joins(unittest.TestCase):
             self.assertEqual(Index(given, "id").find(0.5, 0.5), ["a", 7, None])
         self.assertEqual(Index(collection).names, [0, 1, 2])
         self.assertEqual((len(Index(collection)), repr(Index([None]))), (3, "<Index of 1 zones, 0 cells>"))
-        for shapes, names, wanted in ((features, ["a"], "3 shapes and 1 names"), (collection, "name", "feature 0 has no"),
-                                      (polygon(box(0, 0, 1, 1)), None, "a list takes others"),
-                                      (["x"], ["bad"], "zone 'bad': "), ([polygon(box(0, 0, 1, 1)[1:])], None, "zone 0: p")):
+        square = box(0, 0, 1, 1)
+        for shapes, names, wanted in ((features, ["a"], "3 shapes and 1 names"),
+                                      (collection, "name", "feature 0 has no"),
+                                      (polygon(square), None, "a list takes others"),
+                                      (["x"], ["bad"], "zone 'bad': "), ([polygon(square[1:])], None, "zone 0: p")):
             with self.assertRaisesRegex(ValueError, wanted):
                 Index(shapes, names)
 
@@ -337,9 +282,10 @@ def test_more_rows_than_are_read_at_once(zones, monkeypatch, capsys, tmp_path):
         path.write_text(text)
         assert main(["join", str(path), zones]) is None
         assert capsys.readouterr().out.splitlines()[1:] == ["1,1,0"] * 7
-    path.write_text('{"type": "Feature", "geometry": {"type": "Point", "coordinates": [1, 1]}}\n' * 4 +
-                    '{"type": "Feature", "geometry": {"type": "Point", "coordinates": [1, 1]}, "properties": {"k": 1}}\n')
-    assert main(["join", str(path), zones]).startswith("s2union_geo: line 5 has a property that no earlier one has: 'k'")
+    point = '{"type": "Feature", "geometry": {"type": "Point", "coordinates": [1, 1]}'
+    path.write_text(f'{point}}}\n' * 4 + f'{point}, "properties": {{"k": 1}}}}\n')
+    wanted = "s2union_geo: line 5 has a property that no earlier one has: 'k'"
+    assert main(["join", str(path), zones]).startswith(wanted)
 
 
 @pytest.mark.parametrize("words,wanted", [

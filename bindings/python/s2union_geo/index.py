@@ -1,4 +1,4 @@
-"""Which points lie in which of many polygons: coverings are made once, and numpy asks them. It is tested, not proved."""
+"""Which points lie in which of many polygons: coverings are made once, and numpy asks them. Tested, not proved."""
 
 from __future__ import annotations
 
@@ -185,8 +185,8 @@ class Index:
         latitude : array of float
             From -90 to 90 degrees, of the same length.
         exact : bool
-            Whether shapely is asked about points between both coverings. Else they count as inside: no pair is
-            missing, and points near a border may be in pairs too many.
+            Whether shapely decides for points between both coverings. Else they count as inside: no pair is missing,
+            and points near a border may be in pairs too many.
 
         Returns
         -------
@@ -292,8 +292,9 @@ class Index:
         ['square']
         """
         text = json.dumps([KIND, *self.names], default=_number_of).encode()
-        arrays = {"cell": self._cell, "spans": self._spans.ravel(), "begin": self._begin.astype("int64"), "zone": self._zone.astype("int32"),
-                  "sure": self._sure, "shape": numpy.frombuffer(b"".join(self._shapes), "uint8"),
+        arrays = {"cell": self._cell, "begin": self._begin.astype("int64"), "zone": self._zone.astype("int32"),
+                  "sure": self._sure, "spans": self._spans.ravel(),
+                  "shape": numpy.frombuffer(b"".join(self._shapes), "uint8"),
                   "ends": numpy.cumsum([len(shape) for shape in self._shapes], dtype="int64"),
                   "names": numpy.frombuffer(text, "uint8")}
         written = f"{os.fspath(path)}.{os.getpid()}.new"
