@@ -198,4 +198,5 @@ $$;
 COMMENT ON FUNCTION s2_join_table(regclass, name, integer, integer)
   IS 'for a table ZONES of polygons with a primary key makes the table ZONES_tiles and the functions '
   'ZONES_at(place) and ZONES_at(longitude, latitude), which return the keys of the zones that cover a point, exactly. '
-  'Triggers keep the tiles in step. Errors: no primary key, a table of this name that it didn''t make, those of s2_covering';
+  'Triggers keep the tiles in step. Errors: no primary key, a table of this name that it didn''t make, those of '
+  's2_covering';

@@ -1,4 +1,4 @@
-"""Exact joins in PostgreSQL by `s2_join_table`, beside a plain loop over edges and PostGIS. The server is that of PGHOST."""
+"""Exact joins in PostgreSQL by `s2_join_table`, beside a plain loop over edges and PostGIS, on the server of PGHOST."""
 import json
 import random
 import subprocess
@@ -55,7 +55,7 @@ class Joins(unittest.TestCase):
         cls.wanted = plain_pairs(cls.zones, cls.x, cls.y)
 
     def test_1_pairs_at_each_level(self):
-        """All pairs, and none too many, by geometries and by degrees; and PostGIS's, whose zones end at the date line."""
+        """All pairs and no others, by geometries and by degrees; and PostGIS's, whose zones end at the date line."""
         self.assertGreater(len(self.wanted), 1500)
         for level, most in (("NULL", 50), (0, 20), (3, 20), (8, 100)):
             self.assertEqual(psql(f"SELECT s2_join_table('zones', level => {level}, max_cells => {most})"),
@@ -88,8 +88,9 @@ class Joins(unittest.TestCase):
         self.assertEqual(psql(inside), [])
         psql("DELETE FROM zones WHERE id > 899")
         self.assertEqual(pairs_of(ZONES), self.wanted)
-        self.assertEqual(psql("BEGIN; SET LOCAL ROLE clerk; TRUNCATE zones; RESET ROLE; SELECT count(*) FROM zones_tiles;"
-                              " ROLLBACK; SELECT count(*) > 0 FROM zones_tiles"), ["0", "t"])
+        self.assertEqual(psql("BEGIN; SET LOCAL ROLE clerk; TRUNCATE zones; RESET ROLE;"
+                              " SELECT count(*) FROM zones_tiles; ROLLBACK; SELECT count(*) > 0 FROM zones_tiles"),
+                         ["0", "t"])
         psql("DROP OWNED BY clerk; DROP ROLE clerk")
 
     def test_4_dump_and_restore(self):
@@ -135,6 +136,7 @@ class Joins(unittest.TestCase):
                            ("s2_join_table('zones', level => 31)", "s2union: argument out of range: 31"),
                            ("s2_join_table('none')", 'relation "none" does not exist')):
             self.assertIn(said, psql(f"SELECT {call}", status=3))
-        self.assertIn("ring 0 crosses or runs along itself", psql(f"INSERT INTO zones VALUES (900, {crossed})", status=3))
+        self.assertIn("ring 0 crosses or runs along itself",
+                      psql(f"INSERT INTO zones VALUES (900, {crossed})", status=3))
         self.assertEqual(psql("SELECT count(*) FROM zones WHERE id = 900"), ["0"])
         self.assertEqual(pairs_of(ZONES), self.wanted)  # what failed has changed nothing

@@ -36,13 +36,14 @@ def some_points(random, count):
     """Points around all zones, and beside the date line and a pole."""
     x = [random.uniform(-45, 45) for _ in range(count)] + [random.uniform(170, 190) for _ in range(count // 8)]
     y = [random.uniform(-45, 45) for _ in range(count)] + [random.uniform(-12, 12) for _ in range(count // 8)]
-    x += [random.uniform(-190, -170) for _ in range(count // 8)] + [random.uniform(-180, 180) for _ in range(count // 8)]
-    y += [random.uniform(-12, 12) for _ in range(count // 8)] + [random.uniform(75, 90) for _ in range(count // 8)]
+    few = range(count // 8)
+    x += [random.uniform(-190, -170) for _ in few] + [random.uniform(-180, 180) for _ in few]
+    y += [random.uniform(-12, 12) for _ in few] + [random.uniform(75, 90) for _ in few]
     return numpy.array(x), numpy.array(y)
 
 
 def plain_pairs(zones, x, y):
-    """Each pair of a point and a zone, by the edges that lie to the north of the point, whatever turn it is given at."""
+    """Each pair of a point and a zone, by the edges to the north of the point, whatever turn it is given at."""
     found = set()
     for number, zone in enumerate(zones):
         shape = zone["geometry"] if zone["type"] == "Feature" else zone

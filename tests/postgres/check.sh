@@ -5,6 +5,7 @@
 # regions, and tests nothing. The last line is 'N passed, M failed'; the status is 1 if any failed.
 . "$(dirname "$0")/../steps.sh"
 [ "${1:-}" != --full ] || export S2UNION_ROUNDS=10000
+need_modules psycopg,psycopg2 python3-{psycopg,psycopg2}
 . "$top/tests/postgres/server.sh"
 
 # ---- the extension: as it is, over guarded allocations, and with the sanitizers
@@ -67,6 +68,12 @@ page() { # PAGE DATABASE: its examples, in a database of their own, without noti
 step "README.md" page ../README.md readme
 step "docs/COOKBOOK.md" page COOKBOOK.md cookbook
 step "docs/POSTGRES.md" page POSTGRES.md page
+export PYTHONPATH=$work/usr/lib/python
+step "drivers of Python" tests test_drivers.py
+from_python() { # what the page shows of psycopg, in the page's database
+  PGDATABASE=page /usr/bin/python3 "$top/tests/docs/documented.py" --python --only psycopg "$top/docs/POSTGRES.md"
+}
+step "docs/POSTGRES.md, from a program" from_python
 step "docs/SCALE.md" page SCALE.md scale
 step "docs/ENGINES.md, without the extension" page ENGINES.md engines
 step "its joins by tile, beside loops over all pairs" tests Tiles

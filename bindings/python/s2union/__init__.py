@@ -1273,11 +1273,21 @@ def _answers(cells: Any, answers: bytearray) -> Any:
 def _bytes_in(data: Any) -> memoryview:
     """The bytes of a buffer, which stays where it is as long as this is there."""
     if isinstance(data, str):
-        raise TypeError("bytes are wanted, not str")
+        raise TypeError("bytes are wanted, not str: bytes.fromhex reads hexadecimal digits, base64.b64decode base64")
     view = memoryview(data)
     if not view.c_contiguous:
         raise TypeError("a buffer of bytes has no gaps")
     return view
+
+
+def _text_in(view: memoryview) -> str:
+    """Which text a file that isn't there may have been written as, by how one begins, for a message."""
+    begin = view.tobytes()[:3] if view.nbytes < 3 else bytes(view.cast("B")[:3])
+    if begin[:2] == b"01" or begin == b"\\x0":
+        return ", which may be hexadecimal digits: bytes.fromhex reads these"
+    if begin[:1] == b"A" and begin[1:2].isalpha():
+        return ", which may be base64: base64.b64decode reads it"
+    return ""
 
 
 def _unchanging(view: memoryview) -> memoryview | bytes:
@@ -1944,7 +1954,7 @@ class CellUnion:
         """
         view = _bytes_in(data)
         room = _rooms.decode(view.nbytes)
-        return cls._holding(_library.decode(f"{view.nbytes} bytes", room, _unchanging(view)))
+        return cls._holding(_library.decode(f"{view.nbytes} bytes{_text_in(view)}", room, _unchanging(view)))
 
     @classmethod
     def covering(cls: type[Self], face: SupportsIndex, i0: SupportsIndex, i1: SupportsIndex, j0: SupportsIndex,

@@ -1,0 +1,102 @@
+"""Unions as values of databases' drivers: what a query takes, and what a row gives back.
+
+For sqlite3 of Python's own library two lines do the same:
+
+>>> import sqlite3
+>>> from s2union import CellUnion
+>>> sqlite3.register_adapter(CellUnion, CellUnion.to_bytes)
+>>> sqlite3.register_converter("S2UNION", CellUnion.from_bytes)  # for columns of this type, if types are detected
+>>> database = sqlite3.connect(":memory:", detect_types=sqlite3.PARSE_DECLTYPES)
+>>> _ = database.execute("CREATE TABLE woods(name TEXT, region S2UNION)")
+>>> _ = database.execute("INSERT INTO woods VALUES (?, ?)", ["north", CellUnion.from_tokens("04 0c")])
+>>> database.execute("SELECT region FROM woods").fetchone()
+(<CellUnion of 2 cells: 04 0c>,)
+"""
+
+from __future__ import annotations
+
+from typing import Any
+
+from . import CellUnion
+
+__all__ = ["register_psycopg"]
+
+
+def register_psycopg(connection: Any) -> None:
+    """Lets a connection of psycopg 3, or of psycopg2, take a `CellUnion` for ``%s``, and give one back for each value of
+    PostgreSQL's type ``s2union``: by cursors that are made from now on.
+
+    .. versionadded:: 1.4
+
+    Parameters
+    ----------
+    connection : psycopg.Connection or psycopg2.extensions.connection
+        One to a database that has the extension ``s2union``. psycopg2 has one list of what it takes, for all
+        connections.
+
+    Raises
+    ------
+    LookupError
+        The database has no type ``s2union``.
+    TypeError
+        It is a connection of another driver.
+    """
+    driver = type(connection).__module__.partition(".")[0]
+    if driver not in _DRIVERS:
+        raise TypeError(f"a connection of psycopg or psycopg2 is wanted, not {type(connection).__name__}")
+    with connection.cursor() as cursor:
+        cursor.execute("SELECT t.oid, t.typarray FROM pg_type AS t WHERE t.oid = to_regtype('s2union')")
+        found = cursor.fetchone()
+    if found is None:
+        raise LookupError("the database has no type s2union; CREATE EXTENSION s2union makes it")
+    _DRIVERS[driver](connection, *found)
+
+
+def _of_tokens(text: str) -> CellUnion:
+    return CellUnion.from_tokens(text.split())
+
+
+def _register_3(connection: Any, oid: int, array: int) -> None:
+    from psycopg.adapt import Dumper, Loader
+    from psycopg.pq import Format
+    from psycopg.types import TypeInfo
+
+    class UnionDumper(Dumper):  # type: ignore[misc]
+        format = Format.BINARY
+
+        def dump(self, union: CellUnion) -> bytes:
+            return union.to_bytes()
+
+    class BinaryLoader(Loader):  # type: ignore[misc]
+        format = Format.BINARY
+
+        def load(self, data: Any) -> CellUnion:
+            return CellUnion.from_bytes(bytes(data))
+
+    class TextLoader(Loader):  # type: ignore[misc]
+        def load(self, data: Any) -> CellUnion:
+            return _of_tokens(bytes(data).decode())
+
+    UnionDumper.oid = oid
+    TypeInfo("s2union", oid, array).register(connection)
+    connection.adapters.register_dumper(CellUnion, UnionDumper)
+    for loader in (BinaryLoader, TextLoader):
+        connection.adapters.register_loader(oid, loader)
+
+
+def _register_2(connection: Any, oid: int, array: int) -> None:
+    from psycopg2.extensions import AsIs, new_array_type, new_type, register_adapter, register_type
+
+    def given(union: CellUnion) -> Any:
+        return AsIs(f"'\\x{union.to_bytes().hex()}'::bytea::s2union")
+
+    def found(text: str | None, cursor: Any) -> CellUnion | None:
+        return None if text is None else _of_tokens(text)
+
+    register_adapter(CellUnion, given)
+    kind = new_type((oid,), "S2UNION", found)
+    for each in (kind, new_array_type((array,), "S2UNION[]", kind)):
+        register_type(each, connection)
+
+
+_DRIVERS = {"psycopg": _register_3, "psycopg2": _register_2}
