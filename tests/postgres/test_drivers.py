@@ -1,4 +1,4 @@
-"""Unions through drivers of Python: what `%s` takes, and what rows give back. The server is that of test_postgres.py."""
+"""Unions through drivers of Python: what `%s` takes, and what rows give back, of the server of test_postgres.py."""
 
 import random
 import sqlite3

@@ -23,7 +23,7 @@ __all__ = ["register_psycopg"]
 
 
 def register_psycopg(connection: Any) -> None:
-    """Lets a connection of psycopg 3, or of psycopg2, take a `CellUnion` for ``%s``, and give one back for each value of
+    """Lets a connection of psycopg 3 or psycopg2 take a `CellUnion` for ``%s``, and give one back for each value of
     PostgreSQL's type ``s2union``: by cursors that are made from now on.
 
     .. versionadded:: 1.4
