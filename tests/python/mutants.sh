@@ -5,7 +5,7 @@
 . "$(dirname "$0")/../steps.sh"
 need /usr/bin/python3 python3
 need_pytest
-need_modules numpy python3-numpy
+need_modules numpy,shapely python3-{numpy,shapely}
 need_modules setuptools python3-setuptools
 need_packages
 need_library
@@ -13,7 +13,7 @@ need_library
 tests() (
   cd "$top/tests/python" && export PYTHONPATH=$work/mutant:$top/tests PYTHONDONTWRITEBYTECODE=1
   S2UNION_LIBRARY=$work/usr/lib/libs2union.so timeout 600 /usr/bin/python3 -m pytest -x test_library.py \
-    test_calls.py test_edges.py
+    test_calls.py test_edges.py test_index.py::Joins
 )
 
 compiled() (
@@ -21,7 +21,7 @@ compiled() (
     /usr/bin/python3 -m compileall -q s2union
 )
 survives() { # NAME
-  mutant "$1" "$top"/bindings/python/{s2union,setup.py,pyproject.toml} && compiled || return 2
+  mutant "$1" "$top"/bindings/python/{s2union,s2union_geo,setup.py,pyproject.toml} && compiled || return 2
   refuse
 }
 
