@@ -100,6 +100,8 @@ MISTAKES = [
     Mistake("a definition that says another thing", statement, "crates/s2process/specs/Process.antt",
             swapped("pub record RunsListed {V S : Type 0}", "pub record RunsListed {S V : Type 0}")),
     Mistake("checksums that aren't current", statement, "docs/statement.sums", ended_by("more\n")),
+    Mistake("a word of the kit that has no meaning", statement, "tools/kit_words.py",
+            swapped('"little_bytes": (', '"small_bytes": (')),
     Mistake("a definition that no public contract needs", statement, "crates/s2cell/specs/Cell.antt",
             ended_by("\n-- One that was planted.\nabbrev pub planted : ℕ\nplanted = 0\n")),
     Mistake("a definition without its sentence", statement, "crates/s2cell/specs/Working/Entries.antt",
