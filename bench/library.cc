@@ -128,7 +128,8 @@ static void entries(Table& table, const List& xs) {
             {[&] { made(s2u_levels(xs.data(), n, levels.data(), n, &bad), "levels"); },
              [&] { return sum_of(List(levels.begin(), levels.end())); }});
   table.row({"parents", n, 0}, {at_parents, of_peer},
-            {[&] { made(s2u_parents(xs.data(), n, 12, out.data(), n, &bad), "parents"); }, [&] { return sum_of(out); }});
+            {[&] { made(s2u_parents(xs.data(), n, 12, out.data(), n, &bad), "parents"); },
+             [&] { return sum_of(out); }});
 }
 
 // S2 has no call for these either.
