@@ -18,6 +18,7 @@ pub mod OutputLemmas
 pub mod OverlayLemmas
 pub mod FitLemmas
 pub mod ReadLemmas
+pub mod RedoLemmas
 pub mod RefusedLemmas
 pub mod RunLemmas
 pub mod ScriptLemmas

@@ -16,7 +16,7 @@ use Rattle.s2calc.specs.Replies.{Reply, is_refusal}
 use Rattle.s2calc.specs.Edits.{leaves_of, Gets, Moves}
 use Rattle.s2calc.specs.Step.{Step, StepBy, Acts, Loads}
 use Rattle.s2calc.specs.Run.{Steps}
-use Rattle.s2calc.specs.LawsScripts.{GivesRegister, AllUndo, Changes, AllLinesChange, GoesBack, LawOfUndo}
+use Rattle.s2calc.specs.LawsScripts.{GivesRegister, AllUndo, Changes, AllLinesChange, Reaches, LawOfUndo}
 
 -- now and the earlier tables, the newest first
 abbrev tables : History (List ℕ) → List (List (List ℕ))
@@ -66,7 +66,7 @@ undone_tables : (h : History (List ℕ)) (ps : List (List (List ℕ))) → h.pas
 undone_tables h [] e n k = absurd (n refl)
 undone_tables h (t ∷ ts) e n k = ap (λ (xs : List (List (List ℕ))). table_at xs k) (sym e)
 
-undone_past : (h : History (List ℕ)) (ps : List (List (List ℕ))) → h.past ≡ ps → ps ≢ [] →
+pub undone_past : (h : History (List ℕ)) (ps : List (List (List ℕ))) → h.past ≡ ps → ps ≢ [] →
     length (undone_to h ps).past + 1 ≡ length h.past
 undone_past h [] e n = absurd (n refl)
 undone_past h (t ∷ ts) e n = omega (arith, ap length e)
@@ -92,16 +92,16 @@ undo_line old new line reply e s some =
 
 -- ---- undo after undo
 
-one_refusal_less : (reply : Reply) (replies : List Reply) → is_refusal reply ≡ false →
+pub one_refusal_less : (reply : Reply) (replies : List Reply) → is_refusal reply ≡ false →
     count_by is_refusal (reply ∷ replies) ≡ count_by is_refusal replies
 one_refusal_less reply replies e = sum_by-cons (λ x. cond (is_refusal x) 1 0) reply replies
     ∙ ap (λ b. cond b 1 0 + count_by is_refusal replies) e ∙ omega arith
 
--- what undos lead to
-record LeadsTo (table : List (List ℕ)) (old : World) (replies : List Reply) (new : World) : Type 0 where
-  none_refused : count_by is_refusal replies ≡ 0
-  now : new.state.now ≡ table
-  files : new.files ≡ old.files
+-- what undos or redos lead to
+pub record LeadsTo (table : List (List ℕ)) (old : World) (replies : List Reply) (new : World) : Type 0 where
+  pub none_refused : count_by is_refusal replies ≡ 0
+  pub now : new.state.now ≡ table
+  pub files : new.files ≡ old.files
 
 undos_lead : (old new : World) (ls : List (List ℕ)) (replies : List Reply) → AllUndo ls →
     length ls ≤ length old.state.past → Steps old ls replies new
@@ -127,9 +127,9 @@ undos_lead old new (line ∷ ls) (reply ∷ replies) u few (mid, s, t) =
       files = more.files ∙ one.files;
     }
 
-goes_back : (table : List (List ℕ)) (old new : World) (replies : List Reply) → LeadsTo table old replies new →
-    GoesBack table old replies new
-goes_back table old new replies l = record {
+pub reaches : (table : List (List ℕ)) (old new : World) (replies : List Reply) → LeadsTo table old replies new →
+    Reaches table old replies new
+reaches table old new replies l = record {
   none_refused = l.none_refused;
   now = l.now;
   bytes = λ r bytes others b c. same_bytes (leaves_of new.state.now r) (leaves_of table r) bytes others
@@ -139,8 +139,8 @@ goes_back table old new replies l = record {
 
 undos_go_back : (old new : World) (ls : List (List ℕ)) (replies : List Reply) → AllUndo ls →
     length ls ≤ length old.state.past → Steps old ls replies new
-    → GoesBack (table_at (tables old.state) (length ls)) old replies new
-undos_go_back old new ls replies u few s = goes_back _ old new replies (undos_lead old new ls replies u few s)
+    → Reaches (table_at (tables old.state) (length ls)) old replies new
+undos_go_back old new ls replies u few s = reaches _ old new replies (undos_lead old new ls replies u few s)
 
 -- ---- changes, and then undos
 
@@ -185,14 +185,14 @@ changes_further_back old mid (line ∷ ls) (reply ∷ replies) further (next, (r
 given_back : (old mid new : World) (edits undos : List (List ℕ)) (replies answers : List Reply) (further : ℕ) →
     AllLinesChange old edits replies mid → AllUndo undos → length undos ≡ length edits + further
     → length undos ≤ old.state.depth → further ≤ length old.state.past → Steps mid undos answers new →
-    GoesBack (table_at (tables old.state) further) mid answers new
+    Reaches (table_at (tables old.state) further) mid answers new
 given_back old mid new edits undos replies answers further c u e deep few s =
     let b = changes_further_back old mid edits replies further c (omega arith) few in
     let kept = b.kept in
     let back = undos_go_back mid new undos answers u (omega arith) s in
     let place : table_at (tables mid.state) (length undos) ≡ table_at (tables old.state) further =
     ap (λ (k : ℕ). table_at (tables mid.state) k) e ∙ b.table in
-    subst (λ (t : List (List ℕ)). GoesBack t mid answers new) place back
+    subst (λ (t : List (List ℕ)). Reaches t mid answers new) place back
 
 pub law_of_undo : LawOfUndo
 law_of_undo = record { edits = edits_change; back = undos_go_back; gives_back = given_back }

@@ -1,6 +1,6 @@
 -- Laws about whole scripts: they have one run, and undo leads back through the past.
 use Rattle.std.specs.Prelude.{◌≡◌, ℕ, ◌+◌, ◌≤◌, ◌⊎◌, Bool, true, false, List, [], ◌∷◌, length, Some, count_by}
-use Rattle.s2edit.specs.History.{changed}
+use Rattle.s2edit.specs.History.{changed, timeline}
 use Rattle.s2edit.specs.Leads.{table_at}
 use Rattle.s2edit.specs.Session.{IsKept}
 use Rattle.s2file.specs.File.{Bytes, File, HasFault}
@@ -147,7 +147,7 @@ AllLinesChange old (line ∷ ls) [] new = ⊥
 
 -- No line was refused; the present table is `table`, list for list; each register has the same file bytes as the
 -- register of that table; and no file has changed.
-pub record GoesBack (table : List (List ℕ)) (old : World) (replies : List Reply) (new : World) : Type 0 where
+pub record Reaches (table : List (List ℕ)) (old : World) (replies : List Reply) (new : World) : Type 0 where
   pub none_refused : count_by is_refusal replies ≡ 0
   pub now : new.state.now ≡ table
   pub bytes : (r : ℕ) (bytes others : List ℕ) → Bytes (leaves_of new.state.now r) bytes →
@@ -164,12 +164,40 @@ pub record LawOfUndo : Type 0 where
       → (new.state ≡ old.state) ⊎ Changes register old line reply new
   pub back : (old new : World) (ls : List (List ℕ)) (replies : List Reply) → AllUndo ls →
       length ls ≤ length old.state.past → Steps old ls replies new
-      → GoesBack (table_at (old.state.now ∷ old.state.past) (length ls)) old replies new
+      → Reaches (table_at (old.state.now ∷ old.state.past) (length ls)) old replies new
   pub gives_back : (old mid new : World) (edits undos : List (List ℕ)) (replies answers : List Reply)
       (further : ℕ) → AllLinesChange old edits replies mid
       → AllUndo undos → length undos ≡ length edits + further → length undos ≤ old.state.depth →
       further ≤ length old.state.past
-      → Steps mid undos answers new → GoesBack (table_at (old.state.now ∷ old.state.past) further) mid answers new
+      → Steps mid undos answers new → Reaches (table_at (old.state.now ∷ old.state.past) further) mid answers new
+
+-- each line says `redo`
+abbrev pub AllRedo : List (List ℕ) → Type 0
+AllRedo [] = Unit {0}
+AllRedo (line ∷ ls) = (line_of line ≡ Does Redo) × AllRedo ls
+
+-- the command is `undo` or `redo`
+abbrev pub IsMove : Command → Type 0
+IsMove command = (command ≡ Undo) ⊎ (command ≡ Redo)
+
+-- each line says `undo` or `redo`
+abbrev pub AllMove : List (List ℕ) → Type 0
+AllMove [] = Unit {0}
+AllMove (line ∷ ls) = ((command : Command) × IsMove command × (line_of line ≡ Does command)) × AllMove ls
+
+-- From every state, n redos lead to the table n places ahead, if there are that many later tables. After n undos, if
+-- there are that many earlier tables, n redos give back the state: the present table, the past and the future.
+-- However many undos and redos there are, in whatever order, the tables stay, in their order of time.
+pub record LawOfRedo : Type 0 where
+  pub ahead : (old new : World) (ls : List (List ℕ)) (replies : List Reply) → AllRedo ls →
+      length ls ≤ length old.state.future → Steps old ls replies new
+      → Reaches (table_at (old.state.now ∷ old.state.future) (length ls)) old replies new
+  pub takes_back : (old mid new : World) (undos redos : List (List ℕ)) (replies answers : List Reply) →
+      AllUndo undos → AllRedo redos → length redos ≡ length undos → length undos ≤ length old.state.past →
+      Steps old undos replies mid → Steps mid redos answers new
+      → (new.state ≡ old.state) × (new.files ≡ old.files)
+  pub stays : (old new : World) (ls : List (List ℕ)) (replies : List Reply) → AllMove ls → Steps old ls replies new
+      → (timeline new.state ≡ timeline old.state) × (new.files ≡ old.files)
 
 -- If one line dumps a state that keeps to its limit and depth, and another line restores the same bytes from a state
 -- with this limit and depth, over shelves that expose their contents, and neither is answered `error memory` or `error

@@ -1,7 +1,7 @@
 //! Laws about the definitions.
 ghost use Rattle.s2calc.specs.Laws.{TellsWhole, NothingHeld, OneRun, CountsFailures, FilesStay};
-ghost use Rattle.s2calc.specs.LawsScripts.{OneEnd, OneEndOfInput, OneEndOfOutput, LawOfUndo, RestoreGivesBack};
-ghost use Rattle.s2calc.specs.LawsScripts.{LoadsWhatWasFound, AsksOnce};
+ghost use Rattle.s2calc.specs.LawsScripts.{OneEnd, OneEndOfInput, OneEndOfOutput, LawOfUndo, LawOfRedo};
+ghost use Rattle.s2calc.specs.LawsScripts.{RestoreGivesBack, LoadsWhatWasFound, AsksOnce};
 ghost use Rattle.s2calc.specs.LawsStored.{KeepsOrdinary, StoredComesBack};
 
 /// If the reader exposes its bytes, a run that finishes has carried out the lines of exactly these bytes.
@@ -51,6 +51,12 @@ pub fn one_end_of_output()
 /// As far as the history reaches, undo gives each earlier table back, list for list and byte for byte.
 pub fn undo_goes_back()
     ensures { LawOfUndo }
+{}
+
+/// As far as there are undone states, redo gives each back, and takes back as many undos. Undos and redos leave all
+/// states, in their order of time.
+pub fn redo_goes_ahead()
+    ensures { LawOfRedo }
 {}
 
 /// A `load` is right for the bytes that the shelf handed over in its line, whatever was found before.
