@@ -834,6 +834,36 @@ class Indexes(Tests):
             self.assertGreater(int(found), 12, name)
         self.assertGreater(int(said[3]), ROUNDS // 2)
 
+    def test_a_question_by_gist_reads_few_pages_of_regions_that_were_inserted(self):
+        """20,000 regions, all over the faces, are put into the index one by one. A question reads 3 to 5 of 170 pages.
+        With a penalty that is the same for all it reads 116 of 220, and where the greatest growth is least all."""
+        said = psql("""
+            SET client_min_messages = error;
+            DROP TABLE IF EXISTS inserted;
+            CREATE TABLE inserted(region s2union);
+            CREATE INDEX inserted_gist ON inserted USING gist (region);
+            INSERT INTO inserted SELECT s2_outer((k % 6)::int, i, i + 4000000, j, j + 4000000, 8) FROM (SELECT k,
+                (k * 2654435761 % 1069000000)::int AS i, (k * 40503 * 65537 % 1069000000)::int AS j
+                FROM generate_series(1, 20000::bigint) AS k) AS places;
+            ANALYZE inserted;
+            SELECT relpages FROM pg_class WHERE relname = 'inserted_gist';
+            SET enable_seqscan = off;
+            SET enable_bitmapscan = off;
+            CREATE OR REPLACE FUNCTION read_by(question s2union) RETURNS int LANGUAGE plpgsql AS $$
+            DECLARE plan json;
+            BEGIN
+                EXECUTE 'EXPLAIN (ANALYZE, BUFFERS, FORMAT json) SELECT count(*) FROM inserted WHERE region && $1'
+                    INTO plan USING question;
+                RETURN (plan->0->'Plan'->>'Shared Hit Blocks')::int + (plan->0->'Plan'->>'Shared Read Blocks')::int;
+            END $$;
+            SELECT sum(read_by(s2_outer((k % 6)::int, i, i + 1, j, j + 1, 8))) / 100 FROM (SELECT k,
+                (k * 100193063 % 1073000000)::int AS i, (k * 10000019 % 1073000000)::int AS j
+                FROM generate_series(1, 100::bigint) AS k) AS places;
+        """)
+        pages, read = map(int, said[-2:])
+        self.assertGreater(pages, 100)
+        self.assertLess(read, pages / 10)
+
 
 class Planner(Tests):
     """Which plan is chosen, with nothing disabled."""
