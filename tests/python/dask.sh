@@ -79,11 +79,18 @@ for_r() (
     R CMD build r && R CMD check --no-manual s2union_*.tar.gz && grep -qx 'Status: OK' s2union.Rcheck/00check.log &&
     R CMD INSTALL s2union_*.tar.gz
 )
+long_text_of_r() ( # 2 GB of tokens, by a call that only says so
+  cd "$work" && gcc -shared -fPIC -x c - -o long.so <<<'#include <stddef.h>
+int s2u_tokens(const void* ids, size_t n, char* text, size_t room, size_t* len) { *len = 1ul << 31; return 0; }' &&
+    LD_PRELOAD=$work/long.so Rscript -e 'tryCatch(s2union::s2u_tokens(s2::as_s2_cell("1")), S2U_MANY = print)' >said &&
+    grep S2U_MANY said
+)
 page_of_r() (
   cd "$work" && block R.md r >first.R && block R.md "text r" >wanted && [ -s wanted ] && Rscript first.R >said &&
     diff wanted said
 )
 step "the package for R: R CMD check, with its tests beside S2's own operations" for_r
+step "the package for R: no text that is longer than R's" long_text_of_r
 step "docs/R.md" page_of_r
 step "docs/R.md: all pairs" pairs_by R.md "r pairs" R Rscript pairs.R
 
