@@ -15,6 +15,7 @@ For sqlite3 of Python's own library two lines do the same:
 
 from __future__ import annotations
 
+from importlib import import_module as _module
 from typing import Any
 
 from . import CellUnion
@@ -23,7 +24,7 @@ __all__ = ["register_psycopg"]
 
 
 def register_psycopg(connection: Any) -> None:
-    """Lets a connection of psycopg 3 or psycopg2 take a `CellUnion` for ``%s``, and give one back for each value of
+    """Let a connection of psycopg 3 or psycopg2 take a `CellUnion` for ``%s``, and give one back for each value of
     PostgreSQL's type ``s2union``: by cursors that are made from now on.
 
     .. versionadded:: 1.4
@@ -57,46 +58,31 @@ def _of_tokens(text: str) -> CellUnion:
 
 
 def _register_3(connection: Any, oid: int, array: int) -> None:
-    from psycopg.adapt import Dumper, Loader
-    from psycopg.pq import Format
-    from psycopg.types import TypeInfo
-
-    class UnionDumper(Dumper):  # type: ignore[misc]
-        format = Format.BINARY
-
-        def dump(self, union: CellUnion) -> bytes:
-            return union.to_bytes()
-
-    class BinaryLoader(Loader):  # type: ignore[misc]
-        format = Format.BINARY
-
-        def load(self, data: Any) -> CellUnion:
-            return CellUnion.from_bytes(bytes(data))
-
-    class TextLoader(Loader):  # type: ignore[misc]
-        def load(self, data: Any) -> CellUnion:
-            return _of_tokens(bytes(data).decode())
-
-    UnionDumper.oid = oid
-    TypeInfo("s2union", oid, array).register(connection)
-    connection.adapters.register_dumper(CellUnion, UnionDumper)
-    for loader in (BinaryLoader, TextLoader):
+    adapt, types, binary = _module("psycopg.adapt"), _module("psycopg.types"), _module("psycopg.pq").Format.BINARY
+    dumper = type("UnionDumper", (adapt.Dumper,), {
+        "oid": oid, "format": binary, "dump": lambda self, union: union.to_bytes()})
+    loaders = [type("UnionLoader", (adapt.Loader,), {"load": lambda self, data: _of_tokens(bytes(data).decode())}),
+               type("UnionBinaryLoader", (adapt.Loader,), {
+                   "format": binary, "load": lambda self, data: CellUnion.from_bytes(bytes(data))})]
+    types.TypeInfo("s2union", oid, array).register(connection)
+    connection.adapters.register_dumper(CellUnion, dumper)
+    for loader in loaders:
         connection.adapters.register_loader(oid, loader)
 
 
 def _register_2(connection: Any, oid: int, array: int) -> None:
-    from psycopg2.extensions import AsIs, new_array_type, new_type, register_adapter, register_type
+    driver = _module("psycopg2.extensions")
 
     def given(union: CellUnion) -> Any:
-        return AsIs(f"'\\x{union.to_bytes().hex()}'::bytea::s2union")
+        return driver.AsIs(f"'\\x{union.to_bytes().hex()}'::bytea::s2union")
 
     def found(text: str | None, cursor: Any) -> CellUnion | None:
         return None if text is None else _of_tokens(text)
 
-    register_adapter(CellUnion, given)
-    kind = new_type((oid,), "S2UNION", found)
-    for each in (kind, new_array_type((array,), "S2UNION[]", kind)):
-        register_type(each, connection)
+    driver.register_adapter(CellUnion, given)
+    kind = driver.new_type((oid,), "S2UNION", found)
+    for each in (kind, driver.new_array_type((array,), "S2UNION[]", kind)):
+        driver.register_type(each, connection)
 
 
 _DRIVERS = {"psycopg": _register_3, "psycopg2": _register_2}

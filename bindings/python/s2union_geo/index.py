@@ -262,7 +262,7 @@ class Index:
         return inside
 
     def save(self, path: str | os.PathLike[str]) -> None:
-        """Writes the index into one file, of some 10 bytes a cell and 16 a corner of a polygon.
+        """Write the index into one file, of some 10 bytes a cell and 16 a corner of a polygon.
 
         .. versionadded:: 1.4
 
