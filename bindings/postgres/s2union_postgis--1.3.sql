@@ -188,8 +188,10 @@ BEGIN
     'RETURN NULL; END', tiles, of_tiles, of_old, of_new, own, geom, deep, max_cells));
   EXECUTE format('CREATE TRIGGER s2_join_rows AFTER INSERT OR DELETE ON %s FOR EACH ROW EXECUTE FUNCTION %s()', zones,
     follower);
-  EXECUTE format('CREATE TRIGGER s2_join_values AFTER UPDATE OF %s, %I ON %s FOR EACH ROW EXECUTE FUNCTION %s()',
-    keys, geom, zones, follower);
+  -- by texts: what compares values may be in a schema that a restore doesn't look into
+  EXECUTE format('CREATE TRIGGER s2_join_values AFTER UPDATE ON %s FOR EACH ROW '
+    'WHEN (ROW(%s, OLD.%I)::text IS DISTINCT FROM ROW(%s, NEW.%3$I)::text) EXECUTE FUNCTION %5$s()',
+    zones, of_old, geom, of_new, follower);
   EXECUTE format('CREATE TRIGGER s2_join_all AFTER TRUNCATE ON %s FOR EACH STATEMENT EXECUTE FUNCTION %s()', zones,
     follower);
   RETURN tiles::regclass;

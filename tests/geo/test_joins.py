@@ -86,7 +86,14 @@ class Joins(unittest.TestCase):
         self.assertEqual(psql(inside), ["901", "902"])
         psql("SET ROLE clerk; DELETE FROM zones WHERE id = 902; UPDATE zones SET geom = NULL WHERE id = 901;")
         self.assertEqual(psql(inside), [])
-        psql("DELETE FROM zones WHERE id > 899")
+        moved = geometry(polygon(box(60, 60, 61, 61)))
+        psql(f"""
+            CREATE FUNCTION moved() RETURNS trigger LANGUAGE plpgsql AS $$BEGIN NEW.geom = {moved}; RETURN NEW; END$$;
+            CREATE TRIGGER moved BEFORE UPDATE ON zones FOR EACH ROW WHEN (OLD.id > 899) EXECUTE FUNCTION moved();
+            UPDATE zones SET id = id WHERE id = 901;
+        """)
+        self.assertEqual(psql(inside), ["901"])  # another trigger has changed it
+        psql("DROP FUNCTION moved CASCADE; DELETE FROM zones WHERE id > 899")
         self.assertEqual(pairs_of(ZONES), self.wanted)
         self.assertEqual(psql("BEGIN; SET LOCAL ROLE clerk; TRUNCATE zones; RESET ROLE;"
                               " SELECT count(*) FROM zones_tiles; ROLLBACK; SELECT count(*) > 0 FROM zones_tiles"),
