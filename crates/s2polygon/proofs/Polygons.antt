@@ -12,7 +12,7 @@ use Rattle.s2polygon.specs.Faces.{edges_on, top_of}
 use Rattle.s2polygon.specs.Leaves.{Region, inside, odd_at}
 use Rattle.s2polygon.specs.Tests.{meets_square}
 use Rattle.s2polygon.specs.Working.Descent.{near_face}
-use Rattle.s2polygon.specs.Working.Known.{AreLists, IsPolygon, answer_at, answers_of, exchanged_by, face_list}
+use Rattle.s2polygon.specs.Working.Known.{AreLists, IsPolygon, answer_at, answers_of, exchanged_by}
 use Rattle.s2polygon.specs.Working.Known.{parities_of, top_in}
 use Rattle.s2polygon.specs.Working.Sizes.{IsFramed}
 use Rattle.s2polygon.specs.declared.directions.Edge.{Edge}
@@ -79,9 +79,6 @@ pub list_met_framed : (margin f : ℕ) (es : List Edge) (l : List FramedEdge) �
 list_met_framed margin f es l e =
     subst (λ (l : List FramedEdge). All IsFramed l) (sym e)
     (All-filter (meets_square (widened margin (square_of 30 0 0))) IsFramed (edges_on f es) (all_framed f es))
-
-pub list_framed : (r : Region) (f : ℕ) (l : List FramedEdge) → l ≡ face_list r f → All IsFramed l
-list_framed r f l e = list_met_framed r.margin f r.edges l e
 
 pub polygon_right : (es : List Edge) (outside margin : ℕ) (tops shifted : Tops) (odd : Bool) (lists : Lists)
     → tops ≡ parities_of es → odd ≡ odd_at es outside
