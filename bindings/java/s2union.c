@@ -87,19 +87,10 @@ CALL(jlong, number)(JNIEnv* env, jclass of, jint call, jlong a, jlong b) {
   uint64_t id = (uint64_t)a, other = (uint64_t)b;
   switch (call) {
     case VERSION: return s2u_version();
-    case IS_CELL: return s2u_is_cell(id);
-    case LEVEL: return s2u_level(id);
-    case FACE: return s2u_face(id);
-    case PARENT: return (jlong)s2u_parent(id, (uint32_t)other);
     case CHILD: return (jlong)s2u_child(id, (uint32_t)other);
-    case RANGE_MIN: return (jlong)s2u_range_min(id);
-    case RANGE_MAX: return (jlong)s2u_range_max(id);
-    case SIZE: return (jlong)s2u_size(id);
     case NEXT: return (jlong)s2u_next(id);
     case PREV: return (jlong)s2u_prev(id);
     case COMMON_ANCESTOR: return (jlong)s2u_common_ancestor(id, other);
-    case CELL_CONTAINS: return s2u_cell_contains(id, other);
-    case CELL_INTERSECTS: return s2u_cell_intersects(id, other);
     default: return S2U_ARGUMENT;
   }
 }

@@ -56,6 +56,7 @@ asked() { # [OPTION] CLASS WORD..: with Java's own checks of native code, which 
   ! grep -Ei 'warning|fatal' "$work/said" && tail -1 "$work/said"
 }
 step "against the model" asked Vectors "$work/vectors"
+step "one cell, beside the library" asked Cells
 step "what is refused, what stays, and long lists" asked Refusals "$(cat "$top/VERSION")"
 copying() { # a library that copies lists of more than three elements, and refuse.c with what Java asks of it
   local java flags=(-std=c11 -O2 -Wall -fPIC -shared)

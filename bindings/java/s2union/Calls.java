@@ -15,22 +15,20 @@ final class Calls {
 
   // made by tools/calls, of s2union.h and of the cases of s2union.c
   static final int ROOM = -1, MEMORY = -2, MOST_TOKEN = 16, MOST_DEBUG = 32;
-  static final int VERSION = 0, IS_CELL = 1, LEVEL = 2, FACE = 3, PARENT = 4, CHILD = 5, RANGE_MIN = 6,
-      RANGE_MAX = 7, SIZE = 8, NEXT = 9, PREV = 10, COMMON_ANCESTOR = 11, CELL_CONTAINS = 12,
-      CELL_INTERSECTS = 13;
-  static final int TOKEN = 14, DEBUG = 15;
-  static final int FROM_TOKEN = 16, FROM_DEBUG = 17;
-  static final int IS_UNION = 18, LEAF_COUNT = 19, CONTAINS_CELL = 20, INTERSECTS_CELL = 21,
-      CONTAINS = 22, INTERSECTS = 23, COMPARE = 24;
-  static final int UNION = 25, INTERSECTION = 26, DIFFERENCE = 27, NORMALISE = 28, RANGE = 29,
-      DENORMALISED = 30, ANCESTORS = 31, OUTER = 32, INNER = 33, OUTER_OF = 34, INNER_OF = 35,
-      OUTER_IN = 36, INNER_IN = 37, PARENTS = 38, RANGE_MINS = 39, RANGE_MAXES = 40,
-      SYMMETRIC_DIFFERENCE = 41, COMPLEMENT = 42, UNION_OF_MANY = 43;
-  static final int ENCODE = 44, TOKENS = 45, LEVELS = 46, TOKEN_FIELDS = 47, CONTAINS_CELLS = 48,
-      INTERSECTS_CELLS = 49, FILE_CONTAINS_CELLS = 50;
-  static final int DECODE = 51, FILE_ANCESTORS = 52, FROM_TOKENS = 53;
-  static final int FILE_CHECK = 54, FILE_COUNT = 55, FILE_LEAF_COUNT = 56, FILE_CELL = 57,
-      FILE_CONTAINS_CELL = 58, FILE_INTERSECTS_CELL = 59, FILE_CONTAINS = 60, FILE_INTERSECTS = 61;
+  static final int VERSION = 0, CHILD = 1, NEXT = 2, PREV = 3, COMMON_ANCESTOR = 4;
+  static final int TOKEN = 5, DEBUG = 6;
+  static final int FROM_TOKEN = 7, FROM_DEBUG = 8;
+  static final int IS_UNION = 9, LEAF_COUNT = 10, CONTAINS_CELL = 11, INTERSECTS_CELL = 12, CONTAINS = 13,
+      INTERSECTS = 14, COMPARE = 15;
+  static final int UNION = 16, INTERSECTION = 17, DIFFERENCE = 18, NORMALISE = 19, RANGE = 20,
+      DENORMALISED = 21, ANCESTORS = 22, OUTER = 23, INNER = 24, OUTER_OF = 25, INNER_OF = 26,
+      OUTER_IN = 27, INNER_IN = 28, PARENTS = 29, RANGE_MINS = 30, RANGE_MAXES = 31,
+      SYMMETRIC_DIFFERENCE = 32, COMPLEMENT = 33, UNION_OF_MANY = 34;
+  static final int ENCODE = 35, TOKENS = 36, LEVELS = 37, TOKEN_FIELDS = 38, CONTAINS_CELLS = 39,
+      INTERSECTS_CELLS = 40, FILE_CONTAINS_CELLS = 41;
+  static final int DECODE = 42, FILE_ANCESTORS = 43, FROM_TOKENS = 44;
+  static final int FILE_CHECK = 45, FILE_COUNT = 46, FILE_LEAF_COUNT = 47, FILE_CELL = 48,
+      FILE_CONTAINS_CELL = 49, FILE_INTERSECTS_CELL = 50, FILE_CONTAINS = 51, FILE_INTERSECTS = 52;
   /** The room that what a call makes is first given, by the lengths of its lists. */
   private static long roomOf(int call, long n, long m) {
     switch (call) {

@@ -9,6 +9,8 @@ import java.nio.charset.StandardCharsets;
  * @since 1.1
  */
 public final class CellId {
+  private static final long MARKERS = 0x1555555555555555L; // the bits at which the lowest of a cell can stand
+
   private CellId() {}
 
   /**
@@ -39,7 +41,12 @@ public final class CellId {
    * @since 1.1
    */
   public static boolean isCell(long id) {
-    return Calls.number(Calls.IS_CELL, id, 0) == 1;
+    return id >>> 61 < 6 && (lowest(id) & MARKERS) != 0;
+  }
+
+  /** The lowest bit of a number, which says the level of a cell: it is 4^(30 - level). */
+  private static long lowest(long id) {
+    return id & -id;
   }
 
   static long checked(long id) {
@@ -61,7 +68,7 @@ public final class CellId {
    * @since 1.1
    */
   public static int level(long id) {
-    return Calls.checked((int) Calls.number(Calls.LEVEL, id, 0), 0);
+    return Calls.LAST_LEVEL - Long.numberOfTrailingZeros(checked(id)) / 2;
   }
 
   /**
@@ -78,7 +85,7 @@ public final class CellId {
    * @since 1.1
    */
   public static int face(long id) {
-    return Calls.checked((int) Calls.number(Calls.FACE, id, 0), 0);
+    return (int) (checked(id) >>> 61);
   }
 
   /**
@@ -97,7 +104,9 @@ public final class CellId {
    * @since 1.1
    */
   public static long parent(long id, int level) {
-    return Calls.number(Calls.PARENT, checked(id), Calls.within(level, Calls.LAST_LEVEL));
+    int own = level(id);
+    long lowest = 1L << 2 * (Calls.LAST_LEVEL - Calls.within(level, Calls.LAST_LEVEL));
+    return level > own ? 0 : id & -lowest | lowest;
   }
 
   /**
@@ -134,7 +143,7 @@ public final class CellId {
    * @since 1.1
    */
   public static long rangeMin(long id) {
-    return Calls.number(Calls.RANGE_MIN, checked(id), 0);
+    return checked(id) - (lowest(id) - 1);
   }
 
   /**
@@ -151,7 +160,7 @@ public final class CellId {
    * @since 1.1
    */
   public static long rangeMax(long id) {
-    return Calls.number(Calls.RANGE_MAX, checked(id), 0);
+    return checked(id) + (lowest(id) - 1);
   }
 
   /**
@@ -168,7 +177,7 @@ public final class CellId {
    * @since 1.1
    */
   public static long leafCellsCovered(long id) {
-    return Calls.number(Calls.SIZE, checked(id), 0);
+    return lowest(checked(id));
   }
 
   /**
@@ -238,7 +247,8 @@ public final class CellId {
    * @since 1.1
    */
   public static boolean contains(long whole, long part) {
-    return Calls.checked((int) Calls.number(Calls.CELL_CONTAINS, whole, part), 0) == 1;
+    return Long.compareUnsigned(rangeMin(whole), checked(part)) <= 0
+        && Long.compareUnsigned(part, rangeMax(whole)) <= 0;
   }
 
   /**
@@ -256,7 +266,7 @@ public final class CellId {
    * @since 1.1
    */
   public static boolean intersects(long a, long b) {
-    return Calls.checked((int) Calls.number(Calls.CELL_INTERSECTS, a, b), 0) == 1;
+    return Long.compareUnsigned(rangeMin(a), rangeMax(b)) <= 0 && Long.compareUnsigned(rangeMin(b), rangeMax(a)) <= 0;
   }
 
   /**
