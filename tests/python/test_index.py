@@ -65,7 +65,7 @@ class Joins(unittest.TestCase):
         features = [{"type": "Feature", "properties": {"id": name}, "geometry": polygon(box(0, 0, 1, 1))}
                     for name in ("a", 7, None)]
         collection = {"type": "FeatureCollection", "features": features}
-        for given in (collection, json.dumps(collection), json.dumps(collection).encode()):
+        for given in (collection, json.dumps(collection), json.dumps(collection).encode(), features, iter(features)):
             self.assertEqual(Index(given, "id").find(0.5, 0.5), ["a", 7, None])
         self.assertEqual(Index(collection).names, [0, 1, 2])
         self.assertEqual((len(Index(collection)), repr(Index([None]))), (3, "<Index of 1 zones, 0 cells>"))
@@ -303,6 +303,15 @@ def test_words_that_are_wrong(zones, words, wanted):
     status, out, error = said(*words, text=b"here,there\n1,2\n")
     assert (status, out) == (1, "")
     assert error.startswith(f"s2union_geo: {wanted}".replace("ZONES", "zones"))
+
+
+def test_a_pipe_whose_reader_has_ended(zones):
+    for rows in (1, 100_000):
+        words = [sys.executable, "-m", "s2union_geo", "join", "-", zones]
+        with subprocess.Popen(words, stdin=subprocess.PIPE, stdout=subprocess.PIPE, stderr=subprocess.PIPE) as run:
+            run.stdout.close()
+            _, error = run.communicate(b"x,y\n" + b"1,1\n" * rows)
+        assert (run.returncode, error) == (141, b"")
 
 
 def test_columns_that_are_not_known(zones):

@@ -282,6 +282,10 @@ def main(words):
     try:
         command, named = words_of(words)
         command(**named)
+        sys.stdout.flush()
+    except BrokenPipeError:  # the reader of the pipe has ended
+        os.dup2(os.open(os.devnull, os.O_WRONLY), sys.stdout.fileno())
+        return 141  # as of a program that SIGPIPE ends
     except (OSError, ValueError, KeyError, TypeError, ImportError) as error:
         return f"s2union_geo: {error}"
 

@@ -376,14 +376,14 @@ def _named(shapes: Any, names: Any) -> tuple[list[Any], list[Any]]:
     if hasattr(shapes, "geometry"):
         given = shapes.index if names is None else shapes[names] if isinstance(names, str) else names
         shapes = shapes.geometry if getattr(shapes, "crs", None) is None else shapes.to_crs(4326).geometry
-    elif isinstance(shapes, dict):
-        if not isinstance(shapes.get("features"), list):
-            raise ValueError("one object of GeoJSON is a FeatureCollection; a list takes others")
-        shapes = shapes["features"]
+    else:
+        if isinstance(shapes, dict):
+            if not isinstance(shapes.get("features"), list):
+                raise ValueError("one object of GeoJSON is a FeatureCollection; a list takes others")
+            shapes = shapes["features"]
+        shapes = list(shapes)
         given = ([_property(feature, names, place) for place, feature in enumerate(shapes)]
                  if isinstance(names, str) else names)
-    else:
-        given = names
     shapes = list(shapes)
     named = list(range(len(shapes)) if given is None else given)
     if len(named) != len(shapes):
