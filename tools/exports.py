@@ -11,10 +11,12 @@ import re
 # What a status is called by those who catch it. Of the room for a result, and of what is checked before, nobody learns.
 PYTHON = {"NO_CELL": "NotACellError", "ARGUMENT": "OutOfRangeError", "MANY": "TooManyCellsError",
           "MEMORY": "OutOfMemoryError", "FILE_SHORT": "UnionFileError", "FILE_VERSION": "UnionFileError",
-          "FILE_TRAILING": "UnionFileError", "FILE_CELL": "UnionFileError"}
+          "FILE_TRAILING": "UnionFileError", "FILE_CELL": "UnionFileError", "CORNER": "CornerError",
+          "RING": "RingError"}
 KINDS = {name: name for name in PYTHON if name != "MEMORY"}
 RUST = {"NO_CELL": "NoCell", "ARGUMENT": "Argument", "MANY": "Many", "MEMORY": "Memory", "FILE_SHORT": "FileShort",
-        "FILE_VERSION": "FileVersion", "FILE_TRAILING": "FileTrailing", "FILE_CELL": "FileCell"}
+        "FILE_VERSION": "FileVersion", "FILE_TRAILING": "FileTrailing", "FILE_CELL": "FileCell", "CORNER": "Corner",
+        "RING": "Ring"}
 # The calls of the members of s2union.d.ts that have another name than a call.
 CALLED = {
     "fromFaceIJ": "from_face_ij", "square": "square_of", "CellUnion.constructor": "normalise",

@@ -1,9 +1,11 @@
 /* made by tools/calls */
 enum { S2U_OK = 0, S2U_ROOM = -1, S2U_MEMORY = -2, S2U_NO_CELL = -3, S2U_NO_UNION = -4, S2U_ARGUMENT = -5, S2U_MANY =
--6, S2U_FILE_SHORT = -10, S2U_FILE_VERSION = -11, S2U_FILE_TRAILING = -12, S2U_FILE_CELL = -13 };
+-6, S2U_FILE_SHORT = -10, S2U_FILE_VERSION = -11, S2U_FILE_TRAILING = -12, S2U_FILE_CELL = -13, S2U_CORNER = -14,
+S2U_RING = -15 };
 typedef struct { uint32_t face; uint32_t i; uint32_t j; uint32_t size; } s2u_square;
 typedef struct { uint32_t face; uint32_t i0; uint32_t i1; uint32_t j0; uint32_t j1; } s2u_rect;
 typedef struct { uint32_t face; uint32_t i; uint32_t j; } s2u_point;
+typedef struct { int64_t x; int64_t y; int64_t z; } s2u_direction;
 int32_t s2u_ancestors(const uint64_t* ids, size_t n, uint64_t* out, size_t room, size_t* len);
 int32_t s2u_cell_contains(uint64_t whole, uint64_t part);
 int32_t s2u_cell_intersects(uint64_t a, uint64_t b);
@@ -66,6 +68,14 @@ int32_t s2u_outer_of(const uint64_t* ids, size_t n, uint32_t level, size_t most,
   len);
 uint64_t s2u_parent(uint64_t id, uint32_t level);
 int32_t s2u_parents(const uint64_t* ids, size_t n, uint32_t level, uint64_t* out, size_t room, size_t* bad);
+int32_t s2u_polygon_inner(const s2u_direction* corners, size_t n, const size_t* ends, size_t lists, uint64_t outside,
+  uint64_t margin, uint32_t level, size_t most, uint64_t* out, size_t room, size_t* len);
+int32_t s2u_polygon_inner_up_to(const s2u_direction* corners, size_t n, const size_t* ends, size_t lists, uint64_t
+  outside, uint64_t margin, uint32_t least, uint32_t deepest, size_t cells, uint64_t* out, size_t room, size_t* len);
+int32_t s2u_polygon_outer(const s2u_direction* corners, size_t n, const size_t* ends, size_t lists, uint64_t outside,
+  uint64_t margin, uint32_t level, size_t most, uint64_t* out, size_t room, size_t* len);
+int32_t s2u_polygon_outer_up_to(const s2u_direction* corners, size_t n, const size_t* ends, size_t lists, uint64_t
+  outside, uint64_t margin, uint32_t least, uint32_t deepest, size_t cells, uint64_t* out, size_t room, size_t* len);
 uint64_t s2u_prev(uint64_t id);
 int32_t s2u_range(uint64_t first, uint64_t last, uint64_t* out, size_t room, size_t* len);
 uint64_t s2u_range_max(uint64_t id);

@@ -35,6 +35,7 @@
 #include <s2union.h>
 
 #include <algorithm>
+#include <cmath>
 #include <cstdlib>
 #include <functional>
 #include <new>
@@ -79,6 +80,32 @@ class Error : public std::runtime_error {
   int32_t status_;
 };
 
+/// A polygon of rings of corners, with a leaf that is known to lie outside. Rings may cross, touch, nest and repeat
+/// each other: what is crossed an odd number of times on the way from the leaf outside lies inside. @since 1.4
+/// @snippet examples.cc Polygon
+struct Polygon {
+  /// The corners, ring after ring: the first of a ring follows its last.
+  std::vector<s2u_direction> corners;
+  /// How many corners there are up to the end of each ring.
+  std::vector<size_t> ends;
+  /// A leaf that lies outside.
+  uint64_t outside = 0;
+  /// How near an edge has to come to a leaf to touch it: 0 to 2^60, of which a face has 6 * 2^60 a side.
+  uint64_t margin = 0;
+
+  /// Adds a ring of unit vectors with x(), y() and z(), such as S2Point: each is multiplied by 2^31 - 1 and rounded. A
+  /// loop of S2 is given by its vertices. @since 1.4
+  /// @snippet examples.cc Polygon
+  template <class Points>
+  void AddRing(const Points& points) {
+    for (const auto& point : points) corners.push_back({Rounded(point.x()), Rounded(point.y()), Rounded(point.z())});
+    ends.push_back(corners.size());
+  }
+
+ private:
+  static int64_t Rounded(double part) { return std::llround(part * 2147483647); }
+};
+
 template <class Id>
 class CellUnionOf;
 
@@ -112,6 +139,8 @@ inline size_t of_file_ancestors(size_t n) { return n / 4 + 30; }
 inline size_t of_outer() { return 64; }
 inline size_t of_outer_in() { return 64; }
 inline size_t of_outer_of(size_t n) { return n; }
+inline size_t of_polygon_outer() { return 4096; }
+inline size_t of_polygon_outer_up_to() { return 1024; }
 inline size_t of_decode(size_t n) { return n / 8; }
 inline size_t of_from_tokens(size_t n) { return n / 2 + 1; }
 }  // namespace rooms
@@ -654,6 +683,36 @@ class CellUnionOf {
     return CoveredRect(s2u_inner, rect, level, most, status);
   }
 
+  /// The cells of the level that have an outer leaf of a polygon: one inside, or one that an edge touches. The level is
+  /// 0 to 30. S2U_ARGUMENT, S2U_CORNER, S2U_RING, S2U_MANY, S2U_MEMORY. @since 1.4
+  /// @snippet examples.cc PolygonCovering
+  static CellUnionOf PolygonCovering(const Polygon& polygon, int level, size_t most = S2U_MOST_COVERING,
+                                     int32_t* status = nullptr) {
+    return CoveredPolygon(s2u_polygon_outer, polygon, level, most, status);
+  }
+  /// The cells of the level that have inner leaves of a polygon alone: leaves inside that no edge touches. The level is
+  /// 0 to 30. S2U_ARGUMENT, S2U_CORNER, S2U_RING, S2U_MANY, S2U_MEMORY. @since 1.4
+  /// @snippet examples.cc PolygonInteriorCovering
+  static CellUnionOf PolygonInteriorCovering(const Polygon& polygon, int level, size_t most = S2U_MOST_COVERING,
+                                             int32_t* status = nullptr) {
+    return CoveredPolygon(s2u_polygon_inner, polygon, level, most, status);
+  }
+  /// At most this many cells, or 6 if that is more, that have all outer leaves of a polygon, each with one, none deeper
+  /// than `deepest`. Those larger than cells of level `least` are then cut to that level, so that there may be more.
+  /// S2U_ARGUMENT, S2U_CORNER, S2U_RING, S2U_MANY, S2U_MEMORY. @since 1.4
+  /// @snippet examples.cc PolygonCoveringUpTo
+  static std::vector<Id> PolygonCoveringUpTo(const Polygon& polygon, int least, int deepest, size_t cells,
+                                             int32_t* status = nullptr) {
+    return FewOfPolygon(s2u_polygon_outer_up_to, polygon, least, deepest, cells, status);
+  }
+  /// At most this many cells that have inner leaves of a polygon alone, none deeper than `deepest`; otherwise as above.
+  /// S2U_ARGUMENT, S2U_CORNER, S2U_RING, S2U_MANY, S2U_MEMORY. @since 1.4
+  /// @snippet examples.cc PolygonInteriorCoveringUpTo
+  static std::vector<Id> PolygonInteriorCoveringUpTo(const Polygon& polygon, int least, int deepest, size_t cells,
+                                                     int32_t* status = nullptr) {
+    return FewOfPolygon(s2u_polygon_inner_up_to, polygon, least, deepest, cells, status);
+  }
+
   // ---- equality of sets, and the order of their lists, element by element and then by length
 
   /// Whether both have the same leaves, and so the same list. @since 0.1
@@ -895,6 +954,27 @@ class CellUnionOf {
     return Made(internal::rooms::of_outer(), status, [&](uint64_t* out, size_t room, size_t* len) {
       return call(&rect, static_cast<uint32_t>(level), most, out, room, len);
     });
+  }
+
+  template <class Call>
+  static CellUnionOf CoveredPolygon(Call call, const Polygon& polygon, int level, size_t most, int32_t* status) {
+    return Made(internal::rooms::of_polygon_outer(), status, [&](uint64_t* out, size_t room, size_t* len) {
+      return call(polygon.corners.data(), polygon.corners.size(), polygon.ends.data(), polygon.ends.size(),
+                  polygon.outside, polygon.margin, static_cast<uint32_t>(level), most, out, room, len);
+    });
+  }
+  template <class Call>
+  static std::vector<Id> FewOfPolygon(Call call, const Polygon& polygon, int least, int deepest, size_t cells,
+                                      int32_t* status) {
+    std::vector<Id> made;
+    int32_t found = internal::listed(
+        internal::rooms::of_polygon_outer_up_to(), &made, [&](uint64_t* out, size_t room, size_t* len) {
+          return call(polygon.corners.data(), polygon.corners.size(), polygon.ends.data(), polygon.ends.size(),
+                      polygon.outside, polygon.margin, static_cast<uint32_t>(least), static_cast<uint32_t>(deepest),
+                      cells, out, room, len);
+        });
+    internal::succeeded(found, status);
+    return made;
   }
 
   template <class Bytes>

@@ -3,6 +3,7 @@ package s2union_test
 import (
 	"bytes"
 	"encoding/json"
+	"errors"
 	"fmt"
 	s2union "s2union.example.org/s2union/bindings/go"
 )
@@ -589,4 +590,33 @@ func ExampleUnionFile_CellUnion() {
 	file, _ := s2union.NewUnionFile(bytes)
 	fmt.Println(file.CellUnion())
 	// Output: 04 0c
+}
+
+func triangle() s2union.Polygon {
+	corners := []s2union.Direction{{10, 1, 1}, {10, 9, 1}, {10, 1, 9}}
+	outside, _ := s2union.CellIDFromFaceIJ(3, 0, 0)
+	return s2union.Polygon{Corners: corners, Ends: []int{3}, Outside: outside}
+}
+
+func ExamplePolygon_Covering() {
+	fmt.Println(triangle().Covering(3, 100))
+	// Output: 11 13 144 17 <nil>
+}
+
+func ExamplePolygon_InteriorCovering() {
+	fmt.Println(triangle().InteriorCovering(3, 100))
+	// Output: 114 <nil>
+}
+
+func ExamplePolygon_CoveringUpTo() {
+	fmt.Println(triangle().CoveringUpTo(0, 30, 4))
+	// Output: [0/20 0/21 0/220 0/23] <nil>
+}
+
+func ExamplePolygon_InteriorCoveringUpTo() {
+	polygon := triangle()
+	polygon.Ends = []int{2}
+	cells, err := polygon.InteriorCoveringUpTo(0, 4, 4)
+	fmt.Println(cells, errors.Is(err, s2union.ErrRing))
+	// Output: [] true
 }

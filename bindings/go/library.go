@@ -46,6 +46,8 @@ const (
 	ErrFileVersion   Error = C.S2U_FILE_VERSION  // the first byte of a file is not 1
 	ErrFileTrailing  Error = C.S2U_FILE_TRAILING // bytes follow the last identifier of a file
 	ErrFileCell      Error = C.S2U_FILE_CELL     // an identifier in a file is that of no cell
+	ErrCorner        Error = C.S2U_CORNER        // a corner of a polygon is no direction, or opposite the next one
+	ErrRing          Error = C.S2U_RING          // a ring of a polygon has a wrong end or fewer than three corners
 )
 
 // Error says in a few words what was refused. Since 0.2.
@@ -54,10 +56,10 @@ func (refusal Error) Error() string {
 }
 
 // PlaceError is a refusal with a place: of the first in a list that is refused, or of the first byte of the first word
-// of a text that names no cell.
+// of a text that names no cell; for ErrCorner and ErrRing the number of the corner or of the ring, from 0 on.
 type PlaceError struct {
 	Place   int
-	Refusal Error // ErrNoCell, or ErrArgument of Parents and CellIDsFromPoints
+	Refusal Error // ErrNoCell, ErrCorner, ErrRing, or ErrArgument of Parents and CellIDsFromPoints
 }
 
 // Error says in a few words what was refused, and where. Since 0.2.
@@ -147,6 +149,9 @@ func listed(room int, call func(out *C.uint64_t, room C.size_t, length *C.size_t
 		made = make([]CellID, length)
 		at, n = pointerTo(made)
 		status = call(at, n, &length)
+	}
+	if status == C.S2U_CORNER || status == C.S2U_RING {
+		return nil, &PlaceError{int(length), Error(status)}
 	}
 	if status != C.S2U_OK {
 		return nil, Error(status)

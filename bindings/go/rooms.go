@@ -29,6 +29,14 @@ func roomOfOuterOf(n int) int { return n }
 
 func roomOfInnerOf(n int) int { return n }
 
+func roomOfPolygonOuter() int { return 4096 }
+
+func roomOfPolygonInner() int { return 4096 }
+
+func roomOfPolygonOuterUpTo() int { return 1024 }
+
+func roomOfPolygonInnerUpTo() int { return 1024 }
+
 func roomOfEncode(n int) int { return 8*n + 9 }
 
 func roomOfDecode(n int) int { return n / 8 }

@@ -362,6 +362,7 @@ var names = map[s2union.Error]string{
 	s2union.ErrArgument: "argument", s2union.ErrMany: "many",
 	s2union.ErrFileShort: "file_short", s2union.ErrFileVersion: "file_version",
 	s2union.ErrFileTrailing: "file_trailing", s2union.ErrFileCell: "file_cell",
+	s2union.ErrCorner: "corner", s2union.ErrRing: "ring",
 }
 
 // shown is a value as vectors.py shows it, or an error that comes with it.

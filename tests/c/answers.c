@@ -72,6 +72,10 @@ static s2u_point points[MOST];
 static size_t points_count;
 static uint32_t level, modulus, i, j;
 static s2u_rect rect;
+static s2u_direction corners[8];
+static size_t corners_count, corner_ends[2], rings;
+static uint64_t outside, margin;
+static uint32_t coarse, least, deepest;
 
 /* Mostly a cell, often one near others; sometimes any number. */
 static uint64_t drawn(void) {
@@ -110,6 +114,19 @@ static size_t drawn_words(char* to) {
   return size;
 }
 
+/* Two rings of corners; sometimes a corner, an end, the leaf outside, the margin or a level is wrong. */
+static void draw_polygon(void) {
+  corners_count = below(8) ? 8 : below(9), rings = below(8) ? 2 : below(3);
+  for (size_t at = 0; at < corners_count; at++) {
+    int64_t* parts[] = {&corners[at].x, &corners[at].y, &corners[at].z};
+    for (size_t part = 0; part < 3; part++) *parts[part] = below(200) ? (int64_t)below(41) - 20 : (int64_t)draw();
+  }
+  corner_ends[0] = below(8) ? 4 : below(9), corner_ends[1] = corners_count;
+  outside = below(8) ? s2u_range_min(id) : id, margin = below(2) ? 0 : draw() >> 3;
+  coarse = below(40) ? below(6) : level, least = below(4), deepest = below(16) + 2;
+  if (coarse > 6) coarse |= 32; /* no level: at a deep one an edge meets very many cells */
+}
+
 static void draw_all(void) {
   id = drawn(), other = below(4) ? drawn() : s2u_range_max(id);
   level = below(34), modulus = below(5), most = below(8) ? below(60) : draw();
@@ -129,6 +146,7 @@ static void draw_all(void) {
   rect = (s2u_rect){below(7), i / 2, i / 2 + wide, j / 2, j / 2 + high};
   file_size = drawn_file(xs, nx, file), other_size = drawn_file(ys, ny, other_file);
   words_size = drawn_words(words);
+  draw_polygon();
 }
 
 /* ---- what a call writes */

@@ -66,6 +66,14 @@
   ASK(outer_of, (xs, nx, level, most, out, out_room, &len), SEE(out) SEE(len)) \
   ASK(parent, (id, level), ) \
   ASK(parents, (xs, nx, level, out, out_room, &len), SEE(out) SEE(len)) \
+  ASK(polygon_inner, (corners, corners_count, corner_ends, rings, outside, margin, coarse, most, out, out_room, \
+    &len), SEE(out) SEE(len)) \
+  ASK(polygon_inner_up_to, (corners, corners_count, corner_ends, rings, outside, margin, least, deepest, most, out, \
+    out_room, &len), SEE(out) SEE(len)) \
+  ASK(polygon_outer, (corners, corners_count, corner_ends, rings, outside, margin, coarse, most, out, out_room, \
+    &len), SEE(out) SEE(len)) \
+  ASK(polygon_outer_up_to, (corners, corners_count, corner_ends, rings, outside, margin, least, deepest, most, out, \
+    out_room, &len), SEE(out) SEE(len)) \
   ASK(prev, (id), ) \
   ASK(range, (id, other, out, out_room, &len), SEE(out) SEE(len)) \
   ASK(range_max, (id), ) \

@@ -391,6 +391,42 @@ int main(void) {
     /* [s2u_inner_in] */
   }
   {
+    /* [s2u_polygon_outer] */
+    s2u_direction corners[] = {{10, 1, 1}, {10, 9, 1}, {10, 1, 9}}; /* a triangle on face 0 */
+    size_t ends[] = {3}, len;
+    uint64_t outside = s2u_from_face_ij(3, 0, 0), out[4];
+    check(s2u_polygon_outer(corners, 3, ends, 1, outside, 0, 1, 10, out, 4, &len) == S2U_OK && len == 1 &&
+          out[0] == UINT64_C(0x1400000000000000));
+    /* [s2u_polygon_outer] */
+  }
+  {
+    /* [s2u_polygon_inner] */
+    s2u_direction corners[] = {{10, 1, 1}, {10, 9, 1}, {10, 1, 9}};
+    size_t ends[] = {3}, len;
+    uint64_t outside = s2u_from_face_ij(3, 0, 0), out[8];
+    check(s2u_polygon_inner(corners, 3, ends, 1, outside, 0, 3, 10, out, 8, &len) == S2U_OK && len == 1 &&
+          out[0] == UINT64_C(0x1140000000000000));
+    /* [s2u_polygon_inner] */
+  }
+  {
+    /* [s2u_polygon_outer_up_to] */
+    s2u_direction corners[] = {{10, 1, 1}, {10, 9, 1}, {10, 1, 9}, {0, 0, 0}};
+    size_t ends[] = {3, 4}, len;
+    uint64_t outside = s2u_from_face_ij(3, 0, 0), out[8];
+    check(s2u_polygon_outer_up_to(corners, 3, ends, 1, outside, 0, 0, 30, 8, out, 8, &len) == S2U_OK && len <= 8);
+    check(s2u_polygon_outer_up_to(corners, 4, ends, 2, outside, 0, 0, 30, 8, out, 8, &len) == S2U_CORNER && len == 3);
+    /* [s2u_polygon_outer_up_to] */
+  }
+  {
+    /* [s2u_polygon_inner_up_to] */
+    s2u_direction corners[] = {{10, 1, 1}, {10, 9, 1}, {10, 1, 9}};
+    size_t ends[] = {3}, none[] = {2}, len;
+    uint64_t outside = s2u_from_face_ij(3, 0, 0), out[8];
+    check(s2u_polygon_inner_up_to(corners, 3, ends, 1, outside, 0, 0, 30, 8, out, 8, &len) == S2U_OK && len <= 8);
+    check(s2u_polygon_inner_up_to(corners, 3, none, 1, outside, 0, 0, 30, 8, out, 8, &len) == S2U_RING && len == 0);
+    /* [s2u_polygon_inner_up_to] */
+  }
+  {
     /* [s2u_encode] */
     uint64_t ids[] = {UINT64_C(0x0400000000000000)};
     uint8_t bytes[S2U_FILE_SIZE(1)];

@@ -375,6 +375,46 @@ static void coverings(void) {
   }
 }
 
+/* Whether a call for a covering of a polygon may answer so: by its answer, or by a fault with its place. */
+static int is_of_polygon(int32_t status, size_t len, size_t n, size_t rings) {
+  if (status == S2U_CORNER) return len < n;
+  if (status == S2U_RING) return len < rings || len == 0;
+  return status == S2U_OK || status == S2U_ROOM || (status == S2U_MANY && len == 0);
+}
+
+/* Coverings of a polygon of any corners and ends; the levels are such as few cells are looked into. */
+static void polygons(void) {
+  size_t n = byte() % (MOST / 3 + 1), rings = byte() % 4, len = 77, most = byte() % 70;
+  s2u_direction* corners = (s2u_direction*)(void*)xs_end - n;
+  size_t* ends = (size_t*)(void*)ys_end - rings;
+  uint8_t kind = byte();
+  for (size_t k = 0; k < n; k++) {
+    int64_t* words[] = {&corners[k].x, &corners[k].y, &corners[k].z};
+    for (size_t a = 0; a < 3; a++) *words[a] = kind % 4 ? (int8_t)byte() : (int64_t)number() >> byte() % 64;
+  }
+  for (size_t k = 0; k < rings; k++) ends[k] = kind % 8 ? n * (k + 1) / rings : byte();
+  uint64_t outside = kind % 16 ? s2u_range_min(some_number()) : some_number();
+  uint64_t margin = kind % 3 ? 0 : number() >> byte() % 64;
+  uint32_t deepest = byte() % 8 ? byte() % 8 : 31, least = byte() % 8;
+  int has_leaf = s2u_level(outside) == 30 && margin >> 60 <= (margin << 4 == 0);
+  for (int call = 0; call < 4; call++) {
+    uint64_t* out = fresh();
+    const s2u_direction* at = n ? corners : NULL;
+    const size_t* to = rings ? ends : NULL;
+    int32_t status =
+        call < 2 ? (call ? s2u_polygon_outer : s2u_polygon_inner)(at, n, to, rings, outside, margin, deepest, most, out,
+                                                                  room, &len)
+                 : (call == 2 ? s2u_polygon_outer_up_to : s2u_polygon_inner_up_to)(
+                       at, n, to, rings, outside, margin, least, deepest, most, out, room, &len);
+    int is_asked = has_leaf && deepest <= 30 && (call < 2 || least <= deepest);
+    MUST(is_asked ? is_of_polygon(status, len, n, rings) : status == S2U_ARGUMENT && len == 0);
+    seen(31 + call, status, len);
+    left_alone(status, len);
+    MUST(status != S2U_OK || (len <= room && (call >= 2 || (len <= most && s2u_is_union(out, len) == 1))));
+    MUST(status != S2U_ROOM || len > room);
+  }
+}
+
 /* A file before `end`: of a list, and perhaps with a byte changed; or any bytes. Its length. */
 static size_t file_before(uint8_t* end, uint64_t* ids_end) {
   uint8_t kind = byte();
@@ -442,7 +482,7 @@ static void start(void) {
 }
 
 int LLVMFuzzerTestOneInput(const uint8_t* data, size_t size) {
-  static void (*const groups[])(void) = {cells, texts, questions, sets, making, many, each, coverings, files};
+  static void (*const groups[])(void) = {cells, texts, questions, sets, making, many, each, coverings, polygons, files};
   if (!xs_end) start();
   input = data;
   left = size;

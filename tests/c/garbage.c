@@ -88,6 +88,38 @@ static void clipped(const uint64_t* ids, size_t n, uint64_t* out, size_t room) {
   }
 }
 
+/* Coverings of a polygon whose corners may be any numbers, and whose ends may be wrong. */
+static void polygons(uint64_t* out, size_t room) {
+  s2u_direction corners[9];
+  size_t n = draw() % 10, first = draw() % 10, len = 77;
+  size_t ends[] = {first, draw() % 9 ? n : draw()};
+  for (size_t k = 0; k < n; k++) {
+    int64_t bound = draw() % 99 ? 20 : INT64_C(1) << 31;
+    corners[k].x = (int64_t)(draw() % 41) - bound;
+    corners[k].y = (int64_t)(draw() % 41) - 20;
+    corners[k].z = draw() % 99 ? (int64_t)(draw() % 41) - 20 : (int64_t)garbage();
+  }
+  uint64_t outside = draw() % 9 ? s2u_from_face_ij((uint32_t)(draw() % 6), 7, 7) : garbage();
+  uint64_t margin = draw() % 9 ? 0 : draw() >> draw() % 8;
+  uint32_t level = (uint32_t)(draw() % 7), least = (uint32_t)(draw() % 4);
+  int is_asked = s2u_level(outside) == 30 && margin <= UINT64_C(1) << 60;
+  for (int call = 0; call < 4; call++) {
+    for (size_t k = 0; k < room; k++) out[k] = 7;
+    int32_t status =
+        call < 2 ? (call ? s2u_polygon_outer : s2u_polygon_inner)(corners, n, ends, 2, outside, margin, level, MOST,
+                                                                  out, room, &len)
+                 : (call == 2 ? s2u_polygon_outer_up_to : s2u_polygon_inner_up_to)(
+                       corners, n, ends, 2, outside, margin, least, level, 20, out, room, &len);
+    int is_refused = call >= 2 && least > level ? 1 : !is_asked;
+    CHECK((status == S2U_ARGUMENT) == is_refused);
+    CHECK(status != S2U_CORNER || len < n);
+    CHECK(status != S2U_RING || len < 2);
+    CHECK(status != S2U_OK || (len <= room && (call >= 2 || s2u_is_union(out, len))));
+    CHECK(status != S2U_ROOM || len > room);
+    for (size_t k = status == S2U_OK ? len : 0; k < room; k++) CHECK(out[k] == 7);
+  }
+}
+
 int main(void) {
   uint64_t *xs_end = (uint64_t*)at_the_edge(8 * MOST) + MOST, *ys_end = (uint64_t*)at_the_edge(8 * MOST) + MOST;
   uint64_t* out_end = (uint64_t*)at_the_edge(8 * MOST) + MOST;
@@ -145,6 +177,7 @@ int main(void) {
     many_cells(xs, nx, (uint32_t)(draw() % 33), out, room);
     many_points(out, room);
     clipped(xs, nx, out, room);
+    if (round % 8 == 0) polygons(out, room);
     status = s2u_encode(xs, nx, bytes_end - 9 - 8 * nx, 9 + 8 * nx, &len);
     CHECK(status == S2U_OK && len == S2U_FILE_SIZE(nx) && memcmp(bytes_end - 8 * nx, xs, 8 * nx) == 0);
     char* text = text_end - draw() % (17 * MOST);

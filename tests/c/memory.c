@@ -37,6 +37,20 @@ static int32_t outer_of(void) { return s2u_outer_of(xs, nx, 7, 1000000, out, ROO
 static int32_t inner_of(void) { return s2u_inner_of(xs, nx, 10, 1000000, out, ROOM, &len); }
 static int32_t outer_in(void) { return s2u_outer_in(xs, nx, &rect, 9, 1000000, out, ROOM, &len); }
 static int32_t inner_in(void) { return s2u_inner_in(xs, nx, &rect, 10, 1000000, out, ROOM, &len); }
+static const s2u_direction corners[] = {{10, 1, 1}, {10, 9, 1}, {10, 1, 9}, {10, 2, 2}, {10, 3, 2}, {10, 2, 3}};
+static const size_t corner_ends[] = {3, 6};
+static int32_t polygon_outer(void) {
+  return s2u_polygon_outer(corners, 6, corner_ends, 2, 1, 0, 6, 1000000, out, ROOM, &len);
+}
+static int32_t polygon_inner(void) {
+  return s2u_polygon_inner(corners, 6, corner_ends, 2, 1, 0, 6, 1000000, out, ROOM, &len);
+}
+static int32_t polygon_outer_up_to(void) {
+  return s2u_polygon_outer_up_to(corners, 6, corner_ends, 2, 1, 0, 3, 12, 20, out, ROOM, &len);
+}
+static int32_t polygon_inner_up_to(void) {
+  return s2u_polygon_inner_up_to(corners, 6, corner_ends, 2, 1, 0, 3, 12, 20, out, ROOM, &len);
+}
 static int32_t encode(void) { return s2u_encode(xs, nx, bytes, sizeof bytes, &len); }
 static int32_t decode(void) { return s2u_decode(file, nfile, out, ROOM, &len); }
 static int32_t decode_mixed(void) { return s2u_decode(mixed, sizeof mixed, out, N, &len); }
@@ -74,6 +88,8 @@ int main(void) {
                {"denormalised_len", cut_len, 1}, {"file_ancestors", of_file, 1},
                {"outer", outer, 0}, {"inner", inner, 0}, {"outer_of", outer_of, 1}, {"inner_of", inner_of, 1},
                {"outer_in", outer_in, 0}, {"inner_in", inner_in, 0},
+               {"polygon_outer", polygon_outer, 0}, {"polygon_inner", polygon_inner, 0},
+               {"polygon_outer_up_to", polygon_outer_up_to, 0}, {"polygon_inner_up_to", polygon_inner_up_to, 0},
                {"encode", encode, 1}, {"decode of a union", decode, 1}, {"decode in any order", decode_mixed, 1},
                {"decode in little room", decode_in_little_room, 0}};
   nx = random_union(xs, N, 6, 12);

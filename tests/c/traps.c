@@ -268,6 +268,71 @@ static void places_of_cells_that_a_union_lacks(void) {
   CHECK(s2u_cells_at(first_and_third, 2, 0x1c00000000000000u, &first, &count) == S2U_OK && first == 2 && count == 0);
 }
 
+typedef int32_t polygon_call(const s2u_direction*, size_t, const size_t*, size_t, uint64_t, uint64_t, uint32_t, size_t,
+                             uint64_t*, size_t, size_t*);
+typedef int32_t few_call(const s2u_direction*, size_t, const size_t*, size_t, uint64_t, uint64_t, uint32_t, uint32_t,
+                         size_t, uint64_t*, size_t, size_t*);
+
+/* Corners, rings, leaves, margins and levels that make no polygon, each refused by its status and place; and rooms. */
+static void polygons(void) {
+  static polygon_call* const calls[] = {s2u_polygon_outer, s2u_polygon_inner};
+  static few_call* const few[] = {s2u_polygon_outer_up_to, s2u_polygon_inner_up_to};
+  const int64_t large = INT64_C(1) << 31, least = INT64_MIN, most = INT64_MAX;
+  const s2u_direction triangle[] = {{10, 1, 1}, {10, 9, 1}, {10, 1, 9}, {-10, -1, -1}, {0, 0, 0}, {1, 1, large},
+                                    {1, -large, 1}, {least, 1, 1}, {1, 1, most}};
+  const struct {
+    size_t corners[6], n, ends[2], rings;
+    int32_t status;
+    size_t place;
+  } rows[] = {
+      {{0, 1, 2}, 3, {3}, 1, S2U_OK, 0},       {{0, 1, 4}, 3, {3}, 1, S2U_CORNER, 2},
+      {{5, 1, 2}, 3, {3}, 1, S2U_CORNER, 0},   {{0, 6, 2}, 3, {3}, 1, S2U_CORNER, 1},
+      {{0, 7, 2}, 3, {3}, 1, S2U_CORNER, 1},   {{0, 8, 4}, 3, {3}, 1, S2U_CORNER, 1},
+      {{0, 1, 3}, 3, {3}, 1, S2U_CORNER, 2},   {{1, 0, 3, 2}, 4, {4}, 1, S2U_CORNER, 1},
+      {{0, 1, 2}, 3, {2}, 1, S2U_RING, 0},     {{0, 1, 2}, 3, {4}, 1, S2U_RING, 0},
+      {{0, 1, 2}, 3, {0}, 0, S2U_RING, 0},     {{0, 1, 2, 0, 1, 2}, 6, {3}, 1, S2U_RING, 0},
+      {{0, 1, 2, 0, 1, 2}, 6, {3, 6}, 2, S2U_OK, 0}, {{0, 1, 2, 0, 1, 2}, 6, {3, 5}, 2, S2U_RING, 1},
+      {{0, 1, 2, 0, 1, 2}, 6, {3, 2}, 2, S2U_RING, 1}, {{0}, 0, {0}, 1, S2U_RING, 0}, {{0}, 0, {0}, 0, S2U_RING, 0}};
+  for (size_t k = 0; k < sizeof rows / sizeof *rows; k++) {
+    s2u_direction* corners = at_the_edge(sizeof *corners * rows[k].n);
+    for (size_t c = 0; c < rows[k].n; c++) corners[c] = triangle[rows[k].corners[c]];
+    for (size_t call = 0; call < 4; call++) {
+      uint64_t out[40] = {7};
+      size_t len = 77;
+      size_t n = rows[k].n, rings = rows[k].rings;
+      int32_t status = call < 2 ? calls[call](corners, n, rows[k].ends, rings, 1, 0, 3, 99, out, 40, &len)
+                                : few[call - 2](corners, n, rows[k].ends, rings, 1, 0, 0, 9, 9, out, 40, &len);
+      CHECK(status == rows[k].status);
+      CHECK(status == S2U_OK || (len == rows[k].place && out[0] == 7));
+    }
+  }
+  const uint64_t half = UINT64_C(1) << 60;
+  const size_t ends[] = {3};
+  for (size_t call = 0; call < 2; call++) {
+    size_t len = 77, need = 0;
+    uint64_t want[400];
+    CHECK(calls[call](triangle, 3, ends, 1, 1, half + 1, 3, 99, NULL, 0, &len) == S2U_ARGUMENT && len == 0);
+    CHECK(calls[call](triangle, 3, ends, 1, 1, half, 3, 99, NULL, 0, &len) >= S2U_ROOM);
+    CHECK(calls[call](triangle, 3, ends, 1, face, 0, 3, 99, NULL, 0, &len) == S2U_ARGUMENT && len == 0);
+    CHECK(calls[call](triangle, 3, ends, 1, 0, 0, 3, 99, NULL, 0, &len) == S2U_ARGUMENT && len == 0);
+    CHECK(calls[call](triangle, 3, ends, 1, 1, 0, 31, 99, NULL, 0, &len) == S2U_ARGUMENT && len == 0);
+    CHECK(calls[call](triangle, 3, ends, 1, 1, 0, 256, 99, NULL, 0, &len) == S2U_ARGUMENT && len == 0);
+    CHECK(few[call](triangle, 3, ends, 1, 1, 0, 0, 31, 9, NULL, 0, &len) == S2U_ARGUMENT && len == 0);
+    CHECK(few[call](triangle, 3, ends, 1, 1, 0, 4, 3, 9, NULL, 0, &len) == S2U_ARGUMENT && len == 0);
+    CHECK(few[call](triangle, 3, ends, 1, 1, 0, 9, 12, 400, NULL, 0, &len) == S2U_ROOM && len > 20000);
+    CHECK(few[call](triangle, 3, ends, 1, 1, 0, 30, 30, 400, NULL, 0, &len) == S2U_MANY && len == 0);
+    CHECK(calls[call](triangle, 3, ends, 1, 1, 0, 5, 400, want, 400, &need) == S2U_OK && need > 10);
+    CHECK(calls[call](triangle, 3, ends, 1, 1, 0, 5, need - 1, want, 400, &len) == S2U_MANY && len == 0);
+    for (size_t room = need - 1; room <= need + 1; room++) {
+      uint64_t* out = at_the_edge(8 * room);
+      for (size_t k = 0; k < room; k++) out[k] = 7;
+      CHECK(calls[call](triangle, 3, ends, 1, 1, 0, 5, 400, out, room, &len) == (need > room ? S2U_ROOM : S2U_OK));
+      CHECK(len == need && (need > room ? out[0] == 7 : memcmp(out, want, 8 * need) == 0));
+      CHECK(room <= need || out[need] == 7);
+    }
+  }
+}
+
 static void nothing_at_all(void) {
   size_t len = 77, first = 77, count = 77;
   uint64_t id = 77;
@@ -307,6 +372,7 @@ int main(void) {
   longest_results();
   lists_as_texts();
   places_of_cells_that_a_union_lacks();
+  polygons();
   nothing_at_all();
   return report();
 }

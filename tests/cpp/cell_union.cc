@@ -441,6 +441,24 @@ static void collections() {
   CHECK(Union::CoveringOf(edge, 1).Tokens() == "04 1c" && Union::InteriorCoveringOf(edge, 1) == none);
   const s2u_rect leaf = {0, 0, 0, 0, 0};
   CHECK(two.CoveringIn(edge, 1).Tokens() == "04" && two.InteriorCoveringIn(leaf, 30).Tokens() == "0000000000000001");
+  struct Point {
+    double x() const { return at; }
+    double y() const { return at / 2; }
+    double z() const { return 1 - at; }
+    double at;
+  };
+  s2union::Polygon triangle{{{10, 1, 1}, {10, 9, 1}, {10, 1, 9}}, {3}, s2u_from_face_ij(3, 0, 0), 0};
+  CHECK(Union::PolygonCovering(triangle, 3).Tokens() == "11 13 144 17");
+  CHECK(Union::PolygonInteriorCovering(triangle, 3).Tokens() == "114");
+  CHECK(Union(Union::PolygonCoveringUpTo(triangle, 0, 30, 4)) == Union::PolygonCovering(triangle, 3));
+  CHECK(Union::PolygonCoveringUpTo(triangle, 3, 30, 4).size() == 13);
+  CHECK(Union(Union::PolygonInteriorCoveringUpTo(triangle, 0, 3, 4)) == Union::PolygonInteriorCovering(triangle, 3));
+  REFUSES(S2U_MANY, Union::PolygonCovering(triangle, 3, 3, status));
+  REFUSES(S2U_ARGUMENT, Union::PolygonInteriorCovering(triangle, -1, 9, status));
+  REFUSES(S2U_ARGUMENT, Union::PolygonCoveringUpTo(triangle, 4, 3, 9, status));
+  triangle.AddRing(std::vector<Point>{{1}, {0}});
+  CHECK(triangle.ends.back() == 5 && triangle.corners[3].y == 1073741824);
+  REFUSES(S2U_RING, Union::PolygonInteriorCoveringUpTo(triangle, 0, 3, 9, status));
   CHECK(Union::FromTokens("0/1, 04") == two && Union::FromTokens("").Tokens().empty());
   CHECK(two < face && !(face < two) && std::set<Union>({face, two, face}).size() == 2);
   CHECK(std::unordered_set<Union>({face, two, face}).size() == 2 && std::hash<Union>()(none) == std::hash<Union>()({}));

@@ -363,6 +363,44 @@ int main() {
     check(CellUnion::InteriorCoveringOf(side, 1).Tokens() == "04 1c");
     // [InteriorCoveringOf]
   }
+  const s2union::Polygon triangle = {{{10, 1, 1}, {10, 9, 1}, {10, 1, 9}}, {3}, s2u_from_face_ij(3, 0, 0), 0};
+  {
+    // [Polygon]
+    struct Point {
+      double x() const { return at[0]; }
+      double y() const { return at[1]; }
+      double z() const { return at[2]; }
+      double at[3];
+    };
+    s2union::Polygon octant;
+    octant.outside = s2u_from_face_ij(3, 0, 0);
+    octant.AddRing(std::vector<Point>{{{1, 0, 0}}, {{0, 1, 0}}, {{0, 0, 1}}});
+    check(octant.corners[1].y == 2147483647 && octant.ends.back() == 3);
+    check(CellUnion::PolygonInteriorCovering(octant, 2).size() == 3);
+    // [Polygon]
+  }
+  {
+    // [PolygonCovering]
+    check(CellUnion::PolygonCovering(triangle, 3).Tokens() == "11 13 144 17");
+    int32_t status;
+    check(CellUnion::PolygonCovering(triangle, 3, 3, &status).empty() && status == S2U_MANY);
+    // [PolygonCovering]
+  }
+  {
+    // [PolygonInteriorCovering]
+    check(CellUnion::PolygonInteriorCovering(triangle, 3).Tokens() == "114");
+    // [PolygonInteriorCovering]
+  }
+  {
+    // [PolygonCoveringUpTo]
+    check(CellUnion::PolygonCoveringUpTo(triangle, 0, 30, 4).size() == 4);
+    // [PolygonCoveringUpTo]
+  }
+  {
+    // [PolygonInteriorCoveringUpTo]
+    check(CellUnion::PolygonInteriorCoveringUpTo(triangle, 0, 4, 8).size() == 4);
+    // [PolygonInteriorCoveringUpTo]
+  }
   {
     // [operator==]
     CellUnion park = CellUnion::FromTokens("1"), pond = CellUnion::FromTokens("14");

@@ -39,7 +39,11 @@ WORDS = {
 }
 NO_TEXT = "a cell is an int, not str: from_token reads a token, and from_tokens several"
 DEGREES = "from_face_ij takes one point, and s2union_geo.leaves longitudes and latitudes"
-OTHERS = {"from_debug": ("0/2",), "file_contains": (FILE, FILE), "file_intersects": (FILE, FILE)}
+POLYGON = (memoryview(array("q", [10, 1, 1, 10, 9, 1, 10, 1, 9])), memoryview(array("Q", [3])),
+           s2union.from_face_ij(3, 0, 0), 0)  # a triangle: corners, ends, a leaf outside, and no margin
+OTHERS = {"from_debug": ("0/2",), "file_contains": (FILE, FILE), "file_intersects": (FILE, FILE),
+          **dict.fromkeys(("polygon_outer", "polygon_inner"), ("", 1, *POLYGON, 3, 99)),
+          **dict.fromkeys(("polygon_outer_up_to", "polygon_inner_up_to"), ("", 1, *POLYGON, 0, 3, 9))}
 TYPES = (Path(calls.__file__).parent / "_library.pyi").read_text()
 
 
@@ -342,8 +346,12 @@ class Around(unittest.TestCase):
             "each": range(1, 2**19, 2), "ends": memoryview(array("Q", [len(xs)])),
             **dict.fromkeys(("longitudes", "latitudes"), degrees),
         }
-        others = {"contains": (xs, xs), "compare": (xs, xs), "file_contains": data[:1] * 2, "file_intersects": data}
-        large = [xs, ys, points, degrees, *data, words["bounds"], words["text"]]
+        corners = memoryview(array("q", 2**17 * POLYGON[0].tolist()))
+        rings = memoryview(array("Q", [len(corners) // 3])), *POLYGON[2:]
+        others = {"contains": (xs, xs), "compare": (xs, xs), "file_contains": data[:1] * 2, "file_intersects": data,
+                  **dict.fromkeys(("polygon_outer", "polygon_inner"), ("", 1, corners, *rings, 2, 9)),
+                  **dict.fromkeys(("polygon_outer_up_to", "polygon_inner_up_to"), ("", 1, corners, *rings, 0, 2, 9))}
+        large = [xs, ys, points, degrees, corners, *data, words["bounds"], words["text"]]
         quick = {"contains_cell", "intersects_cell", "cells_at", "file_count", "file_cell", "file_contains_cell",
                  "file_intersects_cell", "from_token", "from_debug"}
         ticks, read, released, ends = [0], [], [], threading.Event()

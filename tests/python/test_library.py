@@ -473,6 +473,9 @@ class Park(Union):
         self.__dict__["name"] = name
 
 
+TRIANGLE = [(10, 1, 1), (10, 9, 1), (10, 1, 9)], [3], s2union.from_face_ij(3, 0, 0)  # corners, ends, a leaf outside
+
+
 class TheModule(unittest.TestCase):
     def test_a_file_that_is_opened(self):
         """It answers until it is closed, also by another name of its path, and what can't be opened is an error."""
@@ -880,6 +883,7 @@ class TheModule(unittest.TestCase):
             "of": [([given],), ([],), ([given, other, a],)], "from_tokens": [("04",), (["04"],)],
             "from_range": [(cell, cell)], "from_bytes": [(given.to_bytes(),)],
             "covering": [(*rectangle, 1), (*rectangle, 1, True)],
+            "of_polygon": [(*TRIANGLE, 3), (*TRIANGLE, 3, True)],
             "outer": [(0,), (0, 9, rectangle), (30,)], "inner": [(1,), (1, 9, rectangle), (0,)],
             "union": [(), (other,), (other, none), (none, other, given)],
             "intersection": [(), (other,), (other, given), (none,)],
@@ -897,6 +901,31 @@ class TheModule(unittest.TestCase):
         answering = {name for name, member in members.items()
                      if getattr(member, "__annotations__", {}).get("return") == "Self"}
         self.assertEqual(answering - hidden, set(calls))
+
+    def test_polygons(self):
+        corners, ends, outside = TRIANGLE
+        rows = array("q", [number for corner in corners for number in corner])
+        for inner, tokens in ((False, ["11", "13", "144", "17"]), (True, ["114"])):
+            found = Union.of_polygon(corners, ends, outside, 3, inner)
+            self.assertEqual((found.tokens(), found), (tokens, Union.of_polygon(rows, ends, outside, 3, inner)))
+        few = Union.few_of_polygon(corners, ends, outside, 4)
+        self.assertEqual(s2union.tokens(few), ["11", "13", "144", "17"])
+        cut = Union.few_of_polygon(corners, ends, outside, 4, least=3)
+        self.assertEqual((Union(cut), {s2union.level(cell) for cell in cut}), (Union(few), {3}))
+        inside = Union(Union.few_of_polygon(corners, ends, outside, 50, inner=True, deepest=9))
+        self.assertTrue(inside < Union.of_polygon(corners, ends, outside, 9) and inside)
+        for error, given in ((s2union.CornerError, ([(0, 0, 0), *corners[1:]], ends, outside, 3)),
+                             (s2union.CornerError, ([(2**70, 0, 0), *corners[1:]], ends, outside, 3)),
+                             (s2union.CornerError, ([*corners, (-10, -1, -1)], [4], outside, 3)),
+                             (s2union.RingError, (corners, [2], outside, 3)),
+                             (s2union.RingError, (corners, [], outside, 3)),
+                             (s2union.RingError, (corners, [-1], outside, 3)),
+                             (s2union.OutOfRangeError, (corners, ends, outside, 31)),
+                             (s2union.OutOfRangeError, (corners, ends, s2union.parent(outside, 9), 3)),
+                             (s2union.TooManyCellsError, (corners, ends, outside, 3, False, 0, 3)),
+                             (TypeError, (array("d", [1, 2, 3]), ends, outside, 3))):
+            self.assertRaises(error, Union.of_polygon, *given)
+        self.assertRaises(s2union.OutOfRangeError, Union.few_of_polygon, *TRIANGLE, 9, least=4, deepest=3)
 
     def test_deep_copies(self):
         a = Union.from_tokens("04 0c")

@@ -38,6 +38,10 @@ public final class Refusal extends IllegalArgumentException {
     FILE_TRAILING(-12),
     /** A number in a file is not a cell. */
     FILE_CELL(-13),
+    /** A corner of a polygon is no direction, or lies opposite the next corner of its ring. */
+    CORNER(-14),
+    /** A ring of a polygon ends in a wrong place or has fewer than three corners, or there is none. */
+    RING(-15),
     /** An error of a later version of the library. */
     OTHER(0);
 
@@ -71,6 +75,10 @@ public final class Refusal extends IllegalArgumentException {
   public static final int FILE_TRAILING = -12;
   /** A number in a file is not a cell. */
   public static final int FILE_CELL = -13;
+  /** A corner of a polygon is no direction, or lies opposite the next corner of its ring. */
+  public static final int CORNER = -14;
+  /** A ring of a polygon ends in a wrong place or has fewer than three corners, or there is none. */
+  public static final int RING = -15;
 
   private static final long serialVersionUID = 1;
   /** The status of s2union.h. */
@@ -95,6 +103,8 @@ public final class Refusal extends IllegalArgumentException {
       case -11: return "union file: unknown version";
       case -12: return "union file: bytes after the last cell";
       case -13: return "union file: a number that is not a cell";
+      case -14: return "a corner of a polygon is no direction, or lies opposite the next one";
+      case -15: return "a ring of a polygon has a wrong end or fewer than three corners";
       default: return "unknown refusal " + status;
     }
   }

@@ -34,8 +34,8 @@ from typing import TYPE_CHECKING, Any, Iterable, Iterator, NoReturn, overload
 
 from . import _library, _rooms
 from ._errors import (
-    FileCellError, FileShortError, FileTrailingError, FileVersionError, NotACellError, NotNormalizedError,
-    OutOfMemoryError, OutOfRangeError, S2UnionError, TooManyCellsError, UnionFileError, UnknownStatusError,
+    CornerError, FileCellError, FileShortError, FileTrailingError, FileVersionError, NotACellError, NotNormalizedError,
+    OutOfMemoryError, OutOfRangeError, RingError, S2UnionError, TooManyCellsError, UnionFileError, UnknownStatusError,
 )
 
 if TYPE_CHECKING:
@@ -53,6 +53,7 @@ if TYPE_CHECKING:
         def __array__(self, *arguments: Any, **options: Any) -> Any: ...
 
     Cells = Iterable[SupportsIndex] | Array
+    Corners = Iterable[Iterable[SupportsIndex]] | Array
     Bytes = bytes | bytearray | memoryview | mmap | _array[Any] | Array
 
 __all__ = ["CellUnion", "Union", "UnionFile", "version", "is_cell", "level", "face", "parent", "child", "range_min",
@@ -61,7 +62,7 @@ __all__ = ["CellUnion", "Union", "UnionFile", "version", "is_cell", "level", "fa
            "levels", "parents", "range_mins", "range_maxes", "token_fields", "from_points", "is_union",
            "S2UnionError", "NotACellError", "NotNormalizedError", "OutOfRangeError", "TooManyCellsError",
            "OutOfMemoryError", "UnionFileError", "FileShortError", "FileVersionError", "FileTrailingError",
-           "FileCellError", "UnknownStatusError"]
+           "FileCellError", "CornerError", "RingError", "UnknownStatusError"]
 
 __version__ = "1.3.3"
 
@@ -1265,6 +1266,37 @@ def _shown(bounds: Iterable[SupportsIndex], level: SupportsIndex, most: Supports
     return f"{corners}{', ' if corners else ''}level {level}, at most {most} cells"
 
 
+def _asked(outside: SupportsIndex, margin: SupportsIndex, rest: str) -> str:
+    """What a covering of a polygon was asked for, besides its corners and rings."""
+    return f"outside {outside}, margin {margin}, {rest}"
+
+
+def _directions(corners: Any) -> memoryview:
+    """Corners as the library takes them: three numbers of 64 bits for each. A buffer of such numbers isn't copied."""
+    try:
+        view = memoryview(corners)
+    except TypeError:
+        numbers = _array("q")
+        try:
+            for x, y, z in corners:
+                numbers.extend((_operator.index(x), _operator.index(y), _operator.index(z)))
+        except OverflowError:
+            raise CornerError(f"a corner of a polygon is no direction: {x} {y} {z}") from None
+        return memoryview(numbers)
+    if view.format not in ("q", "l") or view.itemsize != 8 or not view.c_contiguous or view.nbytes % 24:
+        raise TypeError("corners are three numbers of 64 bits each, one after another")
+    return view.cast("B")
+
+
+def _ends(ends: Iterable[SupportsIndex]) -> memoryview:
+    """The ends of rings as the library takes them."""
+    numbers = list(map(_operator.index, ends))
+    try:
+        return memoryview(_array("Q", numbers))
+    except OverflowError:
+        raise RingError(f"a ring of a polygon has a wrong end: one of {numbers}") from None
+
+
 def _answers(cells: Any, answers: bytearray) -> Any:
     """The answers to questions about cells, 1 or 0 for each: a mask for whatever the caller has the cells in."""
     return _entries(cells, answers, "?")
@@ -2005,6 +2037,130 @@ class CellUnion:
         call = _library.inner if inner else _library.outer
         bounds = (face, i0, i1, j0, j1)
         return cls._holding(call(_shown(bounds, level, most), _rooms.outer(), bounds, level, most))
+
+    @classmethod
+    def of_polygon(cls: type[Self], corners: Corners, ends: Iterable[SupportsIndex], outside: SupportsIndex,
+                   level: SupportsIndex, inner: bool = False, margin: SupportsIndex = 0,
+                   most: SupportsIndex = _library.MOST_COVERING) -> Self:
+        """The cells of a level that have an outer leaf of a polygon; with `inner`, those of inner leaves alone.
+
+        Rings may cross, touch, nest and repeat each other: what is crossed an odd number of times on the way from the
+        leaf outside lies inside. Outer leaves are those inside and those that an edge touches, inner leaves those
+        inside that no edge touches. Nothing is rounded.
+
+        .. versionadded:: 1.4
+
+        Parameters
+        ----------
+        corners : iterable of triples of int, or a buffer of 64-bit numbers
+            Directions from the center of the sphere, each less than 2**31 in size and not all 0, ring after ring: a
+            unit vector times 2**31 - 1, rounded.
+        ends : iterable of int
+            How many corners there are up to the end of each ring.
+        outside : int
+            A leaf that lies outside.
+        level : int
+            0 (a face) to 30 (a leaf).
+        inner : bool
+            Whether to take only cells that have inner leaves alone.
+        margin : int
+            How near an edge has to come to a leaf to touch it: 0 to 2**60, of which a face has 6 * 2**60 a side.
+        most : int
+            The most cells that it may have: at most 1,000,000, which it is if it is left out.
+
+        Returns
+        -------
+        CellUnion
+            The cells, normalized.
+
+        Raises
+        ------
+        OutOfRangeError
+            The level is above 30, the margin is above 2**60, or `outside` is no leaf.
+        CornerError
+            A corner is no direction, or lies opposite the next corner of its ring.
+        RingError
+            A ring ends in a wrong place or has fewer than three corners, or there is none.
+        TooManyCellsError
+            There would be more than `most` cells.
+        OutOfMemoryError
+            There is no memory for the result.
+
+        Notes
+        -----
+        S2: ``GetCovering`` and ``GetInteriorCovering`` of an ``S2Polygon``, with one level.
+
+        Examples
+        --------
+        >>> triangle = [(10, 1, 1), (10, 9, 1), (10, 1, 9)]
+        >>> CellUnion.of_polygon(triangle, [3], from_face_ij(3, 0, 0), level=3).tokens()
+        ['11', '13', '144', '17']
+        """
+        call = _library.polygon_inner if inner else _library.polygon_outer
+        return cls._holding(call(_asked(outside, margin, f"level {level}, at most {most} cells"),
+                                 _rooms.polygon_outer(), _directions(corners), _ends(ends), outside, margin, level,
+                                 most))
+
+    @staticmethod
+    def few_of_polygon(corners: Corners, ends: Iterable[SupportsIndex], outside: SupportsIndex, cells: SupportsIndex,
+                       inner: bool = False, margin: SupportsIndex = 0, least: SupportsIndex = 0,
+                       deepest: SupportsIndex = 30) -> list[int]:
+        """Few cells that have all outer leaves of a polygon, which is as for `of_polygon`; with `inner`, inner leaves.
+
+        .. versionadded:: 1.4
+
+        Parameters
+        ----------
+        corners : iterable of triples of int, or a buffer of 64-bit numbers
+            Directions from the center of the sphere, each less than 2**31 in size and not all 0, ring after ring: a
+            unit vector times 2**31 - 1, rounded.
+        ends : iterable of int
+            How many corners there are up to the end of each ring.
+        outside : int
+            A leaf that lies outside.
+        cells : int
+            The most cells, or 6 if that is more and `inner` is not set.
+        inner : bool
+            Whether to take only cells that have inner leaves alone.
+        margin : int
+            How near an edge has to come to a leaf to touch it: 0 to 2**60, of which a face has 6 * 2**60 a side.
+        least : int
+            Cells of lesser levels are cut into cells of this one, 0 to `deepest`. There may then be more of them.
+        deepest : int
+            The greatest level of a cell, 0 (a face) to 30 (a leaf).
+
+        Returns
+        -------
+        list of int
+            The cells, ascending; normalized if `least` is 0.
+
+        Raises
+        ------
+        OutOfRangeError
+            A level is above 30, `least` is above `deepest`, the margin is above 2**60, or `outside` is no leaf.
+        CornerError
+            A corner is no direction, or lies opposite the next corner of its ring.
+        RingError
+            A ring ends in a wrong place or has fewer than three corners, or there is none.
+        TooManyCellsError
+            There would be more than 1,000,000 cells after some were cut.
+        OutOfMemoryError
+            There is no memory for the result.
+
+        Notes
+        -----
+        S2: ``GetCovering`` and ``GetInteriorCovering`` of an ``S2Polygon``, with ``max_cells`` and ``max_level``.
+
+        Examples
+        --------
+        >>> triangle = [(10, 1, 1), (10, 9, 1), (10, 1, 9)]
+        >>> tokens(CellUnion.few_of_polygon(triangle, [3], from_face_ij(3, 0, 0), cells=4))
+        ['11', '13', '144', '17']
+        """
+        call = _library.polygon_inner_up_to if inner else _library.polygon_outer_up_to
+        return _cells_in(call(_asked(outside, margin, f"levels {least} to {deepest}, at most {cells} cells"),
+                              _rooms.polygon_outer_up_to(), _directions(corners), _ends(ends), outside, margin, least,
+                              deepest, cells)).tolist()
 
     def outer(self: Self, level: SupportsIndex, most: SupportsIndex = _library.MOST_COVERING,
               rectangle: Iterable[SupportsIndex] | None = None) -> Self:

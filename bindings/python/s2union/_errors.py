@@ -8,7 +8,7 @@ from __future__ import annotations
 
 __all__ = ["S2UnionError", "NotACellError", "NotNormalizedError", "OutOfRangeError", "TooManyCellsError",
            "OutOfMemoryError", "UnionFileError", "FileShortError", "FileVersionError", "FileTrailingError",
-           "FileCellError", "UnknownStatusError"]
+           "FileCellError", "CornerError", "RingError", "UnknownStatusError"]
 
 
 class S2UnionError(Exception):
@@ -109,6 +109,24 @@ class FileCellError(UnionFileError):
     status = -13  # FILE_CELL
 
 
+class CornerError(S2UnionError, ValueError):
+    """A corner of a polygon is no direction, or lies opposite the next corner of its ring.
+
+    .. versionadded:: 1.4
+    """
+
+    status = -14  # CORNER
+
+
+class RingError(S2UnionError, ValueError):
+    """A ring of a polygon ends in a wrong place or has fewer than three corners, or there is none.
+
+    .. versionadded:: 1.4
+    """
+
+    status = -15  # RING
+
+
 class UnknownStatusError(S2UnionError, ValueError):
     """A status of a later version of the library.
 
@@ -118,7 +136,7 @@ class UnknownStatusError(S2UnionError, ValueError):
 
 _KINDS = {kind.status: kind for kind in (
     NotACellError, NotNormalizedError, OutOfRangeError, TooManyCellsError, OutOfMemoryError, FileShortError,
-    FileVersionError, FileTrailingError, FileCellError)}
+    FileVersionError, FileTrailingError, FileCellError, CornerError, RingError)}
 
 for _kind in (S2UnionError, UnionFileError, UnknownStatusError, *_KINDS.values()):
     _kind.__module__ = "s2union"  # where they are found

@@ -57,6 +57,22 @@ def inner_of(n: int) -> int:
     return n
 
 
+def polygon_outer() -> int:
+    return 4096
+
+
+def polygon_inner() -> int:
+    return 4096
+
+
+def polygon_outer_up_to() -> int:
+    return 1024
+
+
+def polygon_inner_up_to() -> int:
+    return 1024
+
+
 def encode(n: int) -> int:
     return 8 * n + 9
 

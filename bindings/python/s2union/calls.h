@@ -7,9 +7,10 @@
   X(file_intersects_cell) X(file_leaf_count) X(from_debug) X(from_face_ij) X(from_points) X(from_token) \
   X(from_tokens) X(inner) X(inner_in) X(inner_of) X(intersection) X(intersects) X(intersects_cell) \
   X(intersects_cells) X(is_cell) X(is_union) X(leaf_count) X(level) X(levels) X(next) X(normalise) \
-  X(outer) X(outer_in) X(outer_of) X(parent) X(parents) X(prev) X(range) X(range_max) X(range_maxes) \
-  X(range_min) X(range_mins) X(size) X(square_of) X(symmetric_difference) X(token) X(token_fields) \
-  X(tokens) X(union) X(union_of_many) X(version)
+  X(outer) X(outer_in) X(outer_of) X(parent) X(parents) X(polygon_inner) X(polygon_inner_up_to) \
+  X(polygon_outer) X(polygon_outer_up_to) X(prev) X(range) X(range_max) X(range_maxes) X(range_min) \
+  X(range_mins) X(size) X(square_of) X(symmetric_difference) X(token) X(token_fields) X(tokens) X(union) \
+  X(union_of_many) X(version)
 
 #define METHODS(X) \
   X(ancestors, METH_VARARGS) X(cell_contains, METH_VARARGS) X(cell_intersects, METH_VARARGS) \
@@ -26,15 +27,17 @@
   X(intersects, METH_VARARGS) X(intersects_cell, METH_VARARGS) X(intersects_cells, METH_VARARGS) \
   X(is_cell, METH_O) X(is_union, METH_O) X(leaf_count, METH_O) X(level, METH_O) X(levels, METH_O) \
   X(next_cell, METH_O) X(normalise, METH_O) X(outer, METH_VARARGS) X(outer_in, METH_VARARGS) \
-  X(outer_of, METH_VARARGS) X(parent, METH_VARARGS) X(parents, METH_VARARGS) X(previous_cell, METH_O) \
-  X(range_, METH_VARARGS) X(range_max, METH_O) X(range_maxes, METH_O) X(range_min, METH_O) \
-  X(range_mins, METH_O) X(size, METH_O) X(square_of, METH_O) X(symmetric_difference, METH_VARARGS) \
-  X(token, METH_O) X(token_fields, METH_O) X(tokens, METH_O) X(union, METH_VARARGS) \
-  X(union_of_many, METH_VARARGS) X(version, METH_NOARGS)
+  X(outer_of, METH_VARARGS) X(parent, METH_VARARGS) X(parents, METH_VARARGS) \
+  X(polygon_inner, METH_VARARGS) X(polygon_inner_up_to, METH_VARARGS) X(polygon_outer, METH_VARARGS) \
+  X(polygon_outer_up_to, METH_VARARGS) X(previous_cell, METH_O) X(range_, METH_VARARGS) \
+  X(range_max, METH_O) X(range_maxes, METH_O) X(range_min, METH_O) X(range_mins, METH_O) X(size, METH_O) \
+  X(square_of, METH_O) X(symmetric_difference, METH_VARARGS) X(token, METH_O) X(token_fields, METH_O) \
+  X(tokens, METH_O) X(union, METH_VARARGS) X(union_of_many, METH_VARARGS) X(version, METH_NOARGS)
 
 #define NUMBERS(X) \
   X(OK) X(ROOM) X(MEMORY) X(NO_CELL) X(NO_UNION) X(ARGUMENT) X(MANY) X(FILE_SHORT) X(FILE_VERSION) \
-  X(FILE_TRAILING) X(FILE_CELL) X(MOST_TOKEN) X(MOST_DEBUG) X(MOST_RANGE) X(MOST_COVERING)
+  X(FILE_TRAILING) X(FILE_CELL) X(CORNER) X(RING) X(MOST_TOKEN) X(MOST_DEBUG) X(MOST_RANGE) \
+  X(MOST_COVERING)
 
 typedef struct Calls {
 #define CALL(name) __typeof__(s2u_##name)* s2u_##name;
@@ -567,6 +570,88 @@ static PyObject* py_parents(PyObject* module, PyObject* words) {
   UNLOCKED(while (has_part(&ids)) status = LIBRARY(parents)((void*)ids.at, ids.n, (uint32_t)level,
       (void*)(at + ids.done * unit), ids.n, &ids.bad));
   return entered(status, entries, &ids);
+}
+
+static PyObject* py_polygon_inner(PyObject* module, PyObject* words) {
+  HELD List corners = {0}, ends = {0};
+  uint64_t outside, margin, level, most, room;
+  size_t len = 0;
+  Room out;
+  if (!has(words, 8) || !as_cell(WORD(4), &outside) ||
+      !as_number(WORD(5), "a margin", 0, (UINT64_C(1) << 60), &margin) ||
+      !as_number(WORD(6), "a level", 0, 30, &level) || !as_number(WORD(7), "most", 0, INT64_MAX, &most) ||
+      !as_number(WORD(1), "room", 0, UINT64_MAX, &room) ||
+      !as_list(WORD(2), sizeof(s2u_direction), &corners) || !as_list(WORD(3), sizeof(size_t), &ends) ||
+      !take(&out, room, sizeof(uint64_t)))
+    return NULL;
+  int32_t status;
+  do {
+    UNLOCKED(status = LIBRARY(polygon_inner)(corners.at, corners.n, ends.at, ends.n, outside, margin, (uint32_t)level,
+        (size_t)most, out.at, out.n, &len));
+  } while (is_larger_now(status, &out, len));
+  return listed(module, status, &out, len, WORD(0), (uint64_t[]){outside}, 1);
+}
+
+static PyObject* py_polygon_inner_up_to(PyObject* module, PyObject* words) {
+  HELD List corners = {0}, ends = {0};
+  uint64_t outside, margin, least, deepest, cells, room;
+  size_t len = 0;
+  Room out;
+  if (!has(words, 9) || !as_cell(WORD(4), &outside) ||
+      !as_number(WORD(5), "a margin", 0, (UINT64_C(1) << 60), &margin) ||
+      !as_number(WORD(6), "a level", 0, 30, &least) || !as_number(WORD(7), "a level", 0, 30, &deepest) ||
+      !as_number(WORD(8), "a number of cells", 0, INT64_MAX, &cells) ||
+      !as_number(WORD(1), "room", 0, UINT64_MAX, &room) ||
+      !as_list(WORD(2), sizeof(s2u_direction), &corners) || !as_list(WORD(3), sizeof(size_t), &ends) ||
+      !take(&out, room, sizeof(uint64_t)))
+    return NULL;
+  int32_t status;
+  do {
+    UNLOCKED(status = LIBRARY(polygon_inner_up_to)(corners.at, corners.n, ends.at, ends.n, outside, margin,
+        (uint32_t)least, (uint32_t)deepest, (size_t)cells, out.at, out.n, &len));
+  } while (is_larger_now(status, &out, len));
+  return listed(module, status, &out, len, WORD(0), (uint64_t[]){outside}, 1);
+}
+
+static PyObject* py_polygon_outer(PyObject* module, PyObject* words) {
+  HELD List corners = {0}, ends = {0};
+  uint64_t outside, margin, level, most, room;
+  size_t len = 0;
+  Room out;
+  if (!has(words, 8) || !as_cell(WORD(4), &outside) ||
+      !as_number(WORD(5), "a margin", 0, (UINT64_C(1) << 60), &margin) ||
+      !as_number(WORD(6), "a level", 0, 30, &level) || !as_number(WORD(7), "most", 0, INT64_MAX, &most) ||
+      !as_number(WORD(1), "room", 0, UINT64_MAX, &room) ||
+      !as_list(WORD(2), sizeof(s2u_direction), &corners) || !as_list(WORD(3), sizeof(size_t), &ends) ||
+      !take(&out, room, sizeof(uint64_t)))
+    return NULL;
+  int32_t status;
+  do {
+    UNLOCKED(status = LIBRARY(polygon_outer)(corners.at, corners.n, ends.at, ends.n, outside, margin, (uint32_t)level,
+        (size_t)most, out.at, out.n, &len));
+  } while (is_larger_now(status, &out, len));
+  return listed(module, status, &out, len, WORD(0), (uint64_t[]){outside}, 1);
+}
+
+static PyObject* py_polygon_outer_up_to(PyObject* module, PyObject* words) {
+  HELD List corners = {0}, ends = {0};
+  uint64_t outside, margin, least, deepest, cells, room;
+  size_t len = 0;
+  Room out;
+  if (!has(words, 9) || !as_cell(WORD(4), &outside) ||
+      !as_number(WORD(5), "a margin", 0, (UINT64_C(1) << 60), &margin) ||
+      !as_number(WORD(6), "a level", 0, 30, &least) || !as_number(WORD(7), "a level", 0, 30, &deepest) ||
+      !as_number(WORD(8), "a number of cells", 0, INT64_MAX, &cells) ||
+      !as_number(WORD(1), "room", 0, UINT64_MAX, &room) ||
+      !as_list(WORD(2), sizeof(s2u_direction), &corners) || !as_list(WORD(3), sizeof(size_t), &ends) ||
+      !take(&out, room, sizeof(uint64_t)))
+    return NULL;
+  int32_t status;
+  do {
+    UNLOCKED(status = LIBRARY(polygon_outer_up_to)(corners.at, corners.n, ends.at, ends.n, outside, margin,
+        (uint32_t)least, (uint32_t)deepest, (size_t)cells, out.at, out.n, &len));
+  } while (is_larger_now(status, &out, len));
+  return listed(module, status, &out, len, WORD(0), (uint64_t[]){outside}, 1);
 }
 
 static PyObject* py_previous_cell(PyObject* module, PyObject* words) {

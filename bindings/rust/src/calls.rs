@@ -4,7 +4,7 @@
 
 use std::mem::MaybeUninit;
 
-use crate::{Point, Rect, Square};
+use crate::{Direction, Point, Rect, Square};
 
 pub const OK: i32 = 0;
 pub const ROOM: i32 = -1;
@@ -17,6 +17,8 @@ pub const FILE_SHORT: i32 = -10;
 pub const FILE_VERSION: i32 = -11;
 pub const FILE_TRAILING: i32 = -12;
 pub const FILE_CELL: i32 = -13;
+pub const CORNER: i32 = -14;
+pub const RING: i32 = -15;
 pub const MOST_TOKEN: usize = 16;
 pub const MOST_DEBUG: usize = 32;
 pub const MOST_RANGE: usize = 184;
@@ -38,6 +40,10 @@ pub mod rooms {
     pub fn inner_in() -> usize { 64 }
     pub fn outer_of(n: usize) -> usize { n }
     pub fn inner_of(n: usize) -> usize { n }
+    pub fn polygon_outer() -> usize { 4096 }
+    pub fn polygon_inner() -> usize { 4096 }
+    pub fn polygon_outer_up_to() -> usize { 1024 }
+    pub fn polygon_inner_up_to() -> usize { 1024 }
     pub fn encode(n: usize) -> usize { 8 * n + 9 }
     pub fn decode(n: usize) -> usize { n / 8 }
     pub fn tokens(n: usize) -> usize { 17 * n }
@@ -57,6 +63,8 @@ pub fn text(status: i32) -> &'static str {
         FILE_VERSION => "union file: unknown version",
         FILE_TRAILING => "union file: bytes after the last cell",
         FILE_CELL => "union file: a number that is not a cell",
+        CORNER => "a corner of a polygon is no direction, or lies opposite the next one",
+        RING => "a ring of a polygon has a wrong end or fewer than three corners",
         _ => "unknown refusal",
     }
 }
@@ -196,6 +204,60 @@ extern "C" {
     ) -> i32;
     fn s2u_parent(id: u64, level: u32) -> u64;
     fn s2u_parents(ids: *const u64, n: usize, level: u32, out: *mut u64, room: usize, bad: &mut usize) -> i32;
+    fn s2u_polygon_inner(
+        corners: *const Direction,
+        n: usize,
+        ends: *const usize,
+        lists: usize,
+        outside: u64,
+        margin: u64,
+        level: u32,
+        most: usize,
+        out: *mut u64,
+        room: usize,
+        len: &mut usize,
+    ) -> i32;
+    fn s2u_polygon_inner_up_to(
+        corners: *const Direction,
+        n: usize,
+        ends: *const usize,
+        lists: usize,
+        outside: u64,
+        margin: u64,
+        least: u32,
+        deepest: u32,
+        cells: usize,
+        out: *mut u64,
+        room: usize,
+        len: &mut usize,
+    ) -> i32;
+    fn s2u_polygon_outer(
+        corners: *const Direction,
+        n: usize,
+        ends: *const usize,
+        lists: usize,
+        outside: u64,
+        margin: u64,
+        level: u32,
+        most: usize,
+        out: *mut u64,
+        room: usize,
+        len: &mut usize,
+    ) -> i32;
+    fn s2u_polygon_outer_up_to(
+        corners: *const Direction,
+        n: usize,
+        ends: *const usize,
+        lists: usize,
+        outside: u64,
+        margin: u64,
+        least: u32,
+        deepest: u32,
+        cells: usize,
+        out: *mut u64,
+        room: usize,
+        len: &mut usize,
+    ) -> i32;
     fn s2u_prev(id: u64) -> u64;
     fn s2u_range(first: u64, last: u64, out: *mut u64, room: usize, len: &mut usize) -> i32;
     fn s2u_range_max(id: u64) -> u64;
@@ -541,6 +603,122 @@ pub fn parent(id: u64, level: u32) -> u64 {
 pub fn parents(ids: &[u64], level: u32, out: &mut [MaybeUninit<u64>], bad: &mut usize) -> i32 {
     // SAFETY: each list goes with its length, and what is written is borrowed alone.
     unsafe { s2u_parents(ids.as_ptr(), ids.len(), level, out.as_mut_ptr().cast(), out.len(), bad) }
+}
+
+pub fn polygon_inner(
+    corners: &[Direction],
+    ends: &[usize],
+    outside: u64,
+    margin: u64,
+    level: u32,
+    most: usize,
+    out: &mut [MaybeUninit<u64>],
+    len: &mut usize,
+) -> i32 {
+    // SAFETY: each list goes with its length, and what is written is borrowed alone.
+    unsafe {
+        s2u_polygon_inner(
+            corners.as_ptr(),
+            corners.len(),
+            ends.as_ptr(),
+            ends.len(),
+            outside,
+            margin,
+            level,
+            most,
+            out.as_mut_ptr().cast(),
+            out.len(),
+            len,
+        )
+    }
+}
+
+pub fn polygon_inner_up_to(
+    corners: &[Direction],
+    ends: &[usize],
+    outside: u64,
+    margin: u64,
+    least: u32,
+    deepest: u32,
+    cells: usize,
+    out: &mut [MaybeUninit<u64>],
+    len: &mut usize,
+) -> i32 {
+    // SAFETY: each list goes with its length, and what is written is borrowed alone.
+    unsafe {
+        s2u_polygon_inner_up_to(
+            corners.as_ptr(),
+            corners.len(),
+            ends.as_ptr(),
+            ends.len(),
+            outside,
+            margin,
+            least,
+            deepest,
+            cells,
+            out.as_mut_ptr().cast(),
+            out.len(),
+            len,
+        )
+    }
+}
+
+pub fn polygon_outer(
+    corners: &[Direction],
+    ends: &[usize],
+    outside: u64,
+    margin: u64,
+    level: u32,
+    most: usize,
+    out: &mut [MaybeUninit<u64>],
+    len: &mut usize,
+) -> i32 {
+    // SAFETY: each list goes with its length, and what is written is borrowed alone.
+    unsafe {
+        s2u_polygon_outer(
+            corners.as_ptr(),
+            corners.len(),
+            ends.as_ptr(),
+            ends.len(),
+            outside,
+            margin,
+            level,
+            most,
+            out.as_mut_ptr().cast(),
+            out.len(),
+            len,
+        )
+    }
+}
+
+pub fn polygon_outer_up_to(
+    corners: &[Direction],
+    ends: &[usize],
+    outside: u64,
+    margin: u64,
+    least: u32,
+    deepest: u32,
+    cells: usize,
+    out: &mut [MaybeUninit<u64>],
+    len: &mut usize,
+) -> i32 {
+    // SAFETY: each list goes with its length, and what is written is borrowed alone.
+    unsafe {
+        s2u_polygon_outer_up_to(
+            corners.as_ptr(),
+            corners.len(),
+            ends.as_ptr(),
+            ends.len(),
+            outside,
+            margin,
+            least,
+            deepest,
+            cells,
+            out.as_mut_ptr().cast(),
+            out.len(),
+            len,
+        )
+    }
 }
 
 pub fn prev(id: u64) -> u64 {

@@ -27,6 +27,16 @@ pub enum Error {
     FileTrailing,
     /// An identifier in a file is that of no cell.
     FileCell,
+    /// A corner of a polygon is no direction, or lies opposite the next corner of its ring.
+    Corner {
+        /// Which corner, from 0 on.
+        place: usize,
+    },
+    /// A ring of a polygon ends in a wrong place or has fewer than three corners, or there is none.
+    Ring {
+        /// Which ring, from 0 on.
+        place: usize,
+    },
     /// Another status below 0, of a later version of the library.
     Other(i32),
 }
@@ -44,6 +54,8 @@ impl Error {
             calls::FILE_VERSION => Err(Error::FileVersion),
             calls::FILE_TRAILING => Err(Error::FileTrailing),
             calls::FILE_CELL => Err(Error::FileCell),
+            calls::CORNER => Err(Error::Corner { place }),
+            calls::RING => Err(Error::Ring { place }),
             calls::NO_UNION => Err(Error::NotNormalized),
             _ => Err(Error::Other(status)),
         }
@@ -60,6 +72,8 @@ impl Error {
             Error::FileVersion => calls::FILE_VERSION,
             Error::FileTrailing => calls::FILE_TRAILING,
             Error::FileCell => calls::FILE_CELL,
+            Error::Corner { .. } => calls::CORNER,
+            Error::Ring { .. } => calls::RING,
             Error::Other(status) => status,
         }
     }
@@ -68,7 +82,9 @@ impl Error {
 impl fmt::Display for Error {
     fn fmt(&self, f: &mut fmt::Formatter<'_>) -> fmt::Result {
         match self {
-            Error::NoCell { place } => write!(f, "{} at place {place}", calls::text(calls::NO_CELL)),
+            Error::NoCell { place } | Error::Corner { place } | Error::Ring { place } => {
+                write!(f, "{} at place {place}", calls::text(self.status()))
+            }
             Error::Other(status) => write!(f, "{} {status}", calls::text(*status)),
             known => f.write_str(calls::text(known.status())),
         }

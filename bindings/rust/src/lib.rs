@@ -30,6 +30,7 @@ mod error;
 mod file;
 mod lists;
 mod operators;
+mod polygon;
 mod union;
 
 pub use cell::{CellId, Square};
@@ -37,6 +38,7 @@ pub use cells::{FacePoint, Point};
 pub use covering::{Rect, MOST_COVERING};
 pub use error::Error;
 pub use file::UnionFile;
+pub use polygon::{Direction, Polygon};
 pub use union::CellUnion;
 
 /// The version of the library, as "1.0.0". Since 0.2.

@@ -4,7 +4,7 @@ use std::mem::MaybeUninit;
 
 use crate::calls::{self, rooms, MOST_DEBUG, MOST_TOKEN};
 use crate::error::Error;
-use crate::{Point, Rect};
+use crate::{Direction, Point, Rect};
 
 /// Calls that make a list, with the room that they are first given: `listed` gives more if it doesn't suffice.
 macro_rules! makers {
@@ -28,6 +28,14 @@ makers! {
     inner_of(ids: &[u64], level: u32, most: usize) -> [u64] in rooms::inner_of(ids.len());
     outer_in(ids: &[u64], bounds: &Rect, level: u32, most: usize) -> [u64] in rooms::outer_in();
     inner_in(ids: &[u64], bounds: &Rect, level: u32, most: usize) -> [u64] in rooms::inner_in();
+    polygon_outer(corners: &[Direction], ends: &[usize], outside: u64, margin: u64, level: u32, most: usize) -> [u64]
+        in rooms::polygon_outer();
+    polygon_inner(corners: &[Direction], ends: &[usize], outside: u64, margin: u64, level: u32, most: usize) -> [u64]
+        in rooms::polygon_inner();
+    polygon_outer_up_to(corners: &[Direction], ends: &[usize], outside: u64, margin: u64, least: u32, deepest: u32,
+        cells: usize) -> [u64] in rooms::polygon_outer_up_to();
+    polygon_inner_up_to(corners: &[Direction], ends: &[usize], outside: u64, margin: u64, least: u32, deepest: u32,
+        cells: usize) -> [u64] in rooms::polygon_inner_up_to();
     encode(ids: &[u64]) -> [u8] in rooms::encode(ids.len());
     decode(bytes: &[u8]) -> [u64] in rooms::decode(bytes.len());
     file_ancestors(bytes: &[u8]) -> [u64] in rooms::file_ancestors(bytes.len());

@@ -88,7 +88,9 @@ enum {
   S2U_FILE_SHORT = -10,    /**< bytes of the file are missing */
   S2U_FILE_VERSION = -11,  /**< the first byte is not 1 */
   S2U_FILE_TRAILING = -12, /**< bytes follow the last identifier */
-  S2U_FILE_CELL = -13      /**< an identifier in the file is that of no cell */
+  S2U_FILE_CELL = -13,     /**< an identifier in the file is that of no cell */
+  S2U_CORNER = -14,        /**< a corner is no direction, or lies opposite the next corner of its ring */
+  S2U_RING = -15           /**< a ring ends in a wrong place or has fewer than three corners, or there is none */
 };
 
 /** The least coordinates and the side, in leaves, of a cell's square on its face. @since 0.1 */
@@ -114,6 +116,14 @@ typedef struct s2u_point {
   uint32_t i;    /**< the first coordinate */
   uint32_t j;    /**< the second coordinate */
 } s2u_point;
+
+/** A direction from the center of the sphere, to a point of the sphere: each number is less than 2^31 in size, and not
+ * all are 0. A unit vector's is its coordinates times 2^31 - 1, rounded. @since 1.4 */
+typedef struct s2u_direction {
+  int64_t x; /**< along the axis through latitude 0 and longitude 0 */
+  int64_t y; /**< along the axis through latitude 0 and longitude 90 */
+  int64_t z; /**< along the axis through latitude 90 */
+} s2u_direction;
 
 /* ---- the library ------------------------------------------------------------------------------------------------- */
 
@@ -890,6 +900,118 @@ int32_t s2u_inner_in(const uint64_t* ids, size_t n, const s2u_rect* bounds, uint
 
 /** @} */
 
+/* ---- polygons ---------------------------------------------------------------------------------------------------- */
+
+/** @name Polygons
+ *
+ * A polygon is rings of corners with a leaf that is known to lie outside. A corner is a direction of whole numbers, and
+ * nothing is rounded: which leaves an edge touches, and which lie inside, is defined by signs of products. Rings may
+ * cross, touch, nest and repeat each other, and have corners more than once: a leaf lies inside if the way to it from
+ * the leaf outside crosses edges an odd number of times. An edge is the short way between two corners.
+ *
+ * Outer leaves are those inside and those that an edge touches, inner leaves those inside that no edge touches. With a
+ * margin an edge touches a leaf that it comes near. A covering of outer leaves misses none of them, a covering of inner
+ * leaves has no other leaf: proved. Memory is taken for the edges, some hundred bytes for each and for each level.
+ * @{ */
+
+/** The cells of a level that have an outer leaf of a polygon, normalized: S2's GetCovering with one level.
+ * @param corners,n the corners, ring after ring, and how many they are; the first of a ring follows its last
+ * @param ends,lists how many corners there are up to the end of each ring, and how many rings
+ * @param outside a leaf that lies outside the polygon
+ * @param margin how near an edge has to come to a leaf to touch it: 0 to 2^60, of which a face has 6 * 2^60 a side
+ * @param level 0 (a face) to 30 (a leaf)
+ * @param most the most cells that the result may have
+ * @param out,room,len the result, how many cells it has room for, and how many it has; of S2U_CORNER and S2U_RING
+ *   len is the number of the corner or of the ring, from 0 on
+ * @return S2U_OK
+ * @retval S2U_ROOM room is too small; len says what is needed
+ * @retval S2U_MEMORY out of memory; nothing has changed
+ * @retval S2U_ARGUMENT the level above 30, the margin above 2^60, or outside is not a leaf
+ * @retval S2U_CORNER a corner is no direction, or lies opposite the next corner of its ring
+ * @retval S2U_RING a ring ends in a wrong place or has fewer than three corners, or there is none
+ * @retval S2U_MANY there would be more than most cells, or than S2U_MOST_COVERING
+ * @since 1.4
+ * @snippet examples.c s2u_polygon_outer
+ */
+int32_t s2u_polygon_outer(const s2u_direction* corners, size_t n, const size_t* ends, size_t lists, uint64_t outside,
+                          uint64_t margin, uint32_t level, size_t most, uint64_t* out, size_t room, size_t* len);
+
+/** The cells of a level that have inner leaves of a polygon alone, normalized; as s2u_polygon_outer.
+ * @param corners,n the corners, ring after ring, and how many they are; the first of a ring follows its last
+ * @param ends,lists how many corners there are up to the end of each ring, and how many rings
+ * @param outside a leaf that lies outside the polygon
+ * @param margin how near an edge has to come to a leaf to touch it: 0 to 2^60, of which a face has 6 * 2^60 a side
+ * @param level 0 (a face) to 30 (a leaf)
+ * @param most the most cells that the result may have
+ * @param out,room,len the result, how many cells it has room for, and how many it has; of S2U_CORNER and S2U_RING
+ *   len is the number of the corner or of the ring, from 0 on
+ * @return S2U_OK
+ * @retval S2U_ROOM room is too small; len says what is needed
+ * @retval S2U_MEMORY out of memory; nothing has changed
+ * @retval S2U_ARGUMENT the level above 30, the margin above 2^60, or outside is not a leaf
+ * @retval S2U_CORNER a corner is no direction, or lies opposite the next corner of its ring
+ * @retval S2U_RING a ring ends in a wrong place or has fewer than three corners, or there is none
+ * @retval S2U_MANY there would be more than most cells, or than S2U_MOST_COVERING
+ * @since 1.4
+ * @snippet examples.c s2u_polygon_inner
+ */
+int32_t s2u_polygon_inner(const s2u_direction* corners, size_t n, const size_t* ends, size_t lists, uint64_t outside,
+                          uint64_t margin, uint32_t level, size_t most, uint64_t* out, size_t room, size_t* len);
+
+/** Few cells that have all outer leaves of a polygon: S2's GetCovering with max_cells and max_level.
+ * There are at most `cells` cells, or 6 if that is more, none deeper than `deepest`, each with an outer leaf. Then
+ * those of levels below `least` are cut, so that the result may have more cells; it is normalized if `least` is 0.
+ * @param corners,n the corners, ring after ring, and how many they are; the first of a ring follows its last
+ * @param ends,lists how many corners there are up to the end of each ring, and how many rings
+ * @param outside a leaf that lies outside the polygon
+ * @param margin how near an edge has to come to a leaf to touch it: 0 to 2^60, of which a face has 6 * 2^60 a side
+ * @param least 0 to deepest: a cell of a lesser level is cut into its descendants of this one, as by s2u_denormalised
+ * @param deepest the greatest level of a cell, 0 (a face) to 30 (a leaf)
+ * @param cells the most cells before they are cut, of which S2U_MOST_COVERING are the most that count
+ * @param out,room,len the result, how many cells it has room for, and how many it has; of S2U_CORNER and S2U_RING
+ *   len is the number of the corner or of the ring, from 0 on
+ * @return S2U_OK
+ * @retval S2U_ROOM room is too small; len says what is needed
+ * @retval S2U_MEMORY out of memory; nothing has changed
+ * @retval S2U_ARGUMENT least above deepest, deepest above 30, the margin above 2^60, or outside is not a leaf
+ * @retval S2U_CORNER a corner is no direction, or lies opposite the next corner of its ring
+ * @retval S2U_RING a ring ends in a wrong place or has fewer than three corners, or there is none
+ * @retval S2U_MANY there would be more than S2U_MOST_COVERING cells after some were cut
+ * @since 1.4
+ * @snippet examples.c s2u_polygon_outer_up_to
+ */
+int32_t s2u_polygon_outer_up_to(const s2u_direction* corners, size_t n, const size_t* ends, size_t lists,
+                                uint64_t outside, uint64_t margin, uint32_t least, uint32_t deepest, size_t cells,
+                                uint64_t* out, size_t room, size_t* len);
+
+/** Few cells that have inner leaves of a polygon alone: S2's GetInteriorCovering with max_cells and max_level.
+ * There are at most `cells` cells, none deeper than `deepest`. Then those of levels below `least` are cut; as
+ * s2u_polygon_outer_up_to.
+ * @param corners,n the corners, ring after ring, and how many they are; the first of a ring follows its last
+ * @param ends,lists how many corners there are up to the end of each ring, and how many rings
+ * @param outside a leaf that lies outside the polygon
+ * @param margin how near an edge has to come to a leaf to touch it: 0 to 2^60, of which a face has 6 * 2^60 a side
+ * @param least 0 to deepest: a cell of a lesser level is cut into its descendants of this one, as by s2u_denormalised
+ * @param deepest the greatest level of a cell, 0 (a face) to 30 (a leaf)
+ * @param cells the most cells before they are cut, of which S2U_MOST_COVERING are the most that count
+ * @param out,room,len the result, how many cells it has room for, and how many it has; of S2U_CORNER and S2U_RING
+ *   len is the number of the corner or of the ring, from 0 on
+ * @return S2U_OK
+ * @retval S2U_ROOM room is too small; len says what is needed
+ * @retval S2U_MEMORY out of memory; nothing has changed
+ * @retval S2U_ARGUMENT least above deepest, deepest above 30, the margin above 2^60, or outside is not a leaf
+ * @retval S2U_CORNER a corner is no direction, or lies opposite the next corner of its ring
+ * @retval S2U_RING a ring ends in a wrong place or has fewer than three corners, or there is none
+ * @retval S2U_MANY there would be more than S2U_MOST_COVERING cells after some were cut
+ * @since 1.4
+ * @snippet examples.c s2u_polygon_inner_up_to
+ */
+int32_t s2u_polygon_inner_up_to(const s2u_direction* corners, size_t n, const size_t* ends, size_t lists,
+                                uint64_t outside, uint64_t margin, uint32_t least, uint32_t deepest, size_t cells,
+                                uint64_t* out, size_t room, size_t* len);
+
+/** @} */
+
 /* ---- files ------------------------------------------------------------------------------------------------------- */
 
 /** @name Files
@@ -1134,6 +1256,8 @@ static inline const char* s2u_status_text(int32_t status) {
     case S2U_FILE_VERSION: return "union file: unknown version";
     case S2U_FILE_TRAILING: return "union file: bytes after the last cell";
     case S2U_FILE_CELL: return "union file: a number that is not a cell";
+    case S2U_CORNER: return "a corner of a polygon is no direction, or lies opposite the next one";
+    case S2U_RING: return "a ring of a polygon has a wrong end or fewer than three corners";
     default: return status >= 0 ? "ok" : "unknown refusal";
   }
 }

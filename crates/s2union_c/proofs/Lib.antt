@@ -10,6 +10,7 @@ mod Encoding
 mod Decoding
 mod Pieces
 mod Placed
+mod Rings
 mod Naming
 mod Fields
 mod Firsts

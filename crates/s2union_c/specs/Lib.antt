@@ -6,6 +6,7 @@ pub mod Files
 pub mod Laws
 pub mod ManyCells
 pub mod Order
+pub mod Polygons
 pub mod Rectangles
 pub mod Results
 pub mod Texts

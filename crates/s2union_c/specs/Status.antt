@@ -41,6 +41,14 @@ file_trailing = negsuc 11
 abbrev pub file_cell : ℤ
 file_cell = negsuc 12
 
+-- a corner of a polygon is no direction, or lies opposite the next corner of its ring
+abbrev pub bad_corner : ℤ
+bad_corner = negsuc 13
+
+-- a ring of a polygon ends in a wrong place or has fewer than three corners, or there is none
+abbrev pub bad_ring : ℤ
+bad_ring = negsuc 14
+
 -- the answer yes to a question
 abbrev pub yes : ℤ
 yes = pos 1

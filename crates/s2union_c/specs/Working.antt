@@ -2,4 +2,5 @@
 -- docs/STATEMENT.md says what is.
 pub mod Coverings
 pub mod ManyCells
+pub mod Polygons
 pub mod Texts

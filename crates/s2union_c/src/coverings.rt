@@ -188,7 +188,7 @@ pub extern "C" fn s2u_inner_in(
 
 /// Which covering is made.
 #[derive(Clone, Copy)]
-enum Side {
+pub(crate) enum Side {
     Outer,
     Inner,
 }

@@ -13,6 +13,7 @@ mod files;
 pub mod laws;
 mod many;
 mod many_cells;
+mod polygons;
 mod questions;
 mod results;
 mod sets;

@@ -32,6 +32,12 @@ pub(crate) const FILE_TRAILING: i32 = -12;
 /// An identifier in the file is not the identifier of a cell.
 pub(crate) const FILE_CELL: i32 = -13;
 
+/// A corner of a polygon is no direction, or lies opposite the next corner of its ring.
+pub(crate) const BAD_CORNER: i32 = -14;
+
+/// A ring of a polygon ends in a wrong place or has fewer than three corners, or there is none.
+pub(crate) const BAD_RING: i32 = -15;
+
 /// The answer to a question.
 pub(crate) fn answer(holds: bool) -> i32
     ensures yes { IsTrue holds → result ≡ yes }
