@@ -65,17 +65,26 @@ outlined() {
     g++ -x c++ -std=c++11 "${strict[@]}" -I"$include" -fsyntax-only "$include/s2union_outline.h"
 }
 step "outlines on a map, each allocation refused in turn" outlined
+covered() { # shapes in degrees
+  program shapes "$static" "$work/refuse.o" -lm &&
+    program shapes "$static" -fsanitize=address,undefined -fno-sanitize-recover "$work/refuse.o" -lm
+}
+step "coverings of shapes in degrees, and under the sanitizers" covered
+for compiler in "gcc -x c -std=c99" "clang -x c -std=c17" "g++ -x c++ -std=c++11" "clang++ -x c++ -std=c++20"; do
+  step "coverings, the header: $compiler" $compiler "${strict[@]}" -fsyntax-only -I"$include" "$include/s2union_cover.h"
+done
 step "200,000 lists of garbage" program garbage "$static" -fsanitize=address
 step "few pages read of the cells that a search passes" program pages "$static"
 step "8 threads" program threads "$static"
 seconds=${1:-20}
-fuzzed() { # each call of the header with what libFuzzer makes up, from a fixed seed
+fuzzed() { # NAME LENGTH: calls with what libFuzzer makes up, from a fixed seed
   mkdir -p "$work/found" && clang -std=c11 -D_DEFAULT_SOURCE -O2 "${strict[@]}" -fsanitize=fuzzer,address,undefined \
-    -fno-sanitize-recover=undefined -I"$include" "$tests/fuzz.c" "$static" -o "$work/fuzz" &&
-    "$work/fuzz" -seed=1 -max_len=1200 -len_control=0 -max_total_time="$seconds" -artifact_prefix="$work/found/" \
+    -fno-sanitize-recover=undefined -I"$include" "$tests/$1.c" "$static" -lm -o "$work/$1" &&
+    "$work/$1" -seed=1 -max_len="$2" -len_control=0 -max_total_time="$seconds" -artifact_prefix="$work/found/" \
       || { od -An -tx1 "$work"/found/* | head -40; return 1; }
 }
-step "fuzzer, $seconds seconds" fuzzed
+step "fuzzer, each call of the header, $seconds seconds" fuzzed fuzz 1200
+step "fuzzer, shapes in degrees and WKB, $seconds seconds" fuzzed fuzz_shapes 300
 
 # ---- the program of docs/C.md
 
