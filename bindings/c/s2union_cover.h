@@ -891,7 +891,7 @@ typedef struct s2u_cover_question {
   int is_outer;
 } s2u_cover_question;
 
-/* Adds the cells of a covering of at most so many cells. */
+/* Adds the cells of a covering of few cells. */
 static inline int32_t s2u_cover_add_up_to(const s2u_cover_question* it, uint32_t deepest, uint64_t most,
                                           s2u_cover_cells* cells) {
   size_t room = most < 6 ? 6 : (size_t)most, len = 0;
@@ -1114,7 +1114,7 @@ static inline int32_t s2u_cover_add_polygons(const s2u_cover_shape* shape, const
   return status;
 }
 
-/* How wide cells at the border will be, about, if there are so many or they are so deep. */
+/* How wide cells at the border will be, about, by how many they may be and how deep. */
 static inline double s2u_cover_size(double length, const s2u_cover_options* options) {
   double by_count = length / (2 * (double)options->max_cells + 1), by_level = ldexp(1, -(int)options->max_level);
   if (options->min_level > 0) by_count = fmin(by_count, ldexp(1, -(int)options->min_level));

@@ -32,8 +32,10 @@ POINTS = memoryview(array("I", [0, 1, 2]))
 WORDS = {
     "what": "", "room": 1, "bounds": RECT, "level": 0, "most": 99, "child": 3, "face": 5, "i": 1, "j": LAST, "k": 1,
     "min": 3, "modulus": 1, "text": "14", "bytes": memoryview(FILE), "points": POINTS, "each": [CELL, 1],
-    "ends": memoryview(array("Q", [4])), "number": 5, "name": "n", "longitude": 2.5, "latitude": 48,
+    "ends": memoryview(array("Q", [4])), "number": 5, "name": "n", "longitude": 2.5, "latitude": 48.5,
     "longitudes": memoryview(array("d", [2.5, 999])), "latitudes": memoryview(array("d", [48, 0])),
+    "positions": memoryview(array("d", [0, 0, 1, 0, 1, 1, 0, 0])), "rings": memoryview(array("Q", [4, 0])),
+    "wkb": bytes([1, 1, 0, 0, 0]) + bytes(16), "radius": 9.0, "meters": 9.0, "options": (9, 0, 30, 0, 0.0), "which": 3,
     **dict.fromkeys(("id", "cell", "a", "b", "whole", "part", "first", "last"), CELL),
     **dict.fromkeys(("ids", "xs", "ys", "cells"), CELLS),
 }
@@ -62,6 +64,8 @@ REFUSED = {
     "outer_of": ("what", 1, CELLS, 9, 1), "decode": ("what", 1, FILE[:-1]), "file_cell": (FILE, 2),
     "union": ("", -1, CELLS, CELLS), "contains_cell": (CELLS, 0), "file_ancestors": ("what", 1, b""),
     "union_of_many": (CELLS, memoryview(array("Q", [3]))),
+    "coverings": (bytes(16), memoryview(array("Q", [4, 0])), (9, 0, 30, 0, 0.0), 3),
+    "coverings_of_wkb": (b"", (9, 0, 31, 0, 0.0), 3), "coverings_of_circle": (0, 0, 1, (9, 0, 30, 0, "x"), 3),
     "complement": ("", 2**62, CELLS), "refuse": (-5, "what"), "token": (object(),),
 }
 
@@ -95,7 +99,8 @@ def test_each_wrong_word(name):
                 found = calls.leaf(*words[:place], other, *words[place + 1:])
                 assert bool(found) == (other in (1.5, -1))
             elif other is None or type(other) in (float, object):
-                assert was_refused or is_said
+                is_number = isinstance(other, float) and isinstance(words[place], float)  # meters, say
+                assert was_refused or is_said or is_number
 
 
 def test_places_in_degrees():

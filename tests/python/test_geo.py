@@ -9,6 +9,7 @@ import json
 import math
 import os
 import pty
+import struct
 import subprocess
 import sys
 import tempfile
@@ -22,9 +23,9 @@ import numpy
 import pytest
 import s2union_geo
 from s2union import Union, from_face_ij, from_token, level, parent, square, tokens
-from s2union_geo import (area, boundary, covering, coverings, interior, leaf, leaves, outline, points, read_geojson,
-                         to_geojson)
-from s2union_geo import crossings, geojson, interrupts, polygons, sphere
+from s2union_geo import (area, boundary, circle, covering, coverings, interior, leaf, leaves, outline, points,
+                         read_geojson, to_geojson)
+from s2union_geo import coverer, geojson, interrupts, places, reading, sphere
 from s2union_geo.__main__ import main
 from s2union_geo import outlines
 from s2union_geo.geojson import rings
@@ -210,28 +211,6 @@ class Polygons(unittest.TestCase):
                 self.assertFalse((~outer.contains_cells(cells[lies >= 0])).any(), (corners, most))
                 self.assertFalse(inner.contains_cells(cells[lies < 0]).any(), (corners, most))
 
-    def test_steps_of_long_edges(self):
-        """An edge has as few steps as keep its bend in each to 10 m. None is longer than 5 degrees."""
-        along = polygons._edges_of([[numpy.array([[0.0, 0.0], [20.0, 0.0]])]])
-        self.assertEqual(len(along.slack), math.ceil(math.sqrt(math.radians(20)**2 / 8 / polygons.BEND)))
-        self.assertLessEqual(along.slack.max(), polygons.BEND + polygons.NOISE)
-        around = polygons._edges_of([[numpy.array([[0.0, 90.0], [12.5, 90.0]])]])
-        self.assertEqual(len(around.slack), 3)
-
-    def test_bends(self):
-        """Of random lines on the map, as far as they go from the chords between their ends, or a little more."""
-        random = Random(9)
-        for _ in range(3000):
-            wide, high = (random.choice([0, 1e-6, 0.01, 0.3, 5]) * random.uniform(-1, 1) for _ in range(2))
-            west, south = random.uniform(-180, 180), random.uniform(-90, 90 - abs(high)) + max(0, -high)
-            places = [on_sphere(west + wide * k / 16, south + high * k / 16) for k in range(17)]
-            farthest = max(math.dist(it, [a + (b - a) * k / 16 for a, b in zip(places[0], places[-1])])
-                           for k, it in enumerate(places))
-            bend, = polygons._bends(numpy.array([[west, south]]), numpy.array([[wide, high]])).tolist()
-            self.assertLess(farthest, bend + 1e-14)
-            is_long = max(abs(wide), abs(high)) > 0.5
-            self.assertTrue(is_long or bend < 1.02 * farthest + 1e-14, (west, south, wide, high))
-
     def test_edges_are_straight_on_the_map(self):
         """Between two points of the 49th parallel, 10 degrees apart, the shortest line lies 12 km to the north."""
         outer, inner = coverings(polygon([[0, 40], [10, 40], [10, 49], [0, 49], [0, 40]]), 100000)
@@ -266,7 +245,86 @@ class Polygons(unittest.TestCase):
                       polygon([position for position in SQUARE for _ in range(2)])):
             self.assertEqual(covering(shape), wanted)
         self.assertEqual(coverings({"type": "FeatureCollection", "features": []}), (Union(), Union()))
-        self.assertEqual(coverings(polygon([[7, 7]] * 4)), (Union(), Union()))
+        outer, inner = coverings(polygon([[7, 7]] * 4))
+        self.assertEqual((leaf(7, 7) in outer, len(outer) <= 4, inner), (True, True, Union()))
+        for shape in (polygon(numpy.array(SQUARE)), polygon(numpy.array([[*place, 3] for place in SQUARE], "int8")),
+                      wkb([SQUARE]), wkb([SQUARE], ">"), WithBytes(wkb([SQUARE]))):
+            self.assertEqual(covering(shape), wanted)
+
+    def test_lines_and_points(self):
+        line = [[0, 0], [10, 5], [20, 0]]
+        for shape, on in (({"type": "Point", "coordinates": [3, 4]}, [[3, 4]]),
+                          ({"type": "MultiPoint", "coordinates": line}, line),
+                          ({"type": "LineString", "coordinates": line}, [*line, [4, 2], [16, 2]]),
+                          ({"type": "MultiLineString", "coordinates": [line, [[40, 50], [40, 60]]]},
+                           [[40, 55], [4, 2]]),
+                          ({"type": "GeometryCollection", "geometries": [polygon(SQUARE), {
+                              "type": "LineString", "coordinates": [[10, 5], [12, 5]]}]}, [[5, 5], [11, 5]])):
+            outer, inner = coverings(shape)
+            self.assertEqual({leaf(*place) in outer for place in on}, {True}, shape)
+            self.assertEqual(bool(inner), shape["type"] == "GeometryCollection")
+        for kind in ("Point", "MultiPoint", "LineString", "Polygon", "MultiPolygon"):
+            self.assertEqual(coverings({"type": kind, "coordinates": []}), (Union(), Union()))
+
+    def test_margins_and_levels(self):
+        square, degrees = polygon(SQUARE), 10_000 / 6_371_010 * 180 / math.pi
+        outer, inner = coverings(square, 5000, margin=10_000)
+        self.assertEqual([leaf(x, 5) in outer for x in (10 + 0.99 * degrees, 10 + 2.5 * degrees)], [True, False])
+        self.assertEqual([leaf(x, 5) in inner for x in (10 - 0.99 * degrees, 10 - 2.5 * degrees)], [False, True])
+        near = covering(square, within=5000)
+        self.assertTrue(leaf(10, 10) in near and leaf(10 + degrees / 2, 5) not in near)
+        self.assertLessEqual(covering(square, 8, min_level=7), covering(square, 8))
+        self.assertNotIn(leaf(10 + 3 * degrees, 5), covering(square, 8, min_level=9))
+
+    def test_edges_on_the_sphere(self):
+        wide = polygon([[0, 40], [10, 40], [10, 49], [0, 49], [0, 40]])
+        for edges, lies in (("map", False), ("geodesic", True)):
+            self.assertEqual(leaf(5, 49.05) in interior(wide, 20000, edges=edges), lies)
+        back = polygon(wide["coordinates"][0][::-1])
+        self.assertEqual([leaf(5, 45) in covering(back, edges=edges) for edges in ("geodesic", "left")], [True, False])
+
+    def test_circles(self):
+        for x, y, radius in ((2.3522, 48.8566, 1000), (180, -16.5, 30), (0, 90, 500_000)):
+            outer, inner = circle(x, y, radius, 500)
+            degrees = radius / 6_371_010 * 180 / math.pi
+            self.assertTrue(inner < outer and leaf(x, y) in inner)
+            south = y - degrees
+            self.assertEqual([leaf(x, south + part * degrees) in outer for part in (-0.1, 1e-7)], [False, True])
+            self.assertEqual([leaf(x, south + part * degrees) in inner for part in (-1e-7, 0.1)], [False, True])
+
+    def test_options_that_are_refused(self):
+        for options, said in (({"edges": "flat"}, "edges are one of 'map', 'geodesic', 'left': 'flat'"),
+                              ({"margin": -1}, "a margin is from 0 to 300000 meters: -1"),
+                              ({"margin": math.nan}, "a margin is from 0 to 300000 meters: nan"),
+                              ({"within": 0}, "a number of meters is more than 0: 0"),
+                              ({"min_level": 9, "max_level": 8},
+                               "min_level is out of range: 9 is more than max_level")):
+            with self.assertRaisesRegex(ValueError, said):
+                covering(polygon(SQUARE), **options)
+        with self.assertRaisesRegex(ValueError, "a radius is from 0 to 9000000 meters: -1"):
+            circle(0, 0, -1)
+        with self.assertRaisesRegex(ValueError, "a latitude is from -90 to 90"):
+            circle(0, 91, 1)
+        with self.assertRaises(TypeError):
+            covering(polygon(SQUARE), within="9")
+
+    def test_wkb_that_is_refused(self):
+        whole = wkb([SQUARE])
+        for bytes, said in ((whole[:-1], "the bytes are no WKB"), (whole + b"0", "the bytes are no WKB"),
+                            (b"\1\x08\0\0\0\0\0\0\0", "the WKB has a geometry that is no point"),
+                            (wkb([SQUARE[:-1]]), "a ring is open"),
+                            (wkb([[[0, 91]] * 4]), "a latitude from -90 to 90")):
+            with self.assertRaisesRegex(ValueError, said):
+                covering(bytes)
+        with self.assertRaisesRegex(ValueError, "polygon 0, ring 0 is open"):
+            covering(WithBytes(wkb([SQUARE[:-1]]), polygon(SQUARE[:-1])))
+
+    def test_without_numpy(self):
+        done = subprocess.run([sys.executable, "-c", "import sys; sys.modules['numpy'] = None\n"
+                               "from s2union_geo import covering, circle, leaf\n"
+                               f"print(leaf(5, 5) in covering({polygon(SQUARE)}), leaf(1, 2) in circle(1, 2, 3)[0])"],
+                              capture_output=True, text=True, check=True)
+        self.assertEqual(done.stdout, "True True\n")
 
     def test_rings_that_need_care(self):
         """One that comes to within a rounding of itself and doesn't touch; and one with corners north and south of the
@@ -286,80 +344,56 @@ class Polygons(unittest.TestCase):
                              [[True, True, False, False]] * 2)
 
     def test_rings_by_a_plain_walk(self):
-        """Of rings over few places, those are refused that cross or run along themselves by a plain test."""
+        """Of rings over few places, which may cross, touch and repeat themselves: inside is what an odd number of edges
+        to the north says."""
         random = Random(5)
         counts = [0, 0]
-        for _ in range(3000):
+        for _ in range(300):
             side = random.randrange(2, 6)
             ring = [(random.randrange(side), random.randrange(side)) for _ in range(random.randrange(3, 9))]
-            ring = [place for k, place in enumerate(ring) if place != ring[k - 1]]
-            if len(ring) < 3:
-                continue
-            try:
-                crossings.look_for_crossings([[numpy.array([*ring, ring[0]], float)]])
-                is_refused = False
-            except ValueError:
-                is_refused = True
-            self.assertEqual(is_refused, crosses_itself(ring), ring)
-            counts[is_refused] += 1
-        self.assertGreater(min(counts), 300)
+            closed = numpy.array([*ring, ring[0]], float)
+            outer, inner = coverings(polygon(closed.tolist()), 100)
+            for _ in range(20):
+                place = random.uniform(-0.5, side), random.uniform(-0.5, side)
+                is_inside = lies_within([closed], *place)
+                counts[is_inside] += 1
+                self.assertTrue(leaf(*place) in outer if is_inside else leaf(*place) not in inner, (ring, place))
+        self.assertGreater(min(counts), 300, counts)
 
     def test_many_polygons_by_a_plain_walk(self):
-        """Of places, some of which have the longitude of a corner, and polygons, some of which go over the date line:
-        which lie inside is what a way to the north says that asks edge by edge."""
+        """Of polygons, some of which go over the date line, and places near their corners, some of which have the
+        longitude of one: the same."""
         random = Random(8)
-        shapes = []
+        counts = [0, 0]
         for _ in range(300):
             x, y, size = random.choice([0, 179.9, -400, 530]), random.uniform(-80, 80), random.choice([1e-6, 0.5, 9])
             rings = [[(x + random.random() * size, y + random.random() * size) for _ in range(random.randrange(3, 9))]
                      for _ in range(random.choice([1, 1, 2]))]
-            shapes.append([numpy.array([*ring, ring[0]]) for ring in rings])
-        asked = numpy.array([random.randrange(300) for _ in range(6000)])
-        corners = numpy.array([random.choice(random.choice(shapes[number]).tolist()) for number in asked])
-        x = (corners[:, 0] + [random.choice([0, 0, 1e-7, 0.1]) for _ in asked] + 540) % 360 - 180
-        y = corners[:, 1] + [random.uniform(-1, 1) for _ in asked]
-        found = polygons._OnMap(shapes).is_inside(asked, x, y).tolist()
-        self.assertEqual(found, [lies_within(shapes[number], *place) for number, *place in zip(asked, x, y)])
-        self.assertGreater(min(sum(found), 6000 - sum(found)), 300)
+            rings = [numpy.array([*ring, ring[0]]) for ring in rings]
+            outer, inner = coverings(polygon(*(ring.tolist() for ring in rings)), 50)
+            for _ in range(20):
+                corner = random.choice(random.choice(rings).tolist())
+                east, north = random.choice([0, 0, 1e-7, 0.01]), random.uniform(-0.3, 0.3) * size
+                place = (corner[0] + east * size + 540) % 360 - 180, min(90, corner[1] + north)
+                is_inside = lies_within(rings, *place)
+                counts[is_inside] += 1
+                self.assertTrue(leaf(*place) in outer if is_inside else leaf(*place) not in inner, (rings, place))
+        self.assertGreater(min(counts), 300, counts)
 
     def test_polygons_may_overlap(self):
         other = [[x + 5, y] for x, y in SQUARE]
         found = interior({"type": "MultiPolygon", "coordinates": [[SQUARE], [SQUARE], [other]]}, 100000, 7)
         self.assertEqual(found, interior(polygon(SQUARE), 100000, 7) | interior(polygon(other), 100000, 7))
 
-    def test_turns_are_exact(self):
-        """Of places with few numbers, some of which are tiny, and of places within a rounding of a line."""
-        random = Random(6)
-        pools = ([0.0, -0.0, 1.0, 2.0, 0.1, 0.2, 0.3, 1 / 3, 5e-324, 1e-200, -1e-200, 540.0],
-                 [k / 7 for k in range(-9, 9)], [10 + k * 2**-50 for k in range(9)])
-        places = [[(random.choice(pool), random.choice(pool)) for _ in range(3)] for pool in pools for _ in range(3000)]
-        wanted = [turn(*(tuple(map(Fraction, place)) for place in three)) for three in places]
-        a, b, c = numpy.array(places).transpose(1, 0, 2)
-        self.assertEqual(crossings.Turns()(a, b, c).tolist(), wanted)
-
     def test_too_much(self):
         ring = numpy.stack([numpy.linspace(0, 300, 500001), numpy.zeros(500001)], axis=1).tolist()
         with self.assertRaisesRegex(ValueError, "more than 1000000 positions"):
             coverings({"type": "MultiPolygon", "coordinates": [[ring + ring[:1]], [ring + ring[:1]]]})
-        comb = [[539 if k % 2 else -539, k / 10 - 60] for k in range(1200)]
-        with self.assertRaisesRegex(ValueError, "more than 404812 steps"):
+        comb = [[539 if k % 2 else -539, k / 100 - 60] for k in range(6000)]
+        with self.assertRaisesRegex(ValueError, "polygon 0, ring 0: the edges are too long for so few positions"):
             covering(polygon([*comb, [-540, 60], [-540, -60], comb[0]]))
-        wide = numpy.stack([numpy.tile([-539.0, 539.0], 500_000), numpy.linspace(-60, 60, 1_000_000)], axis=1)
-        with self.assertRaisesRegex(ValueError, "more than 4000000 steps"):
-            polygons._edges_of([[wide]])
         flower = [place for k in range(9) for place in ([0, 0], [9, k], [9, k + 0.5])]
-        self.assertTrue(covering(polygon([*flower, flower[0]])))
-        for module, name, said in ((crossings, "MOST_PAIRS", "too many edges lie beside one another"),
-                                   (crossings, "MOST_NEAR", "too many edges meet"),
-                                   (polygons, "PAIRS_OF_FEW", r"too many edges lie near one another: \d+ pairs")):
-            with unittest.mock.patch.object(module, name, 100), self.assertRaisesRegex(ValueError, said):
-                covering(polygon([*flower, flower[0]]), 0)
-        along = [[0.99 if k % 2 else 0.5, (0.99 if k % 2 else 0.5) + k * 1e-14] for k in range(30)]
-        sliver = polygon([*along, [0.4, 0.6], [0.4, 0.4], along[0]])
-        self.assertTrue(covering(sliver))
-        with unittest.mock.patch.object(crossings, "MOST_EXACT", 100), self.assertRaisesRegex(
-                ValueError, "too many edges nearly lie on one line"):
-            covering(sliver)
+        self.assertTrue(covering(polygon([*flower, flower[0]]), 0))
         with tempfile.NamedTemporaryFile() as file:
             file.truncate(s2union_geo.MOST_BYTES + 1)
             with self.assertRaisesRegex(ValueError, "has more than 268435456 bytes"):
@@ -368,15 +402,12 @@ class Polygons(unittest.TestCase):
 
 class Work(unittest.TestCase):
     def test_short_texts_near_a_pole(self):
-        """Rings of few positions whose edges go around a pole take few pairs of squares and edges."""
+        """Rings of few positions whose edges go around a pole."""
         turn = [[45, 90], [85, 89.9999985], [205, 89.9999985], [345, 89.9999985], [45, 90]]
         rings = [turn, *(around(4 * turns, south) for turns in (1, 4, 22) for south in (89, 89.9999, 90 - 1e-6))]
-        near = polygons._Walk.is_near
         for ring in rings:
-            with unittest.mock.patch.object(polygons._Walk, "is_near", autospec=True, side_effect=near) as asked:
-                self.assertTrue(covering(polygon(ring)), ring)
-            pairs = sum(len(call.args[3]) for call in asked.call_args_list)
-            self.assertLess(pairs, 60_000 * len(ring), ring)
+            outer, inner = coverings(polygon(ring))
+            self.assertTrue(inner <= outer and all(leaf(*place) in outer for place in ring), ring)
 
     def test_the_server_may_end_it(self):
         """Inside PL/Python a flag of the server makes long work tell the client something, which raises its error."""
@@ -390,9 +421,7 @@ class Work(unittest.TestCase):
                 interrupts, "FLAGS_OF_SERVER", [flag]):
             self.assertEqual(covering(polygon(SQUARE)), union)
             flag.value = 1
-            for work in (lambda: covering(polygon(SQUARE)), lambda: to_geojson(union),
-                         lambda: crossings.look_for_crossings([[numpy.array(SQUARE, float)]]),
-                         lambda: polygons.interior(polygon(SQUARE))):
+            for work in lambda: covering(polygon(SQUARE)), lambda: to_geojson(union):
                 self.assertRaises(Ended, work)
             self.assertEqual(interrupts._flags(), [])  # this process has no such flags
 
@@ -406,25 +435,20 @@ def around(count, south):
 REFUSED = [
     (polygon(SQUARE[:-1]), "polygon 0, ring 0 is open: its last position is not its first"),
     (polygon(SQUARE[:2] + SQUARE[:1]), "polygon 0, ring 0 has fewer than four positions"),
-    (polygon([[0, 0], [10, 10], [10, 0], [0, 10], [0, 0]]), "ring 0 crosses or runs along"),
-    (polygon([[0, 0], [5, 5], [9, 9], [9, 0], [5, 5], [0, 9], [0, 0]]), "ring 0 crosses or"),
-    (polygon([[0, 0], [9, 0], [9, 5], [5, 0], [5, -5], [0, 0]]), "ring 0 crosses or runs"),
-    (polygon([[0, 0], [5, 0], [9, 0], [5, 0], [5, 5], [0, 0]]), "crosses or runs along"),
-    (polygon([[0, 0], [5, 0], [2, 0], [0, 0]]), "ring 0 crosses or runs along itself"),
-    (polygon(SQUARE, [[5, 5], [15, 5], [15, 6], [5, 6], [5, 5]]), "rings 0 and 1 cross near"),
-    ({"type": "MultiPolygon", "coordinates": [[SQUARE], [SQUARE[::-1], [[5, 5], [15, 5], [15, 6], [5, 6], [5, 5]]]]},
-     "polygon 1: rings 0 and 1 cross near"),
     (polygon([[0, 0], [1, 91], [1, 0], [0, 0]]), r"ring 0: position 1 is out of range: a "
      r"latitude is from -90 to 90 \(the longitude comes first\): \[1.0, 91.0\]"),
     (polygon([[0, 0], [math.nan, 1], [1, 0], [0, 0]]), "ring 0: position 1 is out of range: a "
      "longitude is from -540 to 540"),
     (polygon([[0, 0], ["x", 1], [1, 0], [0, 0]]), "a position is a longitude and a latitude"),
     (polygon([[0, 0], [10**400, 1], [1, 0], [0, 0]]), "a position is a longitude and a"),
-    ({"type": "Point", "coordinates": [0, 0]}, "it is no polygon: 'Point'"),
-    ({"type": "Polygon"}, "a Polygon has a list of coordinates"), (7, "it is no polygon: int"),
+    ({"type": "Circle", "coordinates": [0, 0]}, "it is no shape: 'Circle'"),
+    ({"type": "Point", "coordinates": [0]}, "line 0: a position is a longitude and a latitude"),
+    ({"type": "LineString", "coordinates": [[0, 0], [0, 91]]}, "line 0: position 1 is out of range: a latitude"),
+    (polygon(numpy.zeros((4, 1))), "a position is a longitude and a latitude"),
+    ({"type": "Polygon"}, "a Polygon has a list of coordinates"), (7, "it is no shape: int"),
     ({"type": "MultiPolygon", "coordinates": [3]}, "polygon 0 has a list of rings"),
-    ({"type": []}, "it is no polygon: dict"),
-    (None, "it is no polygon: NoneType"), ("{", "the text is no GeoJSON"),
+    ({"type": []}, "it is no shape: dict"),
+    (None, "it is no shape: NoneType"), ("{", "the text is no GeoJSON"),
     ("[" * 100000, "the text is no GeoJSON"),
 ]
 
@@ -442,44 +466,27 @@ def test_limits_that_are_refused(most, deepest, error):
         covering(polygon(SQUARE), most, deepest)
 
 
-def on_sphere(longitude, latitude):
-    x, y = math.radians(longitude), math.radians(latitude)
-    return math.cos(y) * math.cos(x), math.cos(y) * math.sin(x), math.sin(y)
-
-
-def turn(a, b, c):
-    product = (b[0] - a[0]) * (c[1] - a[1]) - (b[1] - a[1]) * (c[0] - a[0])
-    return (product > 0) - (product < 0)
-
-
-def lies_on(place, a, b):
-    return turn(a, b, place) == 0 and all(min(x, y) <= it <= max(x, y) for it, x, y in zip(place, a, b))
-
-
 def lies_within(rings, x, y):
-    """Whether a way to the north from a place, or from one a turn away, crosses rings an odd number of times."""
+    """Whether ways to the north from a place, on each turn of the map, cross rings an odd number of times."""
     edges = [sorted((start, end)) for ring in rings for start, end in itertools.pairwise(ring.tolist())]
-    return any(sum(west <= x + turn < east and south + (x + turn - west) / (east - west) * (north - south) > y
-                   for (west, south), (east, north) in edges) % 2 for turn in (-360, 0, 360))
+    return sum(west <= x + turn < east and south + (x + turn - west) / (east - west) * (north - south) > y
+               for turn in (-720, -360, 0, 360, 720) for (west, south), (east, north) in edges) % 2 == 1
 
 
-def crosses_itself(ring):
-    """Whether a ring of whole numbers crosses itself or runs along itself: edges in pairs, and the ways through each
-    corner by the order of their ends around it."""
-    edges = list(zip(ring, ring[1:] + ring[:1]))
-    for (a, b), (c, d) in itertools.combinations(edges, 2):
-        if turn(a, b, c) * turn(a, b, d) < 0 and turn(c, d, a) * turn(c, d, b) < 0:
-            return True
-        if len({it for it in (a, b) if lies_on(it, c, d)} | {it for it in (c, d) if lies_on(it, a, b)}) > 1:
-            return True
-    for place in ring:
-        ways = [(ring[k - 1], ring[(k + 1) % len(ring)]) for k, it in enumerate(ring) if it == place]
-        ways += [edge for edge in edges if place not in edge and lies_on(place, *edge)]
-        around = [sorted((math.atan2(end[1] - place[1], end[0] - place[0]), number) for number, way in enumerate(two)
-                         for end in way) for two in itertools.combinations(ways, 2)]
-        if any(order[0][1] == order[2][1] for order in around):
-            return True
-    return False
+def wkb(rings, order="<"):
+    """A polygon as WKB."""
+    lines = [struct.pack(f"{order}I", len(ring)) + struct.pack(f"{order}{2 * len(ring)}d", *sum(map(list, ring), []))
+             for ring in rings]
+    return bytes([order == "<"]) + struct.pack(f"{order}II", 3, len(rings)) + b"".join(lines)
+
+
+class WithBytes:
+    """What has WKB, as shapely's objects do."""
+
+    def __init__(self, bytes, interface=None):
+        self.wkb = bytes
+        if interface:
+            self.__geo_interface__ = interface
 
 
 @pytest.mark.parametrize("token,count", [("04", 5), ("0000000000000001", 5), ("64", 5), ("5c", 6), ("b4", 6)])
@@ -735,4 +742,4 @@ class Cover(unittest.TestCase):
         self.assertRegex(done.stdout, "^2 features, .*; left: none\n$")
 
 
-Examples = docstrings.tests_of(s2union_geo, geojson, outlines, polygons, sphere)
+Examples = docstrings.tests_of(s2union_geo, coverer, geojson, outlines, places, reading, sphere)

@@ -1,23 +1,38 @@
-/* Places in degrees for sphere.py of s2union_geo: by s2union_geo.h, so that cells are S2's bit for bit. And outlines of
- * unions for its outlines.py, by s2union_outline.h. */
+/* Places in degrees for places.py and sphere.py of s2union_geo: by s2union_geo.h, so that cells are S2's bit for bit.
+ * Outlines of unions for outlines.py, by s2union_outline.h, and coverings for coverer.py, by s2union_cover.h. */
 
-/* The library's calls that the header makes. They are the same for each interpreter, as the library is. */
-static __typeof__(s2u_from_face_ij)* from_face_ij_there;
-static __typeof__(s2u_square_of)* square_of_there;
-static __typeof__(s2u_is_union)* is_union_there;
-#define s2u_from_face_ij from_face_ij_there
-#define s2u_square_of square_of_there
-#define s2u_is_union is_union_there
+/* The library's calls that the headers make. They are the same for each interpreter, as the library is. */
+static Calls there;
+#define s2u_from_face_ij there.s2u_from_face_ij
+#define s2u_square_of there.s2u_square_of
+#define s2u_is_union there.s2u_is_union
+#define s2u_parent there.s2u_parent
+#define s2u_size there.s2u_size
+#define s2u_normalise there.s2u_normalise
+#define s2u_union there.s2u_union
+#define s2u_intersection there.s2u_intersection
+#define s2u_outer_of there.s2u_outer_of
+#define s2u_polygon_outer there.s2u_polygon_outer
+#define s2u_polygon_inner there.s2u_polygon_inner
+#define s2u_polygon_outer_up_to there.s2u_polygon_outer_up_to
+#define s2u_polygon_inner_up_to there.s2u_polygon_inner_up_to
+#include <s2union_cover.h>
 #include <s2union_outline.h>
 #undef s2u_from_face_ij
 #undef s2u_square_of
 #undef s2u_is_union
+#undef s2u_parent
+#undef s2u_size
+#undef s2u_normalise
+#undef s2u_union
+#undef s2u_intersection
+#undef s2u_outer_of
+#undef s2u_polygon_outer
+#undef s2u_polygon_inner
+#undef s2u_polygon_outer_up_to
+#undef s2u_polygon_inner_up_to
 
-static void use_places(const Calls* calls) {
-  from_face_ij_there = calls->s2u_from_face_ij;
-  square_of_there = calls->s2u_square_of;
-  is_union_there = calls->s2u_is_union;
-}
+static void use_places(const Calls* calls) { there = *calls; }
 
 /* Whether it is a float or an int itself. Of what can become one, Python's side makes it. */
 static bool is_plain_number(PyObject* given, double* number) {
@@ -102,4 +117,114 @@ static PyObject* py_outline(PyObject* module, PyObject* given) {
 static PyObject* py_boundary(PyObject* module, PyObject* given) {
   (void)module;
   return rings_of(given, s2u_geo_boundary);
+}
+
+/* ---- coverings of shapes */
+
+static bool as_meters(PyObject* given, double* meters) {
+  *meters = PyFloat_AsDouble(given);
+  return !PyErr_Occurred();
+}
+
+/* Options: the most cells, the least and the deepest level, the kind of edges, the margin in meters. */
+static bool as_options(PyObject* given, s2u_cover_options* options) {
+  uint64_t least, deepest, edges;
+  if (!PyTuple_Check(given)) return refuse_type("options", "a tuple", given);
+  if (!has(given, 5) ||
+      !as_number(PyTuple_GetItem(given, 0), "max_cells", 0, S2U_COVER_MOST_CELLS, &options->max_cells) ||
+      !as_number(PyTuple_GetItem(given, 1), "min_level", 0, 30, &least) ||
+      !as_number(PyTuple_GetItem(given, 2), "max_level", 0, 30, &deepest) ||
+      !as_number(PyTuple_GetItem(given, 3), "edges", 0, S2U_COVER_LEFT, &edges) ||
+      !as_meters(PyTuple_GetItem(given, 4), &options->margin))
+    return false;
+  options->min_level = (uint32_t)least;
+  options->max_level = (uint32_t)deepest;
+  options->edges = (uint32_t)edges;
+  return true;
+}
+
+typedef struct Covered {
+  s2u_cover_cells outer, inner;
+  s2u_cover_fault fault;
+  int32_t status;
+} Covered;
+
+static PyObject* bytes_of_cells(const s2u_cover_cells* cells) {
+  return PyBytes_FromStringAndSize((const char*)cells->ids, (Py_ssize_t)(8 * cells->count));
+}
+
+/* The cells of both coverings as bytes; or a status, the ring and the position that it is about, and its text. */
+static PyObject* covered(Covered* it) {
+  PyObject* answer = NULL;
+  if (it->status == S2U_OK) {
+    PyObject *outer = bytes_of_cells(&it->outer), *inner = outer ? bytes_of_cells(&it->inner) : NULL;
+    if (inner) answer = PyTuple_Pack(2, outer, inner);
+    Py_XDECREF(outer);
+    Py_XDECREF(inner);
+  } else {
+    answer = Py_BuildValue("(iKKs)", (int)it->status, (unsigned long long)it->fault.ring,
+                           (unsigned long long)it->fault.position, s2u_cover_status_text(it->status));
+  }
+  s2u_cover_free(&it->outer);
+  s2u_cover_free(&it->inner);
+  return answer;
+}
+
+/* Which coverings are wanted: 1 the outer, 2 the inner, 3 both. */
+static bool as_which(PyObject* given, Covered* it, s2u_cover_cells** outer, s2u_cover_cells** inner) {
+  uint64_t which;
+  memset(it, 0, sizeof *it);
+  if (!as_number(given, "which", 1, 3, &which)) return false;
+  *outer = which & 1 ? &it->outer : NULL;
+  *inner = which & 2 ? &it->inner : NULL;
+  return true;
+}
+
+/* Of positions, and of rings: two numbers for each, where it ends and its polygon. */
+static PyObject* py_coverings(PyObject* module, PyObject* words) {
+  HELD List positions = {0}, rings = {0};
+  s2u_cover_options options;
+  s2u_cover_cells *outer, *inner;
+  Covered it;
+  (void)module;
+  if (!has(words, 4) || !as_options(WORD(2), &options) || !as_which(WORD(3), &it, &outer, &inner) ||
+      !as_list(WORD(0), 2 * sizeof(double), &positions) || !as_list(WORD(1), sizeof(s2u_cover_ring), &rings))
+    return NULL;
+  s2u_cover_shape shape = {positions.at, rings.at, rings.n};
+  for (size_t k = 0; k < rings.n; k++)
+    if (shape.rings[k].end > positions.n) return raise_refusal(S2U_ARGUMENT, "a ring ends behind the positions");
+  UNLOCKED(it.status = s2u_cover(&shape, &options, outer, inner, &it.fault));
+  return covered(&it);
+}
+
+static PyObject* py_coverings_of_wkb(PyObject* module, PyObject* words) {
+  HELD List bytes = {0};
+  s2u_cover_options options;
+  s2u_cover_cells *outer, *inner;
+  Covered it;
+  (void)module;
+  if (!has(words, 3) || !as_options(WORD(1), &options) || !as_which(WORD(2), &it, &outer, &inner) ||
+      !as_list(WORD(0), 1, &bytes))
+    return NULL;
+  UNLOCKED(it.status = s2u_cover_wkb(bytes.at, bytes.n, &options, outer, inner, &it.fault));
+  return covered(&it);
+}
+
+static PyObject* py_coverings_of_circle(PyObject* module, PyObject* words) {
+  double longitude, latitude, radius;
+  s2u_cover_options options;
+  s2u_cover_cells *outer, *inner;
+  Covered it;
+  (void)module;
+  if (!has(words, 5) || !as_meters(WORD(0), &longitude) || !as_meters(WORD(1), &latitude) ||
+      !as_meters(WORD(2), &radius) || !as_options(WORD(3), &options) || !as_which(WORD(4), &it, &outer, &inner))
+    return NULL;
+  UNLOCKED(it.status = s2u_cover_circle(longitude, latitude, radius, &options, outer, inner, &it.fault));
+  return covered(&it);
+}
+
+static PyObject* py_level_within(PyObject* module, PyObject* given) {
+  double meters;
+  (void)module;
+  return as_meters(given, &meters) ? PyLong_FromUnsignedLong(s2u_cover_level_within(meters)) : NULL;
 }

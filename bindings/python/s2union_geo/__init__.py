@@ -1,4 +1,7 @@
-"""Points and polygons, in degrees, for unions of S2 cells: by numpy, tested beside S2, and not proved.
+"""Points, polygons, lines and circles, in degrees, for unions of S2 cells.
+
+Coverings are made by the calls of the library, which are proved for corners that are rounded to whole numbers. The
+rest, from degrees to these numbers and back, is tested beside S2. Arrays of points and maps need numpy.
 
 `leaves` takes longitudes and latitudes to S2's leaves and `points` goes back; `covering` and `interior` make unions of
 polygons, in GeoJSON or of shapely, and `to_geojson` makes GeoJSON of unions. An `Index` finds which points lie in which
@@ -13,11 +16,25 @@ in this folder lets GDAL read union files.
 (True, True, False, True, False)
 """
 
-from .polygons import MOST_CELLS, covering, coverings, interior
-from .geojson import MOST_BYTES, MOST_POSITIONS, read_geojson, to_geojson
-from .index import Index
-from .outlines import area, boundary, outline
-from .sphere import leaf, leaves, points
+from typing import Any
 
-__all__ = ["leaf", "leaves", "points", "covering", "interior", "coverings", "to_geojson", "read_geojson",
+from .coverer import MOST_CELLS, circle, covering, coverings, interior
+from .places import leaf
+from .reading import MOST_BYTES, MOST_POSITIONS, read_geojson
+
+__all__ = ["leaf", "leaves", "points", "covering", "interior", "coverings", "circle", "to_geojson", "read_geojson",
            "Index", "area", "boundary", "outline", "MOST_CELLS", "MOST_POSITIONS", "MOST_BYTES"]
+BY_NUMPY = {"leaves": "sphere", "points": "sphere", "to_geojson": "geojson", "area": "outlines",
+            "boundary": "outlines", "outline": "outlines", "Index": "index"}  # which is needed for these alone
+
+
+def __getattr__(name: str) -> Any:
+    """Of what needs numpy, when it is asked for."""
+    if name not in BY_NUMPY:
+        raise AttributeError(f"module {__name__!r} has no attribute {name!r}")
+    from importlib import import_module
+    return globals().setdefault(name, getattr(import_module(f"{__name__}.{BY_NUMPY[name]}"), name))
+
+
+def __dir__() -> list[str]:
+    return sorted({*globals(), *__all__})

@@ -42,7 +42,7 @@ import numpy
 from s2union import CellUnion, tokens
 
 from . import Index, coverings, leaves, read_geojson, to_geojson
-from .sphere import MOST, range_of
+from .places import MOST, range_of
 from .tables import Options, features_of, read_points
 
 # Two words with a comma between them and a comma after them, if anything; or with blanks there.

@@ -13,8 +13,8 @@ from typing import Any
 
 import pandas
 
+from .coverer import coverings
 from .index import Index
-from .polygons import coverings
 from .sphere import leaves
 
 __all__ = ["Frame"]

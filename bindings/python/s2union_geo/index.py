@@ -13,9 +13,10 @@ from typing import Any, Iterator
 import numpy
 from s2union import range_maxes, range_mins
 
-from .geojson import parsed, polygons_of
-from .polygons import coverings
-from .sphere import MOST, leaf, leaves
+from .coverer import coverings
+from .places import MOST, leaf
+from .reading import parsed, polygons_of
+from .sphere import leaves
 
 __all__ = ["Index"]
 

@@ -1,33 +1,16 @@
 """Places on the sphere, in degrees, and S2's projection onto the cube, in plain floating point. Cells of places, and
-places of cells, are those of s2union_geo.h, in C; what is drawn or covered is projected here, by numpy."""
+places of cells, are those of s2union_geo.h, in C; what is drawn is projected here, by numpy."""
 
 from __future__ import annotations
 
-import math
 from typing import Any
 
 import numpy
 from s2union import CellUnion, _library, square
 
+from .places import MOST, leaf, range_of
+
 SIDE = 2**30  # of a face, in leaves
-# In degrees. Longitudes of data are from -180 to 180 or from 0 to 360, and rings go on over the date line.
-MOST = {"longitude": 540, "latitude": 90}
-NO_NUMBERS = {str, bytes, bytearray, bool}  # of which Python makes floats all the same
-# The C library's, which S2 takes. The last bit of numpy's own may differ, and on the border of two leaves it matters.
-sine, cosine = (numpy.vectorize(function, otypes="d") for function in (math.sin, math.cos))
-
-
-def range_of(what: str) -> str:
-    """What is said of a longitude or a latitude that is out of range."""
-    order = " (the longitude comes first)" if what == "latitude" else ""
-    return f"a {what} is from -{MOST[what]} to {MOST[what]}{order}"
-
-
-def number_of(value: Any, what: str) -> float:
-    """A number as a float."""
-    if isinstance(value, tuple(NO_NUMBERS)):
-        raise TypeError(f"a {what} is a number, not {type(value).__name__}: {value!r}")
-    return float(value)
 
 
 def degrees_of(value: Any, what: str) -> Any:
@@ -51,13 +34,6 @@ def places_of(longitude: Any, latitude: Any) -> Any:
         return numpy.broadcast_arrays(x, y)
     except ValueError:
         raise ValueError(f"{x.size} longitudes and {y.size} latitudes") from None
-
-
-def sphere(longitude: Any, latitude: Any) -> Any:
-    """The points of the sphere, as x, y and z, of places in degrees that were looked at."""
-    longitude, latitude = numpy.radians(longitude), numpy.radians(latitude)
-    across = cosine(latitude)
-    return numpy.array([cosine(longitude) * across, sine(longitude) * across, sine(latitude)])
 
 
 def geographic(x: Any, y: Any, z: Any) -> Any:
@@ -132,49 +108,6 @@ def leaves(longitude: Any, latitude: Any) -> Any:
     longitude, latitude = places_of(longitude, latitude)
     found = _library.leaves(_memory_of(longitude), _memory_of(latitude))
     return numpy.frombuffer(found, "uint64").reshape(longitude.shape)
-
-
-def leaf(longitude: float, latitude: float) -> int:
-    """The leaf of one place.
-
-    .. versionadded:: 1.1
-
-    Parameters
-    ----------
-    longitude : float
-        From -540 to 540 degrees; it comes first.
-    latitude : float
-        From -90 to 90 degrees.
-
-    Returns
-    -------
-    int
-        The cell.
-
-    Raises
-    ------
-    ValueError
-        A number is out of range.
-    TypeError
-        A value isn't a number.
-
-    Notes
-    -----
-    S2: ``S2CellId(S2LatLng::FromDegrees(latitude, longitude))``, which takes the latitude first.
-
-    Examples
-    --------
-    >>> from s2union import token
-    >>> token(leaf(longitude=2.3522, latitude=48.8566))
-    '47e66e1d8f8be23b'
-    """
-    return _library.leaf(longitude, latitude) or _leaf(longitude, latitude)
-
-
-def _leaf(longitude: Any, latitude: Any) -> int:
-    """The same of what becomes a float; a number that is out of range is an error of `leaves`."""
-    x, y = number_of(longitude, "longitude"), number_of(latitude, "latitude")
-    return _library.leaf(x, y) or int(leaves(x, y))
 
 
 def points(cells: Any) -> Any:

@@ -11,8 +11,8 @@ from typing import Any, BinaryIO, Callable, Iterator, NamedTuple
 
 import numpy
 
-from .geojson import MOST_BYTES, parsed
-from .sphere import MOST, range_of
+from .places import MOST, range_of
+from .reading import MOST_BYTES, parsed
 
 COLUMNS = ("longitude", "latitude"), ("lon", "lat"), ("lng", "lat"), ("long", "lat"), ("x", "y")
 SEPARATORS = ",;\t|"  # of which one is looked for; without any, columns lie between blanks

@@ -1,0 +1,183 @@
+"""Shapes in GeoJSON, in WKB or of what has a __geo_interface__, as positions and rings."""
+
+from __future__ import annotations
+
+import json
+import os
+from array import array
+from itertools import chain
+from typing import Any, Iterable, NamedTuple
+
+from .interrupts import look
+from .places import MOST, NO_NUMBERS, number_of, range_of
+
+MOST_BYTES = 2**28  # of a text or a file
+MOST_POSITIONS = 1_000_000  # of all rings together
+PARTS = {"FeatureCollection": "features", "GeometryCollection": "geometries"}
+LINE = 2**64 - 1  # in the place of a polygon's number: a line or a point
+# How deep the positions of each kind stand, and in which part of these a line or a polygon is whole.
+KINDS = {"Point": (0, False), "MultiPoint": (1, False), "LineString": (1, False), "MultiLineString": (2, False),
+         "Polygon": (2, True), "MultiPolygon": (3, True)}
+
+
+class Shape(NamedTuple):
+    """The longitudes and latitudes of all positions; of each ring or line where it ends and its polygon; and what each
+    is called."""
+
+    positions: array[float]
+    rings: array[int]
+    names: list[str]
+
+    def add(self, line: Any, polygon: int, name: str) -> None:
+        self.positions.extend(_positions_of(line, name))
+        self.rings.extend((len(self.positions) // 2, polygon))
+        self.names.append(name)
+        if len(self.positions) > 2 * MOST_POSITIONS:
+            raise ValueError(f"there are more than {MOST_POSITIONS} positions")
+
+    def place(self, ring: int, position: int) -> list[float]:
+        begin = self.rings[2 * ring - 2] if ring else 0
+        return self.positions[2 * (begin + position):2 * (begin + position) + 2].tolist()
+
+
+def read_geojson(path: str | os.PathLike[str]) -> Any:
+    """The GeoJSON of a file, for `covering` and what else takes shapes.
+
+    .. versionadded:: 1.1
+
+    Parameters
+    ----------
+    path : str or path
+        A file of at most ``MOST_BYTES`` bytes. In a position the longitude comes first, then the latitude.
+
+    Returns
+    -------
+    object
+        The content of the file, as objects of Python.
+
+    Raises
+    ------
+    ValueError
+        The file is no JSON, or has more bytes.
+    OSError
+        The file can't be read.
+
+    Examples
+    --------
+    >>> from pathlib import Path
+    >>> from tempfile import TemporaryDirectory
+    >>> with TemporaryDirectory() as folder:
+    ...     path = Path(folder, "pond.geojson")
+    ...     _ = path.write_text('{"type": "Polygon", "coordinates": []}')
+    ...     read_geojson(path)
+    {'type': 'Polygon', 'coordinates': []}
+    """
+    with open(path, "rb") as file:
+        return parsed(file.read(MOST_BYTES + 1), os.fspath(path))
+
+
+def parsed(text: str | bytes, name: str = "the text") -> Any:
+    if len(text) > MOST_BYTES:
+        raise ValueError(f"{name} has more than {MOST_BYTES} bytes")
+    try:
+        return json.loads(text)
+    except (ValueError, RecursionError) as error:
+        raise ValueError(f"{name} is no GeoJSON: {error}") from None
+
+
+def wkb_of(shape: Any) -> bytes | None:
+    """The bytes of WKB, which begin as no text does, and of what has them in an attribute, as shapely's objects do."""
+    found = shape if isinstance(shape, bytes) else getattr(shape, "wkb", None)
+    return found if isinstance(found, bytes) and found[:1] in (b"\0", b"\1") else None
+
+
+def shape_of(given: Any) -> Shape:
+    """The rings and lines of GeoJSON, as objects of Python or as a text, or of what has a __geo_interface__."""
+    found, waiting, polygons = Shape(array("d"), array("Q"), []), [given], 0
+    while waiting:
+        look()
+        it = waiting.pop()
+        it = parsed(it) if isinstance(it, (str, bytes)) else getattr(it, "__geo_interface__", it)
+        kind = it.get("type") if isinstance(it, dict) else None
+        if not isinstance(kind, str):
+            raise ValueError(f"it is no shape: {type(it).__name__}")
+        if kind in PARTS:
+            waiting += reversed(_list_of(it, PARTS[kind], kind))
+        elif kind == "Feature":
+            waiting += [it["geometry"]] if it.get("geometry") is not None else []
+        elif kind in KINDS:
+            polygons += _add_geometry(found, it, kind, polygons)
+        else:
+            raise ValueError(f"it is no shape: {kind[:99]!r}")
+    return found
+
+
+def polygons_of(given: Any) -> list[list[Any]]:
+    """The rings of each polygon, as arrays of numpy of longitudes and latitudes."""
+    import numpy
+    shape = shape_of(given)
+    positions = numpy.array(shape.positions).reshape(-1, 2)
+    found: dict[int, list[Any]] = {}
+    for begin, end, polygon in zip([0, *shape.rings[::2]], shape.rings[::2], shape.rings[1::2]):
+        if polygon != LINE:
+            found.setdefault(polygon, []).append(positions[begin:end])
+    return list(found.values())
+
+
+def _add_geometry(shape: Shape, it: Any, kind: str, polygons: int) -> int:
+    """Adds what a geometry has; how many polygons."""
+    depth, is_area = KINDS[kind]
+    parts = _list_of(it, "coordinates", kind)
+    if not is_area:
+        lines: Iterable[Any] = [[parts]] if depth == 0 else [[at] for at in parts] if kind == "MultiPoint" else [parts]
+        for line in parts if depth == 2 else lines:
+            if len(line) > 0 and len(line[0]) > 0:
+                shape.add(line, LINE, f"line {len(shape.names)}")
+        return 0
+    for k, rings in enumerate(parts if depth == 3 else [parts]):
+        look()
+        if not isinstance(rings, (list, tuple)) and not hasattr(rings, "__len__"):
+            raise ValueError(f"polygon {polygons + k} has a list of rings")
+        for n, ring in enumerate(rings):
+            shape.add(ring, polygons + k, f"polygon {polygons + k}, ring {n}")
+    return len(parts) if depth == 3 else 1
+
+
+def _list_of(it: Any, name: str, kind: str) -> list[Any]:
+    parts = it.get(name)
+    if not isinstance(parts, (list, tuple)) and not hasattr(parts, "tolist"):
+        raise ValueError(f"a {kind} has a list of {name}")
+    return list(parts)
+
+
+def _positions_of(line: Any, name: str) -> Iterable[float]:
+    """The longitudes and latitudes of a line, each position after the other."""
+    try:
+        if hasattr(line, "astype"):  # an array of numpy
+            if line.ndim != 2 or line.shape[1] < 2 or line.dtype.kind not in "iuf":
+                raise ValueError
+            return array("d", line[:, :2].astype("float64").tobytes())
+        line = list(line)
+        numbers = list(chain.from_iterable(line))
+        if not NO_NUMBERS.isdisjoint(map(type, numbers)):
+            line = [[number_of(x, what) for x, what in zip(position, MOST)] for position in line]
+        elif {*map(len, line)} <= {2}:
+            return array("d", numbers)
+        if line and min(map(len, line)) < 2:
+            raise ValueError
+        return array("d", chain.from_iterable(position[:2] for position in line))
+    except (TypeError, ValueError, OverflowError):
+        raise ValueError(f"{name}: a position is a longitude and a latitude") from None
+
+
+def said_of(shape: Shape | None, ring: int, position: int, text: str) -> str:
+    """What is said of a fault: where it is, and the position."""
+    if shape is None or ring >= len(shape.names):
+        return text
+    if text.startswith("a ring "):
+        return shape.names[ring] + text[len("a ring"):]
+    place = shape.place(ring, position)
+    wrong = next((what for number, what in zip(place, MOST) if not abs(number) <= MOST[what]), None)
+    if wrong is None:
+        return f"{shape.names[ring]}: {text}"
+    return f"{shape.names[ring]}: position {position} is out of range: {range_of(wrong)}: {place}"
