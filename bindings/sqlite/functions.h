@@ -83,6 +83,24 @@ static const char* const listed[][4] = {
    "the longitude of the middle of a cell, in degrees. Error: an invalid cell", "s2union_geo"},
   {"s2_latitude", "cell",
    "the latitude of the middle of a cell, in degrees. Error: an invalid cell", "s2union_geo"},
+  {"s2_covering", "shape",
+   "a union that contains polygons, lines and points in WKB, whose edges are straight on the map: at "
+   "most 200 cells and of level 30, if no others are named. Errors: no WKB of degrees, a ring that is "
+   "open, a number out of range", "s2union_geo"},
+  {"s2_covering", "shape, max_cells",
+   "a union that contains polygons, lines and points in WKB, whose edges are straight on the map: at "
+   "most 200 cells and of level 30, if no others are named. Errors: no WKB of degrees, a ring that is "
+   "open, a number out of range", "s2union_geo"},
+  {"s2_covering", "shape, max_cells, max_level",
+   "a union that contains polygons, lines and points in WKB, whose edges are straight on the map: at "
+   "most 200 cells and of level 30, if no others are named. Errors: no WKB of degrees, a ring that is "
+   "open, a number out of range", "s2union_geo"},
+  {"s2_interior", "shape",
+   "a union that lies in polygons in WKB. Errors: those of `s2_covering`", "s2union_geo"},
+  {"s2_interior", "shape, max_cells",
+   "a union that lies in polygons in WKB. Errors: those of `s2_covering`", "s2union_geo"},
+  {"s2_interior", "shape, max_cells, max_level",
+   "a union that lies in polygons in WKB. Errors: those of `s2_covering`", "s2union_geo"},
   {"s2_version", "",
    "the version of the code that is loaded", "s2union"},
   {"s2_cells", "x",

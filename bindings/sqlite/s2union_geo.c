@@ -1,7 +1,7 @@
-/* Points in degrees for unions of S2 cells in SQLite. docs/GEO.md says what each function does. */
+/* Points and shapes in degrees for unions of S2 cells in SQLite. docs/SQLITE.md says what each function does. */
 #include <s2union.h>
 #include <sqlite3ext.h>
-#include <s2union_geo.h>
+#include <s2union_cover.h>
 #include <string.h>
 SQLITE_EXTENSION_INIT1
 
@@ -52,12 +52,69 @@ static void coordinate(sqlite3_context* c, sqlite3_value* v, int is_latitude) {
 static void longitude_function(sqlite3_context* c, int n, sqlite3_value** v) { coordinate(c, v[0], 0); }
 static void latitude_function(sqlite3_context* c, int n, sqlite3_value** v) { coordinate(c, v[0], 1); }
 
+/* ---- coverings of shapes in WKB */
+
+/* A whole number from 0 to the most that it may be, which an argument that isn't there leaves as it is. */
+static int as_count(sqlite3_context* c, sqlite3_value* v, const char* what, sqlite3_int64 most, sqlite3_int64* number) {
+  if (!v) return 1;
+  *number = sqlite3_value_int64(v);
+  if (sqlite3_value_type(v) == SQLITE_INTEGER && *number >= 0 && *number <= most) return 1;
+  refuse(c, what, v);
+  return 0;
+}
+
+/* The union file of cells. */
+static void result_cells(sqlite3_context* c, const s2u_cover_cells* cells) {
+  size_t size = S2U_FILE_SIZE(cells->count), len;
+  uint8_t* file = sqlite3_malloc64(size);
+  if (file) s2u_encode(cells->ids, cells->count, file, size, &len); /* which has room enough */
+  file ? sqlite3_result_blob64(c, file, size, sqlite3_free) : sqlite3_result_error_nomem(c);
+}
+
+/* What is wrong with a shape: the text of the status and where, a byte or a position of a ring. */
+static void refuse_shape(sqlite3_context* c, int32_t status, const s2u_cover_fault* fault) {
+  const char* text = s2u_cover_status_text(status);
+  int is_of_bytes = status <= S2U_COVER_WKB;
+  char* said = is_of_bytes ? sqlite3_mprintf("s2: %s: at byte %llu", text, fault->position)
+                           : sqlite3_mprintf("s2: %s: ring %llu, position %llu", text, fault->ring, fault->position);
+  said && status != S2U_MEMORY ? sqlite3_result_error(c, said, -1) : sqlite3_result_error_nomem(c);
+  sqlite3_free(said);
+}
+
+static void cover(sqlite3_context* c, int n, sqlite3_value** v, int is_outer) {
+  sqlite3_int64 most = 200, deepest = 30;
+  for (int k = 0; k < n; k++)
+    if (sqlite3_value_type(v[k]) == SQLITE_NULL) return;
+  if (sqlite3_value_type(v[0]) != SQLITE_BLOB) {
+    refuse(c, "a shape is a BLOB of WKB", v[0]);
+  } else if (as_count(c, n > 1 ? v[1] : NULL, "a number of cells is from 0 to 1000000", S2U_COVER_MOST_CELLS, &most) &&
+             as_count(c, n > 2 ? v[2] : NULL, "a level is from 0 to 30", 30, &deepest)) {
+    const s2u_cover_options options = {(uint64_t)most, 0, (uint32_t)deepest, S2U_COVER_MAP, 0};
+    s2u_cover_cells cells;
+    s2u_cover_fault fault;
+    const uint8_t* bytes = sqlite3_value_blob(v[0]);
+    int32_t status = s2u_cover_wkb(bytes, (size_t)sqlite3_value_bytes(v[0]), &options, is_outer ? &cells : NULL,
+                                   is_outer ? NULL : &cells, &fault);
+    status == S2U_OK ? result_cells(c, &cells) : refuse_shape(c, status, &fault);
+    s2u_cover_free(&cells);
+  }
+}
+
+static void covering_function(sqlite3_context* c, int n, sqlite3_value** v) { cover(c, n, v, 1); }
+static void interior_function(sqlite3_context* c, int n, sqlite3_value** v) { cover(c, n, v, 0); }
+
 __attribute__((visibility("default")))
 int sqlite3_sunion_geo_init(sqlite3* db, char** error, const sqlite3_api_routines* api) {
   static const struct { const char* name; int n; void (*call)(sqlite3_context*, int, sqlite3_value**); } all[] = {
     {"s2_leaf_at", 2, leaf_at_function},
     {"s2_longitude", 1, longitude_function},
     {"s2_latitude", 1, latitude_function},
+    {"s2_covering", 1, covering_function},
+    {"s2_covering", 2, covering_function},
+    {"s2_covering", 3, covering_function},
+    {"s2_interior", 1, interior_function},
+    {"s2_interior", 2, interior_function},
+    {"s2_interior", 3, interior_function},
   };
   SQLITE_EXTENSION_INIT2(api);
   int status = SQLITE_OK;

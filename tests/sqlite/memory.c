@@ -33,6 +33,8 @@ static const char* const queries[] = {
   "SELECT name, arguments, result FROM s2_functions WHERE extension = 's2union_geo'",
   "SELECT s2_longitude(s2_leaf_at(2.3522, 48.8566)), s2_latitude('1/0')",
   "SELECT s2_leaf_at('north', 0)",
+  "SELECT hex(s2_covering(x'0101000000000000000000F03F0000000000000040', 8, 9))",
+  "SELECT hex(s2_interior(x'0103', 8))",
   "SELECT s2_latitude(x'04')",
   NULL,
 };

@@ -6,6 +6,7 @@ import contextlib
 import math
 import os
 import sqlite3
+import struct
 import unittest
 
 import pytest
@@ -16,12 +17,21 @@ from test_sqlite import NO_CELLS
 EXTENSION = os.path.join(os.path.dirname(os.environ["S2UNION_SQLITE"]), "mod_s2union_geo.so")
 
 
-def opened():
-    """A database with the extension."""
+def opened(*more):
+    """A database with the extension, and others."""
     db = sqlite3.connect(":memory:")
     db.enable_load_extension(True)
-    db.load_extension(EXTENSION)
+    for it in (EXTENSION, *more):
+        db.load_extension(it)
     return db
+
+
+def wkb(ring, order="<"):
+    """A polygon of one ring as WKB."""
+    return bytes([order == "<"]) + struct.pack(f"{order}III{2 * len(ring)}d", 3, 1, len(ring), *sum(ring, ()))
+
+
+SQUARE = [(2.0, 48.0), (3.0, 48.0), (3.0, 49.0), (2.0, 49.0), (2.0, 48.0)]
 
 
 LONGITUDE, LATITUDE = "s2: a longitude is a number from -540 to 540: ", "s2: a latitude is a number from -90 to 90: "
@@ -34,7 +44,16 @@ LONGITUDE, LATITUDE = "s2: a longitude is a number from -540 to 540: ", "s2: a l
     ("s2_longitude(2)", (), "s2: not a cell: 2"), ("s2_latitude('zz')", (), "s2: not a cell: 'zz'"),
     ("s2_latitude(?)", (50 * "é",), f"s2: not a cell: '{40 * 'é'}'"),
     ("s2_latitude('0/4')", (), "s2: not a cell: '0/4'"), ("s2_latitude(1.5)", (), "s2: not a cell: 1.5"),
-    ("s2_latitude(x'')", (), "s2: not a cell: a BLOB of length 0")])
+    ("s2_latitude(x'')", (), "s2: not a cell: a BLOB of length 0"),
+    ("s2_covering(1)", (), "s2: a shape is a BLOB of WKB: 1"),
+    ("s2_interior('x')", (), "s2: a shape is a BLOB of WKB: 'x'"),
+    ("s2_covering(x'')", (), "s2: the bytes are no WKB: at byte 0"),
+    ("s2_covering(?)", (wkb(SQUARE)[:-1],), "s2: the bytes are no WKB: at byte 9"),
+    ("s2_interior(?)", (wkb(SQUARE[:-1]),),
+     "s2: a ring is open: its last position is not its first: ring 0, position 3"),
+    ("s2_covering(?, 'x')", (wkb(SQUARE),), "s2: a number of cells is from 0 to 1000000: 'x'"),
+    ("s2_covering(?, -1)", (wkb(SQUARE),), "s2: a number of cells is from 0 to 1000000: -1"),
+    ("s2_covering(?, 9, 31)", (wkb(SQUARE),), "s2: a level is from 0 to 30: 31")])
 def test_what_is_refused(call, values, wanted):
     with contextlib.closing(opened()) as db, pytest.raises(sqlite3.OperationalError) as caught:
         db.execute(f"SELECT {call}", values).fetchone()
@@ -66,18 +85,36 @@ class Points(unittest.TestCase):
 
     def test_nothing(self):
         for call in ("s2_leaf_at(NULL, 1)", "s2_leaf_at(1, NULL)", "s2_leaf_at(NULL, 91)", "s2_longitude(NULL)",
-                     "s2_latitude(NULL)"):
+                     "s2_latitude(NULL)", "s2_covering(NULL)", "s2_interior(x'', NULL)", "s2_covering(x'', 9, NULL)"):
             self.assertEqual(self.said(call), (None,))
         self.assertEqual(self.said("s2_leaf_at(?, 1)", math.nan), (None,))  # which SQLite has as NULL
 
     def test_cells_that_there_are_not(self):
         """Asked of each function that SQLite lists."""
         names = {name for name, in self.db.execute("SELECT name FROM pragma_function_list WHERE name LIKE 's2%'")}
-        for name in names - {"s2_leaf_at"}:
+        for name in names - {"s2_leaf_at", "s2_covering", "s2_interior"}:
             for wrong in NO_CELLS:
                 with self.assertRaisesRegex(sqlite3.OperationalError, "^s2: not a cell: "):
                     self.said(f"{name}(?)", wrong)
-        self.assertEqual(len(names), 3)
+        self.assertEqual(len(names), 5)
+
+    def test_coverings(self):
+        """Of a square, in both orders of bytes: places in it and beside it, how many cells, and how deep."""
+        with contextlib.closing(opened(os.environ["S2UNION_SQLITE"])) as db:
+            def said(text, *values):
+                return db.execute(f"SELECT {text}", values).fetchone()
+
+            square = wkb(SQUARE)
+            for of in "s2_covering", "s2_interior":
+                self.assertEqual(said(f"{of}(?1) = {of}(?2), {of}(?1) = {of}(?1, 200), {of}(?1) = {of}(?1, 200, 30)",
+                                      square, wkb(SQUARE, ">")), (1, 1, 1))
+                self.assertEqual(said(f"s2_contains({of}(?1), s2_leaf_at(2.5, 48.5)), "
+                                      f"s2_contains({of}(?1), s2_leaf_at(3.1, 48.5)), s2_count({of}(?1, 50)) <= 50, "
+                                      f"(SELECT max(s2_level(cell)) <= 8 FROM s2_cells({of}(?1, 1000, 8)))", square),
+                                 (1, 0, 1, 1))
+            self.assertEqual(said("s2_contains(s2_covering(?1), s2_interior(?1)), "
+                                  "s2_contains(s2_interior(?1), s2_covering(?1))", square), (1, 0))
+            self.assertEqual(said("s2_count(s2_covering(x'010700000000000000'))"), (0,))
 
     def test_an_index(self):
         """The functions are deterministic, so an index and a generated column may have them."""
