@@ -51,6 +51,8 @@ enum { S2U_COVER_MAP = 0, S2U_COVER_GEODESIC = 1, S2U_COVER_LEFT = 2 };
 
 #define S2U_COVER_WHOLE (3 * (INT64_C(1) << 60)) /* of the library's margins: half a face */
 #define S2U_COVER_ROUNDING 4.1e-10 /* radians: the farthest that a corner is rounded */
+#define S2U_COVER_THIN 1e-9 /* degrees: leaves in what two polygons share are at the border by rounding alone */
+#define S2U_COVER_FEW_CELLS 8 /* of a part; if parts have too many together, all cells get larger */
 #define S2U_COVER_STEP (S2U_GEO_PI / 16) /* radians: no piece is longer, in longitude or in latitude */
 
 /* A ring of a polygon, or a line. Rings of one polygon have its number, and stand next to each other. */
@@ -353,8 +355,9 @@ static inline void s2u_cover_mark(s2u_cover_polygon* polygons, size_t count, dou
     for (int turn = 0; turn <= 3 && !a->is_alone; turn++) {
       for (size_t n = turn ? 0 : k + 1; n < count && !a->is_alone; n++) {
         s2u_cover_polygon* b = &polygons[n];
-        if (b->box.west + 360 * turn >= a->box.east) break;
-        int is_near = !b->is_alone && n != k && a->box.south < b->box.north && b->box.south < a->box.north;
+        if (b->box.west + 360 * turn >= a->box.east - S2U_COVER_THIN) break;
+        int is_near = !b->is_alone && n != k && a->box.south < b->box.north - S2U_COVER_THIN &&
+                      b->box.south < a->box.north - S2U_COVER_THIN;
         if (--work < 0) a->is_alone = 1;
         else if (is_near && s2u_cover_may_overlap(a, b, 360 * turn, &work)) {
           double wide = a->box.east - a->box.west, other = b->box.east - b->box.west;
@@ -1031,7 +1034,9 @@ static inline int32_t s2u_cover_add_part(const s2u_cover_part* part, const s2u_c
   uint64_t most = wanted->options->max_cells;
   if (!part->count) return S2U_OK;
   double length = s2u_cover_length(part);
-  if (length < wanted->length) most = (uint64_t)ceil((double)most * (length / wanted->length));
+  if (length < wanted->length) most = (uint64_t)((double)most * (length / wanted->length));
+  if (most < S2U_COVER_FEW_CELLS) most = S2U_COVER_FEW_CELLS;
+  if (most > wanted->options->max_cells) most = wanted->options->max_cells;
   int32_t status = s2u_cover_build_within(&build, part, wanted);
   if (status != S2U_OK) return status;
   status = s2u_cover_add_build(&build, part, wanted, most);

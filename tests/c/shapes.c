@@ -269,6 +269,19 @@ static void crossings(void) {
   drop(&it);
 }
 
+/* A small polygon that overlaps with a large one, over the middle of a face, doesn't make its covering a face. */
+static void small_beside_large(void) {
+  double positions[20];
+  const s2u_cover_ring rings[] = {{5, 0}, {10, 1}};
+  box_of(60, 45, 180, 77, positions);
+  box_of(179, 70, 180.1, 71, positions + 10);
+  for (uint64_t most = 20; most <= 200; most *= 10) {
+    answer it = cover(positions, rings, 2, at_most(most));
+    CHECK(has(&it.outer, 180.05, 70.5) && has(&it.outer, 60, 45) && !has(&it.outer, -90, 70));
+    drop(&it);
+  }
+}
+
 static void many_islands(void) {
   enum { ISLANDS = 40 };
   double positions[10 * (ISLANDS + 1)];
@@ -604,6 +617,7 @@ int main(void) {
   date_line();
   whole_sphere();
   crossings();
+  small_beside_large();
   many_islands();
   lines();
   circles();
