@@ -161,6 +161,8 @@ static PyObject* covered(Covered* it) {
     if (inner) answer = PyTuple_Pack(2, outer, inner);
     Py_XDECREF(outer);
     Py_XDECREF(inner);
+  } else if (it->status == S2U_MEMORY) {
+    refused(it->status, NULL);
   } else {
     answer = Py_BuildValue("(iKKs)", (int)it->status, (unsigned long long)it->fault.ring,
                            (unsigned long long)it->fault.position, s2u_cover_status_text(it->status));
@@ -175,8 +177,8 @@ static bool as_which(PyObject* given, Covered* it, s2u_cover_cells** outer, s2u_
   uint64_t which;
   memset(it, 0, sizeof *it);
   if (!as_number(given, "which", 1, 3, &which)) return false;
-  *outer = which & 1 ? &it->outer : NULL;
-  *inner = which & 2 ? &it->inner : NULL;
+  *outer = which != 2 ? &it->outer : NULL;
+  *inner = which != 1 ? &it->inner : NULL;
   return true;
 }
 

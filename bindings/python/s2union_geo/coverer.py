@@ -284,9 +284,7 @@ def _of_geojson(shape: Any, options: Any, which: int) -> tuple[CellUnion, CellUn
 def _unions(answer: Any, shape: Shape | None) -> tuple[CellUnion, CellUnion]:
     """The unions of cells in bytes, or the error that came in their place."""
     if len(answer) > 2:
-        status, ring, position, text = answer
-        if status == _library.MEMORY:
-            _library.refuse(status, None)
+        _, ring, position, text = answer
         raise ValueError(said_of(shape, ring, position, text))
     outer, inner = (CellUnion._holding(cells) for cells in answer)
     return outer, inner
