@@ -65,17 +65,15 @@ outlined() {
     g++ -x c++ -std=c++11 "${strict[@]}" -I"$include" -fsyntax-only "$include/s2union_outline.h"
 }
 step "outlines on a map, each allocation refused in turn" outlined
-if grep -q s2u_polygon_outer_up_to "$include/s2union.h"; then
-  covered() { # shapes in degrees
-    program shapes "$static" "$work/refuse.o" -lm &&
-      program shapes "$static" -fsanitize=address,undefined -fno-sanitize-recover "$work/refuse.o" -lm
-  }
-  step "coverings of shapes in degrees, and under the sanitizers" covered
-  included() { echo '#include <s2union_cover.h>' | "$@" "${strict[@]}" -I"$include" -fsyntax-only -; }
-  for compiler in "gcc -x c -std=c99" "clang -x c -std=c17" "g++ -x c++ -std=c++11" "clang++ -x c++ -std=c++20"; do
-    step "header of coverings: $compiler" included $compiler
-  done
-fi
+covered() { # shapes in degrees
+  program shapes "$static" "$work/refuse.o" -lm &&
+    program shapes "$static" -fsanitize=address,undefined -fno-sanitize-recover "$work/refuse.o" -lm
+}
+step "coverings of shapes in degrees, and under the sanitizers" covered
+included() { echo '#include <s2union_cover.h>' | "$@" "${strict[@]}" -I"$include" -fsyntax-only -; }
+for compiler in "gcc -x c -std=c99" "clang -x c -std=c17" "g++ -x c++ -std=c++11" "clang++ -x c++ -std=c++20"; do
+  step "header of coverings: $compiler" included $compiler
+done
 step "200,000 lists of garbage" program garbage "$static" -fsanitize=address
 step "few pages read of the cells that a search passes" program pages "$static"
 step "8 threads" program threads "$static"
@@ -87,9 +85,7 @@ fuzzed() { # NAME LENGTH: calls with what libFuzzer makes up, from a fixed seed
       || { od -An -tx1 "$work"/found/* | head -40; return 1; }
 }
 step "fuzzer, each call of the header, $seconds seconds" fuzzed fuzz 1200
-if grep -q s2u_polygon_outer_up_to "$include/s2union.h"; then
-  step "fuzzer, shapes in degrees and WKB, $seconds seconds" fuzzed fuzz_shapes 300
-fi
+step "fuzzer, shapes in degrees and WKB, $seconds seconds" fuzzed fuzz_shapes 300
 
 # ---- the program of docs/C.md
 
