@@ -123,8 +123,8 @@ static void draw_polygon(void) {
   }
   corner_ends[0] = below(8) ? 4 : below(9), corner_ends[1] = corners_count;
   outside = below(8) ? s2u_range_min(id) : id, margin = below(2) ? 0 : draw() >> 3;
-  coarse = below(40) ? below(6) : level, least = below(4), deepest = below(16) + 2;
-  if (coarse > 6) coarse |= 32; /* no level: at a deep one an edge meets very many cells */
+  coarse = below(40) ? below(5) : level, least = below(4), deepest = below(5) + 2;
+  if (coarse > 5) coarse |= 32; /* no level: at a deep one an edge meets very many cells */
 }
 
 static void draw_all(void) {

@@ -42,7 +42,7 @@ step "points in degrees, in C++" in_degrees g++ -x c++ -std=c++11
 program() { # NAME LIBRARY FLAGS..: builds a test and runs it
   local name=$1 library=$2
   shift 2
-  gcc -std=c11 -D_DEFAULT_SOURCE -O2 "${strict[@]}" "$@" -I"$include" "$tests/$name.c" "$library" -lpthread \
+  gcc -std=c11 -D_DEFAULT_SOURCE -O2 "${strict[@]}" "$@" -I"$include" "$tests/$name.c" "$library" -lpthread -lm \
     -o "$work/$name" && timeout 300 "$work/$name"
 }
 step "an example of each call" program examples "$static"
@@ -61,13 +61,13 @@ own_heap() { # tools/runtime's, which stands for the kit's where the kit has non
 }
 step "each allocation refused in turn, and traps, by the heap for other processors" own_heap
 outlined() {
-  program outline "$static" -fsanitize=address,undefined "$work/refuse.o" -lm &&
+  program outline "$static" -fsanitize=address,undefined "$work/refuse.o" &&
     g++ -x c++ -std=c++11 "${strict[@]}" -I"$include" -fsyntax-only "$include/s2union_outline.h"
 }
 step "outlines on a map, each allocation refused in turn" outlined
 covered() { # shapes in degrees
-  program shapes "$static" "$work/refuse.o" -lm &&
-    program shapes "$static" -fsanitize=address,undefined -fno-sanitize-recover "$work/refuse.o" -lm
+  program shapes "$static" "$work/refuse.o" &&
+    program shapes "$static" -fsanitize=address,undefined -fno-sanitize-recover "$work/refuse.o"
 }
 step "coverings of shapes in degrees, and under the sanitizers" covered
 included() { echo '#include <s2union_cover.h>' | "$@" "${strict[@]}" -I"$include" -fsyntax-only -; }

@@ -38,7 +38,7 @@ MANY_ARMS = {"s2calc/src/command_line.rt: arg_of", "s2calc/src/edits.rt: edit_re
              "s2script/src/refusal.rt: name"}
 AVOIDED = ("asked about", "so many", "refused where")
 # Lines of proof, which may only fall; the body of a commit that raises them says why.
-PROOFS = 56_336
+PROOFS = 56_344
 # Files whose lines may be long: pages and tables of rows, which are not wrapped, texts of others, and what pins a line.
 UNWRAPPED = re.compile(r"\.(?:md|svg|png|outer|cells|sums)$|^LICENSE$|/(?:stdin|stdout|mutants\.txt)$")
 

@@ -578,7 +578,7 @@ static PyObject* py_polygon_inner(PyObject* module, PyObject* words) {
   size_t len = 0;
   Room out;
   if (!has(words, 8) || !as_cell(WORD(4), &outside) ||
-      !as_number(WORD(5), "a margin", 0, (UINT64_C(1) << 60), &margin) ||
+      !as_number(WORD(5), "a margin", 0, UINT64_C(1152921504606846976), &margin) ||
       !as_number(WORD(6), "a level", 0, 30, &level) || !as_number(WORD(7), "most", 0, INT64_MAX, &most) ||
       !as_number(WORD(1), "room", 0, UINT64_MAX, &room) ||
       !as_list(WORD(2), sizeof(s2u_direction), &corners) || !as_list(WORD(3), sizeof(size_t), &ends) ||
@@ -598,7 +598,7 @@ static PyObject* py_polygon_inner_up_to(PyObject* module, PyObject* words) {
   size_t len = 0;
   Room out;
   if (!has(words, 9) || !as_cell(WORD(4), &outside) ||
-      !as_number(WORD(5), "a margin", 0, (UINT64_C(1) << 60), &margin) ||
+      !as_number(WORD(5), "a margin", 0, UINT64_C(1152921504606846976), &margin) ||
       !as_number(WORD(6), "a level", 0, 30, &least) || !as_number(WORD(7), "a level", 0, 30, &deepest) ||
       !as_number(WORD(8), "a number of cells", 0, INT64_MAX, &cells) ||
       !as_number(WORD(1), "room", 0, UINT64_MAX, &room) ||
@@ -619,7 +619,7 @@ static PyObject* py_polygon_outer(PyObject* module, PyObject* words) {
   size_t len = 0;
   Room out;
   if (!has(words, 8) || !as_cell(WORD(4), &outside) ||
-      !as_number(WORD(5), "a margin", 0, (UINT64_C(1) << 60), &margin) ||
+      !as_number(WORD(5), "a margin", 0, UINT64_C(1152921504606846976), &margin) ||
       !as_number(WORD(6), "a level", 0, 30, &level) || !as_number(WORD(7), "most", 0, INT64_MAX, &most) ||
       !as_number(WORD(1), "room", 0, UINT64_MAX, &room) ||
       !as_list(WORD(2), sizeof(s2u_direction), &corners) || !as_list(WORD(3), sizeof(size_t), &ends) ||
@@ -639,7 +639,7 @@ static PyObject* py_polygon_outer_up_to(PyObject* module, PyObject* words) {
   size_t len = 0;
   Room out;
   if (!has(words, 9) || !as_cell(WORD(4), &outside) ||
-      !as_number(WORD(5), "a margin", 0, (UINT64_C(1) << 60), &margin) ||
+      !as_number(WORD(5), "a margin", 0, UINT64_C(1152921504606846976), &margin) ||
       !as_number(WORD(6), "a level", 0, 30, &least) || !as_number(WORD(7), "a level", 0, 30, &deepest) ||
       !as_number(WORD(8), "a number of cells", 0, INT64_MAX, &cells) ||
       !as_number(WORD(1), "room", 0, UINT64_MAX, &room) ||

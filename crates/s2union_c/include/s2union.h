@@ -911,7 +911,9 @@ int32_t s2u_inner_in(const uint64_t* ids, size_t n, const s2u_rect* bounds, uint
  *
  * Outer leaves are those inside and those that an edge touches, inner leaves those inside that no edge touches. With a
  * margin an edge touches a leaf that it comes near. A covering of outer leaves misses none of them, a covering of inner
- * leaves has no other leaf: proved. Memory is taken for the edges, some hundred bytes for each and for each level.
+ * leaves has no other leaf: proved. Memory is taken for the edges, some hundred bytes for each and for each level. Time
+ * follows the edges and the cells that they touch, down to the level: at a deep one long edges touch very many, also
+ * where an inner covering has no cell.
  * @{ */
 
 /** The cells of a level that have an outer leaf of a polygon, normalized: S2's GetCovering with one level.
