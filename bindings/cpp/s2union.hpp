@@ -35,6 +35,7 @@
 #include <s2union.h>
 
 #include <algorithm>
+#include <array>
 #include <cmath>
 #include <cstdlib>
 #include <functional>
@@ -683,6 +684,25 @@ class CellUnionOf {
     return CoveredRect(s2u_inner, rect, level, most, status);
   }
 
+  /// The polygon of an S2Polygon or an S2Loop, of the same corners to within 1.5 mm along each axis. Its leaf outside
+  /// is one that S2 says is outside, 10 cm and more from each edge. An empty or a full one has no edge, and a polygon
+  /// with hardly any outside no such leaf: of these the calls below say S2U_RING or S2U_ARGUMENT. @since 1.4
+  /// @snippet examples.cc PolygonOf
+  template <class Region>
+  static Polygon PolygonOf(const Region& region) {
+    using Point = typename std::decay<decltype(VertexOf(region, 0))>::type;
+    Polygon polygon;
+    AddLoops(region, polygon, 0);
+    const size_t places = polygon.ends.empty() ? 0 : 129 + std::min<size_t>(2 * polygon.corners.size(), 512);
+    for (size_t k = 0; k < places && polygon.outside == 0; k++) {
+      const std::array<double, 3> at = PlaceBeside(polygon.corners, k);
+      const double size = std::hypot(std::hypot(at[0], at[1]), at[2]);
+      if (!(size > 0)) continue;
+      const Point point(at[0] / size, at[1] / size, at[2] / size);
+      if (!region.Contains(point) && region.GetDistance(point).radians() > 2e-8) polygon.outside = Id(point).id();
+    }
+    return polygon;
+  }
   /// The cells of the level that have an outer leaf of a polygon: one inside, or one that an edge touches. The level is
   /// 0 to 30. S2U_ARGUMENT, S2U_CORNER, S2U_RING, S2U_MANY, S2U_MEMORY. @since 1.4
   /// @snippet examples.cc PolygonCovering
@@ -954,6 +974,49 @@ class CellUnionOf {
     return Made(internal::rooms::of_outer(), status, [&](uint64_t* out, size_t room, size_t* len) {
       return call(&rect, static_cast<uint32_t>(level), most, out, room, len);
     });
+  }
+
+  // A vertex of a region of S2, which is a polygon with loops or a loop.
+  template <class Region>
+  static auto VertexOf(const Region& region, int) -> decltype(region.loop(0)->vertex(0));
+  template <class Loop>
+  static auto VertexOf(const Loop& loop, long) -> decltype(loop.vertex(0));
+
+  // Adds the loops that have edges: one of a single vertex is empty or full.
+  template <class Region>
+  static auto AddLoops(const Region& region, Polygon& polygon, int) -> decltype(region.loop(0), void()) {
+    for (int k = 0; k < region.num_loops(); k++) AddLoops(*region.loop(k), polygon, 0);
+  }
+  template <class Loop>
+  static void AddLoops(const Loop& loop, Polygon& polygon, long) {
+    std::vector<typename std::decay<decltype(loop.vertex(0))>::type> ring;
+    for (int k = 0; k < loop.num_vertices(); k++) ring.push_back(loop.vertex(k));
+    if (ring.size() >= 3) polygon.AddRing(ring);
+  }
+
+  // Places that may lie outside of a polygon, as directions: the one opposite its corners, 128 that lie as the seeds of
+  // a sunflower, and then both sides of each edge, 6 m away.
+  static std::array<double, 3> PlaceBeside(const std::vector<s2u_direction>& corners, size_t k) {
+    std::array<double, 3> at = {0, 0, 0};
+    if (k == 0) {
+      for (const s2u_direction& corner : corners)
+        at[0] -= static_cast<double>(corner.x), at[1] -= static_cast<double>(corner.y),
+            at[2] -= static_cast<double>(corner.z);
+      return at;
+    }
+    if (k <= 128) {
+      const double height = (static_cast<double>(k) - 0.5) / 64 - 1, turn = 2.399963229728653 * static_cast<double>(k);
+      const double across = std::sqrt(1 - height * height);
+      return {across * std::cos(turn), across * std::sin(turn), height};
+    }
+    const s2u_direction &a = corners[(k - 129) / 2], &b = corners[((k - 129) / 2 + 1) % corners.size()];
+    const double x = static_cast<double>(a.x), y = static_cast<double>(a.y), z = static_cast<double>(a.z);
+    const double u = static_cast<double>(b.x), v = static_cast<double>(b.y), w = static_cast<double>(b.z);
+    const double normal[3] = {y * w - z * v, z * u - x * w, x * v - y * u};
+    const double across = std::hypot(std::hypot(normal[0], normal[1]), normal[2]);
+    const double side = k % 2 == 0 ? 1e-6 : -1e-6;
+    const double far = across > 0 ? side * std::hypot(std::hypot(x + u, y + v), z + w) / across : 0;
+    return {x + u + far * normal[0], y + v + far * normal[1], z + w + far * normal[2]};
   }
 
   template <class Call>

@@ -1,6 +1,8 @@
 /* Classes as S2 has them, with what s2union.hpp asks of them, where S2 isn't there. */
 #ifndef AS_S2_H
 #define AS_S2_H
+#include <s2union.h>
+
 #include <cstddef>
 #include <cstdint>
 #include <cstring>
@@ -8,11 +10,59 @@
 #include <utility>
 #include <vector>
 
+/// A place as S2Point is one.
+class Place {
+ public:
+  Place(double x, double y, double z) : at_{x, y, z} {}
+  double x() const { return at_[0]; }
+  double y() const { return at_[1]; }
+  double z() const { return at_[2]; }
+
+ private:
+  double at_[3];
+};
+
+/// A loop as S2Loop is one: an octant of the sphere, or all but a rim of an octant; or of a single vertex, without an
+/// edge.
+class Loop {
+ public:
+  explicit Loop(std::vector<Place> vertices, bool is_inverted = false)
+      : vertices_(std::move(vertices)), is_inverted_(is_inverted) {}
+  int num_vertices() const { return static_cast<int>(vertices_.size()); }
+  const Place& vertex(int k) const { return vertices_[static_cast<size_t>(k)]; }
+  bool Contains(const Place& p) const {
+    bool is_in = p.x() > 0 && p.y() > 0 && p.z() > 0;
+    return is_inverted_ ? !is_in || p.z() > 1e-5 : is_in;
+  }
+  struct Angle {
+    double radians() const { return far; }
+    double far;
+  };
+  Angle GetDistance(const Place& p) const {
+    const double least = p.x() < p.y() ? p.x() : p.y(), away = p.z() < least ? p.z() : least;
+    return {Contains(p) ? 0 : is_inverted_ ? away : 1};
+  }
+
+ private:
+  std::vector<Place> vertices_;
+  bool is_inverted_;
+};
+
+/// As S2Polygon, of one loop.
+struct Loops {
+  int num_loops() const { return 1; }
+  const Loop* loop(int) const { return &only; }
+  bool Contains(const Place& p) const { return only.Contains(p); }
+  Loop::Angle GetDistance(const Place& p) const { return only.GetDistance(p); }
+  Loop only;
+};
+
 /// A cell as S2CellId is one: a class of 64 bits, not aligned, that is made from a number only where that is written.
 class __attribute__((packed)) Cell {
  public:
   Cell() : id_(0) {}
   explicit Cell(uint64_t id) : id_(id) {}
+  explicit Cell(const Place& p) : id_(s2u_from_face_ij(p.x() < 0 ? 3 : 0, 1u << 29, 1u << 29)) {}
   uint64_t id() const { return id_; }
   friend bool operator==(Cell x, Cell y) { return x.id_ == y.id_; }
 

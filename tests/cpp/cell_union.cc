@@ -456,6 +456,14 @@ static void collections() {
   REFUSES(S2U_MANY, Union::PolygonCovering(triangle, 3, 3, status));
   REFUSES(S2U_ARGUMENT, Union::PolygonInteriorCovering(triangle, -1, 9, status));
   REFUSES(S2U_ARGUMENT, Union::PolygonCoveringUpTo(triangle, 4, 3, 9, status));
+  const std::vector<Place> octant = {{1, 0, 0}, {0, 1, 0}, {0, 0, 1}};
+  using OfCells = s2union::CellUnionOf<Cell>;
+  const s2union::Polygon one = OfCells::PolygonOf(Loop(octant)), most = OfCells::PolygonOf(Loop(octant, true));
+  CHECK(one.corners.size() == 3 && one.corners[1].y == 2147483647 && one.ends == std::vector<size_t>{3});
+  CHECK(one.outside == s2u_from_face_ij(3, 1u << 29, 1u << 29) && most.outside >> 61 == 0);
+  CHECK(OfCells::PolygonOf(Loops{Loop(octant)}).corners.size() == 3);
+  CHECK(OfCells::PolygonOf(Loop({{0, 0, 1}})).ends.empty());
+  CHECK(OfCells::PolygonInteriorCovering(one, 2).size() == 3);
   triangle.AddRing(std::vector<Point>{{1}, {0}});
   CHECK(triangle.ends.back() == 5 && triangle.corners[3].y == 1073741824);
   REFUSES(S2U_RING, Union::PolygonInteriorCoveringUpTo(triangle, 0, 3, 9, status));

@@ -380,6 +380,13 @@ int main() {
     // [Polygon]
   }
   {
+    // [PolygonOf]
+    using Cells = s2union::CellUnionOf<Cell>;  // of S2CellId, and for Loop an S2Loop or an S2Polygon
+    const Loop octant({{1, 0, 0}, {0, 1, 0}, {0, 0, 1}});
+    check(Cells::PolygonInteriorCovering(Cells::PolygonOf(octant), 2).size() == 3);
+    // [PolygonOf]
+  }
+  {
     // [PolygonCovering]
     check(CellUnion::PolygonCovering(triangle, 3).Tokens() == "11 13 144 17");
     int32_t status;
