@@ -7,7 +7,7 @@
 #include "rings.h"
 
 #include <s2/s2region_coverer.h>
-#include <s2union.h>
+#include <s2union.hpp>
 
 #include <random>
 
@@ -24,12 +24,13 @@ struct Shape {
   std::vector<Ring> rings;
   std::unique_ptr<S2Polygon> polygon;
   Given given;
-  std::vector<s2u_direction> corners;
+  s2union::Polygon called;
 
   explicit Shape(const std::vector<Ring>& of)
-      : rings(of), polygon(polygon_of(of)), given(of, far_leaf(of).id()) {
-    for (const Direction& d : given.corners) corners.push_back({d.x, d.y, d.z});
-  }
+      : rings(of),
+        polygon(polygon_of(of)),
+        given(of, far_leaf(of).id()),
+        called(s2union::CellUnionOf<S2CellId>::PolygonOf(*polygon)) {}
 
   bool is_small() const { return !polygon->Contains(S2CellId(given.outside).ToPoint()); }
 };
@@ -67,9 +68,9 @@ static List plain_cells(const Given& given, const Asked& asked) {
 
 // By the call, into room that is there.
 static List called_cells(const Shape& shape, const Asked& asked, List& room) {
-  const Given& of = shape.given;
-  const s2u_direction* corners = shape.corners.data();
-  size_t n = shape.corners.size(), lists = of.ends.size(), len = 0;
+  const s2union::Polygon& of = shape.called;
+  const s2u_direction* corners = of.corners.data();
+  size_t n = of.corners.size(), lists = of.ends.size(), len = 0;
   int32_t status;
   if (asked.most) {
     auto call = asked.is_outer ? s2u_polygon_outer_up_to : s2u_polygon_inner_up_to;
