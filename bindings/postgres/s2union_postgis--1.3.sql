@@ -1,66 +1,6 @@
--- s2union_postgis 1.3. docs/GEO.md says what each function does, in the words of its comment. The server's Python needs
--- the module s2union_geo (Debian: python3-s2union, python3-numpy).
+-- s2union_postgis 1.3. docs/GEO.md says what each function does, in the words of its comment.
 
 \echo Use "CREATE EXTENSION s2union_postgis" to load this file. \quit
-
-CREATE FUNCTION s2_coverings_of(geojson text, max_cells integer, max_level integer, OUT outer_file bytea,
-  OUT inner_file bytea)
-LANGUAGE plpython3u IMMUTABLE STRICT PARALLEL SAFE COST 100000
-AS $$
-from s2union_geo import coverings
-return [union.to_bytes() for union in coverings(geojson, max_cells, max_level)]
-$$;
-COMMENT ON FUNCTION s2_coverings_of(text, integer, integer)
-  IS 'the files of both coverings of polygons in GeoJSON';
-
-CREATE FUNCTION s2_geojson_of(file bytea)
-RETURNS text
-LANGUAGE plpython3u IMMUTABLE STRICT PARALLEL SAFE COST 10000
-AS $$
-import json
-from s2union import Union
-from s2union_geo.geojson import rings
-cells = Union.from_bytes(file).denormalised(1)
-return json.dumps({"type": "MultiPolygon", "coordinates": [[ring] for ring in rings(cells)]})
-$$;
-COMMENT ON FUNCTION s2_geojson_of(bytea) IS 'the cells of a union file as a MultiPolygon of GeoJSON';
-
--- Geometries without a system of coordinates have degrees.
-CREATE FUNCTION s2_in_degrees(shape geometry)
-RETURNS text
-LANGUAGE SQL IMMUTABLE STRICT PARALLEL SAFE
-RETURN ST_AsGeoJSON(CASE WHEN ST_SRID(shape) IN (0, 4326) THEN shape ELSE ST_Transform(shape, 4326) END, 17);
-COMMENT ON FUNCTION s2_in_degrees(geometry) IS 'GeoJSON of a geometry, in degrees';
-
-CREATE FUNCTION s2_covering(polygons geometry, max_cells integer DEFAULT 200, max_level integer DEFAULT 30)
-RETURNS s2union
-LANGUAGE SQL IMMUTABLE STRICT PARALLEL SAFE
-RETURN (s2_coverings_of(s2_in_degrees(polygons), max_cells, max_level)).outer_file::s2union;
-COMMENT ON FUNCTION s2_covering(geometry, integer, integer)
-  IS 'a union that contains the polygons, as covering of s2union_geo makes it. Errors: no polygon, a ring that crosses '
-  'itself, a number out of range';
-
-CREATE FUNCTION s2_interior(polygons geometry, max_cells integer DEFAULT 200, max_level integer DEFAULT 30)
-RETURNS s2union
-LANGUAGE SQL IMMUTABLE STRICT PARALLEL SAFE
-RETURN (s2_coverings_of(s2_in_degrees(polygons), max_cells, max_level)).inner_file::s2union;
-COMMENT ON FUNCTION s2_interior(geometry, integer, integer)
-  IS 'a union that lies in the polygons, as interior of s2union_geo makes it. Errors: those of s2_covering';
-
-CREATE FUNCTION s2_geojson(region s2union)
-RETURNS text
-LANGUAGE SQL IMMUTABLE STRICT PARALLEL SAFE
-RETURN s2_geojson_of($1::bytea);
-COMMENT ON FUNCTION s2_geojson(s2union) IS 'the cells of a region as a MultiPolygon of GeoJSON; faces are cut';
-
-CREATE FUNCTION s2_geometry(region s2union)
-RETURNS geometry
-LANGUAGE SQL IMMUTABLE STRICT PARALLEL SAFE
-RETURN ST_SetSRID(ST_GeomFromGeoJSON(s2_geojson($1)), 4326);
-COMMENT ON FUNCTION s2_geometry(s2union)
-  IS 'the cells of a region as a MultiPolygon in degrees (SRID 4326); faces are cut';
-
--- ---- exact joins of points with polygons, by tiles
 
 -- Geometries without a system of coordinates have degrees.
 CREATE FUNCTION s2_degrees(shape geometry)
@@ -68,6 +8,46 @@ RETURNS geometry
 LANGUAGE SQL IMMUTABLE PARALLEL SAFE
 RETURN CASE WHEN ST_SRID(shape) IN (0, 4326) THEN ST_SetSRID(shape, 4326) ELSE ST_Transform(shape, 4326) END;
 COMMENT ON FUNCTION s2_degrees(geometry) IS 'a geometry in degrees (SRID 4326)';
+
+CREATE FUNCTION s2_covering(shape geometry, max_cells integer DEFAULT 200, max_level integer DEFAULT 30)
+RETURNS s2union
+LANGUAGE SQL IMMUTABLE STRICT PARALLEL SAFE
+RETURN s2_covering(ST_AsBinary(s2_degrees(shape)), max_cells, max_level);
+COMMENT ON FUNCTION s2_covering(geometry, integer, integer)
+  IS 'a union that contains the polygons, lines and points. Errors: an open ring, a number out of range';
+
+CREATE FUNCTION s2_interior(shape geometry, max_cells integer DEFAULT 200, max_level integer DEFAULT 30)
+RETURNS s2union
+LANGUAGE SQL IMMUTABLE STRICT PARALLEL SAFE
+RETURN s2_interior(ST_AsBinary(s2_degrees(shape)), max_cells, max_level);
+COMMENT ON FUNCTION s2_interior(geometry, integer, integer)
+  IS 'a union that lies in the polygons. Errors: those of s2_covering';
+
+CREATE FUNCTION s2_coverings(shape geometry, max_cells integer DEFAULT 200, max_level integer DEFAULT 30,
+  OUT covering s2union, OUT interior s2union)
+LANGUAGE SQL IMMUTABLE STRICT PARALLEL SAFE
+BEGIN ATOMIC
+  SELECT pair.covering, pair.interior
+  FROM s2_coverings(ST_AsBinary(s2_degrees(shape)), max_cells, max_level) AS pair;
+END;
+COMMENT ON FUNCTION s2_coverings(geometry, integer, integer)
+  IS 'both unions at once: s2_covering and s2_interior. Errors: theirs';
+
+CREATE FUNCTION s2_geometry(region s2union, outline boolean DEFAULT false)
+RETURNS geometry
+LANGUAGE SQL IMMUTABLE STRICT PARALLEL SAFE
+RETURN ST_GeomFromWKB(CASE WHEN outline THEN s2_outline(region) ELSE s2_squares(region) END, 4326);
+COMMENT ON FUNCTION s2_geometry(s2union, boolean)
+  IS 'the cells of a region as a MultiPolygon in degrees (SRID 4326), faces cut; or its outline, without the borders '
+  'between cells, cut at the date line';
+
+CREATE FUNCTION s2_geojson(region s2union, outline boolean DEFAULT false)
+RETURNS text
+LANGUAGE SQL IMMUTABLE STRICT PARALLEL SAFE
+RETURN ST_AsGeoJSON(s2_geometry(region, outline), 17, 0);
+COMMENT ON FUNCTION s2_geojson(s2union, boolean) IS 'the same MultiPolygon as a text of GeoJSON';
+
+-- ---- exact joins of points with polygons, by tiles
 
 CREATE FUNCTION s2_envelope(cell bigint)
 RETURNS geometry
@@ -96,8 +76,8 @@ BEGIN ATOMIC
   WITH shape AS MATERIALIZED (
     SELECT CASE WHEN ST_XMax(it) > 180 OR ST_XMin(it) < -180
       THEN ST_Union(ARRAY[it, ST_Translate(it, 360, 0), ST_Translate(it, -360, 0)]) ELSE it END AS turned,
-      s2_covering(it, max_cells) AS outside, s2_interior(it, max_cells) AS inside
-    FROM s2_degrees(polygons) AS it)
+      covering AS outside, interior AS inside
+    FROM s2_degrees(polygons) AS it, s2_coverings(ST_AsBinary(it), max_cells))
   SELECT t.tile, t.part, t.part & inside, CASE WHEN NOT inside @> t.part THEN s2_clip(turned, t.tile) END
   FROM shape, s2_tiles(outside, level) AS t;
 END;

@@ -13,7 +13,7 @@ export S2CALC=${S2CALC:-$top/crates/calculator/out/calculator}
 . "$top/tests/geo/countries.sh"
 need node nodejs
 need_countries make time sqlite3 libsqlite3-dev gdal-bin python3-rtree python3-qgis qgis-providers \
-  postgresql-15-postgis-3 postgresql-plpython3-15
+  postgresql-15-postgis-3
 . "$top/tests/postgres/server.sh"
 
 # ---- what the pages take as installed: the library, both extensions, a server
@@ -27,7 +27,6 @@ step "the extension for SQLite" in_sqlite
 [ "$failed" -eq 0 ] || finish
 installed() { make -C "$work/build" PREFIX="$work/usr" PG_CONFIG="$config" install DESTDIR="$copy"; }
 step "install" installed
-export PYTHONPATH=$work/usr/lib/python # for the server's Python
 step "a cluster on a socket" begun data
 [ "$failed" -eq 0 ] || finish
 

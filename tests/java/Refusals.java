@@ -57,7 +57,7 @@ final class Refusals {
     try {
       var refusal = Refusal.class.getDeclaredConstructor(int.class, long.class);
       refusal.setAccessible(true);
-      for (int status : new int[] {-99, -1, -7, -14}) {
+      for (int status : new int[] {-99, -1, -7, -16}) {
         check(refusal.newInstance(status, 0L).kind() == Refusal.Kind.OTHER, "the kind of " + status);
       }
       var length = Class.forName("s2union.Calls").getDeclaredMethod("lengthOf", long.class);

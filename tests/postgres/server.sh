@@ -33,20 +33,20 @@ built() { # FOLDER FLAGS..: the extension as it is
     make -C "$folder" PREFIX="$work/usr" PG_CONFIG="$config" "$@"
 }
 
-# FOLDER SOURCES FLAGS..: the extension over the allocator of guarded.c; planner.c and geo.c are of SOURCES.
+# FOLDER SOURCES FLAGS..: the extension over the allocator of guarded.c; planner.c, geo.c and cover.c are of SOURCES.
 guarded() {
   local folder=$work/$1 sources=$2 file name
   shift 2
   mkdir -p "$folder/rewritten" && : >"$folder/rewritten.c" &&
     cp "$top"/bindings/postgres/{Makefile,*.control,*.sql} "$top/tests/postgres/guarded.c" "$folder" &&
-    cp "$sources"/{planner.c,geo.c,value.h} "$folder" || return
+    cp "$sources"/{planner.c,geo.c,cover.c,value.h} "$folder" || return
   for file in "$sources"/{*.c,value.h}; do
     name=$(basename "$file")
-    case $name in planner.c | geo.c) continue ;; esac
+    case $name in planner.c | geo.c | cover.c) continue ;; esac
     sed -E 's/Datum ([a-z0-9_]+)\(PG_FUNCTION_ARGS\)/GUARDED(\1)/' "$file" >"$folder/rewritten/$name" &&
       echo "#include \"rewritten/$name\"" >>"$folder/rewritten.c" || return
   done
-  make -C "$folder" PREFIX="$work/usr" PG_CONFIG="$config" OBJS="guarded.o planner.o geo.o" "$@"
+  make -C "$folder" PREFIX="$work/usr" PG_CONFIG="$config" OBJS="guarded.o planner.o geo.o cover.o" "$@"
 }
 
 put_in() { # FOLDER: sessions that begin from now on have the extension built there

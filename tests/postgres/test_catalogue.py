@@ -79,6 +79,7 @@ CALLS = [
 # For each type of an argument that isn't a number, and for each name of one that is: a value that it takes, and those
 # that it may not have. A number that no integer has is no function's.
 RIGHT = {"s2union": "'04 0c'::s2union", "bigint": "s2_cell('0401')", "text": "'0401'::text", "bytea": "'\\x01'::bytea",
+         "shape": "'\\x010100000000000000000000000000000000000000'::bytea",
          "double precision": "1", "level": "4", "face": "0", "child": "1", "modulus": "1"}
 WRONG = {"bigint": ("0::bigint", "2::bigint", "'-1'::bigint", "'-9223372036854775808'::bigint"),
          "text": ("'X'::text", "'2'::text", "'0/4'::text", "'6/'::text", "'-5'::text", "'04 0'::text"),
@@ -104,7 +105,7 @@ class Catalogue(Tests):
         right, wrong = [], []
         for name, kind, rows, types, names in (line.split("|") for line in said):
             types, names = types.split(","), names.split(",")
-            kinds = [names[k] if names[k] in WRONG else "place" if each == "integer" else each
+            kinds = [names[k] if names[k] in {*WRONG, "shape"} else "place" if each == "integer" else each
                      for k, each in enumerate(types)]
             values = [RIGHT.get(each, "5") for each in kinds]
             call = f"(SELECT count(*) FROM {name}({{}}))" if rows == "t" else f"{name}({{}})"

@@ -8,6 +8,7 @@ import bisect
 import hashlib
 import os
 import re
+import struct
 import subprocess
 import tempfile
 import unittest
@@ -1328,6 +1329,83 @@ class Points(Tests):
                            ("s2_latitude('zz')", 's2union: not a cell: "zz"')):
             with self.assertRaisesRegex(AssertionError, said, msg=call):
                 psql(f"SELECT {call}")
+
+
+def wkb_of(*rings):
+    """A polygon as the text of a bytea with its WKB."""
+    parts = [struct.pack("<BII", 1, 3, len(rings))]
+    for ring in rings:
+        parts += [struct.pack("<I", len(ring)), *(struct.pack("<dd", *position) for position in ring)]
+    return f"'\\x{b''.join(parts).hex()}'::bytea"
+
+
+def polygons_in(wkb):
+    """The rings of each polygon of a MultiPolygon in WKB."""
+    at, polygons = 9, []
+    for _ in range(struct.unpack_from("<BII", wkb)[2]):
+        rings, at = struct.unpack_from("<BII", wkb, at)[2], at + 9
+        polygons.append([])
+        for _ in range(rings):
+            count, at = struct.unpack_from("<I", wkb, at)[0], at + 4
+            polygons[-1].append([struct.unpack_from("<dd", wkb, at + 16 * k) for k in range(count)])
+            at += 16 * count
+    assert at == len(wkb)
+    return polygons
+
+
+class Shapes(Tests):
+    """Coverings of WKB, and regions as WKB, of the extension s2union_geo. tests/geo asks PostGIS about them."""
+
+    TRIANGLE = [(2, 48), (4, 48), (2, 50), (2, 48)]
+
+    def setUp(self):
+        psql("SET client_min_messages = error; CREATE EXTENSION IF NOT EXISTS s2union_geo CASCADE;")
+
+    def test_coverings(self):
+        """Each place of a triangle is in the covering, and none outside in the interior; both come at once too."""
+        shape = wkb_of(self.TRIANGLE)
+        grid = "generate_series(1.95, 4.05, 0.03) AS x, generate_series(47.95, 50.05, 0.03) AS y"
+        inside = "x >= 2 AND y >= 48 AND (x - 2) + (y - 48) <= 2"
+        for cells, level in ((8, 30), (200, 30), (2000, 11)):
+            given = f"{shape}, {cells}, {level}"
+            self.assertEqual(psql(f"SELECT bool_and(NOT ({inside}) OR covering @> leaf), bool_and(({inside})"
+                                  f" OR NOT interior @> leaf), count(*) FILTER (WHERE interior @> leaf) > 500"
+                                  f" FROM s2_coverings({given}), {grid}, s2_leaf_at(x, y) AS leaf"), ["t|t|t"])
+            self.assertEqual(psql(f"SELECT covering = s2_covering({given}), interior = s2_interior({given}),"
+                                  f" s2_count(covering) <= {cells}, (SELECT max(s2_level(cell)) <= {level}"
+                                  f" FROM unnest(s2_cells(covering)) AS cell) FROM s2_coverings({given})"), ["t|t|t|t"])
+        self.assertEqual(psql(f"SELECT s2_covering(NULL::bytea) IS NULL, s2_count(s2_covering({wkb_of()})),"
+                              f" s2_covering({shape}, 200, 30) = s2_covering({shape})"), ["t|0|t"])
+
+    def test_shapes_that_are_refused(self):
+        whole = wkb_of(self.TRIANGLE)
+        for call, said in ((whole[:-10] + "'::bytea", "the bytes are no WKB: at byte"),
+                           ("''::bytea", "the bytes are no WKB: at byte 0"),
+                           (wkb_of([(2, 48), (4, 91), (2, 50), (2, 48)]), "a latitude .*: ring 0, position 1"),
+                           (wkb_of(self.TRIANGLE, self.TRIANGLE[:3]), "fewer than four positions: ring 1"),
+                           (wkb_of([*self.TRIANGLE, (0, 0)]), "is open: .*: ring 0"),
+                           (f"{whole}, -1", "a number of cells is from 0 to 1000000, and a level from 0 to 30"),
+                           (f"{whole}, 1, 31", "a number of cells is from 0 to 1000000, and a level from 0 to 30")):
+            for name in ("s2_covering", "s2_interior", "s2_coverings"):
+                with self.assertRaisesRegex(AssertionError, f"s2union: .*{said}", msg=call):
+                    psql(f"SELECT {name}({call})")
+
+    def test_regions_as_polygons(self):
+        """A square for each cell, faces in four; and an outline that has the same places, without borders inside."""
+        def polygons(function, region):
+            line, = psql(f"SELECT {function}('{region}')")
+            return polygons_in(bytes.fromhex(line.removeprefix("\\x")))
+
+        self.assertEqual(list(map(len, polygons("s2_squares", "1 5 89c25"))), [1] * 9)
+        self.assertEqual([len(ring) for ring, in polygons("s2_squares", "5")], [6] * 4)
+        self.assertEqual([len(ring) for ring, in polygons("s2_squares", "89c25")], [5])
+        self.assertEqual([len(it) for it in polygons("s2_outline", "1 3 5 7 9 b")], [1])
+        self.assertEqual([len(it) for it in polygons("s2_outline", "04 0c 14")], [1])
+        self.assertEqual([len(it) for it in polygons("s2_outline", "04 14")], [1, 1])
+        self.assertEqual(polygons("s2_outline", ""), [])
+        square, outline = (polygons(it, "89c25")[0][0] for it in ("s2_squares", "s2_outline"))
+        for position in square:
+            self.assertLess(min(abs(x - position[0]) + abs(y - position[1]) for x, y in outline), 1e-12)
 
 
 class Exclusion(Tests):
