@@ -22,7 +22,8 @@ static void must_be_covered(int32_t status, const s2u_cover_fault* fault) {
   if (status == S2U_MEMORY) ereport(ERROR, errcode(ERRCODE_OUT_OF_MEMORY), errmsg("s2union: %s", text));
   if (status == S2U_COVER_OPTION)
     ereport(ERROR, errcode(ERRCODE_INVALID_PARAMETER_VALUE),
-            errmsg("s2union: a number of cells is from 0 to %d, and a level from 0 to 30", S2U_COVER_MOST_CELLS));
+            errmsg("s2union: out of range: a number of cells is from 0 to %d, and a level from 0 to 30",
+                   S2U_COVER_MOST_CELLS));
   if (status <= S2U_COVER_WKB)
     ereport(ERROR, errcode(ERRCODE_INVALID_BINARY_REPRESENTATION),
             errmsg("s2union: %s: at byte " UINT64_FORMAT, text, fault->position));

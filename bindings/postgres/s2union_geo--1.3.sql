@@ -55,8 +55,8 @@ RETURNS s2union
 AS 'MODULE_PATHNAME'
 LANGUAGE C IMMUTABLE STRICT PARALLEL SAFE COST 10000;
 COMMENT ON FUNCTION s2_covering(bytea, integer, integer)
-  IS 'a union that contains the polygons, lines and points of WKB in degrees. Errors: no WKB, an SRID that isn''t 4326, '
-  'a ring that is open, a number out of range';
+  IS 'a union that contains the polygons, lines and points of WKB in degrees. Errors: no WKB, an SRID other than '
+  '4326, a ring that is open, a number out of range';
 
 CREATE FUNCTION s2_interior(shape bytea, max_cells integer DEFAULT 200, max_level integer DEFAULT 30)
 RETURNS s2union

@@ -1384,8 +1384,8 @@ class Shapes(Tests):
                            (wkb_of([(2, 48), (4, 91), (2, 50), (2, 48)]), "a latitude .*: ring 0, position 1"),
                            (wkb_of(self.TRIANGLE, self.TRIANGLE[:3]), "fewer than four positions: ring 1"),
                            (wkb_of([*self.TRIANGLE, (0, 0)]), "is open: .*: ring 0"),
-                           (f"{whole}, -1", "a number of cells is from 0 to 1000000, and a level from 0 to 30"),
-                           (f"{whole}, 1, 31", "a number of cells is from 0 to 1000000, and a level from 0 to 30")):
+                           (f"{whole}, -1", "out of range: a number of cells is from 0 to 1000000, and a level"),
+                           (f"{whole}, 1, 31", "out of range: a number of cells is from 0 to 1000000, and a level")):
             for name in ("s2_covering", "s2_interior", "s2_coverings"):
                 with self.assertRaisesRegex(AssertionError, f"s2union: .*{said}", msg=call):
                     psql(f"SELECT {name}({call})")
