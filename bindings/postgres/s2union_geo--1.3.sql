@@ -55,32 +55,34 @@ RETURNS s2union
 AS 'MODULE_PATHNAME'
 LANGUAGE C IMMUTABLE STRICT PARALLEL SAFE COST 10000;
 COMMENT ON FUNCTION s2_covering(bytea, integer, integer)
-  IS 'a union that contains the polygons, lines and points of WKB in degrees. Errors: no WKB, an SRID other than '
-  '4326, a ring that is open, a number out of range';
+  IS 'a union that contains polygons, lines and points in WKB, whose edges are straight on the map: at most 200 '
+  'cells and of level 30, if no others are named. Errors: no WKB of degrees, a ring that is open, a number out of '
+  'range';
 
 CREATE FUNCTION s2_interior(shape bytea, max_cells integer DEFAULT 200, max_level integer DEFAULT 30)
 RETURNS s2union
 AS 'MODULE_PATHNAME'
 LANGUAGE C IMMUTABLE STRICT PARALLEL SAFE COST 10000;
 COMMENT ON FUNCTION s2_interior(bytea, integer, integer)
-  IS 'a union that lies in the polygons of WKB in degrees. Errors: those of s2_covering';
+  IS 'a union that lies in polygons in WKB. Errors: those of s2_covering';
 
 CREATE FUNCTION s2_coverings(shape bytea, max_cells integer DEFAULT 200, max_level integer DEFAULT 30,
   OUT covering s2union, OUT interior s2union)
 AS 'MODULE_PATHNAME'
 LANGUAGE C IMMUTABLE STRICT PARALLEL SAFE COST 10000;
 COMMENT ON FUNCTION s2_coverings(bytea, integer, integer)
-  IS 'both unions at once: s2_covering and s2_interior. Errors: theirs';
+  IS 'the columns covering and interior: both unions at once. Errors: those of s2_covering';
 
 CREATE FUNCTION s2_squares(region s2union)
 RETURNS bytea
 AS 'MODULE_PATHNAME'
 LANGUAGE C IMMUTABLE STRICT PARALLEL SAFE COST 1000;
-COMMENT ON FUNCTION s2_squares(s2union) IS 'the cells of a region as a MultiPolygon of WKB in degrees; faces are cut';
+COMMENT ON FUNCTION s2_squares(s2union)
+  IS 'the cells of a region as a MultiPolygon in WKB, in degrees; faces are cut';
 
 CREATE FUNCTION s2_outline(region s2union)
 RETURNS bytea
 AS 'MODULE_PATHNAME'
 LANGUAGE C IMMUTABLE STRICT PARALLEL SAFE COST 1000;
 COMMENT ON FUNCTION s2_outline(s2union)
-  IS 'a region as a MultiPolygon of WKB in degrees, without the borders between its cells, cut at the date line';
+  IS 'a region as a MultiPolygon in WKB, in degrees, without the borders between its cells, cut at the date line';

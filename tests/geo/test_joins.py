@@ -143,7 +143,7 @@ class Joins(unittest.TestCase):
                            ("s2_join_table('zones', level => 31)", "s2union: argument out of range: 31"),
                            ("s2_join_table('none')", 'relation "none" does not exist')):
             self.assertIn(said, psql(f"SELECT {call}", status=3))
-        self.assertIn("ring 0 crosses or runs along itself",
+        self.assertIn("Self-intersection",  # of the clip, by GEOS
                       psql(f"INSERT INTO zones VALUES (900, {crossed})", status=3))
         self.assertEqual(psql("SELECT count(*) FROM zones WHERE id = 900"), ["0"])
         self.assertEqual(pairs_of(ZONES), self.wanted)  # what failed has changed nothing
