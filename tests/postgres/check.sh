@@ -49,7 +49,7 @@ step "the type and its functions, against the model" tests AgainstTheModel
 step "what is refused; 100 stored values, each bit flipped" tests WhatIsRefused
 step "indexes: 2,000 questions by GIN, GiST and by a scan" tests Indexes
 step "no two regions overlap" tests Exclusion
-step "s2union_geo: points, and what is refused" tests Points
+step "s2union_geo: points and shapes, and what is refused" tests Points Shapes
 step "plans: the index where values are large and where few rows are found" tests Planner
 step "large questions end before they have taken twice their timeout" tests LargeQuestions
 step "the aggregate, in parallel" tests Aggregates
@@ -81,7 +81,7 @@ step "200 questions over two servers" tests Servers
 
 export S2UNION_ROUNDS=150
 again() {
-  tests Guarded AgainstTheModel WhatIsRefused Indexes Points Exclusion Aggregates test_kept.py::AroundACall \
+  tests Guarded AgainstTheModel WhatIsRefused Indexes Points Shapes Exclusion Aggregates test_kept.py::AroundACall \
     test_catalogue.py::Catalogue "$@"
 }
 put_in counted
