@@ -171,7 +171,12 @@ static void put_square(StringInfo wkb, uint32_t face, double i, double j, double
       ring[count][1] = corners[k][1];
     }
   }
-  for (int k = 1; k < count; k++) ring[k][0] += 360 * nearbyint((ring[0][0] - ring[k][0]) / 360);
+  double west = ring[0][0];
+  for (int k = 1; k < count; k++) {
+    ring[k][0] += 360 * nearbyint((ring[0][0] - ring[k][0]) / 360);
+    west = fmin(west, ring[k][0]);
+  }
+  for (int k = 0; west >= 180 && k < count; k++) ring[k][0] -= 360; /* it begins at the date line */
   memcpy(ring[count++], ring[0], sizeof ring[0]);
   put_head(wkb, WKB_POLYGON, 1);
   put_count(wkb, (size_t)count);

@@ -82,7 +82,7 @@ class Tutorial(page.Page):
         lakes = Borders(self.file("lakes.geojson"))
         polygons = {feature["properties"]["name"]: shape(feature["geometry"])
                     for feature in features_of(self.file("countries.geojson"))}
-        lines = self.printed("ExactArea").split("\n")[:-1]
+        lines = self.printed("import area").split("\n")[:-1]
         self.assertEqual(len(lines), 3)
         for line in lines:
             name, least, most = line.replace("%", "").replace(": ", " ").replace(" to ", " ").split()
