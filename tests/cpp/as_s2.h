@@ -26,8 +26,8 @@ class Place {
 /// edge.
 class Loop {
  public:
-  explicit Loop(std::vector<Place> vertices, bool is_inverted = false)
-      : vertices_(std::move(vertices)), is_inverted_(is_inverted) {}
+  explicit Loop(std::vector<Place> vertices, bool is_inverted = false, double scale = 1)
+      : vertices_(std::move(vertices)), is_inverted_(is_inverted), scale_(scale) {}
   int num_vertices() const { return static_cast<int>(vertices_.size()); }
   const Place& vertex(int k) const { return vertices_[static_cast<size_t>(k)]; }
   bool Contains(const Place& p) const {
@@ -40,12 +40,13 @@ class Loop {
   };
   Angle GetDistance(const Place& p) const {
     const double least = p.x() < p.y() ? p.x() : p.y(), away = p.z() < least ? p.z() : least;
-    return {Contains(p) ? 0 : is_inverted_ ? away : 1};
+    return {Contains(p) ? 0 : is_inverted_ ? away * scale_ : 1};
   }
 
  private:
   std::vector<Place> vertices_;
   bool is_inverted_;
+  double scale_;  // of distances
 };
 
 /// As S2Polygon, of one loop.

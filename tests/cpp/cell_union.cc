@@ -463,6 +463,9 @@ static void collections() {
   CHECK(one.outside == s2u_from_face_ij(3, 1u << 29, 1u << 29) && most.outside >> 61 == 0);
   CHECK(OfCells::PolygonOf(Loops{Loop(octant)}).corners.size() == 3);
   CHECK(OfCells::PolygonOf(Loop({{0, 0, 1}})).ends.empty());
+  CHECK(OfCells::PolygonOf(Loop(octant, true, 1e-3)).outside == 0);
+  CHECK(OfCells::PolygonOf(Loop({{1, 0, 0}, {1, 0, 0}, {0, 1, 0}, {0, 0, 1}}, true)).outside >> 61 == 0);
+  CHECK(OfCells::PolygonOf(Loop({{1, 0, 0}, {0, 1, 0}, {-1, 0, 0}, {0, -1, 0}})).outside != 0);
   CHECK(OfCells::PolygonInteriorCovering(one, 2).size() == 3);
   triangle.AddRing(std::vector<Point>{{1}, {0}});
   CHECK(triangle.ends.back() == 5 && triangle.corners[3].y == 1073741824);
