@@ -33,6 +33,19 @@ END;
 COMMENT ON FUNCTION s2_coverings(geometry, integer, integer)
   IS 'both unions at once: s2_covering and s2_interior. Errors: theirs';
 
+-- A text, which PostgreSQL takes an untyped literal for where there are several functions of a name.
+CREATE FUNCTION s2_covering(shape text, max_cells integer DEFAULT 200, max_level integer DEFAULT 30)
+RETURNS s2union
+LANGUAGE SQL IMMUTABLE STRICT PARALLEL SAFE
+RETURN s2_covering(shape::geometry, max_cells, max_level);
+COMMENT ON FUNCTION s2_covering(text, integer, integer) IS 's2_covering of a geometry, which is written as a text';
+
+CREATE FUNCTION s2_interior(shape text, max_cells integer DEFAULT 200, max_level integer DEFAULT 30)
+RETURNS s2union
+LANGUAGE SQL IMMUTABLE STRICT PARALLEL SAFE
+RETURN s2_interior(shape::geometry, max_cells, max_level);
+COMMENT ON FUNCTION s2_interior(text, integer, integer) IS 's2_interior of a geometry, which is written as a text';
+
 CREATE FUNCTION s2_geometry(region s2union, outline boolean DEFAULT false)
 RETURNS geometry
 LANGUAGE SQL IMMUTABLE STRICT PARALLEL SAFE

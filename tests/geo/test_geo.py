@@ -266,8 +266,9 @@ CREATE TABLE made AS SELECT name, s2_covering(ST_GeomFromGeoJSON(shape), 20, 12)
 CREATE INDEX ON made USING gin (region);
 \\copy (SELECT name, encode(region::bytea, 'hex'), s2_geojson(region) FROM made) TO 'world/made.tsv'
 \\copy (SELECT place, name FROM places, made WHERE region @> leaf) TO 'world/pairs.tsv'
-SELECT count(*), sum(ST_NumGeometries(s2_geometry(region))), bool_and(ST_IsValid(ST_UnaryUnion(s2_geometry(region))))
-FROM made;
+SELECT count(*), sum(ST_NumGeometries(s2_geometry(region))), bool_and(ST_IsValid(ST_UnaryUnion(s2_geometry(region)))),
+  bool_and(ST_IsValid(s2_geometry(region, outline => true))), s2_covering('POINT(2 48)') @> s2_leaf_at(2, 48),
+  s2_count(s2_interior('POLYGON((2 48, 3 48, 3 49, 2 48))', 9)) FROM made;
 SQL
 """)
         regions = {}
@@ -278,7 +279,7 @@ SQL
             for (ring,), cell in zip(json.loads(drawn)["coordinates"], to_geojson(union)["features"], strict=True):
                 other, = cell["geometry"]["coordinates"]
                 self.assertLess(numpy.abs(numpy.array(ring) - numpy.array(other)).max(), 1e-12)
-        self.assertEqual(said, f"177|{sum(len(it.denormalised(1)) for it in regions.values())}|t\n")
+        self.assertEqual(said, f"177|{sum(len(it.denormalised(1)) for it in regions.values())}|t|t|t|9\n")
         found = {(int(place), name) for place, name in
                  (line.split("\t") for line in Path(self.file("pairs.tsv")).read_text().splitlines())}
         self.assertEqual(found, all_pairs(cells, {name: list(union) for name, union in regions.items()}))
