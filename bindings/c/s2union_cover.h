@@ -162,7 +162,7 @@ static inline int s2u_cover_is_opposite(const s2u_direction* a, const s2u_direct
 
 /* How far a line that is straight on the map is at most from the shortest way between its ends, in radians: an eighth
  * of its greatest sideward acceleration, if in a unit of time it goes from the one to the other. A hundredth more pays
- * for lines of up to S2U_COVER_STEP. What is small at any latitude needs no sine. */
+ * for lines of up to S2U_COVER_STEP. A bound that is small at any latitude is taken without a sine. */
 static inline double s2u_cover_bend(const double* from, const double* to, double small) {
   double wide = s2u_cover_radians(fabs(to[0] - from[0])), high = s2u_cover_radians(fabs(to[1] - from[1]));
   double south = fabs(from[1]) < fabs(to[1]) ? fabs(from[1]) : fabs(to[1]);

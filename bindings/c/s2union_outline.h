@@ -1,5 +1,5 @@
 /* The outline of a union on a map: polygons without the borders between its cells, and the lines round it. All of it is
- * in this header, in whole numbers of a cube but for the last step to degrees, and needs the library for squares of
+ * in this header, in whole numbers of a cube until the last step, to degrees, and needs the library for squares of
  * cells, malloc and -lm. It is tested beside S2 and GEOS, not proved. The longitude comes first. */
 #ifndef S2UNION_OUTLINE_H
 #define S2UNION_OUTLINE_H
