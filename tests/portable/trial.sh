@@ -60,7 +60,7 @@ server() {
     as_postgres "$bin/pg_ctl" -D "$data" -l "$data/log" -w -o "$settings" start
 }
 image() { # what the Containerfile runs in an image of postgres
-  cp -r "$source" /tmp/s2union && sed -n '/^RUN /,$p' "$source/Containerfile" | sed '1s/^RUN //' >"$work/steps" &&
+  cp -r "$source" /usr/src/s2union && sed -n '/^RUN /,$p' "$source/Containerfile" | sed '1s/^RUN //' >"$work/steps" &&
     PG_MAJOR=15 bash -e "$work/steps"
 }
 query() {

@@ -108,7 +108,7 @@ pub(crate) fn descend(
     })
 }
 
-/// What is known of a face with this list, whose middle has this parity.
+/// The parity and the edges of a face with this list, whose middle has this parity.
 pub(crate) fn known_of_face(
     alloc: Global,
     all: &[FramedEdge],
@@ -125,8 +125,8 @@ pub(crate) fn known_of_face(
     Ok(Known { odd, edges })
 }
 
-/// What is known of the cell of 2^`bottom` leaves a side that has the leaf at a place, from what is known of its face,
-/// by way of all cells that have it.
+/// The parity and the edges of the cell of 2^`bottom` leaves a side that has the leaf at a place, from those of its
+/// face, by way of all cells that have it.
 #[tactic(none)]
 pub(crate) fn descend_to(
     alloc: Global,
@@ -157,7 +157,7 @@ pub(crate) fn descend_to(
     Ok(known)
 }
 
-/// What is known of a leaf, from what is known of its face.
+/// The parity and the edges of a leaf, from those of its face.
 #[tactic(none)]
 pub(crate) fn descend_to_leaf(
     alloc: Global,

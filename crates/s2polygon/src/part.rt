@@ -26,7 +26,7 @@ impl Polygon {
         Ok(part_of(is_bare(&known), known.odd))
     }
 
-    /// What is known of a cell.
+    /// The parity and the edges of a cell.
     fn known_cell(&self, alloc: Global, cell: CellId) -> Result<Known, AllocError>
         ensures { IfOk result (λ known. IsKnownCell self.now cell known) }
     {
