@@ -1126,6 +1126,13 @@ static inline double s2u_cover_size(double length, const s2u_cover_options* opti
   return fmax(by_count, by_level);
 }
 
+/* Whether cells of the least level along the border are not too many: as many as edges of this length, in radians,
+ * with the margin on both sides, may touch. */
+static inline int s2u_cover_are_few_enough(double length, const s2u_cover_options* options) {
+  double cell = ldexp(1, -(int)options->min_level), wide = 2 * options->margin / S2U_COVER_EARTH;
+  return options->min_level == 0 || (length + wide) / cell * (wide / cell + 1) <= 4.0 * S2U_COVER_MOST_CELLS;
+}
+
 /* Whether no two corners of a geodesic ring or line that follow each other lie opposite each other. */
 static inline int32_t s2u_cover_check_opposite(const s2u_cover_shape* shape, s2u_cover_fault* fault) {
   for (size_t ring = 0; ring < shape->count; ring++) {
@@ -1161,7 +1168,9 @@ static inline int32_t s2u_cover(const s2u_cover_shape* shape, const s2u_cover_op
     for (size_t k = 0; k < shape->count; k++) rings[k] = k;
     wanted.length = s2u_cover_length(&all);
     wanted.size = s2u_cover_size(wanted.length, options);
-    status = s2u_cover_add_polygons(shape, &wanted, rings, rings + shape->count, polygons);
+    status = s2u_cover_are_few_enough(wanted.length, options)
+                 ? s2u_cover_add_polygons(shape, &wanted, rings, rings + shape->count, polygons)
+                 : S2U_MANY;
     if (status == S2U_OK && outer) status = s2u_cover_unite(outer, options, 1);
     if (status == S2U_OK && inner) status = s2u_cover_unite(inner, options, 0);
   } else {

@@ -376,6 +376,7 @@ static inline bool s2u_geo_put_rings(s2u_geo_outliner* o, s2u_geo_rings* rings) 
 
 static inline void s2u_geo_put_squares(s2u_geo_outliner* o, const uint64_t* ids, size_t n) {
   int64_t least = S2U_GEO_SIDE;
+  double length = 0; /* of all sides, in radians, at most */
   for (size_t k = 0; k < n; k++) {
     s2u_square q;
     s2u_square_of(ids[k], &q);
@@ -384,8 +385,10 @@ static inline void s2u_geo_put_squares(s2u_geo_outliner* o, const uint64_t* ids,
     for (int child = 0; child < (is_face ? 4 : 1); child++)
       s2u_geo_put_square(o, q.face, q.i + (child & 1) * size, q.j + (child >> 1) * size, size);
     if (size < least) least = size;
+    length += (is_face ? 16 : 4) * 1.6 * (double)size / S2U_GEO_SIDE;
   }
-  o->most = 0.8 * (double)least / S2U_GEO_SIDE;
+  double longest = length / (100000 + 64 * (double)n); /* that many parts are enough */
+  o->most = fmax(0.8 * (double)least / S2U_GEO_SIDE, longest * longest);
 }
 
 static inline int32_t s2u_geo_outlined(const uint64_t* ids, size_t n, bool is_map, s2u_geo_rings* rings) {
@@ -410,7 +413,8 @@ static inline int32_t s2u_geo_outlined(const uint64_t* ids, size_t n, bool is_ma
 
 /* The outline of a union as polygons on a map, in degrees from -180 to 180 and from -90 to 90: for each part that hangs
  * together a ring around it, counterclockwise, and then its holes, clockwise. The date line cuts polygons in two, and
- * one with a pole goes along the map's upper or lower edge. Sides are followed so closely that no two rings cross.
+ * one with a pole goes along the map's upper or lower edge. Sides are followed so closely that no two rings cross; by
+ * some 100,000 positions and 64 a cell at most, so a leaf beside thousands of large cells may touch their sides.
  * S2U_NO_UNION if the list is not a union, S2U_MEMORY. */
 static inline int32_t s2u_geo_outline(const uint64_t* ids, size_t n, s2u_geo_rings* rings) {
   return s2u_geo_outlined(ids, n, true, rings);

@@ -40,5 +40,11 @@ int main(void) {
   for (size_t k = 0; k < N; k++) ids[k] = 3 * half + 1 + 16 * k; /* leaves that lie apart */
   check_rings(s2u_geo_outline, ids, N, N, N);
   check_rings(s2u_geo_boundary, ids, N, 0, N);
+  /* each second cell of level 5, and a leaf: sides aren't followed to the width of the leaf */
+  for (uint64_t k = 0; k < 3072; k++) ids[k] = (4 * k + 1) << 50;
+  ids[3072] = ids[3071] + (UINT64_C(1) << 50) + 1;
+  CHECK(s2u_is_union(ids, 3073) && s2u_geo_outline(ids, 3073, &rings) == S2U_OK);
+  CHECK(rings.ring_ends[rings.rings - 1] < 1000000);
+  s2u_geo_free(&rings);
   return report();
 }

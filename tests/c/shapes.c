@@ -387,6 +387,14 @@ static void least_levels(void) {
   it = cover_ring(box, 5, options);
   CHECK(it.status == S2U_MANY);
   drop(&it);
+  /* at once, also of an interior alone that has no cell, and of a wide margin */
+  const double sliver[8] = {0, 40, 170, 40, 170, 40.0000001, 0, 40};
+  const s2u_cover_ring ring = {4, 0};
+  const s2u_cover_shape shape = {sliver, &ring, 1};
+  options.min_level = 30;
+  CHECK(s2u_cover(&shape, &options, NULL, &it.inner, &it.fault) == S2U_MANY && !it.inner.ids);
+  options.min_level = 18, options.margin = S2U_COVER_MOST_MARGIN;
+  CHECK(s2u_cover(&shape, &options, &it.outer, NULL, &it.fault) == S2U_MANY && !it.outer.ids);
 }
 
 static void geodesic(void) {
