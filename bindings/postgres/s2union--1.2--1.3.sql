@@ -1,1 +1,1 @@
--- s2union 1.3: no function came after 1.2, which was s2union--1.3.sql with another first line.
+-- s2union 1.3: no function came after 1.2.

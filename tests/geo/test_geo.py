@@ -44,6 +44,25 @@ def points_on_borders():
     return numpy.array(grid + upright + around + [(x, -y) for x, y in around], float).T
 
 
+# The functions of s2union_postgis 1.3. They were in PL/Python, or called what was: here each has an answer of its own.
+POSTGIS_1_3 = """
+CREATE FUNCTION s2_coverings_of(geojson text, max_cells integer, max_level integer, OUT outer_file bytea,
+  OUT inner_file bytea) LANGUAGE SQL IMMUTABLE STRICT RETURN ROW('04'::s2union::bytea, '04'::s2union::bytea);
+CREATE FUNCTION s2_geojson_of(file bytea) RETURNS text LANGUAGE SQL IMMUTABLE STRICT RETURN 'of 1.3';
+CREATE FUNCTION s2_in_degrees(shape geometry) RETURNS text LANGUAGE SQL IMMUTABLE STRICT RETURN ST_AsGeoJSON(shape, 17);
+CREATE FUNCTION s2_covering(polygons geometry, max_cells integer DEFAULT 200, max_level integer DEFAULT 30)
+  RETURNS s2union LANGUAGE SQL IMMUTABLE STRICT
+  RETURN (s2_coverings_of(s2_in_degrees(polygons), max_cells, max_level)).outer_file::s2union;
+CREATE FUNCTION s2_interior(polygons geometry, max_cells integer DEFAULT 200, max_level integer DEFAULT 30)
+  RETURNS s2union LANGUAGE SQL IMMUTABLE STRICT
+  RETURN (s2_coverings_of(s2_in_degrees(polygons), max_cells, max_level)).inner_file::s2union;
+CREATE FUNCTION s2_geojson(region s2union) RETURNS text LANGUAGE SQL IMMUTABLE STRICT
+  RETURN s2_geojson_of($1::bytea);
+CREATE FUNCTION s2_geometry(region s2union) RETURNS geometry LANGUAGE SQL IMMUTABLE STRICT
+  RETURN ST_GeomFromText(s2_geojson($1), 4326);
+"""
+
+
 class Geo(page.Page):
     name = "GEO.md"
 
@@ -284,6 +303,35 @@ SQL
                  (line.split("\t") for line in Path(self.file("pairs.tsv")).read_text().splitlines())}
         self.assertEqual(found, all_pairs(cells, {name: list(union) for name, union in regions.items()}))
         print(f"{len(found)} pairs of a region and a point", file=sys.stderr)
+
+    def test_postgis_from_1_3(self):
+        """A view of what version 1.3 had goes on after the update, and there is what a new database has."""
+        script = Path(os.environ["EXTENSIONS"], "s2union_postgis--1.3.sql")
+        script.write_text(POSTGIS_1_3)
+        self.addCleanup(script.unlink)
+        said = self.output("""psql -XAqt regions 2>&1 <<'SQL'
+CREATE DATABASE updated;
+\\connect updated
+SET client_min_messages = warning;
+CREATE EXTENSION s2union_geo VERSION '1.3' CASCADE;
+CREATE EXTENSION s2union_postgis VERSION '1.3' CASCADE;
+CREATE VIEW drawn AS SELECT s2_geometry(it) AS cells, s2_geojson(it) AS text, s2_covering(polygons => point) AS outside,
+  s2_interior(polygons => point) AS inside FROM (SELECT '04'::s2union AS it, ST_Point(2, 48) AS point) AS given;
+ALTER EXTENSION s2union_geo UPDATE;
+ALTER EXTENSION s2union_postgis UPDATE;
+SELECT extversion FROM pg_extension WHERE extname = 's2union_postgis';
+SELECT GeometryType(cells), left(text, 22), outside @> s2_leaf_at(2, 48), s2_count(inside) FROM drawn;
+\\t
+\\df s2_*
+\\connect regions
+\\df s2_*
+DROP DATABASE updated;
+SQL
+""").splitlines()
+        self.assertEqual(said[:2], ["1.4", 'MULTIPOLYGON|{"type":"MultiPolygon"|t|0'])
+        middle = 2 + len(said[2:]) // 2
+        self.assertEqual(said[2:middle], said[middle:])
+        self.assertGreater(middle, 100)
 
     def test_coverings_have_their_borders(self):
         """Of many triangles with an edge along both axes of the map: each place of one is in its coverings, and none

@@ -1,5 +1,6 @@
-"""What the extensions for PostgreSQL make in a database: s2union--VERSION.sql and s2union_geo--VERSION.sql, from top to
-bottom, and the same by an update from each earlier version. The server and EXTENSIONS are those of test_postgres.py."""
+"""What the extensions for PostgreSQL make in a database: s2union--VERSION.sql from top to bottom, s2union_geo--1.3.sql
+and what came after it, and the same by an update from each earlier version. The server and EXTENSIONS are those of
+test_postgres.py."""
 
 import itertools
 import os
@@ -295,7 +296,7 @@ class Updates(unittest.TestCase):
         psql("DROP DATABASE IF EXISTS updated;")
         psql("CREATE DATABASE updated;")
         before = psql(f"""
-            CREATE EXTENSION s2union VERSION '{earlier}'; CREATE EXTENSION s2union_geo;
+            CREATE EXTENSION s2union VERSION '{earlier}'; CREATE EXTENSION s2union_geo VERSION '1.3';
             CREATE TABLE regions(id int, region s2union, leaf bigint);
             INSERT INTO regions SELECT k, s2_leaf(0, k * 1000000, k * 900000)::s2union, s2_leaf(0, k, k)
                 FROM generate_series(1, 999) k;
@@ -313,7 +314,7 @@ class Updates(unittest.TestCase):
         found = self.asked(rows, "SET enable_seqscan = off;")
         self.assertGreater(len(found), 9)
         self.assertEqual(found, self.asked(rows, "SET enable_indexscan = off; SET enable_bitmapscan = off;"))
-        after = psql("ALTER EXTENSION s2union UPDATE; " + query + """
+        after = psql("ALTER EXTENSION s2union UPDATE; ALTER EXTENSION s2union_geo UPDATE; " + query + """
             SELECT count(*) FROM regions WHERE region @> s2_leaf(0, 5000000, 4500000);
             EXPLAIN SELECT * FROM regions WHERE region @> s2_leaf(0, 5000000, 4500000);
             EXPLAIN SELECT * FROM regions WHERE s2_level(leaf) = 29;

@@ -64,11 +64,11 @@
 /** The major version of this file. */
 #define S2U_VERSION_MAJOR 1
 /** The minor version of this file. */
-#define S2U_VERSION_MINOR 3
+#define S2U_VERSION_MINOR 4
 /** The third number of the version of this file. */
-#define S2U_VERSION_PATCH 3
+#define S2U_VERSION_PATCH 0
 /** The version of this file as a text. */
-#define S2U_VERSION_TEXT "1.3.3"
+#define S2U_VERSION_TEXT "1.4.0"
 /** The version of this file as a number, 10203 of 1.2.3. */
 #define S2U_VERSION (S2U_VERSION_MAJOR * 10000 + S2U_VERSION_MINOR * 100 + S2U_VERSION_PATCH)
 

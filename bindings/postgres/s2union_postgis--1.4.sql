@@ -1,4 +1,5 @@
--- s2union_postgis 1.3. docs/GEO.md says what each function does, in the words of its comment.
+-- s2union_postgis 1.4. docs/GEO.md says what each function does, in the words of its comment. The Makefile makes of it
+-- what leads from 1.3 to 1.4, so it replaces those that 1.3 had, which keep the names of their arguments.
 
 \echo Use "CREATE EXTENSION s2union_postgis" to load this file. \quit
 
@@ -9,17 +10,17 @@ LANGUAGE SQL IMMUTABLE PARALLEL SAFE
 RETURN CASE WHEN ST_SRID(shape) IN (0, 4326) THEN ST_SetSRID(shape, 4326) ELSE ST_Transform(shape, 4326) END;
 COMMENT ON FUNCTION s2_degrees(geometry) IS 'a geometry in degrees (SRID 4326)';
 
-CREATE FUNCTION s2_covering(shape geometry, max_cells integer DEFAULT 200, max_level integer DEFAULT 30)
+CREATE OR REPLACE FUNCTION s2_covering(polygons geometry, max_cells integer DEFAULT 200, max_level integer DEFAULT 30)
 RETURNS s2union
 LANGUAGE SQL IMMUTABLE STRICT PARALLEL SAFE
-RETURN s2_covering(ST_AsBinary(s2_degrees(shape)), max_cells, max_level);
+RETURN s2_covering(ST_AsBinary(s2_degrees(polygons)), max_cells, max_level);
 COMMENT ON FUNCTION s2_covering(geometry, integer, integer)
   IS 'a union that contains the polygons, lines and points. Errors: an open ring, a number out of range';
 
-CREATE FUNCTION s2_interior(shape geometry, max_cells integer DEFAULT 200, max_level integer DEFAULT 30)
+CREATE OR REPLACE FUNCTION s2_interior(polygons geometry, max_cells integer DEFAULT 200, max_level integer DEFAULT 30)
 RETURNS s2union
 LANGUAGE SQL IMMUTABLE STRICT PARALLEL SAFE
-RETURN s2_interior(ST_AsBinary(s2_degrees(shape)), max_cells, max_level);
+RETURN s2_interior(ST_AsBinary(s2_degrees(polygons)), max_cells, max_level);
 COMMENT ON FUNCTION s2_interior(geometry, integer, integer)
   IS 'a union that lies in the polygons. Errors: those of s2_covering';
 
@@ -46,19 +47,31 @@ LANGUAGE SQL IMMUTABLE STRICT PARALLEL SAFE
 RETURN s2_interior(shape::geometry, max_cells, max_level);
 COMMENT ON FUNCTION s2_interior(text, integer, integer) IS 's2_interior of a geometry, which is written as a text';
 
-CREATE FUNCTION s2_geometry(region s2union, outline boolean DEFAULT false)
+CREATE OR REPLACE FUNCTION s2_geometry(region s2union)
 RETURNS geometry
 LANGUAGE SQL IMMUTABLE STRICT PARALLEL SAFE
-RETURN ST_GeomFromWKB(CASE WHEN outline THEN s2_outline(region) ELSE s2_squares(region) END, 4326);
-COMMENT ON FUNCTION s2_geometry(s2union, boolean)
-  IS 'the cells of a region as a MultiPolygon in degrees (SRID 4326), faces cut; or its outline, without the borders '
-  'between cells, cut at the date line';
+RETURN ST_GeomFromWKB(s2_squares(region), 4326);
+COMMENT ON FUNCTION s2_geometry(s2union)
+  IS 'the cells of a region as a MultiPolygon in degrees (SRID 4326); faces are cut';
 
-CREATE FUNCTION s2_geojson(region s2union, outline boolean DEFAULT false)
+CREATE FUNCTION s2_geometry(region s2union, outline boolean)
+RETURNS geometry
+LANGUAGE SQL IMMUTABLE STRICT PARALLEL SAFE
+RETURN CASE WHEN outline THEN ST_GeomFromWKB(s2_outline(region), 4326) ELSE s2_geometry(region) END;
+COMMENT ON FUNCTION s2_geometry(s2union, boolean)
+  IS 'with true the outline of a region, without the borders between its cells, cut at the date line';
+
+CREATE OR REPLACE FUNCTION s2_geojson(region s2union)
+RETURNS text
+LANGUAGE SQL IMMUTABLE STRICT PARALLEL SAFE
+RETURN ST_AsGeoJSON(s2_geometry(region), 17, 0);
+COMMENT ON FUNCTION s2_geojson(s2union) IS 'the cells of a region as a MultiPolygon of GeoJSON; faces are cut';
+
+CREATE FUNCTION s2_geojson(region s2union, outline boolean)
 RETURNS text
 LANGUAGE SQL IMMUTABLE STRICT PARALLEL SAFE
 RETURN ST_AsGeoJSON(s2_geometry(region, outline), 17, 0);
-COMMENT ON FUNCTION s2_geojson(s2union, boolean) IS 'the same MultiPolygon as a text of GeoJSON';
+COMMENT ON FUNCTION s2_geojson(s2union, boolean) IS 'with true the outline of a region as GeoJSON';
 
 -- ---- exact joins of points with polygons, by tiles
 
