@@ -49,6 +49,7 @@ enum { S2U_COVER_MAP = 0, S2U_COVER_GEODESIC = 1, S2U_COVER_LEFT = 2 };
 #define S2U_COVER_MOST_CELLS 1000000
 #define S2U_COVER_MOST_PIECES(positions) (100000 + 8 * (uint64_t)(positions))
 
+#define S2U_COVER_KEPT 0.96 /* the part of a distance that a cell may be wide; the rest pays for bends and rounding */
 #define S2U_COVER_WHOLE (3 * (INT64_C(1) << 60)) /* of the library's margins: half a face */
 #define S2U_COVER_ROUNDING 4.1e-10 /* radians: the farthest that a corner is rounded */
 #define S2U_COVER_THIN 1e-9 /* degrees: leaves in what two polygons share are at the border by rounding alone */
@@ -110,6 +111,17 @@ static inline uint32_t s2u_cover_level_within(double meters) {
   uint32_t level = 0; /* the widest diagonal of a level, as S2 has it: 2.4387 / 2^level */
   while (level < 30 && !(ldexp(2.438654594434021, -(int)level) * S2U_COVER_EARTH <= meters)) level++;
   return level;
+}
+
+/* Makes cells at the border so small that no place of the outer covering is farther than some meters from the shape,
+ * and each place of the shape that is farther from its border lies in the inner one, if max_cells allows it.
+ * S2U_COVER_OPTION if the number isn't more than 0. */
+static inline int32_t s2u_cover_keep_within(s2u_cover_options* options, double meters) {
+  uint32_t level = s2u_cover_level_within(S2U_COVER_KEPT * meters);
+  if (!(meters > 0)) return S2U_COVER_OPTION;
+  if (level < options->min_level) level = options->min_level;
+  if (level < options->max_level) options->max_level = level;
+  return S2U_OK;
 }
 
 static inline double s2u_cover_radians(double degrees) { return degrees * (S2U_GEO_PI / 180); }

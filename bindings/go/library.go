@@ -8,7 +8,8 @@
 //
 // A CellUnion is a value that never changes, not a slice, and it is always normalized: NewCellUnion checks and
 // normalizes what comes in, and whatever has an error to tell refuses numbers that are not cells. Goroutines may share
-// unions. The zero value is the empty union. There is no geometry: no points, areas or bounds.
+// unions. The zero value is the empty union. A RegionCoverer covers polygons, lines, circles and boxes in degrees by
+// proved calls; how degrees become whole numbers is tested beside S2, not proved.
 //
 // # Refusals
 //
@@ -51,15 +52,13 @@ const (
 )
 
 // Error says in a few words what was refused. Since 0.2.
-func (refusal Error) Error() string {
-	return "s2union: " + C.GoString(C.s2u_status_text(C.int32_t(refusal)))
-}
+func (refusal Error) Error() string { return "s2union: " + refusal.text() }
 
 // PlaceError is a refusal with a place: of the first in a list that is refused, or of the first byte of the first word
 // of a text that names no cell; for ErrCorner and ErrRing the number of the corner or of the ring, from 0 on.
 type PlaceError struct {
 	Place   int
-	Refusal Error // ErrNoCell, ErrCorner, ErrRing, or ErrArgument of Parents and CellIDsFromPoints
+	Refusal Error // ErrNoCell, ErrCorner, ErrRing, ErrArgument of Parents and CellIDsFromPoints, or ErrShapeNumber
 }
 
 // Error says in a few words what was refused, and where. Since 0.2.

@@ -362,7 +362,10 @@ var names = map[s2union.Error]string{
 	s2union.ErrArgument: "argument", s2union.ErrMany: "many",
 	s2union.ErrFileShort: "file_short", s2union.ErrFileVersion: "file_version",
 	s2union.ErrFileTrailing: "file_trailing", s2union.ErrFileCell: "file_cell",
-	s2union.ErrCorner: "corner", s2union.ErrRing: "ring",
+	s2union.ErrCorner: "corner", s2union.ErrRing: "ring", s2union.ErrShapeNumber: "number",
+	s2union.ErrShapeFew: "few", s2union.ErrShapeOpen: "open", s2union.ErrShapePieces: "pieces",
+	s2union.ErrShapeOutside: "outside", s2union.ErrShapeOpposite: "opposite", s2union.ErrShapeOption: "option",
+	s2union.ErrShapeWKB: "wkb", s2union.ErrShapeType: "type", s2union.ErrShapeSRID: "srid", s2union.ErrShapeDeep: "deep",
 }
 
 // shown is a value as vectors.py shows it, or an error that comes with it.
@@ -370,8 +373,13 @@ func shown(value any, errs ...error) string {
 	for _, err := range errs {
 		var refusal s2union.Error
 		var place *s2union.PlaceError
+		var shape *s2union.ShapeError
 		if errors.As(err, &place) {
 			return fmt.Sprintf("!%s %d", names[place.Refusal], place.Place)
+		} else if errors.As(err, &shape) && shape.Refusal <= s2union.ErrShapeWKB {
+			return fmt.Sprintf("!%s %d", names[shape.Refusal], shape.Position)
+		} else if errors.As(err, &shape) {
+			return fmt.Sprintf("!%s %d %d", names[shape.Refusal], shape.Ring, shape.Position)
 		} else if errors.As(err, &refusal) {
 			return "!" + names[refusal]
 		} else if err != nil {

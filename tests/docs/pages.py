@@ -48,11 +48,12 @@ DEFINES = r"\b(?:fn|struct|trait|record|data|abbrev pub|unfoldable pub) {}\b"
 # The columns of docs/FROM_S2.md: what a name is in them, where it is defined, and how.
 CALLS = {
     "C++": (r"operator==|\w+", ["bindings/cpp/s2union.hpp"], r"\b{}(?!\w)"),
-    "C": (r"s2u_\w+", ["crates/s2union_c/include/s2union.h"], r"\b{}\("),
+    "C": (r"s2u_\w+", ["crates/s2union_c/include/s2union.h", "bindings/c/s2union_*.h"], r"\b{}\("),
     "Go": (r"\w+", ["bindings/go/*.go"], r"(?:\bfunc (?:\(\w+ \*?\w+\) )?|^type ){}\b"),
     "Rust": (r"\w{2,}", ["bindings/rust/src/*.rs"], r"\b(?:fn|struct) {}\b"),
     "Rattle": (r"\w{2,}", ["crates/s2*/src/*.rt"], r"\bpub (?:fn|struct) {}\b"),
-    "Python": (r"(?!in\b)\w{2,}", ["bindings/python/s2union/__init__.py"], r"\b(?:def|class) (?:{0}|__{0}__)\b"),
+    "Python": (r"(?!in\b)\w{2,}", ["bindings/python/s2union/__init__.py", "bindings/python/s2union_geo/*.py"],
+               r"\b(?:def|class) (?:{0}|__{0}__)\b"),
     "SQL": (r"s2_\w+", ["bindings/sqlite/*.c", "bindings/postgres/*.sql"], r"\b{}\b"),
     "Script": (r"[a-z]{2,}", ["docs/SCRIPT.md"], r"`{}\b"),
     "JavaScript": (r"\w+", ["bindings/js/s2union.d.ts"], r"(?:\bfunction |^  (?:static |readonly )?|\bclass ){}\b"),

@@ -8,6 +8,7 @@ need go golang-go
 . "$top/tests/library.sh"
 
 step "questions and edges" questions
+step "shapes in degrees" shapes
 export GOPATH=$work/go GOCACHE=$work/go-cache GOFLAGS=-mod=mod GOPROXY=off GOTOOLCHAIN=local
 path=$(sed -n 's/^module //p' "$top/bindings/go/go.mod")
 for_go() (

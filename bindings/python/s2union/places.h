@@ -228,5 +228,5 @@ static PyObject* py_coverings_of_circle(PyObject* module, PyObject* words) {
 static PyObject* py_level_within(PyObject* module, PyObject* given) {
   double meters;
   (void)module;
-  return as_meters(given, &meters) ? PyLong_FromUnsignedLong(s2u_cover_level_within(meters)) : NULL;
+  return as_meters(given, &meters) ? PyLong_FromUnsignedLong(s2u_cover_level_within(S2U_COVER_KEPT * meters)) : NULL;
 }

@@ -12,7 +12,6 @@ from .reading import Shape, said_of, shape_of, wkb_of
 
 MOST_CELLS = 1_000_000
 USUAL = 200
-KEPT = 0.96  # the part of `within` that a cell at the border may be wide; the rest pays for bends and rounding
 EDGES = {"map": 0, "geodesic": 1, "left": 2}
 OUTER, INNER, BOTH = 1, 2, 3
 
@@ -256,7 +255,7 @@ def _options(max_cells: int | None, max_level: int, min_level: int, within: floa
         width = number_of(within, "number of meters")
         if not width > 0:
             raise ValueError(f"a number of meters is more than 0: {within!r}")
-        deepest = max(least, min(deepest, _library.level_within(KEPT * width)))
+        deepest = max(least, min(deepest, _library.level_within(width)))
     usual = USUAL if within is None else MOST_CELLS
     most = usual if max_cells is None else _number(max_cells, MOST_CELLS, "max_cells")
     return most, least, deepest, EDGES[edges], meters

@@ -1,0 +1,118 @@
+package s2union_test
+
+import (
+	"encoding/json"
+	"errors"
+	"fmt"
+	"strings"
+
+	s2union "s2union.example.org/s2union/bindings/go"
+)
+
+// Where is a place: surely in the park, surely not, or near its border?
+func Example_geofence() {
+	park := s2union.Shape{Polygons: [][][]s2union.Position{
+		{{{2.23, 48.85}, {2.28, 48.85}, {2.28, 48.88}, {2.23, 48.88}, {2.23, 48.85}}},
+	}}
+	outer, inner, err := s2union.RegionCoverer{MaxCells: 100}.Coverings(park)
+	if err != nil {
+		panic(err)
+	}
+	for _, place := range []s2union.Position{{2.25, 48.86}, {2.35, 48.86}, {2.23, 48.86}} {
+		leaf, _ := s2union.CellIDFromPosition(place)
+		fmt.Println(place, "inside:", inner.ContainsCellID(leaf), "outside:", !outer.ContainsCellID(leaf))
+	}
+	// Output:
+	// [2.25 48.86] inside: true outside: false
+	// [2.35 48.86] inside: false outside: true
+	// [2.23 48.86] inside: false outside: false
+}
+
+func ExampleCellIDFromPosition() {
+	paris, err := s2union.CellIDFromPosition(s2union.Position{2.3522, 48.8566})
+	fmt.Println(paris.ToToken(), err)
+	_, err = s2union.CellIDFromPosition(s2union.Position{48.8566, 102.3522})
+	fmt.Println(err)
+	// Output:
+	// 47e66e1d8f8be23b <nil>
+	// s2union: a longitude is from -540 to 540 and a latitude from -90 to 90 (the longitude first)
+}
+
+func ExampleCellIDsFromPositions() {
+	leaves, err := s2union.CellIDsFromPositions([]s2union.Position{{2.3522, 48.8566}, {0, 90}})
+	fmt.Println(leaves[0].ToToken(), leaves[1].ToToken(), err)
+	// Output: 47e66e1d8f8be23b 5000000000000001 <nil>
+}
+
+func ExampleCellID_Position() {
+	cell, _ := s2union.CellIDFromToken("89c25")
+	fmt.Printf("%.4f\n", cell.Position())
+	// Output: [-74.0300 40.6431]
+}
+
+func ExampleRegionCoverer_Covering() {
+	circle := s2union.Circle{Center: s2union.Position{2.3522, 48.8566}, Radius: 1000}
+	fmt.Println(s2union.RegionCoverer{MaxCells: 8}.Covering(circle))
+	_, err := s2union.RegionCoverer{MaxCells: 8, Margin: 1e6}.Covering(circle)
+	fmt.Println(errors.Is(err, s2union.ErrShapeOption))
+	// Output:
+	// 47e66e04 47e66e1c 47e66e24 47e671d8c 47e671dd 47e671df 47e671e4 47e671fc <nil>
+	// true
+}
+
+func ExampleRegionCoverer_InteriorCovering() {
+	box := s2union.Box{West: 2, South: 48, East: 3, North: 49}
+	fmt.Println(s2union.RegionCoverer{MaxCells: 4}.InteriorCovering(box))
+	// Output: 47e5c 47e604 47e60c 47e674 <nil>
+}
+
+func ExampleRegionCoverer_Coverings() {
+	wkb := s2union.WKB("\x01\x01\x00\x00\x00" + strings.Repeat("\x00", 13) + "\x80\x56\x40")
+	pole, none, err := s2union.RegionCoverer{MaxLevel: 2}.Coverings(wkb)
+	fmt.Println(pole, none.Len(), err)
+	_, _, err = s2union.RegionCoverer{}.Coverings(wkb[:9])
+	fmt.Println(err)
+	// Output:
+	// 45 4f 51 5b 0 <nil>
+	// s2union: the bytes are no WKB: at byte 5
+}
+
+func ExampleCellUnion_Outline() {
+	union, _ := s2union.CellUnionFromTokens("1")
+	shape, _ := union.Outline()
+	fmt.Printf("%.4f\n", shape.Polygons[0][0][:3])
+	// Output: [[-45.0000 -35.2644] [-22.6199 -42.7094] [0.0000 -45.0000]]
+}
+
+func ExampleCellUnion_Boundary() {
+	union, _ := s2union.CellUnionFromTokens("1")
+	shape, _ := union.Boundary()
+	fmt.Printf("%.4f\n", shape.Lines[0])
+	// Output: [[-45.0000 -35.2644] [45.0000 -35.2644] [45.0000 35.2644] [-45.0000 35.2644] [-45.0000 -35.2644]]
+}
+
+func ExampleShape_UnmarshalJSON() {
+	var feature struct {
+		Properties map[string]string
+		Geometry   s2union.Shape
+	}
+	text := `{"type": "Feature", "properties": {"name": "pole"}, "geometry": {"type": "Point", "coordinates": [0, 90]}}`
+	err := json.Unmarshal([]byte(text), &feature)
+	fmt.Println(feature.Properties["name"], feature.Geometry.Points, err)
+	// Output: pole [[0 90]] <nil>
+}
+
+func ExampleShape_MarshalJSON() {
+	text, err := json.Marshal(s2union.Shape{Lines: [][]s2union.Position{{{0, 0}, {10, 5}}}})
+	fmt.Println(string(text), err)
+	// Output: {"type":"MultiLineString","coordinates":[[[0,0],[10,5]]]} <nil>
+}
+
+func ExamplePosition_UnmarshalJSON() {
+	var track []s2union.Position
+	fmt.Println(json.Unmarshal([]byte("[[2.35, 48.85, 35], [2.36, 48.86, 36]]"), &track), track)
+	fmt.Println(errors.Is(json.Unmarshal([]byte("[[2.35]]"), &track), s2union.ErrGeoJSON))
+	// Output:
+	// <nil> [[2.35 48.85] [2.36 48.86]]
+	// true
+}

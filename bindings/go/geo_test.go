@@ -1,0 +1,291 @@
+package s2union_test
+
+import (
+	"bufio"
+	"encoding/binary"
+	"encoding/hex"
+	"encoding/json"
+	"errors"
+	"fmt"
+	"math"
+	"os"
+	"reflect"
+	"strconv"
+	"strings"
+	"testing"
+
+	s2union "s2union.example.org/s2union/bindings/go"
+)
+
+type (
+	Position      = s2union.Position
+	Shape         = s2union.Shape
+	RegionCoverer = s2union.RegionCoverer
+)
+
+// TestShapes asks the questions of tests/model/shapes.py, in the file that S2UNION_SHAPES names, and compares the
+// answers.
+func TestShapes(t *testing.T) {
+	path := os.Getenv("S2UNION_SHAPES")
+	if path == "" {
+		t.Skip("S2UNION_SHAPES is not set")
+	}
+	file, err := os.Open(path)
+	if err != nil {
+		t.Fatal(err)
+	}
+	defer file.Close()
+	asked := map[string]int{}
+	lines := bufio.NewScanner(file)
+	lines.Buffer(nil, 1<<24)
+	for lines.Scan() {
+		fields := strings.Split(lines.Text(), "\t")
+		found, wanted := answersOf(fields)
+		if found != wanted {
+			t.Errorf("%.200q is %.200q, not %.200q", lines.Text(), found, wanted)
+		}
+		asked[fields[0]]++
+	}
+	if lines.Err() != nil || len(asked) != 9 {
+		t.Fatal(lines.Err(), asked)
+	}
+}
+
+// answersOf are the answers to a question, and those that it should have.
+func answersOf(fields []string) (found, wanted string) {
+	wanted = strings.Join(fields[2:], "\t")
+	switch fields[0] {
+	case "leaf":
+		cell, err := s2union.CellIDFromPosition(positionsIn(fields[1])[0])
+		return shown(cell, err), wanted
+	case "middle":
+		return shownPositions(given(fields[1:]).cell(0).Position()), wanted
+	case "outline":
+		shape, err := given(fields[1:]).union(0).Outline()
+		return shown(shownShape(shape), err), wanted
+	case "boundary":
+		shape, err := given(fields[1:]).union(0).Boundary()
+		return shown(shownShape(shape), err), wanted
+	case "holds":
+		outer, inner, err := covererIn(fields[2]).Coverings(shapeIn(fields[1]))
+		return fmt.Sprint(hasEach(outer, fields[3], true), hasEach(inner, fields[4], false), err), "true true <nil>"
+	default:
+		wanted = strings.Join(fields[3:], "\t")
+		return coverings(covererIn(fields[2]), regionIn(fields[0], fields[1])), wanted
+	}
+}
+
+// coverings are both, if each alone is the same.
+func coverings(coverer RegionCoverer, region s2union.Region) string {
+	outer, inner, err := coverer.Coverings(region)
+	first, one := coverer.Covering(region)
+	second, other := coverer.InteriorCovering(region)
+	if !outer.Equal(first) || !inner.Equal(second) || fmt.Sprint(err) != fmt.Sprint(one) ||
+		fmt.Sprint(err) != fmt.Sprint(other) || err != nil && outer.Len()+inner.Len() > 0 {
+		return fmt.Sprint("they differ: ", outer, first, inner, second, err, one, other)
+	}
+	return shown(shown(outer)+"\t"+shown(inner), err)
+}
+
+func bytesIn(text string) []byte {
+	data, err := hex.DecodeString(text)
+	if err != nil {
+		panic(err)
+	}
+	return data
+}
+
+func numbersIn(text string) []float64 {
+	data, numbers := bytesIn(text), []float64{}
+	for ; len(data) > 0; data = data[8:] {
+		numbers = append(numbers, math.Float64frombits(binary.BigEndian.Uint64(data)))
+	}
+	return numbers
+}
+
+func positionsIn(text string) []Position {
+	positions, numbers := []Position{}, numbersIn(text)
+	for ; len(numbers) > 0; numbers = numbers[2:] {
+		positions = append(positions, Position{numbers[0], numbers[1]})
+	}
+	return positions
+}
+
+func shownPositions(positions ...Position) string {
+	text := ""
+	for _, position := range positions {
+		text += fmt.Sprintf("%016x%016x", math.Float64bits(position[0]), math.Float64bits(position[1]))
+	}
+	return text
+}
+
+func shapeIn(text string) (shape Shape) {
+	for _, word := range strings.Fields(text) {
+		polygon, places, _ := strings.Cut(word, ":")
+		ring := positionsIn(places)
+		number, err := strconv.Atoi(polygon)
+		switch {
+		case err != nil && len(ring) == 1:
+			shape.Points = append(shape.Points, ring[0])
+		case err != nil:
+			shape.Lines = append(shape.Lines, ring)
+		case number == len(shape.Polygons):
+			shape.Polygons = append(shape.Polygons, [][]Position{ring})
+		default:
+			shape.Polygons[number] = append(shape.Polygons[number], ring)
+		}
+	}
+	return shape
+}
+
+func shownShape(shape Shape) string {
+	words := []string{}
+	for number, polygon := range shape.Polygons {
+		for _, ring := range polygon {
+			words = append(words, fmt.Sprintf("%d:%s", number, shownPositions(ring...)))
+		}
+	}
+	for _, line := range shape.Lines {
+		words = append(words, "-:"+shownPositions(line...))
+	}
+	return strings.Join(words, " ")
+}
+
+func covererIn(text string) (coverer RegionCoverer) {
+	words := strings.Fields(text)
+	numbers := [4]int{}
+	for k := range numbers {
+		numbers[k], _ = strconv.Atoi(words[k])
+	}
+	return RegionCoverer{MaxCells: numbers[0], MinLevel: numbers[1], MaxLevel: numbers[2],
+		Edges: s2union.Edges(numbers[3]), Margin: numbersIn(words[4])[0], Within: numbersIn(words[5])[0]}
+}
+
+func regionIn(kind, text string) s2union.Region {
+	switch kind {
+	case "wkb":
+		return s2union.WKB(bytesIn(text))
+	case "circle":
+		it := numbersIn(text)
+		return s2union.Circle{Center: Position{it[0], it[1]}, Radius: it[2]}
+	case "box":
+		it := numbersIn(text)
+		return s2union.Box{West: it[0], South: it[1], East: it[2], North: it[3]}
+	default:
+		return shapeIn(text)
+	}
+}
+
+func hasEach(union CellUnion, places string, wanted bool) bool {
+	leaves, err := s2union.CellIDsFromPositions(positionsIn(places))
+	if err != nil {
+		panic(err)
+	}
+	for k, has := range must(union.ContainsCellIDs(leaves...)) {
+		if has != wanted || must(s2union.CellIDFromPosition(positionsIn(places)[k])) != leaves[k] {
+			return false
+		}
+	}
+	return len(leaves) > 0
+}
+
+// ---- what the questions don't ask
+
+var square = Shape{Polygons: [][][]Position{{{{2, 48}, {3, 48}, {3, 49}, {2, 49}, {2, 48}}}}}
+
+func TestUsualOptions(t *testing.T) {
+	usual := must(RegionCoverer{}.Covering(square))
+	check(t, usual.Equal(must(RegionCoverer{MaxCells: 200, MaxLevel: 30}.Covering(square))), "200 cells, and level 30")
+	within := must(RegionCoverer{Within: 500}.Covering(square))
+	check(t, within.Equal(must(RegionCoverer{MaxCells: 1000000, Within: 500}.Covering(square))) && within.Len() > 200,
+		"many cells within some meters")
+	for _, wrong := range []RegionCoverer{
+		{MaxCells: -1}, {MaxCells: math.MinInt}, {MaxCells: math.MaxInt}, {MaxCells: 1 << 32}, {MinLevel: -1},
+		{MinLevel: 31}, {MaxLevel: -1}, {MaxLevel: 1 << 32}, {Edges: -1}, {Edges: 1 << 32}, {Within: math.Inf(-1)},
+	} {
+		for _, region := range []s2union.Region{square, s2union.WKB(nil), s2union.Circle{}, s2union.Box{}} {
+			outer, err := wrong.Covering(region)
+			_, isCircle := region.(s2union.Circle) // whose edges are its own
+			is := err == s2union.ErrShapeOption || wrong.Within == 0 && errors.Is(err, s2union.ErrShapeWKB) ||
+				isCircle && wrong.Edges != 0
+			check(t, is && (err == nil || outer.Len() == 0), fmt.Sprint(wrong, region, err))
+		}
+	}
+}
+
+func TestTextsOfShapeErrors(t *testing.T) {
+	open := Shape{Polygons: [][][]Position{square.Polygons[0], {square.Polygons[0][0][:4]}}}
+	_, err := RegionCoverer{}.Covering(open)
+	check(t, err.Error() == "s2union: a ring is open: its last position is not its first: ring 1, position 3", err.Error())
+	_, err = RegionCoverer{}.Covering(s2union.WKB{1, 3, 0, 0, 0})
+	check(t, err.Error() == "s2union: the bytes are no WKB: at byte 5" && errors.Is(err, s2union.ErrShapeWKB), err.Error())
+	_, err = s2union.CellIDsFromPositions([]Position{{0, 0}, {0, 91}})
+	var place *s2union.PlaceError
+	check(t, errors.As(err, &place) && place.Place == 1 && place.Refusal == s2union.ErrShapeNumber, fmt.Sprint(err))
+	none, err := s2union.CellIDsFromPositions(nil)
+	check(t, len(none) == 0 && err == nil, "no positions")
+}
+
+func TestAMillionPositions(t *testing.T) {
+	ring := make([]Position, 1000001)
+	for k := range ring {
+		turn := 2 * math.Pi * float64(k) / 1000000
+		ring[k] = Position{10 * math.Cos(turn), 10 * math.Sin(turn)}
+	}
+	ring[1000000] = ring[0]
+	outer, err := RegionCoverer{MaxCells: 50}.Covering(Shape{Polygons: [][][]Position{{ring}}})
+	check(t, err == nil && outer.Len() <= 50 && outer.ContainsCellID(must(s2union.CellIDFromPosition(ring[7]))), "a ring")
+	ring[1000000] = Position{}
+	_, err = RegionCoverer{}.Covering(Shape{Polygons: [][][]Position{{ring}}})
+	check(t, errors.Is(err, s2union.ErrShapeOpen), fmt.Sprint(err))
+	outer, err = RegionCoverer{MaxCells: 20}.Covering(Shape{Points: ring[:100000]})
+	check(t, err == nil && outer.Len() <= 20 && outer.ContainsCellID(must(s2union.CellIDFromPosition(ring[7]))), "points")
+}
+
+func TestGeoJSON(t *testing.T) {
+	polygon := `[[[2,48],[3,48.0,7],[3,49],[ 2 , 49e0, "x" ],[2,48]]]`
+	line := []Position{{0, 0}, {-1.5, 2e1}}
+	for text, want := range map[string]Shape{
+		`{"type":"Polygon","coordinates":` + polygon + `}`:                                                square,
+		`{"type":"MultiPolygon","coordinates":[` + polygon + `]}`:                                         square,
+		`{"type":"Feature","geometry":{"type":"Polygon","coordinates":` + polygon + `}, "id":1}`:          square,
+		`{"type":"FeatureCollection","features":[{"type":"Polygon","coordinates":` + polygon + `}]}`:      square,
+		`{"type":"GeometryCollection","geometries":[{"type":"Polygon","coordinates":` + polygon + `}]}`:   square,
+		`{"type":"LineString","coordinates":[[0,0],[-1.5,20]]}`:                                           {Lines: [][]Position{line}},
+		`{"type":"MultiLineString","coordinates":[[[0,0],[-1.5,20]],[]]}`:                                 {Lines: [][]Position{line}},
+		`{"type":"Point","coordinates":[-1.5,20]}`:                                                        {Points: line[1:]},
+		`{"type":"MultiPoint","coordinates":[[0,0],[-1.5,20]]}`:                                           {Points: line},
+		`{"type":"Point","coordinates":[]}`:                                                               {},
+		`{"type":"Feature","geometry":null}`:                                                              {},
+		`{"type":"Feature","properties":{"coordinates":7},"geometry":{"type":"Point","coordinates":[]}} `: {},
+	} {
+		var shape Shape
+		err := json.Unmarshal([]byte(text), &shape)
+		check(t, err == nil && reflect.DeepEqual(shape, want), fmt.Sprint(text, shape, err))
+	}
+	for _, wrong := range []string{
+		`1`, `{}`, `[]`, `"x"`, `{"type":"Circle","coordinates":[]}`, `{"type":"Polygon"}`, `{"type":7}`,
+		`{"type":"Polygon","coordinates":null}`, `{"type":"Polygon","coordinates":[[0,1]]}`,
+		`{"type":"Polygon","coordinates":[[[0,"1"]]]}`, `{"type":"Polygon","coordinates":[[[0]]]}`,
+		`{"type":"Polygon","coordinates":[[[[0,1]]]]}`, `{"type":"Point","coordinates":[[0,1]]}`,
+		`{"type":"Point","coordinates":[null,1]}`, `{"type":"Point","coordinates":[0,true]}`,
+		`{"type":"Point","coordinates":[1e999,1]}`, `{"type":"Point","coordinates":{"x":1,"y":2}}`,
+		`{"type":"MultiPoint","coordinates":[[0,1],null]}`, `{"type":"GeometryCollection","geometries":[{"type":"x"}]}`,
+		`{"type":"GeometryCollection","geometries":` + strings.Repeat("[", 20000) + strings.Repeat("]", 20000) + `}`,
+	} {
+		shape := square
+		err := json.Unmarshal([]byte(wrong), &shape)
+		var syntax *json.SyntaxError
+		check(t, errors.Is(err, s2union.ErrGeoJSON) || errors.As(err, &syntax), fmt.Sprintf("%.99s: %v", wrong, err))
+		check(t, reflect.DeepEqual(shape, square), "it stays as it was")
+	}
+	for _, shape := range []Shape{square, {Lines: [][]Position{line}}, {Points: line}, {},
+		{Polygons: square.Polygons, Lines: [][]Position{line}, Points: line}} {
+		var again Shape
+		text := must(json.Marshal(shape))
+		check(t, json.Unmarshal(text, &again) == nil && reflect.DeepEqual(shape, again), string(text))
+	}
+	check(t, json.Unmarshal([]byte("null"), &square) == nil && square.Polygons != nil, "null")
+	_, err := json.Marshal(Shape{Points: []Position{{math.NaN(), 0}}})
+	check(t, err != nil, "no number")
+}

@@ -1,0 +1,149 @@
+package s2union
+
+import (
+	"bytes"
+	"encoding/json"
+	"errors"
+	"fmt"
+	"strconv"
+)
+
+// ErrGeoJSON is the refusal of a text that isn't GeoJSON of polygons, lines and points.
+var ErrGeoJSON = errors.New("s2union: not GeoJSON of polygons, lines and points")
+
+// object is one of GeoJSON.
+type object struct {
+	Type        string          `json:"type"`
+	Coordinates json.RawMessage `json:"coordinates,omitempty"`
+	Geometry    *object         `json:"geometry,omitempty"`
+	Geometries  []object        `json:"geometries,omitempty"`
+	Features    []object        `json:"features,omitempty"`
+}
+
+// UnmarshalJSON takes GeoJSON: a geometry, a feature, or a collection of them. If there is an error, which wraps
+// ErrGeoJSON, the shape stays as it was. Since 1.4.
+func (shape *Shape) UnmarshalJSON(text []byte) error {
+	var given object
+	var read Shape
+	if string(text) == "null" {
+		return nil
+	}
+	err := json.Unmarshal(text, &given)
+	if err == nil {
+		err = read.add(given)
+	}
+	if err == nil {
+		*shape = read
+	} else if !errors.Is(err, ErrGeoJSON) {
+		err = fmt.Errorf("%w: %v", ErrGeoJSON, err)
+	}
+	return err
+}
+
+// add adds what an object has.
+func (shape *Shape) add(given object) error {
+	switch given.Type {
+	case "Feature":
+		if given.Geometry == nil {
+			return nil
+		}
+		return shape.add(*given.Geometry)
+	case "FeatureCollection", "GeometryCollection":
+		for _, part := range append(given.Features, given.Geometries...) {
+			if err := shape.add(part); err != nil {
+				return err
+			}
+		}
+		return nil
+	default:
+		return shape.addGeometry(given.Type, given.Coordinates)
+	}
+}
+
+func (shape *Shape) addGeometry(kind string, coordinates []byte) (err error) {
+	var polygon [][]Position
+	var line []Position
+	var point Position
+	switch kind {
+	case "Polygon":
+		err = listIn(coordinates, &polygon)
+		shape.Polygons = append(shape.Polygons, polygon)
+	case "MultiPolygon":
+		var polygons [][][]Position
+		err = listIn(coordinates, &polygons)
+		shape.Polygons = append(shape.Polygons, polygons...)
+	case "LineString":
+		err = listIn(coordinates, &line)
+		shape.addLines(line)
+	case "MultiLineString":
+		err = listIn(coordinates, &polygon)
+		shape.addLines(polygon...)
+	case "MultiPoint":
+		err = listIn(coordinates, &line)
+		shape.Points = append(shape.Points, line...)
+	case "Point":
+		if string(coordinates) != "[]" {
+			err = listIn(coordinates, &point)
+			shape.Points = append(shape.Points, point)
+		}
+	default:
+		err = fmt.Errorf("%w: the type %.99q", ErrGeoJSON, kind)
+	}
+	return err
+}
+
+func (shape *Shape) addLines(lines ...[]Position) {
+	for _, line := range lines {
+		if len(line) > 0 {
+			shape.Lines = append(shape.Lines, line)
+		}
+	}
+}
+
+// listIn reads the list of coordinates, which may not be missing.
+func listIn(coordinates []byte, list any) error {
+	if len(coordinates) == 0 || string(coordinates) == "null" {
+		return fmt.Errorf("%w: coordinates are missing", ErrGeoJSON)
+	}
+	return json.Unmarshal(coordinates, list)
+}
+
+// UnmarshalJSON takes a longitude and a latitude, and passes over what follows them. Since 1.4.
+func (position *Position) UnmarshalJSON(text []byte) error {
+	list, end := bytes.TrimPrefix(text, []byte("[")), []byte("]")
+	longitude, rest, isPair := bytes.Cut(bytes.TrimSuffix(list, end), []byte(","))
+	latitude, _, _ := bytes.Cut(rest, []byte(","))
+	x, wrong := strconv.ParseFloat(string(bytes.TrimSpace(longitude)), 64)
+	y, err := strconv.ParseFloat(string(bytes.TrimSpace(latitude)), 64)
+	if len(list) == len(text) || !isPair || wrong != nil || err != nil {
+		return fmt.Errorf("%w: a position is a longitude and a latitude: %.99s", ErrGeoJSON, text)
+	}
+	*position = Position{x, y}
+	return nil
+}
+
+// MarshalJSON makes the geometry in GeoJSON, a collection if there are several kinds. A number that isn't one is an
+// error. Since 1.4.
+func (shape Shape) MarshalJSON() ([]byte, error) {
+	type geometry struct {
+		Type        string `json:"type"`
+		Coordinates any    `json:"coordinates"`
+	}
+	parts := []geometry{}
+	if shape.Polygons != nil {
+		parts = append(parts, geometry{"MultiPolygon", shape.Polygons})
+	}
+	if shape.Lines != nil {
+		parts = append(parts, geometry{"MultiLineString", shape.Lines})
+	}
+	if shape.Points != nil {
+		parts = append(parts, geometry{"MultiPoint", shape.Points})
+	}
+	if len(parts) == 1 {
+		return json.Marshal(parts[0])
+	}
+	return json.Marshal(struct {
+		Type       string     `json:"type"`
+		Geometries []geometry `json:"geometries"`
+	}{"GeometryCollection", parts})
+}
