@@ -133,8 +133,8 @@ type Shape struct {
 // over. An SRID is 0 or 4326.
 type WKB []byte
 
-// Circle is the places that are at most so many meters, 0 to 9,000,000, from a center, on a sphere with the earth's
-// mean radius: golang/geo's Cap.
+// Circle is the places that are at most Radius meters, 0 to 9,000,000, from a center, on a sphere with the earth's mean
+// radius: golang/geo's Cap.
 type Circle struct {
 	Center Position
 	Radius float64

@@ -245,14 +245,15 @@ func TestAMillionPositions(t *testing.T) {
 func TestGeoJSON(t *testing.T) {
 	polygon := `[[[2,48],[3,48.0,7],[3,49],[ 2 , 49e0, "x" ],[2,48]]]`
 	line := []Position{{0, 0}, {-1.5, 2e1}}
+	lines := Shape{Lines: [][]Position{line}}
 	for text, want := range map[string]Shape{
 		`{"type":"Polygon","coordinates":` + polygon + `}`:                                                square,
 		`{"type":"MultiPolygon","coordinates":[` + polygon + `]}`:                                         square,
 		`{"type":"Feature","geometry":{"type":"Polygon","coordinates":` + polygon + `}, "id":1}`:          square,
 		`{"type":"FeatureCollection","features":[{"type":"Polygon","coordinates":` + polygon + `}]}`:      square,
 		`{"type":"GeometryCollection","geometries":[{"type":"Polygon","coordinates":` + polygon + `}]}`:   square,
-		`{"type":"LineString","coordinates":[[0,0],[-1.5,20]]}`:                                           {Lines: [][]Position{line}},
-		`{"type":"MultiLineString","coordinates":[[[0,0],[-1.5,20]],[]]}`:                                 {Lines: [][]Position{line}},
+		`{"type":"LineString","coordinates":[[0,0],[-1.5,20]]}`:                                           lines,
+		`{"type":"MultiLineString","coordinates":[[[0,0],[-1.5,20]],[]]}`:                                 lines,
 		`{"type":"Point","coordinates":[-1.5,20]}`:                                                        {Points: line[1:]},
 		`{"type":"MultiPoint","coordinates":[[0,0],[-1.5,20]]}`:                                           {Points: line},
 		`{"type":"Point","coordinates":[]}`:                                                               {},
