@@ -19,9 +19,6 @@ questions() { # what all bindings are asked; those for Go and Rust are also the 
     PYTHONPATH=$top/tests /usr/bin/python3 -m model.vectors | cat - "$work/edges" >"$work/vectors"
 }
 export S2UNION_VECTORS=$work/vectors
-shapes() { # in degrees, with the coverings that the module for Python makes
-  PYTHONPATH=$top/tests:$work/usr/lib/python /usr/bin/python3 -m model.shapes >"$work/shapes"
-}
 export S2UNION_SHAPES=$work/shapes
 
 # ---- the programs of the docs

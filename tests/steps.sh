@@ -114,6 +114,11 @@ need_library() {
   [ "$failed" -eq 0 ] || finish
 }
 
+shapes() { # $work/shapes: shapes in degrees, with the coverings that the module for Python makes
+  LD_LIBRARY_PATH=$work/usr/lib PYTHONDONTWRITEBYTECODE=1 PYTHONPATH=$top/tests:$work/usr/lib/python \
+    /usr/bin/python3 -m model.shapes >"$work/shapes"
+}
+
 released_version() { sed -n 's/^- Version: `\(.*\)`$/\1/p' "$top/dist/README.md"; }
 
 old_glibc() { # FILE..: whether the C library that docs/INSTALL.md names will do

@@ -4,7 +4,8 @@
  * that end soon, and to operations on two unions of which one is short. To other calls longer ones are copied. There is
  * no arithmetic on cells here. */
 #include <jni.h>
-#include <s2union.h>
+#include <s2union_cover.h>
+#include <s2union_outline.h>
 #include "calls.h"
 
 #ifndef SHORT
@@ -344,4 +345,159 @@ CALL(jint, askFile)(JNIEnv* env, jclass of, jint call, jbyteArray xs, jbyteArray
   end(&lists);
   if (out != NULL) put(env, out, found);
   return status;
+}
+
+/* ---- degrees, of which arrays are copied: coverings take their time */
+
+CALL(jlong, leafAtPosition)(JNIEnv* env, jclass of, jdouble longitude, jdouble latitude) {
+  (void)env, (void)of;
+  return (jlong)s2u_geo_leaf(longitude, latitude);
+}
+
+/* The leaves of positions, each of which is two numbers, up to the first that is out of range. */
+CALL(jint, leavesAt)(JNIEnv* env, jclass of, jdoubleArray positions, jlongArray out, jlongArray bad) {
+  (void)of;
+  passed lists = {.env = env};
+  jdouble* at = (*env)->GetDoubleArrayElements(env, positions, NULL);
+  if (at == NULL) return S2U_MEMORY;
+  jsize count = 0;
+  add(&lists, out, 0, 1);
+  int32_t status = begin(&lists) ? S2U_OK : S2U_MEMORY;
+  uint64_t* leaves = lists.at[0];
+  for (; status == S2U_OK && count < lists.length[0]; count++)
+    if ((leaves[count] = s2u_geo_leaf(at[2 * count], at[2 * count + 1])) == 0) break;
+  end(&lists);
+  (*env)->ReleaseDoubleArrayElements(env, positions, at, JNI_ABORT);
+  put(env, bad, (uint64_t)count);
+  return status;
+}
+
+/* The longitude and the latitude of the middle of a cell. */
+CALL(jint, middle)(JNIEnv* env, jclass of, jlong cell, jdoubleArray out) {
+  (void)of;
+  jdouble place[2] = {0, 0};
+  int32_t status = s2u_geo_middle((uint64_t)cell, &place[0], &place[1]);
+  (*env)->SetDoubleArrayRegion(env, out, 0, 2, place);
+  return status;
+}
+
+CALL(jstring, shapeText)(JNIEnv* env, jclass of, jint status) {
+  (void)of;
+  return (*env)->NewStringUTF(env, s2u_cover_status_text(status));
+}
+
+/* What a covering is asked for, and where it is put. */
+typedef struct {
+  void* given;
+  size_t size; /* of bytes */
+  s2u_cover_ring* rings;
+  size_t count;
+  s2u_cover_options options;
+  s2u_cover_cells cells[2];
+  s2u_cover_cells *outer, *inner;
+  s2u_cover_fault fault;
+} covering;
+
+static int32_t covered(jint call, covering* it) {
+  const double* n = it->given;
+  const s2u_cover_shape shape = {n, it->rings, it->count};
+  s2u_cover_options* options = &it->options;
+  switch (call) {
+    case COVER: return s2u_cover(&shape, options, it->outer, it->inner, &it->fault);
+    case COVER_WKB: return s2u_cover_wkb(it->given, it->size, options, it->outer, it->inner, &it->fault);
+    case COVER_CIRCLE: return s2u_cover_circle(n[0], n[1], n[2], options, it->outer, it->inner, &it->fault);
+    case COVER_BOX: return s2u_cover_box(n[0], n[1], n[2], n[3], options, it->outer, it->inner, &it->fault);
+    default: return S2U_ARGUMENT;
+  }
+}
+
+/* An array of cells. NULL if Java has no memory for it, which it throws then. */
+static jlongArray array_of(JNIEnv* env, const s2u_cover_cells* cells) {
+  if (cells->count > INT32_MAX) return NULL;
+  jlongArray made = (*env)->NewLongArray(env, (jsize)cells->count);
+  if (made != NULL) (*env)->SetLongArrayRegion(env, made, 0, (jsize)cells->count, (const jlong*)cells->ids);
+  return made;
+}
+
+/* Numbers are the most cells, the least and the deepest level, and the kind of edges; meters are the margin and how far
+ * coverings may go beyond a shape, or 0. `wanted` is 1 for the outer covering, 2 for the inner one, 3 for both, whose
+ * cells are put to `made`; one that isn't wanted is empty. */
+static int32_t cover_for(JNIEnv* env, jint call, covering* it, const jlong* numbers, const jdouble* meters,
+                         jobjectArray made, jint wanted) {
+  const s2u_cover_options options = {(uint64_t)numbers[0], (uint32_t)numbers[1], (uint32_t)numbers[2],
+                                     (uint32_t)numbers[3], meters[0]};
+  it->options = options;
+  it->outer = wanted != 2 ? &it->cells[0] : NULL;
+  it->inner = wanted != 1 ? &it->cells[1] : NULL;
+  int32_t status = meters[1] != 0 ? s2u_cover_keep_within(&it->options, meters[1]) : S2U_OK;
+  if (status == S2U_OK) status = covered(call, it);
+  for (int k = 0; k < 2; k++) {
+    jlongArray array = status == S2U_OK ? array_of(env, &it->cells[k]) : NULL;
+    if (array != NULL) (*env)->SetObjectArrayElement(env, made, k, array);
+    else if (status == S2U_OK) status = S2U_MEMORY;
+    s2u_cover_free(&it->cells[k]);
+  }
+  return status;
+}
+
+/* A shape is bytes of WKB, or numbers: positions with rings, each of which is two numbers, or a circle or a box. `at`
+ * gets the ring and the position of a fault. */
+CALL(jint, cover)(JNIEnv* env, jclass of, jint call, jint wanted, jarray given, jlongArray rings, jlongArray options,
+                  jdoubleArray meters, jobjectArray made, jlongArray at) {
+  (void)of;
+  covering it = {.size = (size_t)(*env)->GetArrayLength(env, given)};
+  jlong numbers[4];
+  jdouble far[2];
+  (*env)->GetLongArrayRegion(env, options, 0, 4, numbers);
+  (*env)->GetDoubleArrayRegion(env, meters, 0, 2, far);
+  int is_bytes = call == COVER_WKB;
+  it.given = is_bytes ? (void*)(*env)->GetByteArrayElements(env, given, NULL)
+                      : (void*)(*env)->GetDoubleArrayElements(env, given, NULL);
+  jlong* ends = (*env)->GetLongArrayElements(env, rings, NULL);
+  it.rings = (s2u_cover_ring*)(void*)ends, it.count = (size_t)(*env)->GetArrayLength(env, rings) / 2;
+  int32_t status = S2U_MEMORY;
+  if (it.given != NULL && ends != NULL) status = cover_for(env, call, &it, numbers, far, made, wanted);
+  if (ends != NULL) (*env)->ReleaseLongArrayElements(env, rings, ends, JNI_ABORT);
+  if (it.given != NULL && is_bytes) (*env)->ReleaseByteArrayElements(env, given, it.given, JNI_ABORT);
+  else if (it.given != NULL) (*env)->ReleaseDoubleArrayElements(env, given, it.given, JNI_ABORT);
+  jlong place[] = {(jlong)it.fault.ring, (jlong)it.fault.position};
+  if (status != S2U_OK && status != S2U_MEMORY) (*env)->SetLongArrayRegion(env, at, 0, 2, place);
+  return status;
+}
+
+static int32_t drawn(jint call, const uint64_t* ids, size_t n, s2u_geo_rings* rings) {
+  switch (call) {
+    case OUTLINE: return s2u_geo_outline(ids, n, rings);
+    case BOUNDARY: return s2u_geo_boundary(ids, n, rings);
+    default: return S2U_ARGUMENT;
+  }
+}
+
+/* Puts an array of so many numbers, each a double or an int. Whether Java has memory for it. */
+static int put_numbers(JNIEnv* env, jobjectArray made, jsize place, const void* numbers, size_t count, int is_double) {
+  if (count > INT32_MAX) return 0;
+  jsize n = (jsize)count;
+  jarray array = is_double ? (jarray)(*env)->NewDoubleArray(env, n) : (jarray)(*env)->NewLongArray(env, n);
+  if (array == NULL) return 0;
+  if (is_double) (*env)->SetDoubleArrayRegion(env, array, 0, n, numbers);
+  else (*env)->SetLongArrayRegion(env, array, 0, n, numbers);
+  (*env)->SetObjectArrayElement(env, made, place, array);
+  return 1;
+}
+
+/* The positions of an outline or a boundary, and the ends of its rings and polygons. */
+CALL(jint, draw)(JNIEnv* env, jclass of, jint call, jlongArray cells, jobjectArray made) {
+  (void)of;
+  s2u_geo_rings rings = {NULL, NULL, NULL, 0, 0};
+  jlong* ids = (*env)->GetLongArrayElements(env, cells, NULL);
+  if (ids == NULL) return S2U_MEMORY;
+  int32_t status = drawn(call, (const uint64_t*)ids, (size_t)(*env)->GetArrayLength(env, cells), &rings);
+  (*env)->ReleaseLongArrayElements(env, cells, ids, JNI_ABORT);
+  if (status != S2U_OK) return status;
+  size_t positions = rings.rings != 0 ? rings.ring_ends[rings.rings - 1] : 0;
+  int is_put = put_numbers(env, made, 0, rings.positions, 2 * positions, 1) &&
+               put_numbers(env, made, 1, rings.ring_ends, rings.rings, 0) &&
+               put_numbers(env, made, 2, rings.polygon_ends, rings.polygons, 0);
+  s2u_geo_free(&rings);
+  return is_put ? S2U_OK : S2U_MEMORY;
 }

@@ -4,9 +4,10 @@ import java.lang.reflect.Modifier;
 import java.util.Arrays;
 import java.util.List;
 import java.util.Map;
-import java.util.stream.Stream;
 import s2union.CellId;
 import s2union.CellUnion;
+import s2union.RegionCoverer;
+import s2union.Shape;
 import s2union.UnionFile;
 
 /** A public call of the package with its arguments, and the object that it is a method of, if it is one. */
@@ -19,13 +20,19 @@ record EachCall(Method method, Object of, Object[] given) {
     byte[] bytes = union.encode();
     UnionFile file = new UnionFile(bytes);
     int[] points = new int[3 * union.size()];
-    Map<Class<?>, Object> words = Map.of(long.class, 0x1000000000000000L, int.class, 1, long[].class, union.cellIds(),
-        byte[].class, bytes, int[].class, points, String.class, union.toString(), Iterable.class, List.of(union, union),
-        CellUnion.class, union, UnionFile.class, file, Object.class, CellUnion.of(1));
-    return Stream.of(CellId.class, CellUnion.class, UnionFile.class).map(Class::getDeclaredMethods)
+    RegionCoverer coverer = new RegionCoverer().maxCells(9);
+    Map<Class<?>, Object> words = Map.ofEntries(Map.entry(long.class, 0x1000000000000000L), Map.entry(int.class, 1),
+        Map.entry(long[].class, union.cellIds()), Map.entry(byte[].class, bytes), Map.entry(int[].class, points),
+        Map.entry(String.class, union.toString()), Map.entry(Iterable.class, List.of(union, union)),
+        Map.entry(CellUnion.class, union), Map.entry(UnionFile.class, file), Map.entry(Object.class, CellUnion.of(1)),
+        Map.entry(double.class, 1.5), Map.entry(double[].class, new double[2 * union.size()]),
+        Map.entry(Shape.class, Shape.polygons(CellUnion.of(5, 91).outline())));
+    Map<Class<?>, Object> owners =
+        Map.of(CellUnion.class, union, CellId.class, file, UnionFile.class, file, RegionCoverer.class, coverer);
+    return owners.keySet().stream().map(Class::getDeclaredMethods)
         .flatMap(Arrays::stream).filter(method -> Modifier.isPublic(method.getModifiers()) && !method.isBridge())
-        .map(method -> new EachCall(method,
-            method.getDeclaringClass() == CellUnion.class ? union : file,
+        .filter(method -> method.getReturnType() != RegionCoverer.class)
+        .map(method -> new EachCall(method, owners.get(method.getDeclaringClass()),
             OWN.getOrDefault(method.getName(),
                 Arrays.stream(method.getParameterTypes()).map(words::get).toArray())))
         .toList();

@@ -55,7 +55,9 @@ asked() { # [OPTION] CLASS WORD..: with Java's own checks of native code, which 
   by_java -Xcheck:jni -cp "$jar:$work/tests" "$@" >"$work/said" 2>&1 || { tail -20 "$work/said" && return 1; }
   ! grep -Ei 'warning|fatal' "$work/said" && tail -1 "$work/said"
 }
+step "shapes in degrees" shapes
 step "against the model" asked Vectors "$work/vectors"
+step "coverings of shapes, and places" asked Shapes "$work/shapes"
 step "one cell, beside the library" asked Cells
 step "what is refused, what stays, and long lists" asked Refusals "$(cat "$top/VERSION")"
 copying() { # a library that copies lists of more than three elements, and refuse.c with what Java asks of it
@@ -68,7 +70,8 @@ JNIEXPORT jlong JNICALL Java_Memory_taken(JNIEnv* env, jclass of) { return block
 END
     flags+=(-I"$java/include" -I"$java/include/linux" -I"$top/tests" -I"$work/usr/include") &&
     gcc "${flags[@]}" "$top/tests/refuse.c" "$work/refuse_java.c" -o "$work/refuse.so" &&
-    gcc "${flags[@]}" -DSHORT=3 "$top/bindings/java/s2union.c" "$work/usr/lib/libs2union.a" -o "$work/copying.so"
+    gcc "${flags[@]}" -DSHORT=3 "$top/bindings/java/s2union.c" "$work/usr/lib/libs2union.a" -lm \
+      -o "$work/copying.so"
 }
 step "a library that copies most lists" copying
 step "against the model, by copies" asked -Ds2union.library="$work/copying.so" Vectors "$work/vectors"

@@ -29,6 +29,8 @@ final class Calls {
   static final int DECODE = 42, FILE_ANCESTORS = 43, FROM_TOKENS = 44;
   static final int FILE_CHECK = 45, FILE_COUNT = 46, FILE_LEAF_COUNT = 47, FILE_CELL = 48,
       FILE_CONTAINS_CELL = 49, FILE_INTERSECTS_CELL = 50, FILE_CONTAINS = 51, FILE_INTERSECTS = 52;
+  static final int COVER = 53, COVER_WKB = 54, COVER_CIRCLE = 55, COVER_BOX = 56;
+  static final int OUTLINE = 57, BOUNDARY = 58;
   /** The room that what a call makes is first given, by the lengths of its lists. */
   private static long roomOf(int call, long n, long m) {
     switch (call) {
@@ -112,6 +114,19 @@ final class Calls {
   static native int read(int call, byte[] bytes, long[] out, long[] length);
 
   static native int askFile(int call, byte[] xs, byte[] ys, long a, long[] out);
+
+  static native long leafAtPosition(double longitude, double latitude);
+
+  static native int leavesAt(double[] positions, long[] out, long[] bad);
+
+  static native int middle(long cell, double[] out);
+
+  static native String shapeText(int status);
+
+  static native int cover(int call, int wanted, Object given, long[] rings, long[] options, double[] meters,
+      long[][] made, long[] at);
+
+  static native int draw(int call, long[] cells, Object[] made);
 
   /** The status of a call, which is refused if it is negative. */
   static int checked(int status, long place) {
@@ -205,8 +220,27 @@ final class Calls {
     }
   }
 
+  /** The rings that a call draws of cells, those of each polygon in turn. */
+  static double[][][] drawn(int call, long[] cells) {
+    Object[] made = new Object[3];
+    checked(draw(call, cells, made), 0);
+    double[] positions = (double[]) made[0];
+    long[] ringEnds = (long[]) made[1];
+    long[] ends = call == BOUNDARY ? new long[] {ringEnds.length} : (long[]) made[2];
+    double[][][] polygons = new double[ends.length][][];
+    int ring = 0;
+    for (int k = 0; k < ends.length; k++) {
+      polygons[k] = new double[(int) ends[k] - ring][];
+      for (int first = ring; ring < ends[k]; ring++) {
+        int begin = ring == 0 ? 0 : (int) ringEnds[ring - 1];
+        polygons[k][ring - first] = Arrays.copyOfRange(positions, 2 * begin, 2 * (int) ringEnds[ring]);
+      }
+    }
+    return polygons;
+  }
+
   /** The length of an array, if Java has arrays of that length. */
-  private static int lengthOf(long room) {
+  static int lengthOf(long room) {
     if (room < 0 || room > Integer.MAX_VALUE - 8) throw new Refusal(Refusal.MANY, 0);
     return (int) room;
   }

@@ -484,6 +484,89 @@ public final class CellId {
   }
 
   /**
+   * The leaf at a position in degrees.
+   * S2: {@code S2CellId(S2LatLng)}, which takes the latitude first.
+   *
+   * <pre>{@code
+   * CellId.toToken(CellId.fromPosition(2.3522, 48.8566)) // 47e66e1d8f8be23b
+   * }</pre>
+   *
+   * @param longitude from -540 to 540; it comes first
+   * @param latitude from -90 to 90
+   * @return the leaf
+   * @throws Refusal {@link Refusal.Kind#SHAPE_NUMBER} if one is out of range, or not a number
+   * @since 1.4
+   */
+  public static long fromPosition(double longitude, double latitude) {
+    long leaf = Calls.leafAtPosition(longitude, latitude);
+    if (leaf == 0) throw new Refusal(Refusal.SHAPE_NUMBER, 0);
+    return leaf;
+  }
+
+  /**
+   * The leaves at positions in degrees, in one call.
+   * S2: {@code S2CellId(S2LatLng)}.
+   *
+   * <pre>{@code
+   * CellId.toToken(CellId.fromPositions(2.3522, 48.8566, 0, 90)[1]) // 5000000000000001
+   * }</pre>
+   *
+   * @param positions positions, each of which is two numbers: a longitude, -540 to 540, and a latitude, -90 to 90
+   * @return as many leaves
+   * @throws Refusal {@link Refusal.Kind#SHAPE_NUMBER} if a number is out of range, or not a number, or
+   *     {@link Refusal.Kind#ARGUMENT} if a latitude is missing; the place is that of the first such position
+   * @since 1.4
+   */
+  public static long[] fromPositions(double... positions) {
+    if (positions.length % 2 != 0) throw new Refusal(Refusal.ARGUMENT, positions.length / 2);
+    long[] out = new long[positions.length / 2];
+    long[] bad = new long[1];
+    Calls.checked(Calls.leavesAt(positions, out, bad), 0);
+    if (bad[0] < out.length) throw new Refusal(Refusal.SHAPE_NUMBER, bad[0]);
+    return out;
+  }
+
+  /**
+   * The longitude of the middle of a cell.
+   * S2: {@code S2CellId::ToLatLng}.
+   *
+   * <pre>{@code
+   * CellId.longitude(CellId.fromToken("3")) // 90.0
+   * }</pre>
+   *
+   * @param cell a cell
+   * @return degrees, from -180 to 180
+   * @throws Refusal {@link Refusal.Kind#NO_CELL} if the number is no cell
+   * @since 1.4
+   */
+  public static double longitude(long cell) {
+    return middle(cell)[0];
+  }
+
+  /**
+   * The latitude of the middle of a cell.
+   * S2: {@code S2CellId::ToLatLng}.
+   *
+   * <pre>{@code
+   * CellId.latitude(CellId.fromToken("5")) // 90.0
+   * }</pre>
+   *
+   * @param cell a cell
+   * @return degrees, from -90 to 90
+   * @throws Refusal {@link Refusal.Kind#NO_CELL} if the number is no cell
+   * @since 1.4
+   */
+  public static double latitude(long cell) {
+    return middle(cell)[1];
+  }
+
+  private static double[] middle(long cell) {
+    double[] place = new double[2];
+    Calls.checked(Calls.middle(cell, place), 0);
+    return place;
+  }
+
+  /**
    * The token of each cell, in one call.
    * S2: {@code S2CellId::ToToken}.
    *

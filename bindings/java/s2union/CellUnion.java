@@ -651,6 +651,43 @@ public final class CellUnion implements Comparable<CellUnion> {
   }
 
   /**
+   * Its outline as polygons on a map: for each part that hangs together a ring around it, counterclockwise, and then its
+   * holes, clockwise. The date line cuts polygons in two, and one with a pole goes along the map's edge.
+   *
+   * <pre>{@code
+   * CellUnion.fromTokens("04 24").outline().length // 2
+   * }</pre>
+   *
+   * @return the rings of each polygon: the longitude and the latitude of each position in turn, of which the last is
+   *     the first. {@code Shape.polygons} takes them
+   * @since 1.4
+   */
+  public double[][][] outline() {
+    return Calls.drawn(Calls.OUTLINE, ids);
+  }
+
+  /**
+   * Its boundary as closed lines through corners of cells, with the union on their left. A line goes on beyond 180 or
+   * -180 degrees.
+   * S2: {@code S2Polygon::InitToCellUnionBorder}.
+   *
+   * <pre>{@code
+   * CellUnion.fromTokens("1").boundary()[0].length // 10
+   * }</pre>
+   *
+   * @return the lines: the longitude and the latitude of each position in turn
+   * @since 1.4
+   */
+  public double[][] boundary() {
+    return Calls.drawn(Calls.BOUNDARY, ids)[0];
+  }
+
+  /** The union of cells that a call has made, which become its own. */
+  static CellUnion holding(long[] ids) {
+    return new CellUnion(ids);
+  }
+
+  /**
    * The bytes of its file, in S2's own encoding. Equal unions have equal files.
    * S2: {@code S2CellUnion::Encode}.
    *

@@ -42,6 +42,28 @@ public final class Refusal extends IllegalArgumentException {
     CORNER(-14),
     /** A ring of a polygon ends in a wrong place or has fewer than three corners, or there is none. */
     RING(-15),
+    /** A longitude or a latitude is out of range, or not a number. */
+    SHAPE_NUMBER(-101),
+    /** A ring has fewer than four positions, or a line none. */
+    SHAPE_FEW(-102),
+    /** The last position of a ring is not its first. */
+    SHAPE_OPEN(-103),
+    /** The edges are too long for the number of positions. */
+    SHAPE_PIECES(-104),
+    /** No place was found that is outside of the shape. */
+    SHAPE_OUTSIDE(-105),
+    /** Two positions that follow each other lie opposite each other on the sphere. */
+    SHAPE_OPPOSITE(-106),
+    /** A number of cells, a level or a number of meters is out of range. */
+    SHAPE_OPTION(-107),
+    /** The bytes are no WKB. */
+    SHAPE_WKB(-108),
+    /** The WKB has a type of geometry that has no covering. */
+    SHAPE_TYPE(-109),
+    /** The coordinates of the WKB are no degrees: its SRID is neither 0 nor 4326. */
+    SHAPE_SRID(-110),
+    /** The WKB has collections in more than 32 collections. */
+    SHAPE_DEEP(-111),
     /** An error of a later version of the library. */
     OTHER(0);
 
@@ -79,17 +101,56 @@ public final class Refusal extends IllegalArgumentException {
   public static final int CORNER = -14;
   /** A ring of a polygon ends in a wrong place or has fewer than three corners, or there is none. */
   public static final int RING = -15;
+  /** A longitude or a latitude is out of range, or not a number. */
+  public static final int SHAPE_NUMBER = -101;
+  /** A ring has fewer than four positions, or a line none. */
+  public static final int SHAPE_FEW = -102;
+  /** The last position of a ring is not its first. */
+  public static final int SHAPE_OPEN = -103;
+  /** The edges are too long for the number of positions. */
+  public static final int SHAPE_PIECES = -104;
+  /** No place was found that is outside of the shape. */
+  public static final int SHAPE_OUTSIDE = -105;
+  /** Two positions that follow each other lie opposite each other on the sphere. */
+  public static final int SHAPE_OPPOSITE = -106;
+  /** A number of cells, a level or a number of meters is out of range. */
+  public static final int SHAPE_OPTION = -107;
+  /** The bytes are no WKB. */
+  public static final int SHAPE_WKB = -108;
+  /** The WKB has a type of geometry that has no covering. */
+  public static final int SHAPE_TYPE = -109;
+  /** The coordinates of the WKB are no degrees: its SRID is neither 0 nor 4326. */
+  public static final int SHAPE_SRID = -110;
+  /** The WKB has collections in more than 32 collections. */
+  public static final int SHAPE_DEEP = -111;
 
   private static final long serialVersionUID = 1;
   /** The status of s2union.h. */
   private final int status;
   /** The place that the library reports, or 0. */
   private final long place;
+  /** The ring of a shape, or 0. */
+  private final long ring;
 
   Refusal(int status, long place) {
     super(words(status));
     this.status = status;
     this.place = place;
+    this.ring = 0;
+  }
+
+  /** Of a shape in degrees, at a ring and a position, or at a byte of WKB. */
+  Refusal(int status, long ring, long position) {
+    super(words(status) + whereOf(status, ring, position));
+    this.status = status;
+    this.place = position;
+    this.ring = ring;
+  }
+
+  private static String whereOf(int status, long ring, long position) {
+    if (status <= SHAPE_WKB) return ": at byte " + position;
+    boolean hasPlace = status >= SHAPE_OPEN && status <= SHAPE_NUMBER || status == SHAPE_OPPOSITE;
+    return hasPlace ? ": ring " + ring + ", position " + position : "";
   }
 
   private static String words(int status) {
@@ -105,7 +166,7 @@ public final class Refusal extends IllegalArgumentException {
       case -13: return "union file: a number that is not a cell";
       case -14: return "a corner of a polygon is no direction, or lies opposite the next one";
       case -15: return "a ring of a polygon has a wrong end or fewer than three corners";
-      default: return "unknown refusal " + status;
+      default: return status <= SHAPE_NUMBER ? Calls.shapeText(status) : "unknown refusal " + status;
     }
   }
 
@@ -131,12 +192,22 @@ public final class Refusal extends IllegalArgumentException {
 
   /**
    * The place of the first number of a list that is wrong, or of the byte at which the first wrong word of a text
-   * begins.
+   * begins; of a shape the position in its ring, or the byte of WKB.
    *
    * @return 0 or more; 0 where one number or level is refused
    * @since 1.1
    */
   public long place() {
     return place;
+  }
+
+  /**
+   * The ring or the line of a shape that is wrong, at the position {@code place()}.
+   *
+   * @return how many rings and lines come before it; 0 where no ring is wrong
+   * @since 1.4
+   */
+  public long ring() {
+    return ring;
   }
 }

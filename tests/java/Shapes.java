@@ -1,0 +1,283 @@
+import java.io.IOException;
+import java.nio.ByteBuffer;
+import java.nio.file.Files;
+import java.nio.file.Path;
+import java.util.ArrayList;
+import java.util.Arrays;
+import java.util.HashSet;
+import java.util.List;
+import java.util.Locale;
+import java.util.Set;
+import java.util.function.Supplier;
+import java.util.stream.Collectors;
+import java.util.stream.DoubleStream;
+import java.util.stream.IntStream;
+import java.util.stream.LongStream;
+import s2union.CellId;
+import s2union.CellUnion;
+import s2union.Refusal;
+import s2union.RegionCoverer;
+import s2union.Shape;
+
+/**
+ * Asks the package for Java the questions of tests/model/shapes.py about shapes in degrees, and what these don't ask:
+ * java Shapes FILE. The last line is 'N passed, M failed'.
+ */
+final class Shapes {
+  private static final double[] SQUARE = {2, 48, 3, 48, 3, 49, 2, 49, 2, 48};
+  private static int passed;
+  private static int failed;
+
+  private Shapes() {}
+
+  private static void check(boolean holds, String what) {
+    if (holds) {
+      passed++;
+    } else {
+      failed++;
+      System.out.println("FAILED: " + what);
+    }
+  }
+
+  /** An answer, or the name of what is refused, with its place if it has one. */
+  private static String answered(Supplier<String> question) {
+    try {
+      return question.get();
+    } catch (Refusal refusal) {
+      String name = refusal.kind().name().toLowerCase(Locale.ROOT).replace("shape_", "");
+      boolean isOfBytes = refusal.status() <= Refusal.SHAPE_WKB;
+      boolean hasPlace = refusal.getMessage().contains(", position ");
+      return "!" + name + (isOfBytes ? " " + refusal.place() : "")
+          + (hasPlace ? " " + refusal.ring() + " " + refusal.place() : "");
+    }
+  }
+
+  private static String shown(CellUnion union) {
+    return LongStream.of(union.cellIds()).mapToObj(Long::toHexString).collect(Collectors.joining(" "));
+  }
+
+  private static byte[] bytes(String text) {
+    byte[] bytes = new byte[text.length() / 2];
+    for (int k = 0; k < bytes.length; k++) bytes[k] = (byte) Integer.parseInt(text.substring(2 * k, 2 * k + 2), 16);
+    return bytes;
+  }
+
+  private static double[] numbers(String text) {
+    ByteBuffer data = ByteBuffer.wrap(bytes(text));
+    return IntStream.range(0, text.length() / 16).mapToDouble(k -> data.getDouble(8 * k)).toArray();
+  }
+
+  private static String shown(double... numbers) {
+    return DoubleStream.of(numbers).mapToObj(number -> String.format("%016x", Double.doubleToRawLongBits(number)))
+        .collect(Collectors.joining());
+  }
+
+  /** A shape of rings; of polygons and lines together by WKB. */
+  private static Shape shape(String text) {
+    List<List<double[]>> polygons = new ArrayList<>();
+    List<double[]> lines = new ArrayList<>();
+    for (String word : text.isEmpty() ? new String[0] : text.split(" ")) {
+      String[] parts = word.split(":", 2);
+      if (parts[0].equals("-")) {
+        lines.add(numbers(parts[1]));
+      } else {
+        int polygon = Integer.parseInt(parts[0]);
+        if (polygon == polygons.size()) polygons.add(new ArrayList<>());
+        polygons.get(polygon).add(numbers(parts[1]));
+      }
+    }
+    if (polygons.isEmpty()) return lines(lines);
+    double[][][] rings = polygons.stream().map(rows -> rows.toArray(double[][]::new)).toArray(double[][][]::new);
+    if (!lines.isEmpty()) return Shape.wkb(collection(rings, lines));
+    return rings.length == 1 ? Shape.polygon(rings[0]) : Shape.polygons(rings);
+  }
+
+  private static Shape lines(List<double[]> lines) {
+    boolean arePoints = lines.stream().allMatch(line -> line.length == 2);
+    return arePoints ? Shape.points(lines.stream().flatMapToDouble(Arrays::stream).toArray())
+        : Shape.lines(lines.toArray(double[][]::new));
+  }
+
+  private static byte[] collection(double[][][] polygons, List<double[]> lines) {
+    ByteBuffer to = ByteBuffer.allocate(1 << 20);
+    to.put((byte) 0).putInt(7).putInt(polygons.length + lines.size());
+    for (double[][] rings : polygons) {
+      to.put((byte) 0).putInt(3).putInt(rings.length);
+      for (double[] ring : rings) put(to.putInt(ring.length / 2), ring);
+    }
+    for (double[] line : lines) {
+      to.put((byte) 0).putInt(line.length == 2 ? 1 : 2);
+      put(line.length == 2 ? to : to.putInt(line.length / 2), line);
+    }
+    return Arrays.copyOf(to.array(), to.position());
+  }
+
+  private static void put(ByteBuffer to, double[] numbers) {
+    for (double number : numbers) to.putDouble(number);
+  }
+
+  private static Shape shape(String call, String text) {
+    double[] n = call.equals("circle") || call.equals("box") ? numbers(text) : null;
+    switch (call) {
+      case "wkb": return Shape.wkb(bytes(text));
+      case "circle": return Shape.circle(n[0], n[1], n[2]);
+      case "box": return Shape.box(n[0], n[1], n[2], n[3]);
+      default: return shape(text);
+    }
+  }
+
+  /** The coverer of some options; null of edges that Java has not. */
+  private static RegionCoverer coverer(String text) {
+    String[] words = text.split(" ");
+    int edges = Integer.parseInt(words[3]);
+    if (edges >= RegionCoverer.Edges.values().length) return null;
+    RegionCoverer made = new RegionCoverer().maxCells(Integer.parseInt(words[0]))
+        .minLevel(Integer.parseInt(words[1])).maxLevel(Integer.parseInt(words[2]))
+        .edges(RegionCoverer.Edges.values()[edges]).margin(numbers(words[4])[0]);
+    double within = numbers(words[5])[0];
+    return within == 0 ? made : made.within(within);
+  }
+
+  /** Both coverings, if each alone is the same. */
+  private static String covered(RegionCoverer coverer, Shape shape) {
+    String both = answered(() -> {
+      RegionCoverer.Coverings made = coverer.coverings(shape);
+      return shown(made.outer()) + "\t" + shown(made.inner());
+    });
+    String outer = answered(() -> shown(coverer.covering(shape)));
+    String inner = answered(() -> shown(coverer.interiorCovering(shape)));
+    boolean isSame = both.startsWith("!") ? both.equals(outer) && both.equals(inner) : both.equals(outer + "\t" + inner);
+    return isSame ? both : "they differ: " + both + ", " + outer + ", " + inner;
+  }
+
+  private static boolean hasEach(CellUnion union, String places, boolean wanted) {
+    long[] leaves = CellId.fromPositions(numbers(places));
+    boolean holds = leaves.length > 0;
+    for (boolean has : union.containsEach(leaves)) holds &= has == wanted;
+    return holds;
+  }
+
+  private static CellUnion union(String text) {
+    return text.isEmpty() ? CellUnion.of() : CellUnion.fromNormalized(
+        Arrays.stream(text.split(" ")).mapToLong(word -> Long.parseUnsignedLong(word, 16)).toArray());
+  }
+
+  private static String shown(double[][][] polygons) {
+    return IntStream.range(0, polygons.length).boxed()
+        .flatMap(k -> Arrays.stream(polygons[k]).map(ring -> k + ":" + shown(ring))).collect(Collectors.joining(" "));
+  }
+
+  /** The answer to a question, of which the last fields are the answers that are wanted. */
+  private static String answer(String[] fields) {
+    double[] place = fields[0].equals("leaf") ? numbers(fields[1]) : null;
+    switch (fields[0]) {
+      case "leaf": return answered(() -> Long.toHexString(CellId.fromPosition(place[0], place[1])));
+      case "middle":
+        long cell = Long.parseUnsignedLong(fields[1], 16);
+        return shown(CellId.longitude(cell), CellId.latitude(cell));
+      case "outline": return shown(union(fields[1]).outline());
+      case "boundary":
+        return Arrays.stream(union(fields[1]).boundary()).map(line -> "-:" + shown(line))
+            .collect(Collectors.joining(" "));
+      case "holds":
+        RegionCoverer.Coverings made = coverer(fields[2]).coverings(shape(fields[1]));
+        return hasEach(made.outer(), fields[3], true) && hasEach(made.inner(), fields[4], false)
+            ? fields[3] + "\t" + fields[4] : "a place is missing, or one outside is in the interior";
+      default:
+        RegionCoverer coverer = coverer(fields[2]);
+        return coverer == null ? "!option" : covered(coverer, shape(fields[0], fields[1]));
+    }
+  }
+
+  private static void questions(Path path) throws IOException {
+    Set<String> calls = new HashSet<>();
+    for (String line : Files.readAllLines(path)) {
+      String[] fields = line.split("\t", -1);
+      int given = fields[0].matches("leaf|middle|outline|boundary") ? 2 : 3;
+      String wanted = String.join("\t", Arrays.copyOfRange(fields, given, fields.length));
+      String found = answer(fields);
+      check(found.equals(wanted), String.format("%.200s is %.200s, not %.200s", line, found, wanted));
+      calls.add(fields[0]);
+    }
+    check(calls.size() == 9, "nine calls are asked: " + calls);
+  }
+
+  // ---- what the questions don't ask
+
+  private static void refused(Refusal.Kind kind, long ring, long place, String words, Runnable action) {
+    try {
+      action.run();
+      check(false, "nothing refused: " + words);
+    } catch (Refusal refusal) {
+      check(refusal.kind() == kind && refusal.ring() == ring && refusal.place() == place
+          && refusal.getMessage().equals(words), refusal + " " + refusal.ring() + " " + refusal.place());
+    }
+  }
+
+  private static void refusals() {
+    RegionCoverer usual = new RegionCoverer();
+    double[] open = Arrays.copyOf(SQUARE, 8);
+    refused(Refusal.Kind.SHAPE_OPEN, 1, 3, "a ring is open: its last position is not its first: ring 1, position 3",
+        () -> usual.covering(Shape.polygon(SQUARE, open)));
+    refused(Refusal.Kind.SHAPE_WKB, 0, 5, "the bytes are no WKB: at byte 5",
+        () -> usual.coverings(Shape.wkb(new byte[] {1, 3, 0, 0, 0})));
+    String range = "a longitude is from -540 to 540 and a latitude from -90 to 90 (the longitude first)";
+    refused(Refusal.Kind.SHAPE_NUMBER, 0, 1, range, () -> CellId.fromPositions(0, 0, 0, 91));
+    refused(Refusal.Kind.ARGUMENT, 0, 1, "argument out of range", () -> CellId.fromPositions(0, 0, 0));
+    for (Runnable odd : List.<Runnable>of(() -> Shape.polygon(SQUARE, new double[3]), () -> Shape.points(1, 2, 3),
+        () -> Shape.lines(SQUARE, new double[1]), () -> Shape.polygons(new double[][] {SQUARE, new double[9]}))) {
+      refused(Refusal.Kind.ARGUMENT, 0, 1, "argument out of range", odd);
+    }
+    String option = "a number of cells, a level, a number of meters or a kind of edges is out of range";
+    for (RegionCoverer wrong : List.of(usual.maxCells(-1), usual.maxCells(Integer.MAX_VALUE), usual.minLevel(-1),
+        usual.minLevel(31), usual.maxLevel(-1), usual.maxLevel(31), usual.margin(-1), usual.margin(Double.NaN),
+        usual.within(0), usual.within(-1), usual.within(Double.NaN), usual.minLevel(3).maxLevel(2))) {
+      for (Shape shape : List.of(Shape.polygon(SQUARE), Shape.box(2, 48, 3, 49), Shape.circle(0, 0, 1))) {
+        refused(Refusal.Kind.SHAPE_OPTION, 0, 0, option, () -> wrong.coverings(shape));
+      }
+    }
+  }
+
+  private static void usual() {
+    RegionCoverer usual = new RegionCoverer();
+    Shape square = Shape.polygon(SQUARE);
+    check(usual.covering(square).equals(usual.maxCells(200).minLevel(0).maxLevel(30).margin(0)
+        .edges(RegionCoverer.Edges.MAP).covering(square)), "what is usual");
+    check(usual.within(500).covering(square).equals(usual.maxCells(1_000_000).within(500).covering(square)),
+        "many cells within some meters");
+    byte[] wkb = {1, 7, 0, 0, 0, 0, 0, 0, 0};
+    double[] point = {2, 48};
+    Shape empty = Shape.wkb(wkb);
+    Shape points = Shape.points(point);
+    wkb[0] = 9;
+    point[0] = 99;
+    check(usual.covering(empty).isEmpty() && usual.covering(points).contains(CellId.fromPosition(2, 48)),
+        "a shape keeps what it was given");
+  }
+
+  /** A million positions, and threads that share a shape. */
+  private static void many() {
+    double[] ring = new double[2_000_002];
+    for (int k = 0; k <= 1_000_000; k++) {
+      ring[2 * k] = 10 * Math.cos(2e-6 * Math.PI * (k % 1_000_000));
+      ring[2 * k + 1] = 10 * Math.sin(2e-6 * Math.PI * (k % 1_000_000));
+    }
+    CellUnion outer = new RegionCoverer().maxCells(50).covering(Shape.polygon(ring));
+    check(outer.size() <= 50 && outer.contains(CellId.fromPosition(ring[14], ring[15])), "a million positions");
+    check(CellId.fromPositions(ring).length == 1_000_001, "a million leaves");
+    ring[2_000_001] = 1;
+    check(answered(() -> shown(new RegionCoverer().covering(Shape.polygon(ring)))).equals("!open 0 1000000"), "open");
+    Shape square = Shape.polygon(SQUARE);
+    check(IntStream.range(0, 64).parallel().mapToObj(k -> new RegionCoverer().coverings(square)).distinct().count() == 1,
+        "threads");
+  }
+
+  public static void main(String[] words) throws IOException {
+    questions(Path.of(words[0]));
+    refusals();
+    usual();
+    many();
+    System.out.println(passed + " passed, " + failed + " failed");
+    System.exit(failed == 0 ? 0 : 1);
+  }
+}
