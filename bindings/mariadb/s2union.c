@@ -3,7 +3,7 @@
  * answers NULL, since a user function can't end a statement once it has begun. */
 #include <mysql.h>
 #include <s2union.h>
-#include <s2union_geo.h>
+#include <s2union_cover.h>
 #include <s2union_host.h>
 #include <stdio.h>
 #include <stdlib.h>
@@ -12,7 +12,8 @@
 typedef char flag; /* where the server hears whether the answer is NULL */
 
 /* ---- what is given. The letters of arguments: a file to be asked, a list, a text or a list, a cell, what may be a
- * cell, a small number, degrees, or bytes. The first three are unions. */
+ * cell, a number, degrees, bytes, or the WKB of a shape. The first three are unions. A capital letter may be left out.
+ */
 
 typedef struct {
   uint64_t* ids; /* of a list */
@@ -26,7 +27,7 @@ typedef struct {
 
 /* What a statement has of a function until its end: the last text or file that it answered, and of each argument the
  * size of the last file, and that file itself if it is kept. */
-enum { MOST_ARGUMENTS = 2, WORTH_KEEPING = 250 };
+enum { MOST_ARGUMENTS = 3, WORTH_KEEPING = 250 };
 typedef struct {
   char* answer;
   struct last { size_t size; uint8_t* file; } last[MOST_ARGUMENTS];
@@ -36,23 +37,25 @@ typedef struct {
  * known yet. */
 static const char* missed(const UDF_ARGS* args, unsigned k, char letter) {
   int is_text = args->arg_type[k] == STRING_RESULT;
-  if (args->arg_type[k] == INT_RESULT || (is_text && args->lengths[k] == 0 && !args->args[k])) return NULL;
+  if (is_text && args->lengths[k] == 0 && !args->args[k]) return NULL;
+  if (args->arg_type[k] == INT_RESULT && letter != 'w') return NULL;
   switch (letter) {
     case 'm': case 'b': return NULL;
     case 'd': return is_text ? "a longitude or a latitude is a number" : NULL;
     case 'n': return "a level or the number of a child is an integer";
+    case 'N': return "a number of cells or a level is an integer";
+    case 'w': return is_text ? NULL : "a shape is a BLOB of WKB";
     case 'c': return is_text ? NULL : "a cell is an integer or a text";
     default: return is_text ? NULL : "a union is a BLOB, or cells in an integer or a text";
   }
 }
 
 static flag is_refused(UDF_ARGS* args, const char* letters, char* message) {
-  unsigned count = (unsigned)strlen(letters);
-  if (args->arg_count != count) {
+  if (args->arg_count < strcspn(letters, "N") || args->arg_count > strlen(letters)) {
     strcpy(message, "s2: another number of arguments");
     return 1;
   }
-  for (unsigned k = 0; k < count; k++) {
+  for (unsigned k = 0; k < args->arg_count; k++) {
     const char* what = missed(args, k, letters[k]);
     if (what) {
       sprintf(message, "s2: argument %u: %s", k + 1, what);
@@ -73,17 +76,24 @@ static int read_cell(const UDF_ARGS* args, unsigned k, uint64_t* cell) {
   return s2u_is_cell(*cell);
 }
 
-/* Any number that is too large for a level or a child is as good as another. */
+/* Any number that is too large for a level, a child or cells is as good as another. */
 static int read_number(const UDF_ARGS* args, unsigned k, uint32_t* number) {
   if (args->arg_type[k] != INT_RESULT) return 0;
   long long wide = *(long long*)args->args[k];
-  *number = wide < 0 || wide > 99 ? 99 : (uint32_t)wide;
+  *number = wide < 0 || wide > UINT32_MAX ? UINT32_MAX : (uint32_t)wide;
   return 1;
 }
 
 static int read_degrees(const UDF_ARGS* args, unsigned k, double* degrees) {
   if (args->arg_type[k] != REAL_RESULT) return 0;
   *degrees = *(double*)args->args[k];
+  return 1;
+}
+
+static int read_bytes(const UDF_ARGS* args, unsigned k, argument* a) {
+  if (args->arg_type[k] != STRING_RESULT) return 0;
+  a->bytes = (const uint8_t*)args->args[k];
+  a->size = args->lengths[k];
   return 1;
 }
 
@@ -141,8 +151,9 @@ static int read_argument(state* kept, const UDF_ARGS* args, unsigned k, char let
     case 'l': case 't': return read_list(args, k, letter == 't', a);
     case 'c': return read_cell(args, k, &a->cell);
     case 'm': a->number = (uint32_t)read_cell(args, k, &a->cell); return 1;
-    case 'n': return read_number(args, k, &a->number);
+    case 'n': case 'N': return read_number(args, k, &a->number);
     case 'd': return read_degrees(args, k, &a->degrees);
+    case 'w': return read_bytes(args, k, a);
     default: return a->number = is_file(args, k) && s2u_file_check(BYTES(k)) == 1, 1;
   }
 }
@@ -217,6 +228,27 @@ NUMBER(s2_common_ancestor, "cc", FOUND(s2u_common_ancestor(a->cell, a[1].cell)))
 NUMBER(s2_cell, "c", FOUND(a->cell))
 NUMBER(s2_leaf_at, "dd", FOUND(s2u_geo_leaf(a->degrees, a[1].degrees)))
 
+/* ---- degrees of the middle of a cell */
+
+enum { LONGEST_DOUBLE = 24, ALL_DECIMALS = 31 };
+
+#define MIDDLE(name, of)                                                                            \
+  flag name##_init(UDF_INIT* it, UDF_ARGS* args, char* message) {                                    \
+    it->decimals = ALL_DECIMALS;                                                                     \
+    return begin(it, args, "c", LONGEST_DOUBLE, message);                                            \
+  }                                                                                                  \
+  void name##_deinit(UDF_INIT* it) { end(it); }                                                      \
+  double name(UDF_INIT* it, UDF_ARGS* args, flag* is_null, flag* error) {                            \
+    (void)error;                                                                                     \
+    double longitude = 0, latitude = 0;                                                              \
+    argument a[MOST_ARGUMENTS] = {{0}};                                                              \
+    *is_null = (flag)!(are_read(it, args, "c", a) && s2u_geo_middle(a->cell, &longitude, &latitude) == S2U_OK); \
+    return of;                                                                                       \
+  }
+
+MIDDLE(s2_longitude, longitude)
+MIDDLE(s2_latitude, latitude)
+
 /* ---- texts and unions: `call` makes one in memory of its own, and sets `len` */
 
 #define KEEPER(name, letters, most, call)                                                           \
@@ -269,3 +301,19 @@ MAKER(s2_difference, "ll", S2U_MOST_DIFFERENCE(a->n, a[1].n), s2u_difference(LIS
 MAKER(s2_symmetric_difference, "ll", S2U_MOST_SYMMETRIC_DIFFERENCE(a->n, a[1].n),
       s2u_symmetric_difference(LIST_OF(0), LIST_OF(1), MADE))
 MAKER(s2_complement, "l", S2U_MOST_COMPLEMENT(a->n), s2u_complement(LIST_OF(0), MADE))
+
+/* ---- coverings of shapes in WKB, at most 200 cells and of level 30 if nothing else is said */
+
+static uint8_t* covering_of(const argument* a, unsigned count, int is_outer, size_t* len) {
+  const s2u_cover_options options = {count > 1 ? a[1].number : 200, 0, count > 2 ? a[2].number : 30, S2U_COVER_MAP, 0};
+  s2u_cover_cells cells;
+  s2u_cover_fault fault;
+  int32_t status = s2u_cover_wkb(a->bytes, a->size, &options, is_outer ? &cells : NULL, is_outer ? NULL : &cells,
+                                 &fault);
+  uint8_t* file = status == S2U_OK ? file_of(cells.ids, cells.count, len) : NULL;
+  s2u_cover_free(&cells);
+  return file;
+}
+
+KEEPER(s2_covering, "wNN", LONGEST, covering_of(a, args->arg_count, 1, &len))
+KEEPER(s2_interior, "wNN", LONGEST, covering_of(a, args->arg_count, 0, &len))

@@ -1,5 +1,5 @@
-"""docs/MARIADB.md: each user function over columns of files, texts, cells, numbers and degrees, row by row beside the
-function of SQLite. BESIDE and the functions below it have the differences."""
+"""docs/MARIADB.md: each user function over columns of files, texts, cells, numbers, degrees and shapes, row by row
+beside the function of SQLite. BESIDE and the functions below it have the differences."""
 
 import itertools
 import re
@@ -9,6 +9,7 @@ import unittest
 
 from model.engine import INSTALL, WORK, MariadbServer
 from model.random_cells import FACE, Random, signed
+from model.shapes import NO_SHAPES, SHAPES
 
 random = Random(12)
 CELL = FACE + FACE // 4
@@ -46,30 +47,38 @@ TEXTS += ["", " ", "1", "14", "64c", "X", "0/", "0/0", "4/032212", "0/4", "6/", 
 CELLS = [signed(cell) for cell in {*NO_CELLS, *(cell for cells in LISTS for cell in cells[:3])}]
 NUMBERS = [-2**63, -1, *range(5), 12, 29, 30, 31, 99, 100, 2**32, 2**63 - 1]
 DEGREES = [0.0, -0.0, 2.3522, 48.8566, -90.0, 90.0, 90.0000001, 180.0, 540.0, -540.0, 540.0000001, 1e30, -1e-300]
+COUNTS = [-2**63, -1, 0, 7, 300, 1_000_001, 2**32 + 9]
+DEPTHS = [-1, 0, 9, 30, 31, 2**32 + 9, 2**63 - 1]
 KINDS = {"files": ("longblob", FILES), "texts": ("longtext", TEXTS), "cells": ("bigint", CELLS),
-         "numbers": ("bigint", NUMBERS), "degrees": ("double", DEGREES)}
+         "numbers": ("bigint", NUMBERS), "degrees": ("double", DEGREES), "shapes": ("longblob", SHAPES + NO_SHAPES),
+         "counts": ("bigint", COUNTS), "depths": ("bigint", DEPTHS)}
 UNION, CELL_OF, NUMBER, DEGREE = ("files", "texts", "cells"), ("texts", "cells"), ("numbers",), ("degrees", "numbers")
+SHAPE, COUNT, DEPTH = ("shapes",), ("counts",), ("depths",)
 ANY = tuple(KINDS)
 TAKES = {
     **dict.fromkeys(("s2_contains", "s2_intersects", "s2_union", "s2_intersection", "s2_difference",
                      "s2_symmetric_difference"), (UNION, UNION)),
     **dict.fromkeys(("s2_contains_cell", "s2_intersects_cell"), (UNION, CELL_OF)),
     **dict.fromkeys(("s2_count", "s2_leaves", "s2_tokens", "s2_complement", "s2_normalise"), (UNION,)),
-    **dict.fromkeys(("s2_level", "s2_face", "s2_range_min", "s2_range_max", "s2_cell", "s2_token"), (CELL_OF,)),
+    **dict.fromkeys(("s2_level", "s2_face", "s2_range_min", "s2_range_max", "s2_cell", "s2_token", "s2_longitude",
+                     "s2_latitude"), (CELL_OF,)),
+    **dict.fromkeys(("s2_covering", "s2_interior"), (SHAPE, COUNT, DEPTH)),
     **dict.fromkeys(("s2_parent", "s2_child"), (CELL_OF, NUMBER)),
     "s2_common_ancestor": (CELL_OF, CELL_OF), "s2_leaf_at": (DEGREE, DEGREE), "s2_is_cell": (ANY,),
     "s2_is_union": (ANY,),
 }
+LEAST = {"s2_covering": 1, "s2_interior": 1}  # arguments, if some may be left out
 # SQLite has one function for a cell and for a region.
 BESIDE = {"s2_contains_cell": "s2_contains", "s2_intersects_cell": "s2_intersects"}
 TEXTS_OF = {"s2_union", "s2_intersection", "s2_difference", "s2_symmetric_difference", "s2_complement", "s2_normalise",
-            "s2_token", "s2_tokens"}
+            "s2_token", "s2_tokens", *LEAST}
+DEGREES_OF = {"s2_longitude", "s2_latitude"}
 
 
 def as_sqlite_has_it(name, kind, value):
     """What SQLite is given in place of a value. MariaDB doesn't say whether a text comes or bytes, so bytes that don't
     begin as a file are a text, and no bytes at all are only for s2_normalise the text of no cell."""
-    if not isinstance(value, (bytes, str)):
+    if not isinstance(value, (bytes, str)) or name in LEAST:
         return value
     taken = value if isinstance(value, bytes) else value.encode()
     if taken[:1] == b"\1":
@@ -102,7 +111,8 @@ class BesideSqlite(MariadbServer):
         """Each row of each pair of columns: the answer of SQLite, and NULL where SQLite has an error."""
         rows = answers = 0
         for name, takes in TAKES.items():
-            for kinds in itertools.product(*takes):
+            counts = range(LEAST.get(name, len(takes)), len(takes) + 1)
+            for kinds in itertools.chain(*(itertools.product(*takes[:count]) for count in counts)):
                 found, wanted = self.in_mariadb(name, kinds), self.in_sqlite(name, kinds)
                 given = list(itertools.product(*(with_nulls(KINDS[kind][1]) for kind in kinds)))
                 wrong = [each for each in zip(given, found, wanted) if each[1] != each[2]]
@@ -117,7 +127,8 @@ class BesideSqlite(MariadbServer):
         order = ", ".join(f"t{place}.k" for place in range(len(kinds)))
         shown_call = f"hex({call})" if name in TEXTS_OF else call
         said = self.ask(f"USE trial; SELECT {shown_call} FROM {tables} ORDER BY {order}")
-        return [None if line == "NULL" else line for line in said.splitlines()]
+        of_text = float if name in DEGREES_OF else str
+        return [None if line == "NULL" else of_text(line) for line in said.splitlines()]
 
     def in_sqlite(self, name, kinds):
         other = BESIDE.get(name, name)
@@ -139,22 +150,24 @@ class BesideSqlite(MariadbServer):
             return None
         if answer is not None and name in TEXTS_OF:
             return (answer if isinstance(answer, bytes) else answer.encode()).hex().upper()
-        return None if answer is None else str(answer)
+        return answer if answer is None or name in DEGREES_OF else str(answer)
 
     def test_each_wrong_type(self):
         """It is an error of the statement, and an error in SQLite, whether it is a constant or in a column, even of no
         row. Whatever comes, s2_is_cell and s2_is_union answer."""
         union, cell = "a union is a BLOB, or cells in an integer or a text", "a cell is an integer or a text"
         number, degree = "a level or the number of a child is an integer", "a longitude or a latitude is a number"
+        shape, count = "a shape is a BLOB of WKB", "a number of cells or a level is an integer"
         self.ask("USE trial; CREATE TABLE none (t text, d double, m decimal(20, 0), x varchar(9))")
         columns = {"t": ("'3'", ("'abc'", "'2,3522'", "''")), "d": ("3e0", ("1e30", "5180949494577750587e0")),
                    "m": ("3.5", ("99999999999999999999", "-0.5"))}
         asked = 0
         for name, takes in TAKES.items():
             for place, kinds in enumerate(takes):
-                what = {UNION: union, CELL_OF: cell, NUMBER: number, DEGREE: degree}.get(kinds)
+                what = {UNION: union, CELL_OF: cell, NUMBER: number, DEGREE: degree, SHAPE: shape, COUNT: count,
+                        DEPTH: count}.get(kinds)
                 for column, (sample, others) in columns.items():
-                    fits = kinds == ANY or ("texts" in kinds if column == "t" else "degrees" in kinds)
+                    fits = kinds == ANY or ("degrees" in kinds if column != "t" else {"texts", "shapes"} & {*kinds})
                     for value in (column, f"MIN({column})", sample, *others):
                         given = ", ".join(value if at == place else "NULL" for at in range(len(takes)))
                         error = self.error(f"USE trial; SELECT {name}({given}) FROM none")
@@ -162,15 +175,23 @@ class BesideSqlite(MariadbServer):
                         self.assertEqual(error[-len(wanted):] if wanted else error, wanted, (name, given))
                         asked += 1
                         if not fits and value in (sample, *others) and column != "m":
-                            other = ["1", "1"] if name != "s2_leaf_at" else ["0", "0"]
+                            other = [{DEGREE: "0", SHAPE: f"x'{SHAPES[0].hex()}'"}.get(each, "1") for each in takes]
                             other[place] = value
-                            statement = f"SELECT {BESIDE.get(name, name)}({', '.join(other[:len(takes)])})"
+                            statement = f"SELECT {BESIDE.get(name, name)}({', '.join(other)})"
                             with self.assertRaises(sqlite3.OperationalError, msg=statement):
                                 self.sqlite.execute(statement).fetchall()
         self.assertGreater(asked, 400)
         for name in ("s2_is_cell", "s2_is_union"):
             said = self.ask(f"SELECT {name}(1.5), {name}(1e0), {name}('x'), {name}(-0.5)")
             self.assertEqual(said, "0\t0\t0\t0\n")
+        self.assertIn(f"argument 1: {shape}", self.error("USE trial; SELECT s2_covering(1)"))
+
+    def test_geometries(self):
+        """What the server itself has as a geometry; one that isn't made WKB is no shape."""
+        square = "ST_GeomFromText('POLYGON((2 48, 3 48, 3 49, 2 49, 2 48))')"
+        said = self.ask(f"""USE trial; SELECT s2_contains_cell(s2_covering(ST_AsWKB({square})), s2_leaf_at(2.5, 48.5)),
+            s2_contains_cell(s2_interior(ST_AsWKB({square}), 9), s2_leaf_at(3.5, 48.5)), s2_covering({square})""")
+        self.assertEqual(said, "1\t0\tNULL\n")
 
     @classmethod
     def error(cls, statement):
@@ -179,7 +200,7 @@ class BesideSqlite(MariadbServer):
 
     def test_another_number_of_arguments(self):
         for name, takes in TAKES.items():
-            for count in {0, 1, 2, 3} - {len(takes)}:
+            for count in {*range(5)} - {*range(LEAST.get(name, len(takes)), len(takes) + 1)}:
                 error = self.error(f"USE trial; SELECT {name}({', '.join(['NULL'] * count)})")
                 self.assertRegex(error, rf"'{name}'; s2: another number of arguments", (name, count))
 
@@ -204,9 +225,11 @@ class BesideSqlite(MariadbServer):
         many = list(range(1, 160001, 8))
         self.ask(f"""USE trial; CREATE TABLE large (u longblob, w longblob, t longtext);
             INSERT INTO large VALUES (x'{file(many).hex()}', x'{file(many[::-1]).hex()}', '{words(many)}');""")
-        for call in ("length(s2_union(u, w))", "length(s2_complement(u))", "length(s2_tokens(u))",
-                     "length(s2_normalise(t))", "s2_contains(u, t)", "s2_contains(w, u)", "s2_union(u, 'x')",
-                     "s2_count(w)", "s2_intersects_cell(t, 1)"):
+        shape, line = (f"x'{SHAPES[place].hex()}'" for place in (0, 44))
+        for call in (f"length(s2_covering({shape}, 500))", f"s2_interior({line}, 500)",
+                     f"s2_covering(x'{NO_SHAPES[-1].hex()}')", "length(s2_union(u, w))", "length(s2_complement(u))",
+                     "length(s2_tokens(u))", "length(s2_normalise(t))", "s2_contains(u, t)", "s2_contains(w, u)",
+                     "s2_union(u, 'x')", "s2_count(w)", "s2_intersects_cell(t, 1)"):
             before = self.resident()
             self.ask(f"USE trial; SELECT BENCHMARK(300, {call}) FROM large")
             self.assertLess(self.resident() - before, 30_000, call)
