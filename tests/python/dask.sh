@@ -85,12 +85,46 @@ int s2u_tokens(const void* ids, size_t n, char* text, size_t room, size_t* len) 
     LD_PRELOAD=$work/long.so Rscript -e 'tryCatch(s2union::s2u_tokens(s2::as_s2_cell("1")), S2U_MANY = print)' >said &&
     grep S2U_MANY said
 )
+shapes_of_r() ( # the cells of each shape, and the kind of its error, beside those of Python
+  cd "$work" && /usr/bin/python3 -m model.shapes >shapes && Rscript - >said <<'R' && /usr/bin/python3 - <<'PYTHON'
+library(s2union)
+options <- list(list(), list(9, 3, 12), list(50, margin = 5000), list(within = 20000), list(99, edges = "geodesic"))
+hex <- function(x) paste(s2u_encode(x), collapse = "")
+for (line in readLines("shapes")) {
+  digits <- strtoi(strsplit(line, "")[[1]], 16)
+  wkb <- if (nchar(line)) as.raw(16 * digits[c(TRUE, FALSE)] + digits[c(FALSE, TRUE)]) else raw()
+  for (each in options) cat(tryCatch({
+    both <- do.call(s2u_coverings, c(list(wkb), each))
+    stopifnot(identical(both$outer, do.call(s2u_covering, c(list(wkb), each))),
+              identical(both$inner, do.call(s2u_interior, c(list(wkb), each))))
+    paste(hex(both$outer), hex(both$inner))
+  }, s2union_error = conditionMessage), "\n", sep = "")
+}
+R
+import itertools
+from s2union_geo import coverings
+from model.shapes import NO_SHAPES, SHAPES
+options = [{}, {"max_cells": 9, "min_level": 3, "max_level": 12}, {"max_cells": 50, "margin": 5000},
+           {"within": 20000}, {"max_cells": 99, "edges": "geodesic"}]
+said = open("said").read().splitlines()
+questions = list(itertools.product(SHAPES + NO_SHAPES, options))
+for (shape, options), answer in zip(questions, said, strict=True):
+    try:
+        wanted = " ".join(union.to_bytes().hex() for union in coverings(shape, **options))
+    except ValueError as error: # whose text has no place; without the first byte of WKB it is read as GeoJSON
+        wanted, answer = str(error), answer[:len(str(error))]
+        answer = wanted if wanted.startswith("the text is no") and answer.startswith("the bytes are no") else answer
+    assert answer == wanted, (shape.hex(), options, answer, wanted)
+print(len(said), "passed, 0 failed")
+PYTHON
+)
 page_of_r() (
   cd "$work" && block R.md r >first.R && block R.md "text r" >wanted && [ -s wanted ] && Rscript first.R >said &&
     diff wanted said
 )
 step "the package for R: R CMD check, with its tests beside S2's own operations" for_r
 step "the package for R: no text that is longer than R's" long_text_of_r
+step "the package for R: the cells of shapes, beside Python" shapes_of_r
 step "docs/R.md" page_of_r
 step "docs/R.md: all pairs" pairs_by R.md "r pairs" R Rscript pairs.R
 

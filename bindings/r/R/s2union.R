@@ -17,6 +17,39 @@ s2u_encode <- function(x) .Call(C_encode, cells_of(x))
 s2u_decode <- function(bytes) new_s2_cell(.Call(C_decode, bytes_of(bytes)))
 s2u_file_contains_cells <- function(bytes, cells) .Call(C_file_contains_cells, bytes_of(bytes), cells_of(cells))
 
+s2u_leaf <- function(longitude, latitude) {
+  count <- if (length(longitude) && length(latitude)) max(length(longitude), length(latitude)) else 0
+  new_s2_cell(.Call(C_leaf, rep_len(degrees_of(longitude), count), rep_len(degrees_of(latitude), count)))
+}
+s2u_covering <- function(shape, ...) covered(shape, c(TRUE, FALSE), ...)$outer
+s2u_interior <- function(shape, ...) covered(shape, c(FALSE, TRUE), ...)$inner
+s2u_coverings <- function(shape, ...) covered(shape, c(TRUE, TRUE), ...)
+
+covered <- function(shape, which, max_cells = if (is.null(within)) 200 else 1e6, min_level = 0, max_level = 30,
+                    within = NULL, margin = 0, edges = c("map", "geodesic", "left")) {
+  kind <- match(match.arg(edges), c("map", "geodesic", "left")) - 1
+  finest <- if (is.null(within)) NA_real_ else number_of(within)
+  numbers <- c(number_of(max_cells), number_of(min_level), number_of(max_level), number_of(margin), kind, finest)
+  made <- if (is.raw(shape)) .Call(C_cover_wkb, shape, numbers, which) else cover_rings(shape, numbers, which)
+  list(outer = new_s2_cell(made[[1]]), inner = new_s2_cell(made[[2]]))
+}
+
+# Polygons as package sf has them: a list of matrices, whose rows are positions, or a list of such lists.
+cover_rings <- function(shape, numbers, which) {
+  if (!is.list(shape) || (inherits(shape, "sfg") && !inherits(shape, c("POLYGON", "MULTIPOLYGON"))))
+    stop("not a raw vector of WKB, nor a list of matrices")
+  polygons <- if (all(vapply(shape, is.list, NA))) shape else list(shape)
+  rings <- lapply(do.call(c, c(list(list()), lapply(polygons, unclass))), positions_of)
+  of <- rep(seq_along(polygons), lengths(polygons))
+  .Call(C_cover_rings, as.double(unlist(rings)), cumsum(lengths(rings) / 2), as.double(of), numbers, which)
+}
+positions_of <- function(ring) {
+  if (!is.matrix(ring) || !is.numeric(ring) || ncol(ring) < 2) stop("a ring is a matrix of longitudes and latitudes")
+  t(ring[, 1:2, drop = FALSE])
+}
+number_of <- function(x) if (is.numeric(x) && length(x) == 1) as.double(x) else stop("not a number")
+degrees_of <- function(x) if (is.numeric(x) || all(is.na(x))) as.double(x) else stop("not degrees")
+
 bytes_of <- function(bytes) if (is.raw(bytes)) bytes else stop("not a raw vector")
 
 # The vector of cells that an argument is.
@@ -27,8 +60,9 @@ cells_of <- function(x) {
 }
 
 # The C calls it: words are the name of a status and its text.
-refuse <- function(words, place) {
-  message <- if (is.na(place)) words[2] else sprintf("%s at %.0f", words[2], place)
+refuse <- function(words, place, ring) {
+  at <- if (is.na(place)) "" else if (is.na(ring)) sprintf(" at %.0f", place) else
+    sprintf(": ring %.0f, position %.0f", ring, place)
   stop(structure(class = c(words[1], "s2union_error", "error", "condition"),
-                 list(message = message, call = NULL, place = place)))
+                 list(message = paste0(words[2], at), call = NULL, place = place, ring = ring)))
 }

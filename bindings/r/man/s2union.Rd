@@ -2,7 +2,7 @@
 \alias{s2union} \alias{s2u_normalise} \alias{s2u_union} \alias{s2u_intersection} \alias{s2u_difference}
 \alias{s2u_symmetric_difference} \alias{s2u_contains} \alias{s2u_intersects} \alias{s2u_contains_cells}
 \alias{s2u_intersects_cells} \alias{s2u_tokens} \alias{s2u_from_tokens} \alias{s2u_encode} \alias{s2u_decode}
-\alias{s2u_file_contains_cells}
+\alias{s2u_file_contains_cells} \alias{s2u_leaf} \alias{s2u_covering} \alias{s2u_interior} \alias{s2u_coverings}
 \title{Unions of S2 cells}
 \description{A region is a set of leaf cells, the cells of level 30. It has exactly one list of cells, in which no two
 share a leaf and no four are the children of one cell, and exactly one union file and one text.}
@@ -21,24 +21,52 @@ s2u_from_tokens(text)
 s2u_encode(x)
 s2u_decode(bytes)
 s2u_file_contains_cells(bytes, cells)
+s2u_leaf(longitude, latitude)
+s2u_covering(shape, ...)
+s2u_interior(shape, ...)
+s2u_coverings(shape, ...)
 }
 \arguments{
 \item{x, y}{regions: each an \code{s2_cell} vector in any order, or an \code{s2_cell_union} of length 1.}
 \item{cells}{an \code{s2_cell} vector. The answer for \code{NA} is \code{NA}.}
 \item{text}{tokens, with blanks, commas or line ends between them, or in several texts.}
 \item{bytes}{a raw vector: a union file, as \code{s2u_encode} and S2's own \code{S2CellUnion::Encode} write it.}
+\item{longitude, latitude}{degrees, from -540 to 540 and from -90 to 90. The leaf of \code{NA} or \code{NaN} is
+\code{NA}.}
+\item{shape}{polygons, lines and points in degrees: a raw vector of WKB, as an element of \code{sf::st_as_binary} or
+\code{s2_as_binary} is. Or polygons: a list of the rings of one, each a matrix whose rows are positions, longitude
+first, the last row the same as the first; or a list of such lists. \code{POLYGON} and \code{MULTIPOLYGON} of package
+\code{sf} are these.}
+\item{...}{in this order: \code{max_cells}, the most cells, 0 to 1,000,000 (200, and 1,000,000 with \code{within});
+\code{min_level}, to which cells at the border are at least as deep; \code{max_level}, the deepest (30);
+\code{within}, meters: no place of the covering is farther from the shape, if \code{max_cells} allows it;
+\code{margin}, meters by which the covering goes beyond the shape and the interior stays away from its border, 0 to
+300,000; \code{edges}: \code{"map"} (straight in longitude and latitude), \code{"geodesic"} (the shortest ways; of
+each ring the smaller side is inside) or \code{"left"} (the same, with the inside on the left of the rings).}
 }
 \value{The first five, and \code{s2u_decode}, return the one list of a region, an \code{s2_cell} vector.
 \code{s2u_contains} and \code{s2u_intersects} return whether \code{x} has all leaves of \code{y}, or shares one with
 it, and \code{s2u_contains_cells} and \code{s2u_intersects_cells} the same for each of the cells.
 \code{s2u_file_contains_cells} asks the same of a union file, which it checks and doesn't copy. \code{s2u_tokens}
 returns one text, and \code{s2u_from_tokens} the cells that a text names, in its order. \code{s2u_encode} returns a raw
-vector.}
+vector. \code{s2u_leaf} returns the leaf at each place, as S2 has it. \code{s2u_covering} returns a union that contains
+the shape, \code{s2u_interior} one that lies in its polygons, and \code{s2u_coverings} both, as \code{outer} and
+\code{inner}. What is proved of them is that they do so of corners in whole numbers, to which degrees are rounded by 3
+mm at most.}
 \section{Errors}{A wrong value is a condition of class \code{s2union_error}, and of a class with the name of the
 library's status: \code{S2U_NO_CELL} (\code{place} is that of the number, or the byte at which the word begins, from 1
 on), \code{S2U_FILE_SHORT}, \code{S2U_FILE_VERSION}, \code{S2U_FILE_TRAILING}, \code{S2U_FILE_CELL}, or
-\code{S2U_MANY} (a text would have 2^31 bytes or more). An argument of another type is a simple error.}
+\code{S2U_MANY} (a text would have 2^31 bytes or more). Of places and shapes: \code{S2U_COVER_NUMBER} (a longitude or
+a latitude is out of range), \code{S2U_COVER_FEW} (a ring has fewer than four positions), \code{S2U_COVER_OPEN} (its
+last position isn't its first), \code{S2U_COVER_PIECES} (edges are too long for so few positions),
+\code{S2U_COVER_OUTSIDE} (no place is outside), \code{S2U_COVER_OPPOSITE} (two positions of geodesic edges lie
+opposite each other); their \code{ring} and \code{place} count from 1. \code{S2U_COVER_OPTION}: an option is out of
+range. Of WKB, with \code{place} that of the byte: \code{S2U_COVER_WKB} (it is none), \code{S2U_COVER_TYPE} (curves
+or surfaces), \code{S2U_COVER_SRID} (no degrees), \code{S2U_COVER_DEEP} (collections in more than 32 others). An
+argument of another type is a simple error.}
 \examples{
 lawn <- s2u_difference(s2u_from_tokens("04 0c 14 1c"), s2u_from_tokens("14"))
 s2u_tokens(lawn)
+park <- s2u_covering(list(cbind(c(2, 3, 3, 2), c(48, 48, 49, 48))), max_cells = 20)
+s2u_contains_cells(park, s2u_leaf(c(2.9, 2.1), c(48.5, 48.9)))
 }

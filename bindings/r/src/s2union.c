@@ -5,7 +5,7 @@
 #include <string.h>
 #include <Rinternals.h>
 #include <R_ext/Rdynload.h>
-#include <s2union.h>
+#include <s2union_cover.h>
 #include "rooms.h"
 
 typedef struct {
@@ -26,18 +26,23 @@ static SEXP vector_of(const uint64_t* ids, size_t n) {
 
 #define NAMED(status) [-(status)] = #status
 static const char* const names[] = {NAMED(S2U_MEMORY), NAMED(S2U_NO_CELL), NAMED(S2U_MANY), NAMED(S2U_FILE_SHORT),
-  NAMED(S2U_FILE_VERSION), NAMED(S2U_FILE_TRAILING), NAMED(S2U_FILE_CELL)};
-/* Ends the .Call by the error of a status, if it is one. */
-static void check(int32_t status, size_t place) {
-  if (status >= 0) return;
+  NAMED(S2U_FILE_VERSION), NAMED(S2U_FILE_TRAILING), NAMED(S2U_FILE_CELL), NAMED(S2U_COVER_NUMBER),
+  NAMED(S2U_COVER_FEW), NAMED(S2U_COVER_OPEN), NAMED(S2U_COVER_PIECES), NAMED(S2U_COVER_OUTSIDE),
+  NAMED(S2U_COVER_OPPOSITE), NAMED(S2U_COVER_OPTION), NAMED(S2U_COVER_WKB), NAMED(S2U_COVER_TYPE),
+  NAMED(S2U_COVER_SRID), NAMED(S2U_COVER_DEEP)};
+/* Ends the .Call by the error of a status, at a place and in a ring, from 1 on, or NA. */
+static void refuse(int32_t status, double place, double ring) {
   const char* name = status > -(int32_t)(sizeof names / sizeof *names) ? names[-status] : NULL;
   SEXP words = PROTECT(Rf_allocVector(STRSXP, 2));
   SET_STRING_ELT(words, 0, Rf_mkChar(name ? name : "S2U_ERROR"));
-  SET_STRING_ELT(words, 1, Rf_mkChar(s2u_status_text(status)));
-  SEXP at = PROTECT(Rf_ScalarReal(status == S2U_NO_CELL ? (double)place + 1 : NA_REAL));
+  SET_STRING_ELT(words, 1, Rf_mkChar(s2u_cover_status_text(status)));
+  SEXP at = PROTECT(Rf_ScalarReal(place)), of = PROTECT(Rf_ScalarReal(ring));
   SEXP own = PROTECT(R_FindNamespace(PROTECT(Rf_mkString("s2union"))));
-  Rf_eval(PROTECT(Rf_lang3(Rf_install("refuse"), words, at)), own);
-  UNPROTECT(5);
+  Rf_eval(PROTECT(Rf_lang4(Rf_install("refuse"), words, at, of)), own);
+  UNPROTECT(6);
+}
+static void check(int32_t status, size_t place) {
+  if (status < 0) refuse(status, status == S2U_NO_CELL ? (double)place + 1 : NA_REAL, NA_REAL);
 }
 
 static list region(SEXP x) { /* the vector itself if it is a union, or else a copy that is normalized */
@@ -149,11 +154,92 @@ static SEXP r_file_contains_cells(SEXP bytes, SEXP y) { /* where the file lies, 
   return answers;
 }
 
+/* ---- leaves of places, and coverings */
+
+static SEXP r_leaf(SEXP longitude, SEXP latitude) { /* two vectors of one length */
+  SEXP made = PROTECT(Rf_allocVector(REALSXP, XLENGTH(longitude)));
+  const double *x = REAL(longitude), *y = REAL(latitude);
+  for (R_xlen_t k = 0; k < XLENGTH(longitude); k++) {
+    uint64_t leaf = s2u_geo_leaf(x[k], y[k]);
+    int is_missing = ISNAN(x[k]) || ISNAN(y[k]);
+    if (!leaf && !is_missing) refuse(S2U_COVER_NUMBER, (double)k + 1, NA_REAL);
+    if (is_missing) REAL(made)[k] = NA_REAL;
+    else memcpy(REAL(made) + k, &leaf, sizeof leaf);
+  }
+  UNPROTECT(1);
+  return made;
+}
+
+static uint32_t count_of(double number) { /* what is none, or too large, is out of the range of each option */
+  return number >= 0 && number <= UINT_MAX && number == floor(number) ? (uint32_t)number : UINT_MAX;
+}
+#define KEPT 0.96 /* the part of `within` that a cell at the border may be wide; the rest pays for bends and rounding */
+static s2u_cover_options options_of(SEXP numbers) { /* max_cells, min_level, max_level, margin, edges, within or NA */
+  const double *at = REAL(numbers), within = at[5];
+  s2u_cover_options it = {count_of(at[0]), count_of(at[1]), count_of(at[2]), count_of(at[4]), at[3]};
+  uint32_t fine = ISNA(within) ? 30 : s2u_cover_level_within(KEPT * within);
+  if (!ISNA(within) && !(within > 0)) it.margin = NAN; /* refused as each other number of meters */
+  if (fine < it.max_level && it.max_level <= 30) it.max_level = fine < it.min_level ? it.min_level : fine;
+  return it;
+}
+
+typedef struct {
+  s2u_cover_cells outer, inner;
+} both;
+static s2u_cover_cells* if_wanted(s2u_cover_cells* cells, SEXP wanted, int which) {
+  *cells = (s2u_cover_cells){NULL, 0};
+  return LOGICAL(wanted)[which] ? cells : NULL;
+}
+static SEXP lists_of(void* of) {
+  const both* it = (const both*)of;
+  SEXP made = PROTECT(Rf_allocVector(VECSXP, 2));
+  SET_VECTOR_ELT(made, 0, vector_of(it->outer.ids, it->outer.count));
+  SET_VECTOR_ELT(made, 1, vector_of(it->inner.ids, it->inner.count));
+  UNPROTECT(1);
+  return made;
+}
+static void let_go(void* of) {
+  both* it = (both*)of;
+  s2u_cover_free(&it->outer);
+  s2u_cover_free(&it->inner);
+}
+/* The lists of an answer, or its error. Its memory goes back, also if R has none for them. */
+static SEXP given(int32_t status, both* it, const s2u_cover_fault* fault) {
+  if (status == S2U_OK) return R_ExecWithCleanup(lists_of, it, let_go, it);
+  let_go(it);
+  int is_of_bytes = status <= S2U_COVER_WKB, is_nowhere = status == S2U_COVER_OPTION || status > S2U_COVER_NUMBER;
+  refuse(status, is_nowhere ? NA_REAL : (double)fault->position + 1,
+         is_nowhere || is_of_bytes ? NA_REAL : (double)fault->ring + 1);
+  return R_NilValue;
+}
+static SEXP r_cover_wkb(SEXP bytes, SEXP numbers, SEXP wanted) {
+  s2u_cover_options options = options_of(numbers);
+  s2u_cover_fault fault;
+  both it;
+  size_t n = (size_t)XLENGTH(bytes);
+  int32_t status = s2u_cover_wkb(n ? RAW(bytes) : NULL, n, &options, if_wanted(&it.outer, wanted, 0),
+                                 if_wanted(&it.inner, wanted, 1), &fault);
+  return given(status, &it, &fault);
+}
+static SEXP r_cover_rings(SEXP positions, SEXP ends, SEXP polygons, SEXP numbers, SEXP wanted) {
+  size_t count = (size_t)XLENGTH(ends);
+  s2u_cover_ring* rings = (s2u_cover_ring*)R_alloc(count, sizeof *rings);
+  for (size_t k = 0; k < count; k++)
+    rings[k] = (s2u_cover_ring){(uint64_t)REAL(ends)[k], (uint64_t)REAL(polygons)[k]};
+  s2u_cover_shape shape = {REAL(positions), rings, count};
+  s2u_cover_options options = options_of(numbers);
+  s2u_cover_fault fault;
+  both it;
+  int32_t status = s2u_cover(&shape, &options, if_wanted(&it.outer, wanted, 0), if_wanted(&it.inner, wanted, 1),
+                             &fault);
+  return given(status, &it, &fault);
+}
+
 #define CALL(name, arguments) {#name, (DL_FUNC)r_##name, arguments}
 static const R_CallMethodDef calls[] = {CALL(normalise, 1), CALL(union, 2), CALL(intersection, 2), CALL(difference, 2),
   CALL(symmetric_difference, 2), CALL(contains, 2), CALL(intersects, 2), CALL(contains_cells, 2),
   CALL(intersects_cells, 2), CALL(tokens, 1), CALL(from_tokens, 1), CALL(encode, 1), CALL(decode, 1),
-  CALL(file_contains_cells, 2), {NULL, NULL, 0}};
+  CALL(file_contains_cells, 2), CALL(leaf, 2), CALL(cover_wkb, 3), CALL(cover_rings, 5), {NULL, NULL, 0}};
 void R_init_s2union(DllInfo* library) {
   R_registerRoutines(library, NULL, calls, NULL, NULL);
   R_useDynamicSymbols(library, FALSE);

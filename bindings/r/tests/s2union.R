@@ -53,13 +53,57 @@ stopifnot(identical(s2u_contains_cells(face, none[c(3, 1)]), c(NA, TRUE)),
           s2u_tokens(nothing) == "", length(s2u_from_tokens("")) == 0,
           identical(s2u_tokens(odd), "7ff1 7ff9 7fff"),
           identical(s2u_contains_cells(odd, new_s2_cell(c(unclass(odd), NA))), c(TRUE, TRUE, TRUE, NA)))
+# Leaves and coverings in degrees, beside package s2's own, and what is refused. tests/python/dask.sh compares the cells
+# of each kind of shape with those of Python.
+x <- c(runif(5000, -180, 180), 0, 180, NA, 2)
+y <- c(asin(runif(5000, -1, 1)) * 180 / pi, 90, -16.5, 1, NaN)
+leaves <- as_s2_cell(s2_lnglat(x, y))
+leaves[5003:5004] <- new_s2_cell(NA_real_)
+stopifnot(identical(s2u_leaf(x, y), leaves), length(s2u_leaf(numeric(), 1)) == 0, is.na(s2u_leaf(NA, 1)))
+square <- cbind(c(2, 3, 3, 2, 2), c(48, 48, 49, 49, 48))
+hole <- cbind(c(2.4, 2.6, 2.6, 2.4, 2.4), c(48.4, 48.4, 48.6, 48.6, 48.4))
+wkb <- unclass(s2_as_binary(as_s2_geography("POLYGON ((2 48, 3 48, 3 49, 2 49, 2 48))")))[[1]]
+both <- s2u_coverings(list(square, hole), 50)
+far <- s2u_coverings(list(list(square, hole), list(square + 10)), max_level = 9)
+stopifnot(identical(both$outer, s2u_covering(list(square, hole), max_cells = 50)),
+          identical(both$inner, s2u_interior(list(square, hole), 50)), length(both$outer) <= 50,
+          s2u_contains(both$outer, both$inner), identical(s2u_covering(wkb), s2u_covering(list(square))),
+          identical(s2u_contains_cells(both$inner, s2u_leaf(c(2.2, 2.5, 3.1), 48.5)), c(TRUE, FALSE, FALSE)),
+          identical(s2u_contains_cells(far$inner, s2u_leaf(c(2.2, 2.5, 12.5), c(48.5, 48.5, 58.5))),
+                    c(TRUE, FALSE, TRUE)), all(s2_cell_level(far$outer) <= 9),
+          s2u_contains_cells(s2u_covering(wkb, margin = 10000), s2u_leaf(3.1, 48.5)),
+          !s2u_contains_cells(s2u_covering(wkb, within = 500), s2u_leaf(3.01, 48.5)),
+          max(s2_cell_level(s2u_covering(wkb, 8, min_level = 9))) >= 9, length(s2u_covering(list())) == 0,
+          !identical(s2u_covering(wkb, edges = "geodesic"), s2u_covering(wkb)),
+          identical(s2u_interior(list(square[5:1, ]), edges = "geodesic"), s2u_interior(wkb, edges = "left")))
+refused(s2u_leaf(c(0, 541), 0), "S2U_COVER_NUMBER", 2)
+refused(s2u_leaf(0, -Inf), "S2U_COVER_NUMBER", 1)
+refused(s2u_covering(raw()), "S2U_COVER_WKB", 1)
+refused(s2u_covering(wkb[-93]), "S2U_COVER_WKB", 10)
+refused(s2u_coverings(replace(wkb, 2, as.raw(8))), "S2U_COVER_TYPE", 1)
+refused(s2u_interior(list(square, hole[-5, ])), "S2U_COVER_OPEN", 4)
+refused(s2u_interior(list(square, replace(hole, 2, NaN))), "S2U_COVER_NUMBER", 2)
+error <- tryCatch(s2u_interior(list(square, hole[-5, ])), S2U_COVER_OPEN = identity)
+stopifnot(error$ring == 2, grepl("^a ring is open: .*: ring 2, position 4$", conditionMessage(error)))
+for (options in list(list(-1), list(1e6 + 1), list(NaN), list(1.5), list(2^32), list(9, 10, 9), list(9, 0, 31),
+                     list(9, -1), list(margin = -1), list(margin = 300001), list(margin = NA_real_), list(within = 0),
+                     list(within = NaN), list(within = -Inf)))
+  refused(do.call(s2u_covering, c(list(wkb), options)), "S2U_COVER_OPTION")
+for (shape in list(NULL, 1, "POINT (1 2)", square, list(1), list(square, list(square)), list(cbind(1:4)),
+                   list(replace(square, 1, "x")), structure(list(square), class = c("XY", "MULTILINESTRING", "sfg"))))
+  stopifnot(inherits(try(s2u_covering(shape), TRUE), "try-error"))
+for (options in list(list("9"), list(c(1, 2)), list(edges = "flat"), list(wide = 1)))
+  stopifnot(inherits(try(do.call(s2u_covering, c(list(wkb), options)), TRUE), "try-error"))
 # With a collection at each allocation, what isn't protected is lost, and its memory is given to others.
 many <- s2u_difference(face, s2u_from_tokens("0000000000000001"))
 asked <- many[rep(1:90, 8)] # as many answers as the 90 cells have bytes
 twice <- c(replace(s2u_encode(many), 2, as.raw(91)), tail(s2u_encode(many), 8))
 gctorture()
 made <- list(s2u_file_contains_cells(twice, asked), s2u_decode(twice), s2u_encode(many))
+covered <- list(s2u_covering(wkb, 9), s2u_interior(list(square), 9), s2u_leaf(2, 48))
+refused(s2u_interior(list(square, hole[-5, ])), "S2U_COVER_OPEN", 4)
 refused(s2u_union(many, none), "S2U_NO_CELL", 2)
 gctorture(FALSE)
-stopifnot(identical(made, list(rep(TRUE, 720), many, s2u_encode(many))))
+stopifnot(identical(made, list(rep(TRUE, 720), many, s2u_encode(many))),
+          identical(covered, list(s2u_covering(list(square), 9), s2u_interior(wkb, 9), s2u_leaf(2, 48))))
 for (k in 1:60000) stopifnot(s2u_encode(face)[1] == 1, s2u_file_contains_cells(twice, many[1])) # nothing stays so
