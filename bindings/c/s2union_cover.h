@@ -1,5 +1,6 @@
-/* Coverings of polygons, lines and points in degrees, by the calls of polygons of s2union.h. All of it is in this
- * header, and needs the library, malloc and -lm. The longitude comes first.
+/* Coverings of polygons, lines and points in degrees, by the calls of polygons of s2union.h; at the end the cells
+ * around cells, and the box around a union. All of it is in this header, and needs the library, malloc and -lm. The
+ * longitude comes first.
  *
  * A shape is a list of positions, a longitude and a latitude each, and the rings and lines that they make. Its outer
  * covering has each place of the shape; its inner covering has places of the shape alone. The cells are those that the
@@ -1411,6 +1412,164 @@ static inline int32_t s2u_cover_corridor(const double* positions, size_t count, 
   s2u_cover_options wide = *options;
   wide.margin = options->margin + width / 2;
   return s2u_cover(&shape, &wide, outer, NULL, fault);
+}
+
+/* ---- cells beside cells, and the box around them */
+
+#define S2U_COVER_MOST_NEIGHBORS 1000000
+/* The cells of a union and around them, before they are normalized. */
+#define S2U_COVER_MOST_AROUND(count) (4 * S2U_COVER_MOST_CELLS + 9 * (uint64_t)(count))
+
+/* How many cells of a level around a cell there may be: a row along each edge, and the corners. */
+static inline uint64_t s2u_cover_around(const s2u_square* at, uint32_t level) {
+  return 4 * ((uint64_t)at->size >> (30 - level)) + 4;
+}
+
+/* Adds the cells of a level, that of the cell or a deeper one, that touch a cell from outside; `cells` has room. */
+static inline void s2u_cover_add_around(const s2u_square* at, uint32_t level, s2u_cover_cells* cells) {
+  const int64_t step = INT64_C(1) << (30 - level), i = at->i, j = at->j, size = at->size;
+  for (int64_t k = -step; k <= size; k += step) {
+    int is_beside = k >= 0 && k < size; /* otherwise below the first or above the last, where the corners are */
+    const int64_t places[4][2] = {{i - step, j + k}, {i + size, j + k}, {i + k, j - step}, {i + k, j + size}};
+    for (int n = 0; n < (is_beside ? 4 : 2); n++) {
+      uint64_t leaf = s2u_geo_leaf_beside(at->face, places[n][0], places[n][1]);
+      if (leaf) cells->ids[cells->count++] = s2u_parent(leaf, level);
+    }
+  }
+}
+
+/* The cells of a level that touch a cell, at an edge or a corner, and share no leaf with it, as a union: eight of its
+ * own level, seven at a corner of the cube, and four of a face. S2CellId::AppendAllNeighbors. S2U_NO_CELL; S2U_ARGUMENT
+ * for a level beyond 30 or above that of the cell; S2U_MANY for more than S2U_COVER_MOST_NEIGHBORS. The caller frees
+ * the cells by s2u_cover_free, also after an error. */
+static inline int32_t s2u_cover_neighbors(uint64_t cell, uint32_t level, s2u_cover_cells* neighbors) {
+  s2u_square at;
+  neighbors->ids = NULL, neighbors->count = 0;
+  int32_t status = s2u_square_of(cell, &at);
+  if (status != S2U_OK) return status;
+  if (level > 30 || level < (uint32_t)s2u_level(cell)) return S2U_ARGUMENT;
+  if (s2u_cover_around(&at, level) > S2U_COVER_MOST_NEIGHBORS) return S2U_MANY;
+  if (!s2u_cover_resize(neighbors, (size_t)s2u_cover_around(&at, level))) return S2U_MEMORY;
+  s2u_cover_add_around(&at, level, neighbors);
+  return s2u_normalise(neighbors->ids, neighbors->count, &neighbors->count);
+}
+
+/* A cell, or the one of a level that has it if it is deeper. */
+static inline uint64_t s2u_cover_no_deeper(uint64_t cell, uint32_t level) {
+  return s2u_level(cell) > (int32_t)level ? s2u_parent(cell, level) : cell;
+}
+
+/* Adds each cell of a union, if it is not deeper than a level, and those around it; `cells` has room. Without `cells`
+ * they are only counted: S2U_MANY if there are too many. */
+static inline int32_t s2u_cover_expand(const uint64_t* ids, size_t count, uint32_t level, s2u_cover_cells* cells,
+                                       uint64_t* most) {
+  uint64_t last = 0;
+  s2u_square at;
+  for (size_t k = 0; k < count; k++) {
+    if (!s2u_is_cell(ids[k])) return S2U_NO_CELL;
+    uint64_t cell = s2u_cover_no_deeper(ids[k], level);
+    if (cell == last) continue;
+    last = cell;
+    s2u_square_of(cell, &at);
+    if (cells) {
+      cells->ids[cells->count++] = cell;
+      s2u_cover_add_around(&at, level, cells);
+    } else {
+      *most += 1 + s2u_cover_around(&at, level);
+      if (*most > S2U_COVER_MOST_AROUND(count)) return S2U_MANY;
+    }
+  }
+  return S2U_OK;
+}
+
+/* A union and the cells of a level that touch it; cells that are deeper are first replaced by those of the level that
+ * have them. S2CellUnion::Expand. S2U_NO_CELL; S2U_ARGUMENT for a level beyond 30; S2U_MANY, before memory is taken,
+ * for more cells than S2U_COVER_MOST_AROUND. The caller frees the cells by s2u_cover_free, also after an error. */
+static inline int32_t s2u_cover_expanded(const uint64_t* ids, size_t count, uint32_t level, s2u_cover_cells* expanded) {
+  uint64_t most = 0;
+  expanded->ids = NULL, expanded->count = 0;
+  if (level > 30) return S2U_ARGUMENT;
+  int32_t status = s2u_cover_expand(ids, count, level, NULL, &most);
+  if (status != S2U_OK) return status;
+  if (!s2u_cover_resize(expanded, (size_t)most)) return S2U_MEMORY;
+  s2u_cover_expand(ids, count, level, expanded, &most);
+  return s2u_normalise(expanded->ids, expanded->count, &expanded->count);
+}
+
+#define S2U_COVER_BESIDE 1e-13 /* degrees: what the corners of cells are wrong by, and less than a leaf by far */
+
+/* A longitude that is wrong by a little, but on the date line. */
+static inline double s2u_cover_aside(double longitude, double by) {
+  return fabs(longitude) == 180 ? longitude : longitude + by;
+}
+
+/* The box of a square of a face, of a fourth of it at most; its west is from -180 to less than 180. A pole has all
+ * longitudes. */
+static inline void s2u_cover_box_of(uint32_t face, double i, double j, double size, s2u_cover_bounds* box) {
+  double corner[2], first = 0;
+  s2u_cover_bounds none = {INFINITY, INFINITY, -INFINITY, -INFINITY};
+  *box = none;
+  for (int k = 0; k < 4; k++) {
+    s2u_geo_place(face, i + (k & 1 ? size : 0), j + (k & 2 ? size : 0), &corner[0], &corner[1]);
+    if (k == 0) first = corner[0];
+    corner[0] -= 360 * nearbyint((corner[0] - first) / 360);
+    s2u_cover_widen(box, corner);
+  }
+  box->south = fmax(box->south - S2U_COVER_BESIDE, -90);
+  box->north = fmin(box->north + S2U_COVER_BESIDE, 90);
+  box->west = s2u_cover_aside(box->west, -S2U_COVER_BESIDE);
+  box->east = s2u_cover_aside(box->east, S2U_COVER_BESIDE);
+  if (box->south == -90 || box->north == 90) box->west = -180, box->east = 180;
+  double turn = box->west < -180 ? 360 : box->west >= 180 ? -360 : 0;
+  box->west += turn, box->east += turn;
+}
+
+static inline int s2u_cover_by_its_west(const void* a, const void* b) {
+  double x = ((const s2u_cover_bounds*)a)->west, y = ((const s2u_cover_bounds*)b)->west;
+  return (x > y) - (x < y);
+}
+
+/* Joins the longitudes of boxes, which begin in turn: all but the widest gap between them. */
+static inline void s2u_cover_join_longitudes(const s2u_cover_bounds* boxes, size_t count, s2u_cover_bounds* box) {
+  double end = boxes[0].east, widest = 0;
+  for (size_t k = 1; k < count; k++) end = fmax(end, boxes[k].east);
+  end -= 360; /* of the turn before */
+  box->west = -180, box->east = 180;
+  for (size_t k = 0; k < count; end = fmax(end, boxes[k++].east)) {
+    if (boxes[k].west - end <= widest) continue;
+    widest = boxes[k].west - end;
+    box->west = boxes[k].west, box->east = end <= -180 ? end + 360 : end;
+  }
+}
+
+/* The box in degrees in which a union lies, the narrowest one: S2CellUnion::GetRectBound. It goes over the date line if
+ * the east is less than the west, and has all longitudes from -180 to 180 if there is no gap. That of no cell has a
+ * south of 90 and a north of -90. S2U_NO_CELL, S2U_MEMORY. */
+static inline int32_t s2u_cover_rect_bound(const uint64_t* ids, size_t count, s2u_cover_bounds* box) {
+  s2u_cover_bounds none = {180, 90, -180, -90};
+  size_t length = 0, faces = 0;
+  s2u_square at;
+  *box = none;
+  for (size_t k = 0; k < count; k++) {
+    if (!s2u_is_cell(ids[k])) return S2U_NO_CELL;
+    faces += s2u_level(ids[k]) == 0;
+  }
+  if (count == 0) return S2U_OK;
+  s2u_cover_bounds* boxes = (s2u_cover_bounds*)calloc(count + 3 * faces, sizeof *boxes);
+  if (!boxes) return S2U_MEMORY;
+  for (size_t k = 0; k < count; k++) {
+    s2u_square_of(ids[k], &at);
+    double size = at.size == S2U_GEO_SIDE ? at.size / 2 : at.size;
+    for (int child = 0; child < (at.size == S2U_GEO_SIDE ? 4 : 1); child++, length++) {
+      s2u_cover_box_of(at.face, at.i + (child & 1 ? size : 0), at.j + (child & 2 ? size : 0), size, &boxes[length]);
+      box->south = fmin(box->south, boxes[length].south);
+      box->north = fmax(box->north, boxes[length].north);
+    }
+  }
+  qsort(boxes, length, sizeof *boxes, s2u_cover_by_its_west);
+  s2u_cover_join_longitudes(boxes, length, box);
+  free(boxes);
+  return S2U_OK;
 }
 
 #endif

@@ -1,6 +1,6 @@
-/* Points in degrees for s2union.h: the leaf of a place, as S2 has it, and the middle of a cell. All of it is in this
- * header, in plain floating point, and needs the library for cells and -lm. It is tested beside S2, not proved. The
- * longitude comes first. */
+/* Points in degrees for s2union.h: the leaf of a place, as S2 has it, and the middle of a cell; and the cells beside a
+ * cell. All of it is in this header, in plain floating point or whole numbers, and needs the library for cells and
+ * -lm. It is tested beside S2, not proved. The longitude comes first. */
 #ifndef S2UNION_GEO_H
 #define S2UNION_GEO_H
 
@@ -61,6 +61,71 @@ static inline int32_t s2u_geo_middle(uint64_t cell, double* longitude, double* l
   int32_t status = s2u_square_of(cell, &square);
   if (status != S2U_OK) return status;
   s2u_geo_place(square.face, square.i + square.size / 2.0, square.j + square.size / 2.0, longitude, latitude);
+  return S2U_OK;
+}
+
+/* ---- cells beside a cell */
+
+/* The leaf of a face at a place on the cube, whose corners are S2U_GEO_SIDE from the middle along each axis. */
+static inline uint64_t s2u_geo_leaf_on_cube(uint32_t face, int64_t a, int64_t b) {
+  return s2u_from_face_ij(face, (uint32_t)((a + S2U_GEO_SIDE - 1) / 2), (uint32_t)((b + S2U_GEO_SIDE - 1) / 2));
+}
+
+/* The leaf at a place of a face. A place over an edge of the face, however far, has the first leaf there on the face
+ * that goes on from the edge; over a corner of the face there is none: 0. */
+static inline uint64_t s2u_geo_leaf_beside(uint32_t face, int64_t i, int64_t j) {
+  const int64_t side = S2U_GEO_SIDE, w = side - 1;
+  int is_i = i >= 0 && i < side, is_j = j >= 0 && j < side;
+  int64_t a = is_i ? 2 * i - w : i < 0 ? -side : side, b = is_j ? 2 * j - w : j < 0 ? -side : side, x, y, z;
+  if (is_i && is_j) return s2u_from_face_ij(face, (uint32_t)i, (uint32_t)j);
+  if (!is_i && !is_j) return 0;
+  switch (face) { /* as in s2u_geo_place, with the first row of the other face in the place of 1 */
+    case 0: x = w, y = a, z = b; break;
+    case 1: x = -a, y = w, z = b; break;
+    case 2: x = -a, y = -b, z = w; break;
+    case 3: x = -w, y = -b, z = -a; break;
+    case 4: x = b, y = -w, z = -a; break;
+    default: x = b, y = a, z = -w;
+  }
+  if (x == side) return s2u_geo_leaf_on_cube(0, y, z);
+  if (y == side) return s2u_geo_leaf_on_cube(1, -x, z);
+  if (z == side) return s2u_geo_leaf_on_cube(2, -x, -y);
+  if (x == -side) return s2u_geo_leaf_on_cube(3, -z, -y);
+  if (y == -side) return s2u_geo_leaf_on_cube(4, -z, x);
+  return s2u_geo_leaf_on_cube(5, y, x);
+}
+
+/* The four cells of a cell's level that share an edge with it: below, to the right, above and to the left on its face.
+ * S2CellId::GetEdgeNeighbors. S2U_NO_CELL if it is none. */
+static inline int32_t s2u_geo_edge_neighbors(uint64_t cell, uint64_t neighbors[4]) {
+  s2u_square at;
+  int32_t status = s2u_square_of(cell, &at), level = s2u_level(cell);
+  if (status != S2U_OK) return status;
+  const int64_t i = at.i, j = at.j, size = at.size;
+  const int64_t places[4][2] = {{i, j - size}, {i + size, j}, {i, j + size}, {i - size, j}};
+  for (int k = 0; k < 4; k++)
+    neighbors[k] = s2u_parent(s2u_geo_leaf_beside(at.face, places[k][0], places[k][1]), (uint32_t)level);
+  return S2U_OK;
+}
+
+/* The cells of a level around the corner of such a cell that is nearest to a deeper one: four, or three at a corner of
+ * the cube. The first has the deeper one. S2CellId::AppendVertexNeighbors. S2U_NO_CELL, or S2U_ARGUMENT for a level
+ * that is not above that of the cell. */
+static inline int32_t s2u_geo_vertex_neighbors(uint64_t cell, uint32_t level, uint64_t neighbors[4], size_t* count) {
+  s2u_square at, above;
+  int32_t status = s2u_square_of(cell, &at);
+  *count = 0;
+  if (status != S2U_OK) return status;
+  if (level >= (uint32_t)s2u_level(cell)) return S2U_ARGUMENT;
+  s2u_square_of(s2u_parent(cell, level), &above);
+  const int64_t size = above.size, i = above.i, j = above.j;
+  const int64_t east = 2 * ((int64_t)at.i - i) >= size ? i + size : i - size;
+  const int64_t north = 2 * ((int64_t)at.j - j) >= size ? j + size : j - size;
+  const int64_t places[4][2] = {{i, j}, {east, j}, {i, north}, {east, north}};
+  for (int k = 0; k < 4; k++) {
+    uint64_t leaf = s2u_geo_leaf_beside(at.face, places[k][0], places[k][1]);
+    if (leaf) neighbors[(*count)++] = s2u_parent(leaf, level);
+  }
   return S2U_OK;
 }
 

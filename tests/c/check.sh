@@ -70,6 +70,10 @@ covered() { # shapes in degrees
     program shapes "$static" -fsanitize=address,undefined -fno-sanitize-recover "$work/refuse.o"
 }
 step "coverings of shapes in degrees, and under the sanitizers" covered
+around() { # cells around cells
+  program neighbors "$static" -fsanitize=address,undefined -fno-sanitize-recover "$work/refuse.o"
+}
+step "cells around cells, and the boxes of unions, under the sanitizers" around
 included() { echo '#include <s2union_cover.h>' | "$@" "${strict[@]}" -I"$include" -fsyntax-only -; }
 for compiler in "gcc -x c -std=c99" "clang -x c -std=c17" "g++ -x c++ -std=c++11" "clang++ -x c++ -std=c++20"; do
   step "header of coverings: $compiler" included $compiler
