@@ -1,14 +1,17 @@
-/* Coverings of shapes in WKB, and regions as WKB, for PostgreSQL: functions of the extension s2union_geo. docs/GEO.md
- * says what each does. What the headers take of malloc is given back before an error. */
+/* Coverings of shapes in WKB, regions as WKB, and what is around cells and regions, for PostgreSQL: functions of the
+ * extension s2union_geo. docs/GEO.md says what each does. What the headers take of malloc is given back before an
+ * error. */
 #include "postgres.h"
 
 #include <math.h>
 
 #include "access/htup_details.h"
+#include "catalog/pg_type.h"
 #include "fmgr.h"
 #include "funcapi.h"
 #include "lib/stringinfo.h"
 #include "miscadmin.h"
+#include "utils/array.h"
 #include "value.h"
 
 #pragma GCC visibility push(hidden)
@@ -201,4 +204,43 @@ Datum s2_squares(PG_FUNCTION_ARGS) {
                  square.j + (child == 1 || child == 2 ? size : 0), size);
   }
   return finished_wkb(&wkb);
+}
+
+/* ---- the cells around cells, and the box around a region */
+
+/* The value of cells that were made of an argument and a level, or the error. */
+static Datum value_around(FunctionCallInfo fcinfo, int32_t status, s2u_cover_cells* cells) {
+  if (status == S2U_OK) return value_of_cells(cells);
+  s2u_cover_free(cells);
+  must_take_numbers(status, fcinfo, 1);
+  return (Datum)0;
+}
+
+PG_FUNCTION_INFO_V1(s2_neighbors);
+Datum s2_neighbors(PG_FUNCTION_ARGS) {
+  uint64_t cell = cell_argument(fcinfo, 0);
+  uint32_t level = PG_NARGS() > 1 ? (uint32_t)PG_GETARG_INT32(1) : (uint32_t)s2u_level(cell);
+  s2u_cover_cells cells;
+  return value_around(fcinfo, s2u_cover_neighbors(cell, level, &cells), &cells);
+}
+
+PG_FUNCTION_INFO_V1(s2_expanded);
+Datum s2_expanded(PG_FUNCTION_ARGS) {
+  S2Union* region = ARGUMENT(0);
+  s2u_cover_cells cells;
+  CHECK_FOR_INTERRUPTS();
+  return value_around(fcinfo, s2u_cover_expanded(LIST(region), (uint32_t)PG_GETARG_INT32(1), &cells), &cells);
+}
+
+PG_FUNCTION_INFO_V1(s2_bounds);
+Datum s2_bounds(PG_FUNCTION_ARGS) {
+  S2Union* region = ARGUMENT(0);
+  s2u_cover_bounds box;
+  CHECK_FOR_INTERRUPTS();
+  must_be_ok(s2u_cover_rect_bound(LIST(region), &box));
+  if (box.south > box.north) PG_RETURN_NULL();
+  Datum sides[] = {Float8GetDatum(box.west), Float8GetDatum(box.south), Float8GetDatum(box.east),
+                   Float8GetDatum(box.north)};
+  PG_RETURN_ARRAYTYPE_P(construct_array(sides, lengthof(sides), FLOAT8OID, sizeof(float8), FLOAT8PASSBYVAL,
+                                        TYPALIGN_DOUBLE));
 }

@@ -55,3 +55,52 @@ AS 'MODULE_PATHNAME'
 LANGUAGE C IMMUTABLE STRICT PARALLEL SAFE COST 1000;
 COMMENT ON FUNCTION s2_outline(s2union)
   IS 'a region as a MultiPolygon in WKB, in degrees, without the borders between its cells, cut at the date line';
+
+CREATE FUNCTION s2_neighbors(cell bigint)
+RETURNS s2union
+AS 'MODULE_PATHNAME'
+LANGUAGE C IMMUTABLE STRICT PARALLEL SAFE COST 10;
+COMMENT ON FUNCTION s2_neighbors(bigint)
+  IS 'the cells of a level that touch a cell, at an edge or a corner, as a union: of its own level, if none is '
+  'named. Errors: an invalid cell, a level above its own or beyond 30, more than 1,000,000 cells';
+
+CREATE FUNCTION s2_neighbors(cell text)
+RETURNS s2union
+LANGUAGE SQL IMMUTABLE STRICT PARALLEL SAFE
+RETURN s2_neighbors(s2_cell($1));
+COMMENT ON FUNCTION s2_neighbors(text)
+  IS 'the cells of a level that touch a cell, at an edge or a corner, as a union: of its own level, if none is '
+  'named. Errors: an invalid cell, a level above its own or beyond 30, more than 1,000,000 cells';
+
+CREATE FUNCTION s2_neighbors(cell bigint, level integer)
+RETURNS s2union
+AS 'MODULE_PATHNAME'
+LANGUAGE C IMMUTABLE STRICT PARALLEL SAFE COST 10;
+COMMENT ON FUNCTION s2_neighbors(bigint, integer)
+  IS 'the cells of a level that touch a cell, at an edge or a corner, as a union: of its own level, if none is '
+  'named. Errors: an invalid cell, a level above its own or beyond 30, more than 1,000,000 cells';
+
+CREATE FUNCTION s2_neighbors(cell text, level integer)
+RETURNS s2union
+LANGUAGE SQL IMMUTABLE STRICT PARALLEL SAFE
+RETURN s2_neighbors(s2_cell($1), $2);
+COMMENT ON FUNCTION s2_neighbors(text, integer)
+  IS 'the cells of a level that touch a cell, at an edge or a corner, as a union: of its own level, if none is '
+  'named. Errors: an invalid cell, a level above its own or beyond 30, more than 1,000,000 cells';
+
+CREATE FUNCTION s2_expanded(region s2union, level integer)
+RETURNS s2union
+AS 'MODULE_PATHNAME'
+LANGUAGE C IMMUTABLE STRICT PARALLEL SAFE COST 1000;
+COMMENT ON FUNCTION s2_expanded(s2union, integer)
+  IS 'a union with the cells of a level that touch it, at an edge or a corner; cells that are deeper are replaced by'
+  ' those of the level that have them. Errors: a level outside 0 to 30, more than 4,000,000 cells around it and '
+  'nine for each of its own';
+
+CREATE FUNCTION s2_bounds(region s2union)
+RETURNS float8[]
+AS 'MODULE_PATHNAME'
+LANGUAGE C IMMUTABLE STRICT PARALLEL SAFE COST 100;
+COMMENT ON FUNCTION s2_bounds(s2union)
+  IS 'the west, south, east and north of a union in degrees; over the date line the east is less than the west. NULL'
+  ' without cells';

@@ -101,6 +101,21 @@ static const char* const listed[][4] = {
    "a union that lies in polygons in WKB. Errors: those of s2_covering", "s2union_geo"},
   {"s2_interior", "shape, max_cells, max_level",
    "a union that lies in polygons in WKB. Errors: those of s2_covering", "s2union_geo"},
+  {"s2_neighbors", "cell",
+   "the cells of a level that touch a cell, at an edge or a corner, as a union: of its own level, if "
+   "none is named. Errors: an invalid cell, a level above its own or beyond 30, more than 1,000,000 "
+   "cells", "s2union_geo"},
+  {"s2_neighbors", "cell, level",
+   "the cells of a level that touch a cell, at an edge or a corner, as a union: of its own level, if "
+   "none is named. Errors: an invalid cell, a level above its own or beyond 30, more than 1,000,000 "
+   "cells", "s2union_geo"},
+  {"s2_expanded", "region, level",
+   "a union with the cells of a level that touch it, at an edge or a corner; cells that are deeper are "
+   "replaced by those of the level that have them. Errors: a level outside 0 to 30, more than 4,000,000 "
+   "cells around it and nine for each of its own", "s2union_geo"},
+  {"s2_bounds", "region",
+   "the west, south, east and north of a union in degrees; over the date line the east is less than the "
+   "west. NULL without cells. A list of JSON: `s2_bounds(region) ->> 0` is the west", "s2union_geo"},
   {"s2_version", "",
    "the version of the code that is loaded", "s2union"},
   {"s2_cells", "x",

@@ -100,6 +100,75 @@ static void cover(sqlite3_context* c, int n, sqlite3_value** v, int is_outer) {
   }
 }
 
+/* ---- the cells around cells, and the box around a region */
+
+/* The cells of a region, as in the extension s2union: of a union file, of tokens in a TEXT, or one. The caller frees
+ * them, also after an error. */
+static int32_t region_of(sqlite3_value* v, s2u_cover_cells* cells) {
+  int type = sqlite3_value_type(v);
+  const char* text = type == SQLITE_TEXT ? (const char*)sqlite3_value_text(v) : NULL;
+  const uint8_t* bytes = type == SQLITE_BLOB ? sqlite3_value_blob(v) : NULL;
+  size_t n = type == SQLITE_INTEGER ? 1 : (size_t)sqlite3_value_bytes(v);
+  size_t room = text ? S2U_MOST_NAMED(n) : bytes ? S2U_MOST_IN_FILE(n) : 1;
+  *cells = (s2u_cover_cells){NULL, 1};
+  if (type == SQLITE_FLOAT) return S2U_NO_CELL;
+  if (type != SQLITE_INTEGER && !text && !bytes && n > 0) return S2U_MEMORY;
+  if (!s2u_cover_resize(cells, room)) return S2U_MEMORY;
+  if (type == SQLITE_INTEGER) return cell_of(v, cells->ids);
+  return type == SQLITE_TEXT ? s2u_from_tokens(text, n, cells->ids, room, &cells->count)
+                             : s2u_decode(bytes, n, cells->ids, room, &cells->count);
+}
+
+static void result_around(sqlite3_context* c, int32_t status, sqlite3_value* v, s2u_cover_cells* cells) {
+  if (status == S2U_OK) result_cells(c, cells);
+  else if (status == S2U_MEMORY) sqlite3_result_error_nomem(c);
+  else refuse(c, s2u_status_text(status), v);
+  s2u_cover_free(cells);
+}
+
+static void neighbors_function(sqlite3_context* c, int n, sqlite3_value** v) {
+  uint64_t cell;
+  s2u_cover_cells cells = {NULL, 0};
+  if (sqlite3_value_type(v[0]) == SQLITE_NULL || sqlite3_value_type(v[n - 1]) == SQLITE_NULL) return;
+  int32_t status = cell_of(v[0], &cell);
+  if (status == S2U_OK && !s2u_is_cell(cell)) status = S2U_NO_CELL;
+  if (status != S2U_OK) {
+    result_around(c, status, v[0], &cells);
+    return;
+  }
+  sqlite3_int64 level = s2u_level(cell);
+  if (as_count(c, n > 1 ? v[1] : NULL, "a level is from 0 to 30", 30, &level))
+    result_around(c, s2u_cover_neighbors(cell, (uint32_t)level, &cells), v[n - 1], &cells);
+}
+
+static void expanded_function(sqlite3_context* c, int n, sqlite3_value** v) {
+  s2u_cover_cells region = {NULL, 0}, cells = {NULL, 0};
+  sqlite3_int64 level;
+  if (sqlite3_value_type(v[0]) == SQLITE_NULL || sqlite3_value_type(v[1]) == SQLITE_NULL ||
+      !as_count(c, v[1], "a level is from 0 to 30", 30, &level))
+    return;
+  int32_t status = region_of(v[0], &region);
+  if (status == S2U_OK) status = s2u_cover_expanded(region.ids, region.count, (uint32_t)level, &cells);
+  result_around(c, status, v[status == S2U_MANY ? 1 : 0], &cells);
+  s2u_cover_free(&region);
+}
+
+/* A list of JSON, as `bbox` of GeoJSON. */
+static void bounds_function(sqlite3_context* c, int n, sqlite3_value** v) {
+  s2u_cover_cells region = {NULL, 0}, none = {NULL, 0};
+  s2u_cover_bounds box = {0, 1, 0, 0};
+  if (sqlite3_value_type(v[0]) == SQLITE_NULL) return;
+  int32_t status = region_of(v[0], &region);
+  if (status == S2U_OK) status = s2u_cover_rect_bound(region.ids, region.count, &box);
+  s2u_cover_free(&region);
+  if (status != S2U_OK) {
+    result_around(c, status, v[0], &none);
+  } else if (box.south <= box.north) {
+    char* text = sqlite3_mprintf("[%!.17g,%!.17g,%!.17g,%!.17g]", box.west, box.south, box.east, box.north);
+    text ? sqlite3_result_text(c, text, -1, sqlite3_free) : sqlite3_result_error_nomem(c);
+  }
+}
+
 static void covering_function(sqlite3_context* c, int n, sqlite3_value** v) { cover(c, n, v, 1); }
 static void interior_function(sqlite3_context* c, int n, sqlite3_value** v) { cover(c, n, v, 0); }
 
@@ -115,6 +184,10 @@ int sqlite3_sunion_geo_init(sqlite3* db, char** error, const sqlite3_api_routine
     {"s2_interior", 1, interior_function},
     {"s2_interior", 2, interior_function},
     {"s2_interior", 3, interior_function},
+    {"s2_neighbors", 1, neighbors_function},
+    {"s2_neighbors", 2, neighbors_function},
+    {"s2_expanded", 2, expanded_function},
+    {"s2_bounds", 1, bounds_function},
   };
   SQLITE_EXTENSION_INIT2(api);
   int status = SQLITE_OK;

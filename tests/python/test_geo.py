@@ -22,9 +22,9 @@ from random import Random
 import numpy
 import pytest
 import s2union_geo
-from s2union import Union, from_face_ij, from_token, level, parent, square, tokens
-from s2union_geo import (area, boundary, circle, covering, coverings, interior, leaf, leaves, outline, points,
-                         read_geojson, to_geojson)
+from s2union import CellUnion, Union, from_face_ij, from_token, level, parent, square, tokens
+from s2union_geo import (area, boundary, bounds, circle, covering, coverings, edge_neighbors, expanded, interior, leaf,
+                         leaves, neighbors, outline, points, read_geojson, to_geojson, vertex_neighbors)
 from s2union_geo import coverer, geojson, interrupts, places, reading, sphere
 from s2union_geo.__main__ import main
 from s2union_geo import outlines
@@ -496,6 +496,79 @@ def test_rings(token, count):
     assert (len(ring), ring[0]) == (count, ring[-1])
     assert sum(x * to_y - to_x * y for (x, y), (to_x, to_y) in zip(ring, ring[1:])) >= 0
     assert max(abs(corner[0] - ring[0][0]) for corner in ring) <= 180
+
+
+# What S2 says: GetAllNeighbors of a cell at a level; the same of GetEdgeNeighbors; and of GetVertexNeighbors.
+AROUND = """
+1 0 3,5,9,b b,3,5,9 -
+1 1 24,3c,44,4c,8c,94,b4,bc b,3,5,9 -
+b 2 01,03,1d,1f,21,27,29,2b,6b,6d,73,75,95,97,99,9f 7,3,1,9 -
+14 1 04,0c,1c,24,3c,44,4c 1c,3c,44,0c 1,3,5
+04 2 09,0f,11,1b,1d,8d,93,95,b7,b9,bf bc,1c,0c,94 1,9,b
+3c 2 15,17,19,23,25,2f,31,37,41,43,5d 24,34,44,14 3,1,5
+54 3 454,4d4,4dc,4e4,4fc,584,59c,5a4,5ac,62c,7d4,7dc,7e4,7fc,804,80c,874,87c,884 5c,7c,84,4c 5,7,9
+5c 1 34,3c,44,4c,54,64,7c 34,64,54,44 5,7,3
+84 2 4d,53,55,77,79,7f,89,8f,91,9b,9d 7c,9c,8c,54 9,5,7
+89c25 8 89c21,89c23,89c27,89c29,89c2f,89c31,89c3b,89c3d 89c3b,89c23,89c27,89c2f 89c24,89c2c,89c3c,89c34
+"""
+
+
+class Around(unittest.TestCase):
+    def test_cells_that_s2_has(self):
+        for line in AROUND.strip().splitlines():
+            cell, at, around, edges, corner = line.split()
+            cell = from_token(cell)
+            self.assertEqual(tokens(list(neighbors(cell, int(at)))), around.split(","))
+            self.assertEqual(tokens(edge_neighbors(cell)), edges.split(","))
+            if corner != "-":
+                self.assertEqual(tokens(vertex_neighbors(cell, level(cell) - 1)), corner.split(","))
+
+    def test_who_is_whose_neighbor(self):
+        """Along and across faces, of each level: a neighbor's neighbors have the cell, and a ring of them is around."""
+        random = Random(9)
+        for turn in range(300):
+            cell = parent(random.choice([leaf(random.choice((45, -135, 0)) + random.uniform(-1e-7, 1e-7), random.choice(
+                (35.264389682754654, 0, -45))), from_face_ij(turn % 6, random.randrange(2**30), 0)]), turn % 31)
+            around = neighbors(cell)
+            self.assertIn(len(around), (7, 8) if turn % 31 else (4,))
+            for other in around:
+                self.assertIn(cell, neighbors(other))
+                self.assertEqual(level(other), turn % 31)
+            self.assertEqual(expanded(Union([cell]), turn % 31), around | Union([cell]))
+            self.assertTrue(set(edge_neighbors(cell)) <= set(around))
+            if turn % 31 < 25:
+                deep = neighbors(cell, turn % 31 + 3)
+                self.assertTrue(deep < around and not deep & Union([cell]) and len(deep) >= 4 * 8)
+
+    def test_boxes(self):
+        random = Random(4)
+        for turn in range(200):
+            cells = [from_token(f"{random.randrange(192):02x}1") for _ in range(1 + turn % 3)]
+            west, south, east, north = bounds(Union(cells))
+            for x, y in zip(*points(list(Union(cells).denormalised(6)))):
+                self.assertTrue(south <= y <= north and (west <= x <= east if west <= east else x >= west or x <= east))
+        for union, box in (("1", [-45, -45, 45, 45]), ("7", [135, -45, -135, 45]), ("b", [-180, -90, 180, -35.264390]),
+                           ("1 3 7 9", [-180, -45, 180, 45]), ("3 7", [45, -45, -135, 45])):
+            self.assertEqual([round(side, 6) for side in bounds(Union.from_tokens(union))], box)
+        self.assertIsNone(bounds(Union()))
+        self.assertEqual(expanded(Union(), 30), Union())
+        self.assertEqual(expanded(Union.from_tokens("3 9"), 0), Union.from_tokens("1 3 5 7 9 b"))
+
+    def test_what_is_refused(self):
+        face, every = from_token("1"), CellUnion.from_tokens("1")
+        for call, error in ((lambda: neighbors(2), "NotACellError: not a cell: 0x2"),
+                            (lambda: neighbors(face, 18), "TooManyCellsError: too many cells: level 18"),
+                            (lambda: neighbors(1, 29), "OutOfRangeError: argument out of range: level 29"),
+                            (lambda: neighbors(face, 31), "OutOfRangeError: level is out of range: 31"),
+                            (lambda: edge_neighbors(0), "NotACellError: not a cell: 0x0"),
+                            (lambda: vertex_neighbors(face, 0), "OutOfRangeError: argument out of range: level 0"),
+                            (lambda: vertex_neighbors(6, 0), "NotACellError: not a cell: 0x6"),
+                            (lambda: expanded(every, -1), "OutOfRangeError: level is out of range: -1"),
+                            (lambda: expanded(every, 30), "TooManyCellsError: too many cells: level 30"),
+                            (lambda: neighbors("1"), "TypeError: a cell is an int, not str")):
+            with self.assertRaises(Exception) as caught:
+                call()
+            self.assertTrue(f"{type(caught.exception).__name__}: {caught.exception}".startswith(error), error)
 
 
 class Maps(unittest.TestCase):

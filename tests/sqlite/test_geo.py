@@ -3,6 +3,7 @@
 S2UNION_SQLITE is the path of the extension for unions, beside which it lies."""
 
 import contextlib
+import json
 import math
 import os
 import sqlite3
@@ -53,7 +54,18 @@ LONGITUDE, LATITUDE = "s2: a longitude is a number from -540 to 540: ", "s2: a l
      "s2: a ring is open: its last position is not its first: ring 0, position 3"),
     ("s2_covering(?, 'x')", (wkb(SQUARE),), "s2: a number of cells is from 0 to 1000000: 'x'"),
     ("s2_covering(?, -1)", (wkb(SQUARE),), "s2: a number of cells is from 0 to 1000000: -1"),
-    ("s2_covering(?, 9, 31)", (wkb(SQUARE),), "s2: a level is from 0 to 30: 31")])
+    ("s2_covering(?, 9, 31)", (wkb(SQUARE),), "s2: a level is from 0 to 30: 31"),
+    ("s2_neighbors('1', 18)", (), "s2: too many cells: 18"),
+    ("s2_neighbors(1, 29)", (), "s2: argument out of range: 29"),
+    ("s2_neighbors(1, 31)", (), "s2: a level is from 0 to 30: 31"), ("s2_neighbors(1.5)", (), "s2: not a cell: 1.5"),
+    ("s2_neighbors(x'01', 9)", (), "s2: not a cell: a BLOB of length 1"),
+    ("s2_expanded('1', 'x')", (), "s2: a level is from 0 to 30: 'x'"),
+    ("s2_expanded('1', -1)", (), "s2: a level is from 0 to 30: -1"),
+    ("s2_expanded('1 x', 3)", (), "s2: not a cell: '1 x'"),
+    ("s2_expanded('1', 30)", (), "s2: too many cells: 30"), ("s2_expanded(2, 3)", (), "s2: not a cell: 2"),
+    ("s2_bounds(x'')", (), "s2: union file: bytes are missing: a BLOB of length 0"),
+    ("s2_bounds(x'010100000000000000')", (), "s2: union file: bytes are missing: a BLOB of length 9"),
+    ("s2_bounds(1.5)", (), "s2: not a cell: 1.5")])
 def test_what_is_refused(call, values, wanted):
     with contextlib.closing(opened()) as db, pytest.raises(sqlite3.OperationalError) as caught:
         db.execute(f"SELECT {call}", values).fetchone()
@@ -85,18 +97,20 @@ class Points(unittest.TestCase):
 
     def test_nothing(self):
         for call in ("s2_leaf_at(NULL, 1)", "s2_leaf_at(1, NULL)", "s2_leaf_at(NULL, 91)", "s2_longitude(NULL)",
-                     "s2_latitude(NULL)", "s2_covering(NULL)", "s2_interior(x'', NULL)", "s2_covering(x'', 9, NULL)"):
+                     "s2_latitude(NULL)", "s2_covering(NULL)", "s2_interior(x'', NULL)", "s2_covering(x'', 9, NULL)",
+                     "s2_neighbors(NULL)", "s2_neighbors(2, NULL)", "s2_neighbors(NULL, 99)", "s2_expanded(NULL, 99)",
+                     "s2_expanded(2, NULL)", "s2_bounds(NULL)", "s2_bounds('')"):
             self.assertEqual(self.said(call), (None,))
         self.assertEqual(self.said("s2_leaf_at(?, 1)", math.nan), (None,))  # which SQLite has as NULL
 
     def test_cells_that_there_are_not(self):
         """Asked of each function that SQLite lists."""
         names = {name for name, in self.db.execute("SELECT name FROM pragma_function_list WHERE name LIKE 's2%'")}
-        for name in names - {"s2_leaf_at", "s2_covering", "s2_interior"}:
+        for name in names - {"s2_leaf_at", "s2_covering", "s2_interior", "s2_expanded", "s2_bounds"}:
             for wrong in NO_CELLS:
                 with self.assertRaisesRegex(sqlite3.OperationalError, "^s2: not a cell: "):
                     self.said(f"{name}(?)", wrong)
-        self.assertEqual(len(names), 5)
+        self.assertEqual(len(names), 8)
 
     def test_coverings(self):
         """Of a square, in both orders of bytes: places in it and beside it, how many cells, and how deep."""
@@ -115,6 +129,25 @@ class Points(unittest.TestCase):
             self.assertEqual(said("s2_contains(s2_covering(?1), s2_interior(?1)), "
                                   "s2_contains(s2_interior(?1), s2_covering(?1))", square), (1, 0))
             self.assertEqual(said("s2_count(s2_covering(x'010700000000000000'))"), (0,))
+
+    def test_what_is_around(self):
+        """Of a region as a BLOB, a TEXT and a cell; across faces; and over the date line."""
+        with contextlib.closing(opened(os.environ["S2UNION_SQLITE"])) as db:
+            def said(text, *values):
+                return db.execute(f"SELECT {text}", values).fetchone()
+
+            self.assertEqual(said("s2_tokens(s2_neighbors('14')), s2_tokens(s2_neighbors(?, 0)), s2_tokens(s2_expanded("
+                                  "'3 9', 0))", 1 << 60), ("04 0c 1c 24 3c 44 4c", "3 5 9 b", "1 3 5 7 9 b"))
+            for region in ("'89c25'", "s2_normalise('89c25')", "s2_cell('89c25')"):
+                self.assertEqual(said(f"s2_tokens(s2_expanded({region}, 8)), round(s2_bounds({region}) ->> 0, 3)"),
+                                 ("89c24 89c29 89c2f 89c31 89c3b 89c3d", -74.218))
+            self.assertEqual(said("s2_expanded('89c25', 8) = s2_union(s2_neighbors('89c25'), '89c25'),"
+                                  "s2_count(s2_neighbors('89c25', 10)), s2_count(s2_neighbors('1', 17))"),
+                             (1, 20, 524288))
+            for region, wanted in (("7", [135, -45, -135, 45]), ("5", [-180, 35, 180, 90]),
+                                   ("1 3", [-45, -45, 135, 45])):
+                (box,) = said("s2_bounds(?)", region)
+                self.assertEqual([round(side) for side in json.loads(box)], wanted)
 
     def test_an_index(self):
         """The functions are deterministic, so an index and a generated column may have them."""

@@ -572,7 +572,8 @@ static PyMethodDef methods[] = {
   METHOD(refuse, METH_VARARGS) METHOD(leaf, METH_VARARGS) METHOD(leaves, METH_VARARGS) METHOD(middles, METH_O)
   METHOD(outline, METH_O) METHOD(boundary, METH_O)
   METHOD(coverings, METH_VARARGS) METHOD(coverings_of_wkb, METH_VARARGS) METHOD(coverings_of_circle, METH_VARARGS)
-  METHOD(level_within, METH_O)
+  METHOD(level_within, METH_O) METHOD(neighbors, METH_VARARGS) METHOD(edge_neighbors, METH_O)
+  METHOD(vertex_neighbors, METH_VARARGS) METHOD(expanded, METH_VARARGS) METHOD(rect_bound, METH_O)
   {NULL, NULL, 0, NULL}
 };
 

@@ -1,11 +1,14 @@
 /* Places in degrees for places.py and sphere.py of s2union_geo: by s2union_geo.h, so that cells are S2's bit for bit.
- * Outlines of unions for outlines.py, by s2union_outline.h, and coverings for coverer.py, by s2union_cover.h. */
+ * Outlines of unions for outlines.py, by s2union_outline.h, and coverings for coverer.py, by s2union_cover.h; and by
+ * these two the cells around cells for around.py. */
 
 /* The library's calls that the headers make. They are the same for each interpreter, as the library is. */
 static Calls there;
 #define s2u_from_face_ij there.s2u_from_face_ij
 #define s2u_square_of there.s2u_square_of
 #define s2u_is_union there.s2u_is_union
+#define s2u_is_cell there.s2u_is_cell
+#define s2u_level there.s2u_level
 #define s2u_parent there.s2u_parent
 #define s2u_size there.s2u_size
 #define s2u_normalise there.s2u_normalise
@@ -21,6 +24,8 @@ static Calls there;
 #undef s2u_from_face_ij
 #undef s2u_square_of
 #undef s2u_is_union
+#undef s2u_is_cell
+#undef s2u_level
 #undef s2u_parent
 #undef s2u_size
 #undef s2u_normalise
@@ -229,4 +234,76 @@ static PyObject* py_level_within(PyObject* module, PyObject* given) {
   double meters;
   (void)module;
   return as_meters(given, &meters) ? PyLong_FromUnsignedLong(s2u_cover_level_within(S2U_COVER_KEPT * meters)) : NULL;
+}
+
+/* ---- cells around cells */
+
+/* The error of a cell and a level. */
+static PyObject* refused_around(int32_t status, uint64_t cell, uint64_t level) {
+  if (status == S2U_NO_CELL) return refused_number(cell, NULL);
+  if (status == S2U_MEMORY) return refused(status, NULL);
+  return raise_refusal(status, "%s: level %d", s2u_status_text(status), (int)level);
+}
+
+/* The cells of an answer as bytes, or its error. */
+static PyObject* cells_of(int32_t status, s2u_cover_cells* cells, uint64_t cell, uint64_t level) {
+  PyObject* answer = status == S2U_OK ? bytes_of_cells(cells) : refused_around(status, cell, level);
+  s2u_cover_free(cells);
+  return answer;
+}
+
+static bool as_cell_and_level(PyObject* words, uint64_t* cell, uint64_t* level) {
+  return has(words, 2) && as_cell(WORD(0), cell) && as_number(WORD(1), "level", 0, 30, level);
+}
+
+static PyObject* py_neighbors(PyObject* module, PyObject* words) {
+  uint64_t cell, level;
+  s2u_cover_cells found;
+  int32_t status;
+  (void)module;
+  if (!as_cell_and_level(words, &cell, &level)) return NULL;
+  UNLOCKED(status = s2u_cover_neighbors(cell, (uint32_t)level, &found));
+  return cells_of(status, &found, cell, level);
+}
+
+static PyObject* py_edge_neighbors(PyObject* module, PyObject* given) {
+  uint64_t cell, found[4];
+  (void)module;
+  if (!as_cell(given, &cell)) return NULL;
+  int32_t status = s2u_geo_edge_neighbors(cell, found);
+  return status == S2U_OK ? PyBytes_FromStringAndSize((const char*)found, sizeof found) : refused_number(cell, NULL);
+}
+
+static PyObject* py_vertex_neighbors(PyObject* module, PyObject* words) {
+  uint64_t cell, level, found[4];
+  size_t count;
+  (void)module;
+  if (!as_cell_and_level(words, &cell, &level)) return NULL;
+  int32_t status = s2u_geo_vertex_neighbors(cell, (uint32_t)level, found, &count);
+  if (status == S2U_OK) return PyBytes_FromStringAndSize((const char*)found, (Py_ssize_t)(8 * count));
+  return refused_around(status, cell, level);
+}
+
+static PyObject* py_expanded(PyObject* module, PyObject* words) {
+  HELD List cells = {0};
+  uint64_t level;
+  s2u_cover_cells found;
+  int32_t status;
+  (void)module;
+  if (!has(words, 2) || !as_number(WORD(1), "level", 0, 30, &level) || !as_list(WORD(0), sizeof(uint64_t), &cells))
+    return NULL;
+  UNLOCKED(status = s2u_cover_expanded(cells.at, cells.n, (uint32_t)level, &found));
+  return cells_of(status, &found, 0, level);
+}
+
+/* West, south, east and north in degrees; of no cell the south is more than the north. */
+static PyObject* py_rect_bound(PyObject* module, PyObject* given) {
+  HELD List cells = {0};
+  s2u_cover_bounds box;
+  int32_t status;
+  (void)module;
+  if (!as_list(given, sizeof(uint64_t), &cells)) return NULL;
+  UNLOCKED(status = s2u_cover_rect_bound(cells.at, cells.n, &box));
+  if (status != S2U_OK) return refused(status, NULL);
+  return Py_BuildValue("(dddd)", box.west, box.south, box.east, box.north);
 }
