@@ -9,7 +9,7 @@ import unittest
 
 from model.engine import INSTALL, WORK, MariadbServer
 from model.random_cells import FACE, Random, signed
-from model.shapes import NO_SHAPES, SHAPES
+from model.shapes import box, of_lines, of_polygons, shapes_in_wkb, wkb_of
 
 random = Random(12)
 CELL = FACE + FACE // 4
@@ -47,10 +47,11 @@ TEXTS += ["", " ", "1", "14", "64c", "X", "0/", "0/0", "4/032212", "0/4", "6/", 
 CELLS = [signed(cell) for cell in {*NO_CELLS, *(cell for cells in LISTS for cell in cells[:3])}]
 NUMBERS = [-2**63, -1, *range(5), 12, 29, 30, 31, 99, 100, 2**32, 2**63 - 1]
 DEGREES = [0.0, -0.0, 2.3522, 48.8566, -90.0, 90.0, 90.0000001, 180.0, 540.0, -540.0, 540.0000001, 1e30, -1e-300]
-COUNTS = [-2**63, -1, 0, 7, 300, 1_000_001, 2**32 + 9]
-DEPTHS = [-1, 0, 9, 30, 31, 2**32 + 9, 2**63 - 1]
+SQUARE, LINE = wkb_of(of_polygons([box(2, 48, 3, 49)])), wkb_of(of_lines([(0, 0), (10, 5)]))
+COUNTS = [-1, 7, 300, 1_000_001, 2**32 + 9]
+DEPTHS = [-1, 9, 30, 31, 2**32 + 9]
 KINDS = {"files": ("longblob", FILES), "texts": ("longtext", TEXTS), "cells": ("bigint", CELLS),
-         "numbers": ("bigint", NUMBERS), "degrees": ("double", DEGREES), "shapes": ("longblob", SHAPES + NO_SHAPES),
+         "numbers": ("bigint", NUMBERS), "degrees": ("double", DEGREES), "shapes": ("longblob", shapes_in_wkb()),
          "counts": ("bigint", COUNTS), "depths": ("bigint", DEPTHS)}
 UNION, CELL_OF, NUMBER, DEGREE = ("files", "texts", "cells"), ("texts", "cells"), ("numbers",), ("degrees", "numbers")
 SHAPE, COUNT, DEPTH = ("shapes",), ("counts",), ("depths",)
@@ -175,7 +176,7 @@ class BesideSqlite(MariadbServer):
                         self.assertEqual(error[-len(wanted):] if wanted else error, wanted, (name, given))
                         asked += 1
                         if not fits and value in (sample, *others) and column != "m":
-                            other = [{DEGREE: "0", SHAPE: f"x'{SHAPES[0].hex()}'"}.get(each, "1") for each in takes]
+                            other = [{DEGREE: "0", SHAPE: f"x'{SQUARE.hex()}'"}.get(each, "1") for each in takes]
                             other[place] = value
                             statement = f"SELECT {BESIDE.get(name, name)}({', '.join(other)})"
                             with self.assertRaises(sqlite3.OperationalError, msg=statement):
@@ -225,9 +226,8 @@ class BesideSqlite(MariadbServer):
         many = list(range(1, 160001, 8))
         self.ask(f"""USE trial; CREATE TABLE large (u longblob, w longblob, t longtext);
             INSERT INTO large VALUES (x'{file(many).hex()}', x'{file(many[::-1]).hex()}', '{words(many)}');""")
-        shape, line = (f"x'{SHAPES[place].hex()}'" for place in (0, 44))
-        for call in (f"length(s2_covering({shape}, 500))", f"s2_interior({line}, 500)",
-                     f"s2_covering(x'{NO_SHAPES[-1].hex()}')", "length(s2_union(u, w))", "length(s2_complement(u))",
+        for call in (f"length(s2_covering(x'{SQUARE.hex()}', 500))", f"s2_interior(x'{LINE.hex()}', 500)",
+                     f"s2_covering(x'{SQUARE[:-1].hex()}')", "length(s2_union(u, w))", "length(s2_complement(u))",
                      "length(s2_tokens(u))", "length(s2_normalise(t))", "s2_contains(u, t)", "s2_contains(w, u)",
                      "s2_union(u, 'x')", "s2_count(w)", "s2_intersects_cell(t, 1)"):
             before = self.resident()

@@ -10,6 +10,8 @@ an error, with the ring and the position or the byte if it has a place. 'holds' 
 the shape, and the others outside. An outline has its polygons as a shape, and a boundary its lines.
 """
 
+import contextlib
+import io
 import math
 import struct
 from random import Random
@@ -24,6 +26,7 @@ ERRORS = {-6: "many", -101: "number", -102: "few", -103: "open", -104: "pieces",
           -108: "wkb", -109: "type", -110: "srid", -111: "deep"}
 WITHOUT_PLACE = "many", "pieces", "outside"
 random = Random(20261129)
+in_wkb = []  # each shape that was asked about
 
 
 def say(call, *words):
@@ -110,12 +113,14 @@ def wkb_of(shape, order="<"):
 
 def cover(shape, *more, **named):
     given = options(*more, **named)
+    in_wkb.append(wkb_of(shape))
     found = answers(_library.coverings(*flat(shape), of_library(given), 3))
     say("rings", shape_in_words(shape), in_words(given), *found)
 
 
 def cover_wkb(data, *more, **named):
     given = options(*more, **named)
+    in_wkb.append(data)
     say("wkb", data.hex(), in_words(given), *answers(_library.coverings_of_wkb(data, of_library(given), 3)))
 
 
@@ -306,7 +311,18 @@ def outlines():
             say(call, cells(union), shape_in_words(shape))
 
 
-if __name__ == "__main__":
+def say_all():
     for part in (places, triangles, zones, date_line_and_poles, holes_and_crossings, lines_and_points, of_wkb,
                  circles_and_boxes, refusals, outlines):
         part()
+
+
+def shapes_in_wkb():
+    """Each shape once, and the bytes that are none, without what is said of them: for databases."""
+    with contextlib.redirect_stdout(io.StringIO()):
+        say_all()
+    return list(dict.fromkeys(in_wkb))
+
+
+if __name__ == "__main__":
+    say_all()

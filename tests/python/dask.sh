@@ -85,38 +85,52 @@ int s2u_tokens(const void* ids, size_t n, char* text, size_t room, size_t* len) 
     LD_PRELOAD=$work/long.so Rscript -e 'tryCatch(s2union::s2u_tokens(s2::as_s2_cell("1")), S2U_MANY = print)' >said &&
     grep S2U_MANY said
 )
-shapes_of_r() ( # the cells of each shape, and the kind of its error, beside those of Python
-  cd "$work" && /usr/bin/python3 -m model.shapes >shapes && Rscript - >said <<'R' && /usr/bin/python3 - <<'PYTHON'
+shapes_of_r() ( # the cells of shapes, and the names and places of errors, which tests/model/shapes.py has of Python
+  cd "$work" && /usr/bin/python3 -m model.shapes | grep -P '^(wkb|rings)\t' >shapes && Rscript - <<'R'
 library(s2union)
-options <- list(list(), list(9, 3, 12), list(50, margin = 5000), list(within = 20000), list(99, edges = "geodesic"))
-hex <- function(x) paste(s2u_encode(x), collapse = "")
-for (line in readLines("shapes")) {
-  digits <- strtoi(strsplit(line, "")[[1]], 16)
-  wkb <- if (nchar(line)) as.raw(16 * digits[c(TRUE, FALSE)] + digits[c(FALSE, TRUE)]) else raw()
-  for (each in options) cat(tryCatch({
-    both <- do.call(s2u_coverings, c(list(wkb), each))
-    stopifnot(identical(both$outer, do.call(s2u_covering, c(list(wkb), each))),
-              identical(both$inner, do.call(s2u_interior, c(list(wkb), each))))
-    paste(hex(both$outer), hex(both$inner))
-  }, s2union_error = conditionMessage), "\n", sep = "")
+bytes <- function(hex) {
+  digits <- strtoi(strsplit(hex, "")[[1]], 16)
+  if (nchar(hex)) as.raw(16 * digits[c(TRUE, FALSE)] + digits[c(FALSE, TRUE)]) else raw()
 }
+numbers <- function(hex) readBin(bytes(hex), "double", nchar(hex) / 16, endian = "big")
+polygons <- function(words) { # lists of matrices; NULL if there are lines
+  parts <- strsplit(strsplit(words, " ")[[1]], ":")
+  of <- vapply(parts, `[`, "", 1)
+  rings <- lapply(parts, function(part) matrix(numbers(if (is.na(part[2])) "" else part[2]), ncol = 2, byrow = TRUE))
+  if ("-" %in% of) NULL else unname(split(rings, factor(of, unique(of))))
+}
+cells <- function(x) {
+  found <- matrix(s2u_encode(x)[-(1:9)], nrow = 8)
+  paste(apply(found, 2, function(cell) sub("^0+", "", paste(rev(cell), collapse = ""))), collapse = " ")
+}
+name <- function(error) {
+  name <- tolower(sub("S2U_(COVER_)?", "", class(error)[1]))
+  if (name %in% c("many", "pieces", "outside", "option")) return(paste0("!", name))
+  paste0("!", paste(c(name, na.omit(c(error$ring, error$place)) - 1), collapse = " "))
+}
+kinds <- c("map", "geodesic", "left")
+asked <- 0
+for (line in strsplit(readLines("shapes"), "\t")) {
+  shape <- if (line[1] == "wkb") bytes(line[2]) else polygons(line[2])
+  words <- strsplit(line[3], " ")[[1]]
+  most <- as.numeric(words[1:4])
+  meters <- c(numbers(words[5]), numbers(words[6]))
+  if (is.null(shape) || most[4] > 2) next
+  within <- if (!identical(meters[2], 0)) meters[2]
+  options <- list(shape, most[1], most[2], most[3], within, meters[1], kinds[most[4] + 1])
+  said <- tryCatch({
+    both <- do.call(s2u_coverings, options)
+    stopifnot(identical(both$outer, do.call(s2u_covering, options)),
+              identical(both$inner, do.call(s2u_interior, options)))
+    c(cells(both$outer), cells(both$inner))
+  }, s2union_error = name)
+  wanted <- line[-(1:3)]
+  wanted <- if (startsWith(wanted[1], "!")) wanted[1] else c(wanted, "")[1:2]
+  if (!identical(said, wanted)) stop(paste(c(line[1:3], "wanted", wanted, "said", said), collapse = "\n"))
+  asked <- asked + 1
+}
+cat(asked, "passed, 0 failed\n")
 R
-import itertools
-from s2union_geo import coverings
-from model.shapes import NO_SHAPES, SHAPES
-options = [{}, {"max_cells": 9, "min_level": 3, "max_level": 12}, {"max_cells": 50, "margin": 5000},
-           {"within": 20000}, {"max_cells": 99, "edges": "geodesic"}]
-said = open("said").read().splitlines()
-questions = list(itertools.product(SHAPES + NO_SHAPES, options))
-for (shape, options), answer in zip(questions, said, strict=True):
-    try:
-        wanted = " ".join(union.to_bytes().hex() for union in coverings(shape, **options))
-    except ValueError as error: # whose text has no place; without the first byte of WKB it is read as GeoJSON
-        wanted, answer = str(error), answer[:len(str(error))]
-        answer = wanted if wanted.startswith("the text is no") and answer.startswith("the bytes are no") else answer
-    assert answer == wanted, (shape.hex(), options, answer, wanted)
-print(len(said), "passed, 0 failed")
-PYTHON
 )
 page_of_r() (
   cd "$work" && block R.md r >first.R && block R.md "text r" >wanted && [ -s wanted ] && Rscript first.R >said &&

@@ -173,13 +173,11 @@ static SEXP r_leaf(SEXP longitude, SEXP latitude) { /* two vectors of one length
 static uint32_t count_of(double number) { /* what is none, or too large, is out of the range of each option */
   return number >= 0 && number <= UINT_MAX && number == floor(number) ? (uint32_t)number : UINT_MAX;
 }
-#define KEPT 0.96 /* the part of `within` that a cell at the border may be wide; the rest pays for bends and rounding */
 static s2u_cover_options options_of(SEXP numbers) { /* max_cells, min_level, max_level, margin, edges, within or NA */
   const double *at = REAL(numbers), within = at[5];
   s2u_cover_options it = {count_of(at[0]), count_of(at[1]), count_of(at[2]), count_of(at[4]), at[3]};
-  uint32_t fine = ISNA(within) ? 30 : s2u_cover_level_within(KEPT * within);
-  if (!ISNA(within) && !(within > 0)) it.margin = NAN; /* refused as each other number of meters */
-  if (fine < it.max_level && it.max_level <= 30) it.max_level = fine < it.min_level ? it.min_level : fine;
+  int is_kept = ISNA(within) || it.max_level > 30 || s2u_cover_keep_within(&it, within) == S2U_OK;
+  if (!is_kept) it.margin = NAN; /* refused as each other number of meters */
   return it;
 }
 
