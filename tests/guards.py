@@ -341,6 +341,7 @@ def make(mistake, file):
 
 
 def mistakes(counts, room):
+    room.mkdir()
     copy_tracked(TOP, room)
     for words in (["init", "-q"], ["add", "-A"]):
         subprocess.run(["git", *words], cwd=room, check=True)
@@ -371,7 +372,7 @@ def main():
     ends_of_steps(counts)
     ends_of_checks(counts)
     with tempfile.TemporaryDirectory() as room:
-        mistakes(counts, Path(room).resolve())
+        mistakes(counts, Path(room).resolve() / "src")  # a name that folders of it have too
     print(f"{counts.passed} passed, {counts.failed} failed")
     return counts.failed > 0
 

@@ -254,8 +254,7 @@ def exported_names(crate):
 
 
 def source_module(file):
-    parts = file.with_suffix("").parts
-    return ".".join(parts[parts.index("src") + 1:])
+    return ".".join(file.relative_to(ROOT / "crates").with_suffix("").parts[2:])  # below the crate's src
 
 
 def rust_names(text):

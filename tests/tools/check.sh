@@ -1,10 +1,12 @@
 #!/usr/bin/env bash
 # What the commands of tools/ say of words that they don't know, of other sources, and without the kit: tests/run tools.
-# It needs the archive of `tests/run archive`; where neither that nor the kit is, it leaves out what is asked of it. The
-# last line is 'N passed, M failed'; the status is 1 if any failed.
+# It needs the archive of `tests/run archive`; where neither that nor the kit is, it leaves out what is asked of it. It
+# installs the Debian packages that it needs. The last line is 'N passed, M failed'; the status is 1 if any failed.
 . "$(dirname "$0")/../steps.sh"
 taken=--no-build
 [ -e "$top/crates/s2union_c/out/archive.json" ] || command -v rt >/dev/null || taken=--released
+need_linker
+need_packages
 
 own_sources() ( # in a copy, where no kit is, the archive stays as long as its sources do
   cd "$top" && mkdir "$work/copy" &&
