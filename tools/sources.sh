@@ -1,6 +1,6 @@
-# The calculator and its sources, for s2calc and tools/prove, which set $top to the repository. As a command it prints a
-# checksum, `bash tools/sources.sh sum [CRATE [TARGET [FILE..]]]`, or lines of crates.txt, `.. below CRATE`. It needs no
-# Python.
+# The calculator and its sources, for tools/prove, which sets $top to the repository. As a command it prints a checksum,
+# `bash tools/sources.sh sum [CRATE [TARGET [FILE..]]]`, or lines of crates.txt, `.. below CRATE`; `.. proved` ends with
+# 0 if the calculator is proved and built of its sources. It needs no Python.
 [ "${BASH_SOURCE[0]}" != "$0" ] || { set -euo pipefail && top=$(cd "$(dirname "$0")/.." && pwd); }
 program=$top/crates/calculator/out/calculator
 sources=("$top/crates.txt" "$top"/crates/*/{src,specs,proofs})
@@ -37,42 +37,26 @@ checksum() { # [CRATE [TARGET [FILE..]]]
   )
 }
 
-is_current() { # FILE [TEST OF find..]: whether it is there, and no source is newer, or no folder of sources either
-  [ -e "$1" ] && [ -z "$(find "${sources[@]}" -newer "$1" "${@:2}" -print -quit 2>/dev/null)" ]
-}
-
-# Puts into `sum` the checksum of the calculator's sources, which is kept until one of them is newer. What else than a
-# plain file has the name of the one that is kept isn't read.
-find_sum() {
-  local new
-  sum=
-  if [ -f "$kept/checksum" ] && [ ! -L "$kept/checksum" ] && is_current "$kept/checksum"; then
-    read -r sum <"$kept/checksum" || sum=
-  fi
-  [ -z "$sum" ] || return 0
-  new=$({ mkdir -p "$kept" && mktemp "$kept/checksum.XXXXXX"; } 2>/dev/null) || new=
-  sum=$(checksum) || sum=
-  [ -z "$new" ] || {
-    [ -z "$sum" ] || { echo "$sum" >"$new.of" && touch -r "$new" "$new.of" && mv -fT "$new.of" "$kept/checksum"; }
-    rm -f "$new" "$new.of"
-  } 2>/dev/null
-  [ -n "$sum" ]
+is_current() { # whether no source is newer than the program
+  [ -z "$(find "${sources[@]}" -type f -newer "$program" -print -quit 2>/dev/null)" ]
 }
 
 # Whether the program was proved and built of these sources: none is newer; or all are what they were when none was, and
 # were only written anew. Their checksum then stands beside the program.
 is_proved() {
+  local sum
   [ -x "$program" ] || return
-  if is_current "$program" -type f; then
-    [ "$program.of" -nt "$program" ] || { find_sum && is_current "$program" -type f &&
-      echo "$sum" >"$program.of"; } 2>/dev/null || true
+  if is_current; then
+    [ "$program.of" -nt "$program" ] || { sum=$(checksum) && is_current && echo "$sum" >"$program.of"; } 2>/dev/null ||
+      true
   else
-    [ "$program.of" -nt "$program" ] && find_sum && [ "$sum" = "$(cat "$program.of")" ]
+    [ "$program.of" -nt "$program" ] && sum=$(checksum) && [ "$sum" = "$(cat "$program.of")" ]
   fi
 }
 
 [ "${BASH_SOURCE[0]}" != "$0" ] || case ${1-} in
   sum) checksum "${@:2}" ;;
   below) lines_below "$2" ;;
-  *) echo "tools/sources.sh: bash tools/sources.sh sum [CRATE [TARGET [FILE..]]], or below CRATE" >&2 && exit 2 ;;
+  proved) is_proved ;;
+  *) echo "bash tools/sources.sh sum [CRATE [TARGET [FILE..]]], below CRATE, or proved" >&2 && exit 2 ;;
 esac

@@ -5,6 +5,7 @@ import re
 import shlex
 import shutil
 import subprocess
+import sys
 import tempfile
 import unittest
 
@@ -59,8 +60,8 @@ class Launcher(unittest.TestCase):
 
     def make_repository(self):
         """Makes a repository of one source in the folder, with a kit, and answers how its commands are run."""
-        self.copy("s2calc", "tools/prove", "tools/usage.sh", "tools/sources.sh", "tools/launcher/launcher",
-                  "tools/launcher/unbuilt.sh", "VERSION", "KIT", "HANDLES", "crates.txt", "crates/s2cell/src/lib.rt")
+        self.copy("s2calc", "tools/prove", "tools/usage.sh", "tools/sources.sh", "tools/chosen.py",
+                  "tools/launcher/launcher", "VERSION", "KIT", "HANDLES", "crates.txt", "crates/s2cell/src/lib.rt")
         with open(os.path.join(TOP, "crates.txt"), encoding="utf-8") as it:
             for line in it:
                 os.makedirs(os.path.join(self.room, "crates", re.match(r"\w+", line)[0]), exist_ok=True)
@@ -75,8 +76,7 @@ class Launcher(unittest.TestCase):
             it.write(text)
         os.chmod(path, 0o755)
 
-    def environment(self, has_kit=True, **more):
-        """Where there is no Python."""
+    def environment(self, has_kit=True, has_python=True, **more):
         path = os.path.join(self.room, "tools_of_the_system")
         if not os.path.isdir(path):
             os.mkdir(path)
@@ -84,8 +84,10 @@ class Launcher(unittest.TestCase):
                 for name in os.listdir(folder):
                     if not name.startswith("python") and not os.path.lexists(os.path.join(path, name)):
                         os.symlink(os.path.join(folder, name), os.path.join(path, name))
-        if has_kit:
-            path = os.path.join(self.room, "bin") + ":" + path
+            os.makedirs(os.path.join(self.room, "python"))
+            os.symlink(sys.executable, os.path.join(self.room, "python", "python3"))
+        for folder in ["bin"] * has_kit + ["python"] * has_python:
+            path = os.path.join(self.room, folder) + ":" + path
         return {"PATH": path, "COUNT": os.path.join(self.room, "count"), **more}
 
     def builds(self):
@@ -109,11 +111,7 @@ class Launcher(unittest.TestCase):
 
     def test_the_program_of_the_release(self):
         """It is run where it was proved from the sources that are here, and where no other can be had."""
-        how = self.make_repository()
-        how["env"] = self.environment(has_kit=False)
-        self.write("dist/s2calc", "#!/bin/sh\necho released\n")
-        sources = subprocess.run(["bash", "tools/sources.sh", "sum"], check=True, **how).stdout.strip()
-        self.write("dist/README.md", f"- Sources: `{sources}`\n")
+        how = self.make_released()
         for has_kit in False, True:
             how["env"] = self.environment(has_kit)
             done = subprocess.run(["./s2calc", "run"], check=True, **how)
@@ -131,20 +129,39 @@ class Launcher(unittest.TestCase):
         done = subprocess.run(["./s2calc", "run"], check=True, **how)
         self.assertEqual((done.stdout, done.stderr), ("released\n", ""))
 
-    def test_a_checksum_that_is_no_file(self):
-        """What stands in the place of the one that is kept isn't read, and keeps no call from its end."""
+    def make_released(self):
+        """Makes a repository with a release of its sources, and answers how its commands are run, without a kit."""
         how = self.make_repository()
         how["env"] = self.environment(has_kit=False)
         self.write("dist/s2calc", "#!/bin/sh\necho released\n")
         sources = subprocess.run(["bash", "tools/sources.sh", "sum"], check=True, **how).stdout.strip()
         self.write("dist/README.md", f"- Sources: `{sources}`\n")
-        kept = os.path.join(self.room, ".s2calc", "checksum")
+        return how
+
+    def test_a_choice_that_is_no_file(self):
+        """What stands in the place of the one that is kept isn't read, and keeps no call from its end."""
+        how = self.make_released()
+        kept = os.path.join(self.room, ".s2calc", "choice")
         os.mkdir(os.path.dirname(kept))
         for make in os.mkfifo, os.mkdir, lambda path: os.symlink("/dev/zero", path), lambda path: self.write(path, ""):
             make(kept)
             done = subprocess.run(["./s2calc", "run"], check=True, **how)
             self.assertEqual((done.stdout, done.stderr), ("released\n", ""))
             os.rmdir(kept) if os.path.isdir(kept) else os.remove(kept)
+
+    def test_without_python(self):
+        """The release's program serves, until Python has chosen another. Then a call starts that program alone: no
+        command has to be found."""
+        how = self.make_released()
+        self.write("crates/calculator/out/calculator", "#!/bin/sh\necho proved\n")
+        without = {**how, "env": {"PATH": os.path.join(self.room, "none")}}
+        done = subprocess.run(["./s2calc", "run"], check=True, **without)
+        self.assertEqual(done.stdout, "released\n")
+        self.assertIn("s2calc: nobody has compared the sources here with those of the release: python3 is", done.stderr)
+        for each in how, without:
+            done = subprocess.run(["./s2calc", "run"], check=True, **each)
+            self.assertEqual((done.stdout, done.stderr), ("proved\n", ""))
+            os.utime(os.path.join(self.room, ".s2calc", "choice"))  # as if all else had been there before
 
     def test_the_checksum_of_the_sources(self):
         """It is that of the target, of the lines of the crates, and of what sha256sum prints of each file."""
@@ -184,19 +201,12 @@ class Launcher(unittest.TestCase):
     def test_where_no_program_and_no_kit_are(self):
         self.make_repository()
         kit = text_of("KIT").strip().replace("\n", " or ")
-        version, usage = ran("--version")[1].decode(), launched("--help")[1].decode()
-        for words, status, answer in ((["--version"], 0, version), (["-V"], 0, version), (["--help"], 0, usage),
-                                      (["help"], 0, usage), (["run", "-h"], 0, usage), (["draw", "--help"], 0, usage),
-                                      (["run"], 2, kit), (["cell", "1"], 2, kit), ([], 2, kit)):
-            for has_kit in (False, True) if words[:1] in (["--version"], ["--help"], ["help"]) else (False,):
-                reader, writer = os.pipe()  # which stays open: nothing may wait for its end
-                with open(reader), open(writer):
-                    done = subprocess.run(["./s2calc", *words], cwd=self.room, stdin=reader, stdout=subprocess.PIPE,
-                                          stderr=subprocess.STDOUT, env=self.environment(has_kit), timeout=60,
-                                          text=True)
-                self.assertEqual(done.returncode, status, words)
-                self.assertEqual(done.stdout if status == 0 else answer in done.stdout,
-                                 answer if status == 0 else True, words)
+        for words in ["run"], ["cell", "1"], [], ["--help"]:
+            reader, writer = os.pipe()  # which stays open: nothing may wait for its end
+            with open(reader), open(writer):
+                done = subprocess.run(["./s2calc", *words], cwd=self.room, stdin=reader, capture_output=True,
+                                      env=self.environment(has_kit=False), timeout=60, text=True)
+            self.assertEqual((done.returncode, done.stdout, kit in done.stderr), (2, "", True), words)
 
     @unittest.skipUnless(shutil.which("rt"), "Rattle's kit is not there")
     def test_the_kit_has_the_logic_that_is_named(self):

@@ -179,7 +179,3 @@ def main(words):
         print(f"s2calc: {error}", file=sys.stderr)
         return 1
     return 0
-
-
-if __name__ == "__main__":
-    sys.exit(main(sys.argv[3:]))  # behind the program and the word cells

@@ -1,27 +1,20 @@
-"""The prompt of s2calc at a terminal, and help on a script's commands; not proved. tools/launcher/launcher starts it as
-
-    prompt.py PROGRAM [OPTION..]     or     prompt.py PROGRAM help COMMAND
+"""The prompt of s2calc at a terminal, and help on a script's commands, for words.py; not proved.
 
 The proved program runs as a child, in a process group of its own, as `run --prompt` with these options. It gets the
 lines by a pipe and writes its answers to standard output itself. Its own prompt on standard error says that an answer
 is whole. So registers and history are the program's alone. No line ends it, but 'quit' and 'exit', and no Ctrl-C.
 """
+import ctypes
+import difflib
+import functools
+import os
+import re
 import signal
+import stat
+import subprocess
+import sys
 
-if __name__ == "__main__":
-    signal.signal(signal.SIGINT, signal.SIG_DFL)  # until lines are read, Ctrl-C ends this without a word
-
-import ctypes  # noqa: E402
-import difflib  # noqa: E402
-import functools  # noqa: E402
-import os  # noqa: E402
-import re  # noqa: E402
-import stat  # noqa: E402
-import subprocess  # noqa: E402
-import sys  # noqa: E402
-
-sys.path.append(os.path.dirname(os.path.realpath(__file__)))
-from cells import DECIMAL, token  # noqa: E402
+from cells import DECIMAL, token
 
 PROMPT = "s2calc> "
 LONGEST = 4096  # bytes of a line; every longer one is answered alike
@@ -352,8 +345,19 @@ def answer(program, line):
         print(f"  {reason}", file=sys.stderr, flush=True)
 
 
-def session(path, readline, options):
+def keys():
+    """Python's module of readline, if it has one."""
+    try:
+        import readline  # pylint: disable=import-outside-toplevel
+    except ImportError:
+        say("python3 has no readline, so there are no keys and no history")
+        readline = None
+    return readline
+
+
+def session(path, options):
     """Hands over the lines that are typed, until one is to leave."""
+    readline = keys()
     program = Program(path, options)
     version = subprocess.run([path, "--version"], stdout=subprocess.PIPE, check=True).stdout.decode().strip()
     print(f"{version}: 'help' for help, Ctrl-D to leave", flush=True)
@@ -370,18 +374,3 @@ def session(path, readline, options):
         else:
             answer(program, line)
     program.close()
-
-
-def main(path, *options):
-    if options[:1] == ("help",):
-        return show_help(path, options[1:])
-    try:
-        import readline  # pylint: disable=import-outside-toplevel
-    except ImportError:
-        say("python3 has no readline, so there are no keys and no history")
-        readline = None
-    return session(path, readline, options)
-
-
-if __name__ == "__main__":
-    sys.exit(main(*sys.argv[1:]))

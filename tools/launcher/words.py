@@ -2,18 +2,26 @@
 
     words.py PROGRAM WORD..
 
-`cell` takes several cells with commas between them, decimal identifiers and --explain; `check` and `draw` take paths
-of files that lie in one folder. Where one of them has an error, standard error says why. A picture goes out only if it
-is whole. Help is the program's, with what stands beside it after it; and a word that is no command may mean one.
+`run` takes a script from a file, in words or at a terminal. `cell` takes several cells with commas between them,
+decimal identifiers and --explain; `check` and `draw` take paths of files that lie in one folder. Where one of them has
+an error, standard error says why. A picture goes out only if it is whole. Help is the program's, with what stands
+beside it after it; and a word that is no command may mean one.
 """
-import os
-import re
-import subprocess
-import sys
+import signal
+
+if __name__ == "__main__":
+    signal.signal(signal.SIGINT, signal.SIG_DFL)  # until lines are read, Ctrl-C ends this without a word
+
+import os  # noqa: E402
+import re  # noqa: E402
+import stat  # noqa: E402
+import subprocess  # noqa: E402
+import sys  # noqa: E402
 
 sys.path.append(os.path.dirname(os.path.realpath(__file__)))
+import cells  # noqa: E402
 from cells import DECIMAL, token  # noqa: E402
-from prompt import COMMANDS, show_help  # noqa: E402
+from prompt import COMMANDS, session, show_help  # noqa: E402
 
 BESIDE = "Beside the proved program, s2calc takes:"
 # What it takes, after the help of each command, or of all.
@@ -57,6 +65,13 @@ def usage(fault):
     return 2
 
 
+def is_pipe(stream):
+    try:
+        return stat.S_ISFIFO(os.fstat(stream).st_mode)
+    except OSError:  # it is closed
+        return False
+
+
 def put(answer):
     """Writes an answer; if nobody reads it, without a word, as if by SIGPIPE."""
     try:
@@ -67,6 +82,90 @@ def put(answer):
     except (OSError, AttributeError):
         say("output")
         os._exit(2)
+
+
+# ---- scripts
+
+
+class Script:
+    """What `run` is asked for: the options that the program takes, and where the script is: lines, or a file, which is
+    - for standard input; and whether a prompt is wanted, if that is said."""
+
+    def __init__(self, words):
+        self.options, self.lines, self.file, self.prompt, self.wrong = [], [], None, None, None
+        words = list(words)
+        while words and not self.wrong:
+            self.take(words.pop(0), words)
+
+    def take(self, word, rest):
+        if word in ("--limit", "--depth", "--dir") and rest:
+            self.options += [word, rest.pop(0)]
+        elif word == "-c" and rest and self.file is None:
+            self.lines.append(rest.pop(0))
+        elif word == "--no-prompt" or word == "--prompt" and self.prompt is None:
+            self.prompt = word == "--prompt"
+        elif re.match("--(limit|depth|dir)=|--(stop|explain|prompt)$", word):
+            self.options.append(word)
+        elif self.file is None and not self.lines and (word == "-" or not word.startswith("-")):
+            self.file = word
+        else:
+            self.wrong = [word, *rest]  # which the program refuses
+
+    def is_named(self):
+        return self.file not in (None, "-")
+
+
+def open_script(script):
+    """Makes the script standard input, or says why it isn't."""
+    if script.lines:
+        it = os.memfd_create("script")
+        with open(it, "wb", closefd=False) as lines:
+            lines.write(b"".join(os.fsencode(line) + b"\n" for line in script.lines))
+        os.lseek(it, 0, os.SEEK_SET)
+    elif os.path.isdir(script.file):
+        raise PermissionError
+    else:
+        it = os.open(script.file, os.O_RDONLY)
+    os.dup2(it, 0)
+
+
+def noted(program, options, name):
+    """Runs the program, with the script's name before each note; and if nobody reads the pipe any more, as if by
+    SIGPIPE."""
+    with subprocess.Popen([program.path, "run", *options], stderr=subprocess.PIPE) as process:
+        for line in process.stderr:
+            if line == b"s2calc: output\n" and is_pipe(1):
+                os._exit(141)
+            os.write(2, name + line if line.startswith(b"line") else line)
+    return process.returncode if process.returncode >= 0 else 128 - process.returncode
+
+
+def is_at_terminal():
+    return os.isatty(0) and (os.isatty(1) or os.isatty(2)) and os.path.exists("/dev/fd/1")
+
+
+def run(program, words):
+    script = Script(words)
+    options = script.options
+    if script.wrong:
+        return program.instead("run", *script.wrong)
+    if script.lines or script.is_named():
+        try:
+            open_script(script)
+        except OSError as error:
+            missing = isinstance(error, FileNotFoundError)
+            why = f"there is no file '{script.file}'" if missing else f"'{script.file}' is a folder, or can't be read"
+            print(f"s2calc: input\nerror: {why}", file=sys.stderr)
+            return 2
+        if os.isatty(2) and "--explain" not in options:
+            options.append("--explain")
+    elif script.prompt is not False and is_at_terminal():
+        return session(program.path, options)
+    if script.prompt:
+        return program.instead("run", "--prompt", *options)
+    if is_pipe(1) or script.is_named() and "--explain" in options:
+        return noted(program, options, os.fsencode(f"{script.file}: ") if script.is_named() else b"")
+    return program.instead("run", *options)
 
 
 # ---- cells
@@ -82,15 +181,15 @@ def why_cell(program, word):
 
 def cell(program, words):
     """The answers to the cells, and why they are errors, or their identifiers; the greatest status."""
-    explains, cells = "--explain" in words, [word for word in words if word != "--explain"]
-    unknown = next((word for word in cells if word.startswith("--")), None)
-    if unknown == "--" or unknown is None and len(cells) != 1:
-        program.instead("cell", *cells)
+    explains, given = "--explain" in words, [word for word in words if word != "--explain"]
+    unknown = next((word for word in given if word.startswith("--")), None)
+    if unknown == "--" or unknown is None and len(given) != 1:
+        program.instead("cell", *given)
     if unknown:
         return usage(f"unexpected argument '{unknown}' found")
-    parts = [part for part in re.split("[, ]+", cells[0]) if part] if "," in cells[0] else []
+    parts = [part for part in re.split("[, ]+", given[0]) if part] if "," in given[0] else []
     worst = 0
-    for word in parts or cells:
+    for word in parts or given:
         done = program("cell", token(word) if DECIMAL.fullmatch(word) and token(word) else word)
         put(done.stdout)
         sys.stderr.buffer.write(done.stderr)
@@ -166,8 +265,7 @@ def help_of(program, command):
 def helped(program, words):
     topic = words[0] if words else ""
     if topic == "cells":
-        os.execv(sys.executable, [sys.executable, "-I", "-S", "-B", os.path.join(os.path.dirname(__file__), "cells.py"),
-                                  program.path, "cells", "--help"])
+        return cells.main(["--help"])
     if topic in MORE:
         return help_of(program, topic)
     if topic in ("check", "draw", "help") or topic.startswith("-"):
@@ -181,6 +279,10 @@ def main(path, *words):
         return helped(program, rest)
     if first in MORE and {"-h", "--help"}.intersection(rest):
         return help_of(program, first)
+    if first == "run":
+        return run(program, rest)
+    if first == "cells":
+        return cells.main(rest)
     if first == "cell":
         return cell(program, rest)
     if first in ("check", "draw"):
