@@ -119,7 +119,6 @@ MISTAKES = [
     Mistake("a word that the house avoids", rot.avoided, "README.md", ended_by("\nWhat was asked\nabout.\n")),
     Mistake("a sentence that begins with a free what", prose.habits, "README.md",
             ended_by("\nWhat is here has to be read twice.\n")),
-    Mistake("proofs that grow", rot.proofs, "crates/s2cell/proofs/Ancestors.antt", ended_by("-- more\n" * 100_000)),
     Mistake("a mutant whose text is gone", texts.misfits, "crates/s2cell/mutants.txt",
             swapped("old: id: self.id + (", "old: once id: self.id + (")),
     Mistake("a mutant of a function that is gone", texts.misfits, "crates/s2cell/mutants.txt",
@@ -285,6 +284,12 @@ def ends_of_parts(counts, room):
     counts.tell("a row of texts in the table of a lane", again == runs, str(again))
     done = subprocess.run([TOP / "tests" / "run", "--list"], capture_output=True, text=True, check=False)
     counts.tell("--list, which doesn't say what each folder has", "\ntests/tools " in done.stdout, done.stderr)
+    plain = subprocess.run(["git", "grep", "-c", "", "--", "tools"], cwd=TOP, capture_output=True, text=True,
+                           check=False).stdout
+    of_tools = sum(int(line.rpartition(":")[2]) for line in plain.splitlines())
+    *rows, whole = [(int(row.split()[0].replace(",", "")), row) for row in the_runner().sizes()]
+    counts.tell("a table of lines in which some are left out", sum(count for count, _ in rows) == whole[0] and
+                any(count == of_tools and "lines  tools" in row for count, row in rows), f"{of_tools}, {rows}")
     with unittest.mock.patch.object(module.shutil, "which", lambda name: None), \
             contextlib.redirect_stdout(io.StringIO()) as said:
         lacking = [module.lacks_kit(module.chosen([], tier)) for tier in ("quick", "gate")]

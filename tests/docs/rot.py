@@ -1,10 +1,10 @@
 """What rots unseen: lemmas and definitions that nobody cites, names imported for nothing, lemmas that are stated
 twice, word for word, functions with many arms, lines of more than 120 characters, hosts of package registries, words
-that the house avoids, habits of tests/docs/prose.py, and proofs that grow. tests/docs/pages.py looks for paths.
+that the house avoids, and habits of tests/docs/prose.py. tests/docs/pages.py looks for paths.
 
-UNCITED, DOUBLES and PROOFS are the most that may stand, and MANY_ARMS what may: what stood there when this check
-came, and less from time to time. The last line is 'N passed, M failed', where N counts the declarations, the files, the
-words, the pages and the files of proofs. A check that has nothing to look at fails.
+UNCITED and DOUBLES are the most that may stand, and MANY_ARMS what may: what stood there when this check came, and
+less from time to time. The last line is 'N passed, M failed', where N counts the declarations, the files, the words and
+the pages. A check that has nothing to look at fails.
 """
 import collections
 import re
@@ -37,8 +37,6 @@ MANY_ARMS = {"s2calc/src/command_line.rt: arg_of", "s2calc/src/edits.rt: edit_re
              "s2script/src/misfit.rt: refusal", "s2script/src/misfit_text.rt: put_wanted",
              "s2script/src/refusal.rt: name"}
 AVOIDED = ("asked about", "so many", "refused where")
-# Lines of proof, which may only fall; the body of a commit that raises them says why.
-PROOFS = 56_344
 # Files whose lines may be long: pages and tables of rows, which are not wrapped, texts of others, and what pins a line.
 UNWRAPPED = re.compile(r"\.(?:md|svg|png|outer|cells|sums)$|^LICENSE$|/(?:stdin|stdout|mutants\.txt)$")
 
@@ -238,13 +236,6 @@ def avoided():
                           if re.search(rf"\b{word}\b", text, re.I)]
 
 
-def proofs():
-    """The number of files of proofs, and how many lines they have, if that is more than it was."""
-    files = tracked(ROOT, "crates/*/proofs/*.antt")
-    lines = sum(len(text_of(name).splitlines()) for name in files)
-    return len(files), [f"{lines}, where {PROOFS} is the most"] if lines > PROOFS else []
-
-
 def main():
     counts, double = doubles()
     double = double if len(double) > DOUBLES else []
@@ -254,7 +245,7 @@ def main():
         "nobody cites it": (declared, dead), "imported for nothing": unused(), "stated before": (counts, double),
         "more arms than seven: split it": many_arms(), "too long": long_lines(),
         "names the host of a registry": hosts(),
-        "avoided": avoided(), "hard to read": prose.habits(), "lines of proof": proofs(),
+        "avoided": avoided(), "hard to read": prose.habits(),
     })
 
 
