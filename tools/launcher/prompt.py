@@ -9,6 +9,7 @@ import difflib
 import functools
 import os
 import re
+import select
 import signal
 import stat
 import subprocess
@@ -172,6 +173,9 @@ class Keyboard:
         sys.stdin.reconfigure(errors="surrogateescape")
         if readline:
             self.take_keys(readline)
+        else:
+            self.signals, its = os.pipe2(os.O_NONBLOCK | os.O_CLOEXEC)
+            signal.set_wakeup_fd(its, warn_on_full_buffer=False)
 
     def take_keys(self, readline):
         readline.set_pre_input_hook(self.begin)
@@ -250,7 +254,7 @@ class Keyboard:
         while True:
             try:
                 self.is_typing = not self.readline  # which says itself when it reads keys
-                text = input(PROMPT)
+                text = input(PROMPT) if self.readline else self.plain_line()
                 self.is_typing = False
             except KeyboardInterrupt:
                 continue
@@ -260,6 +264,20 @@ class Keyboard:
             for line in text.split("\n"):
                 self.keep(line)
                 yield line
+
+    def plain_line(self):
+        """A line that the terminal has edited. Python waits for it where a signal ends that wait, also one that came
+        just before: in input() the line that comes next would have to."""
+        print(PROMPT, end="", flush=True)
+        ready = []
+        while 0 not in ready:
+            ready = select.select([0, self.signals], [], [])[0]
+            if self.signals in ready:
+                os.read(self.signals, 4096)
+        text = sys.stdin.readline()
+        if not text:
+            raise EOFError
+        return text.rstrip("\n")
 
     def completed(self, text, place):
         """The word of this place among those with which the word before the cursor can be completed, for readline."""
