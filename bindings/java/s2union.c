@@ -473,7 +473,7 @@ static int32_t drawn(jint call, const uint64_t* ids, size_t n, s2u_geo_rings* ri
   }
 }
 
-/* Puts an array of so many numbers, each a double or an int. Whether Java has memory for it. */
+/* Puts an array of numbers, each a double or an int. Whether Java has memory for it. */
 static int put_numbers(JNIEnv* env, jobjectArray made, jsize place, const void* numbers, size_t count, int is_double) {
   if (count > INT32_MAX) return 0;
   jsize n = (jsize)count;

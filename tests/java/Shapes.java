@@ -146,7 +146,8 @@ final class Shapes {
     });
     String outer = answered(() -> shown(coverer.covering(shape)));
     String inner = answered(() -> shown(coverer.interiorCovering(shape)));
-    boolean isSame = both.startsWith("!") ? both.equals(outer) && both.equals(inner) : both.equals(outer + "\t" + inner);
+    boolean isError = both.startsWith("!");
+    boolean isSame = isError ? both.equals(outer) && both.equals(inner) : both.equals(outer + "\t" + inner);
     return isSame ? both : "they differ: " + both + ", " + outer + ", " + inner;
   }
 
@@ -268,8 +269,8 @@ final class Shapes {
     ring[2_000_001] = 1;
     check(answered(() -> shown(new RegionCoverer().covering(Shape.polygon(ring)))).equals("!open 0 1000000"), "open");
     Shape square = Shape.polygon(SQUARE);
-    check(IntStream.range(0, 64).parallel().mapToObj(k -> new RegionCoverer().coverings(square)).distinct().count() == 1,
-        "threads");
+    IntStream threads = IntStream.range(0, 64).parallel();
+    check(threads.mapToObj(k -> new RegionCoverer().coverings(square)).distinct().count() == 1, "threads");
   }
 
   public static void main(String[] words) throws IOException {

@@ -26,7 +26,7 @@ ERRORS = {-6: "many", -101: "number", -102: "few", -103: "open", -104: "pieces",
           -108: "wkb", -109: "type", -110: "srid", -111: "deep"}
 WITHOUT_PLACE = "many", "pieces", "outside"
 random = Random(20261129)
-in_wkb = []  # each shape that was asked about
+in_wkb = []  # each shape that was asked for
 
 
 def say(call, *words):

@@ -651,8 +651,8 @@ public final class CellUnion implements Comparable<CellUnion> {
   }
 
   /**
-   * Its outline as polygons on a map: for each part that hangs together a ring around it, counterclockwise, and then its
-   * holes, clockwise. The date line cuts polygons in two, and one with a pole goes along the map's edge.
+   * Its outline as polygons on a map: for each part that hangs together a ring around it, counterclockwise, and then
+   * its holes, clockwise. The date line cuts polygons in two, and one with a pole goes along the map's edge.
    *
    * <pre>{@code
    * CellUnion.fromTokens("04 24").outline().length // 2

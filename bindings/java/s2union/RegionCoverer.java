@@ -63,7 +63,7 @@ public final class RegionCoverer {
   }
 
   /**
-   * With at most so many cells.
+   * With at most this number of cells.
    * S2: {@code S2RegionCoverer::Options::set_max_cells}.
    *
    * <pre>{@code
@@ -127,7 +127,7 @@ public final class RegionCoverer {
   }
 
   /**
-   * With coverings that go so many meters beyond the shape, and inner ones that stay as far from its border. The margin
+   * With coverings that go these meters beyond the shape, and inner ones that stay as far from its border. The margin
    * of a line makes a corridor.
    *
    * <pre>{@code

@@ -46,7 +46,8 @@ public final class Shape {
    * too, and rings may cross. One goes on beyond 180 degrees where it crosses the date line.
    *
    * <pre>{@code
-   * new RegionCoverer().maxCells(4).covering(Shape.polygon(new double[] {2, 48, 3, 48, 3, 49, 2, 48})) // 47e5 47e604 47e8c 47ef
+   * new RegionCoverer().maxCells(4)
+   *     .covering(Shape.polygon(new double[] {2, 48, 3, 48, 3, 49, 2, 48})) // 47e5 47e604 47e8c 47ef
    * }</pre>
    *
    * @param rings rings of positions, the longitude and the latitude of each in turn; the last is the first
