@@ -77,12 +77,13 @@ def test_a_pipe_that_nobody_reads(line, tmp_path):
     words = line.split()
     (tmp_path / "script").write_bytes(b"1 3 5\n" if words[:1] == ["cells"] else b"cell 1\n" * 1000)
     ran("run", script=b"add a 1\nsave a square\n", cwd=tmp_path)
-    reader, writer = os.pipe()
-    os.close(reader)
-    with open(writer, "wb") as pipe, open(tmp_path / "script", "rb") as script:
-        done = subprocess.run([LAUNCHER, *words], cwd=tmp_path, env=ENVIRONMENT, stdin=script, stdout=pipe,
-                              stderr=subprocess.PIPE, timeout=60, check=False)
-    assert (done.returncode, done.stderr) == (128 + signal.SIGPIPE, b"")
+    for is_ignored in False, True:  # the signal, as some programs leave it to what they start
+        reader, writer = os.pipe()
+        os.close(reader)
+        with open(writer, "wb") as pipe, open(tmp_path / "script", "rb") as script:
+            done = subprocess.run([LAUNCHER, *words], cwd=tmp_path, env=ENVIRONMENT, stdin=script, stdout=pipe,
+                                  stderr=subprocess.PIPE, restore_signals=not is_ignored, timeout=60, check=False)
+        assert (done.returncode, done.stderr) == (128 + signal.SIGPIPE, b"")
 
 
 def test_a_script_needs_no_word(tmp_path):
