@@ -241,13 +241,29 @@ class Scripts(unittest.TestCase):
         for lines in ([b"add a 04"], [b"add a 04\nadd a 0c", b"show a"], [b""], [b"cell $HOME `x` \\ \"'", b"# \\"],
                       [b"count a"] * 300):
             words = [word for line in lines for word in ("-c", line)]
-            self.assertEqual(launched("run", *words, "--explain", **self.how),
-                             ran("run", "--explain", script=b"\n".join(lines) + b"\n", cwd=self.room))
+            for how in self.how, self.without_python():
+                self.assertEqual(launched("run", *words, "--explain", **how),
+                                 ran("run", "--explain", script=b"\n".join(lines) + b"\n", cwd=self.room))
+
+    def without_python(self):
+        return {**self.how, "env": {"S2CALC_PROGRAM": PROGRAM, "PATH": self.room}}
+
+    def test_a_file_without_python(self):
+        path = os.path.join(self.room, "a script")
+        with open(path, "wb") as it:
+            it.write(SCRIPT)
+        for words in [], ["--limit", "2"], ["--depth=1", "--no-prompt"]:
+            wanted = ran("run", *(word for word in words if word != "--no-prompt"), script=SCRIPT, cwd=self.room)
+            self.assertEqual(launched("run", *words, path, **self.without_python()), wanted)
+            self.assertEqual(launched("run", path, *words, **self.without_python()), wanted)
 
     def test_usage(self):
+        with open(os.path.join(self.room, "x"), "wb") as it:
+            it.write(SCRIPT)
         for words in (["-c"], ["-c", "count a", "x"], ["x", "-c", "count a"], ["x", "y"], ["-", "-"]):
-            status, out, error = launched("run", *words, **self.how)
-            self.assertEqual((status, out, first_line(error)), (2, b"", b"s2calc: usage"), words)
+            for how in self.how, self.without_python():
+                status, out, error = launched("run", *words, **how)
+                self.assertEqual((status, out, first_line(error)), (2, b"", b"s2calc: usage"), words)
         with open(os.path.join(self.room, "script"), "wb"):
             pass
         self.assertIn(b"s2calc run script", launched("script", **self.how)[2])
