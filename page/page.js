@@ -39,7 +39,8 @@ class Page {
     this.future = [];
     this.coverer = new Coverer((part) => {
       at("work").hidden = part === null;
-      at("part").value = part ?? 0;
+      if (part) at("part").value = part;
+      else at("part").removeAttribute("value"); // it moves, until something is known
     });
     /** The unions that were chosen or computed with as A and B. */
     this.picked = {first: null, second: null};
@@ -245,6 +246,11 @@ class Page {
     this.say(`${region.name}: saved.`);
   }
 
+  /** Saves the GeoJSON that is made of a union. */
+  saveMap(region, collection) {
+    this.save(region, JSON.stringify(collection(this.core, {name: region.name}, region.union)), ".geojson");
+  }
+
   // ---- what stands in the page
 
   show() {
@@ -281,7 +287,8 @@ class Page {
     line.append(shown, swatch, element("span", region.name, {class: "name"}), element("span", describe(region)),
       button("save", () => this.save(region, this.core.encode(region.ids), ".cells")),
       button("tokens", () => this.save(region, this.core.tokens(region.ids), ".txt")),
-      button("GeoJSON", () => this.save(region, geojsonOf(this.core, region.name, region.union), ".geojson")),
+      button("GeoJSON", () => this.saveMap(region, cellsOf)),
+      button("outline", () => this.saveMap(region, dissolvedOf)),
       button("go to", () => this.goTo(region)),
       button("remove", () => this.change(this.regions.filter((other) => other !== region))));
     return line;
@@ -368,7 +375,7 @@ class Page {
     this.attempt("place", () => {
       const place = placeIn(at("place").value);
       if (!place) throw new Error("it is no latitude and longitude, such as 48.86, 2.35");
-      const [leaf, word] = [leafOf(this.core, ...place), at("size").value];
+      const [[leaf], word] = [this.core.leavesOf(Float64Array.from(place)), at("size").value];
       const {face, i, j} = this.core.square(leaf);
       const level = word ? Number(word) : LEVEL_OF_PLACES;
       const goal = [face, (i + 0.5) / SIDE, (j + 0.5) / SIDE];
@@ -408,7 +415,7 @@ class Page {
   /** What is known of a cell, in pairs of a word and a text. */
   facts(id) {
     const {face, i, j, size} = this.core.square(id);
-    const [longitude, latitude] = geographic(face, (i + size / 2) / SIDE, (j + size / 2) / SIDE);
+    const [longitude, latitude] = this.core.degreesOf(Float64Array.of(face, i + size / 2, j + size / 2));
     const said = (region) => this.core.contains(region.union, id) ? "contains it"
       : this.core.intersects(region.union, id) ? "shares a part of it" : "has none of it";
     return [
@@ -570,8 +577,8 @@ function describe({ids, leaves, note}) {
 function noteOf({levels, times}) {
   const range = [...new Set([levels[0], levels.at(-1)])].join(" to ");
   const border = levels.length ? `; cells at borders are of level ${range}` : "";
-  const factor = times < 100 ? `about ${times.toPrecision(3)}` : "more than 100";
-  return border + (Number.isNaN(times) ? "" : `; ${factor} times as large as the polygons`);
+  const factor = times < 100 ? `at most ${times.toPrecision(3)} times as large as` : "perhaps much larger than";
+  return border + (Number.isNaN(times) ? "" : `; ${factor} the polygons`);
 }
 
 /** Whether bytes are a text: no union file is one, since its first byte is 1. */

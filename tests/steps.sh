@@ -119,6 +119,26 @@ shapes() { # $work/shapes: shapes in degrees, with the coverings that the module
     /usr/bin/python3 -m model.shapes >"$work/shapes"
 }
 
+# The page and the package for JavaScript in $work/page, over the module that tools/page makes; or over that of the file
+# S2UNION_MODULE, if that is set; or without a kit over the release's.
+# The page and the package for JavaScript in $work/page, over the module that tools/page makes; or over that of the file
+# S2UNION_MODULE, if that is set; or without a kit over the release's.
+need_page() {
+  local words=(--jobs 1)
+  if [ -n "${S2UNION_MODULE:-}" ]; then
+    words=(--module "$S2UNION_MODULE")
+  elif command -v rt >/dev/null; then
+    need wasm-opt binaryen
+    need_packages
+  else
+    words=(--module "$(echo "$top"/dist/s2union-*.html)")
+    echo "       without Rattle's kit: the module of the release $(released_version) is asked, without what changed" \
+      "in crates and in bindings/c since then"
+  fi
+  step "tools/page" "$top/tools/page" "$work/page" "${words[@]}"
+  [ "$failed" -eq 0 ] || finish
+}
+
 released_version() { sed -n 's/^- Version: `\(.*\)`$/\1/p' "$top/dist/README.md"; }
 
 old_glibc() { # FILE..: whether the C library that docs/INSTALL.md names will do

@@ -14,6 +14,8 @@ from over_gate import KIT, MODULE, build_unproved, crate_of
 STRUCTURE = re.compile(r"^#\[repr\(C\)\]\n(?:#.*\n)*pub struct (\w+) \{\n(.*?)^\}", re.S | re.M)
 EXPORT = re.compile(r'^pub extern "C" fn (s2u_\w+)\((.*?)\) -> \w+$', re.S | re.M)
 ARGUMENT = re.compile(r"(\w+): (&mut |&|)(\[?\w+\]?)")
+CLANG = [os.path.join(os.path.dirname(KIT), "toolchain", "bin", "clang"), "-march=x86-64-v2",
+         "--target=x86_64-unknown-linux-gnu", "-x", "ir"]
 
 
 def read(path):
@@ -65,16 +67,23 @@ def copy_of(top, to):
     return crate_of("s2union_c", to)
 
 
-def build_calls(top, to):
-    """Compiles the calls of the library for C without a proof, and answers whether it did."""
+def text_of_calls(top):
+    """What LLVM compiles of the calls of the library for C without a proof, as a text; none if they don't build."""
     with tempfile.TemporaryDirectory() as room:
         module, text = os.path.join(room, "module.bc"), os.path.join(room, "module.ll")
         if not build_unproved(copy_of(top, os.path.join(room, "copy")), module, MODULE):
-            return False
-        clang = [os.path.join(os.path.dirname(KIT), "toolchain", "bin", "clang"), "-march=x86-64-v2"]
-        clang += ["--target=x86_64-unknown-linux-gnu", "-x", "ir"]
-        subprocess.run([*clang, "-S", "-emit-llvm", module, "-o", text], check=True)
-        calls = re.sub(r"^define [^\n]*@main\(.*?^}\n", "", read(text), flags=re.S | re.M)
+            return ""
+        subprocess.run([*CLANG, "-S", "-emit-llvm", module, "-o", text], check=True)
+        calls = re.sub(r"^define [^\n]*@main\(.*?^}\n|^declare [^\n]*@__sysv_signal\([^\n]*\n", "", read(text),
+                       flags=re.S | re.M)
+        calls = calls.replace(' sanitize_address "frame-pointer"="all"', " nounwind")
         named = re.sub(r'@"s2union_c::\w+::(s2u_\w+)"', r"@\1", calls)
-        write(text, re.sub(r"define internal (noundef \w+ @s2u_)", r"define \1", named))
-        return not subprocess.call([*clang, "-O2", "-fPIC", "-c", text, "-o", to])
+        return re.sub(r"define internal (noundef \w+ @s2u_)", r"define \1", named)
+
+
+def build_calls(top, to):
+    """Compiles the calls of the library for C without a proof, and answers whether it did."""
+    with tempfile.TemporaryDirectory() as room:
+        text = os.path.join(room, "module.ll")
+        write(text, text_of_calls(top))
+        return os.path.getsize(text) > 0 and not subprocess.call([*CLANG, "-O2", "-fPIC", "-c", text, "-o", to])

@@ -46,6 +46,15 @@ const MOST_KEPT = 2 ** 29;
 /** A list that stays takes a multiple of this, which keeps their number low. */
 const SPACE = 1024;
 
+/** What the module imports: of C's library, what JavaScript has. */
+const IMPORTS = {
+  ...Object.fromEntries(["sin", "cos", "tan", "asin", "atan", "atan2"].map((name) => [name, Math[name]])),
+  fmod: (x, y) => x % y,
+  s2js_no_memory: () => {
+    throw new Refusal(MEMORY, 0);
+  },
+};
+
 /** A refusal of the library: its kind, its status, and the place that it reports. */
 class Refusal extends Error {
   /** The kinds, each by its name. */
@@ -104,7 +113,7 @@ class Core {
   }
 
   static async from(bytes) {
-    return new Core((await WebAssembly.instantiate(bytes, {})).instance);
+    return new Core((await WebAssembly.instantiate(bytes, {env: IMPORTS})).instance);
   }
 
   // ---- lists that lie at the front of the memory, where calls find them without a copy
@@ -276,6 +285,85 @@ class Core {
     const status = this.calls[name](...words, ...more, BigInt(at));
     if (status < 0) throw new Refusal(status, 0);
     return this.number(at);
+  }
+
+  /**
+   * What a call answers that takes memory, which begins at an address behind all places; it may grow, so that views of
+   * it are gone. If there is none, the call is left, and nothing is changed but its stack, which is put back.
+   */
+  taking(end, name, ...words) {
+    const stack = this.calls.__stack_pointer.value;
+    this.calls.s2js_begin(BigInt(end));
+    try {
+      return this.calls[name](...words);
+    } catch (error) {
+      this.calls.__stack_pointer.value = stack;
+      throw error;
+    }
+  }
+
+  /** Copies of what pairs of an address and a count at a place say, as lists of some kinds. */
+  listsAt(at, ...kinds) {
+    const pairs = new BigUint64Array(this.calls.memory.buffer, at, 2 * kinds.length);
+    return kinds.map((Kind, k) => {
+      const count = Number(pairs[2 * k + 1]);
+      return count ? new Kind(this.calls.memory.buffer, Number(pairs[2 * k]), count).slice() : new Kind();
+    });
+  }
+
+  // ---- degrees
+
+  /** The leaves of places, which are a Float64Array of longitude and latitude. */
+  leavesOf(positions) {
+    return this.computed("s2js_leaves", positions, BigUint64Array, positions.length / 2);
+  }
+
+  /** The longitudes and latitudes of points, which are a Float64Array of face, and of i and j in leaves. */
+  degreesOf(points) {
+    return this.computed("s2js_places", points, Float64Array, points.length / 3 * 2);
+  }
+
+  /** The list of some length that a call makes of numbers. */
+  computed(name, numbers, Kind, length) {
+    const [words, [out]] = this.passed([numbers], [8 * length]);
+    this.calls[name](...words, BigInt(out));
+    return new Kind(this.calls.memory.buffer, out, length).slice();
+  }
+
+  /**
+   * The coverings that a call makes of lists and numbers: the outer one if `which` has the bit 1, and the inner one if
+   * it has the bit 2. Or the status of its fault, and where that is.
+   */
+  coveredBy(name, lists, ...numbers) {
+    const [words, [made, end]] = this.passed(lists, [48, 0]);
+    const status = this.taking(end, name, ...words, ...numbers, BigInt(made));
+    if (status < 0) return {status, ring: Number(this.number(made + 32)), position: Number(this.number(made + 40))};
+    const [outer, inner] = this.listsAt(made, BigUint64Array, BigUint64Array);
+    return {status, outer, inner};
+  }
+
+  /** The rings of the outline of a union: positions, and where each ring and each polygon ends. */
+  outlineOf(ids) {
+    const [words, [made, end]] = this.passed([ids], [40, 0]);
+    const status = this.taking(end, "s2js_outline", ...words, BigInt(made));
+    if (status < 0) throw new Refusal(status, 0);
+    const [rings, polygons] = [24, 32].map((at) => Number(this.number(made + at)));
+    const [of, ofRings, ofPolygons] = [0, 8, 16].map((at) => Number(this.number(made + at)));
+    const ends = (at, count) => Array.from(new BigUint64Array(this.calls.memory.buffer, at, count), Number);
+    const ringEnds = ends(ofRings, rings);
+    const positions = new Float64Array(this.calls.memory.buffer, of, 2 * (ringEnds.at(-1) ?? 0)).slice();
+    return {positions, ringEnds, polygonEnds: ends(ofPolygons, polygons)};
+  }
+
+  /** The first level whose cells are nowhere wider than some meters. */
+  levelWithin(meters) {
+    return this.calls.s2js_level_within(meters);
+  }
+
+  /** What is said of a status of these calls. */
+  textOf(status) {
+    const bytes = new Uint8Array(this.calls.memory.buffer, Number(this.calls.s2js_text(status)));
+    return new TextDecoder().decode(bytes.slice(0, bytes.indexOf(0)));
   }
 
   // ---- cells

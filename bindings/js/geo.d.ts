@@ -4,6 +4,53 @@ import {Cell, CellUnion} from "./s2union.js";
 export type Position = [longitude: number, latitude: number] | number[];
 
 /**
+ * Polygons, lines and points: GeoJSON, as an object or as a text, whose lists may be typed arrays; or the bytes of WKB,
+ * with or without an SRID.
+ */
+export type Shape = object | string | Uint8Array | ArrayBuffer;
+
+/** Options of a covering, with the names of S2RegionCoverer where that has them. */
+export interface CoveringOptions {
+  /** The most cells, 0 to 1,000,000: 200, and 1,000,000 with `within`. A shape on more faces has these. */
+  maxCells?: number;
+  /** 0 to `maxLevel`: cells at the border are as deep, even if there are more than `maxCells` then. 0 if not given. */
+  minLevel?: number;
+  /** 0 to 30: no cell is deeper. 30 if not given. */
+  maxLevel?: number;
+  /** Meters: no place of a covering is farther from the shape, if `maxCells` allows it. */
+  within?: number;
+  /** Meters by which a covering goes beyond the shape and an interior stays inside, 0 to 300,000. 0 if not given. */
+  margin?: number;
+  /**
+   * "map", which is usual: straight in longitude and latitude. "geodesic": shortest ways on the sphere, and of each
+   * ring the smaller side is inside. "left": the same, and what rings have on their left is inside.
+   */
+  edges?: "map" | "geodesic" | "left";
+}
+
+/** The two coverings of a shape: `outer` has each place of it, and each place of `inner` lies in it. */
+export interface Coverings {
+  readonly outer: CellUnion;
+  readonly inner: CellUnion;
+}
+
+/** What is wrong with a shape. */
+export class ShapeError extends RangeError {
+  /**
+   * NUMBER: a position is out of range. FEW: a ring has fewer than four positions. OPEN: its last position is not its
+   * first. PIECES: edges are too long for so few positions. OUTSIDE: no place is outside. OPPOSITE: two positions that
+   * follow each other lie opposite each other. WKB, TYPE, SRID, DEEP: the bytes aren't WKB, have another type of
+   * geometry or another SRID than 4326, or collections in more than 32 collections.
+   */
+  readonly kind: "NUMBER" | "FEW" | "OPEN" | "PIECES" | "OUTSIDE" | "OPPOSITE" | "OPTION" | "WKB" | "TYPE" | "SRID" |
+    "DEEP";
+  /** The number of the ring or line among all of the shape. */
+  readonly ring: number;
+  /** The number of the position in it, or of the byte in WKB. */
+  readonly position: number;
+}
+
+/**
  * The leaf at a place: S2CellId(S2LatLng::FromDegrees(latitude, longitude)). `load` of s2union comes first.
  * @throws RangeError, TypeError
  */
@@ -12,14 +59,45 @@ export function fromLngLat(longitude: number, latitude: number): Cell;
 export function fromLngLats(positions: Iterable<Position>): BigUint64Array;
 /** The longitude, from -180 to 180, and the latitude of the middle of a cell. @throws Refusal -3 */
 export function toLngLat(cell: Cell): [number, number];
+
+/**
+ * A covering: a union that contains all of a shape. S2: S2RegionCoverer::GetCovering. It takes time and memory by the
+ * positions and the cells.
+ * @throws ShapeError, RangeError, TypeError, SyntaxError, Error for what is no GeoJSON, Refusal -2, -6
+ */
+export function covering(shape: Shape, options?: CoveringOptions): CellUnion;
+/**
+ * An inner covering: a union of cells that lie in the polygons. Lines and points have none. S2:
+ * S2RegionCoverer::GetInteriorCovering.
+ * @throws as `covering`
+ */
+export function interior(shape: Shape, options?: CoveringOptions): CellUnion;
+/** Both, of a shape that is read once. @throws as `covering` */
+export function coverings(shape: Shape, options?: CoveringOptions): Coverings;
+/**
+ * Both coverings of the places within a radius in meters, 0 to 9,000,000, on a sphere with the earth's mean radius. S2:
+ * S2Cap. A covering of a line with a `margin` is a corridor.
+ * @throws RangeError, TypeError, Refusal -2
+ */
+export function circle(longitude: number, latitude: number, radius: number,
+                       options?: Omit<CoveringOptions, "margin" | "edges">): Coverings;
+
+/**
+ * The outline of a union as a MultiPolygon of GeoJSON that a map can fill, without the borders between cells: rings
+ * around its parts, counterclockwise, and holes, clockwise. The date line cuts polygons in two. @throws Refusal -2
+ */
+export function outline(union: CellUnion): {type: "MultiPolygon"; coordinates: [number, number][][][]};
 /**
  * The cells of a union as a FeatureCollection of polygons, with these properties and `cell`, their token. Faces are
- * cut, since two of them have a pole inside. @throws RangeError for more than 200,000 cells
+ * cut, since two of them have a pole inside. With `dissolve` it has one feature, the outline.
+ * @throws RangeError for more than 200,000 cells
  */
-export function toGeoJSON(union: CellUnion, properties?: object): {type: string; features: object[]};
+export function toGeoJSON(union: CellUnion, properties?: object,
+                          options?: {dissolve?: boolean}): {type: string; features: object[]};
 /**
- * A union that contains what GeoJSON has, as an object or as a text: the leaf of each point, and the cells in polygons
- * and at borders, about `atBorder` of them (10,000), which polygons and lines share by their lengths. Edges are
- * straight on the map. @throws RangeError, SyntaxError, Error for what is no GeoJSON or is too much
+ * A union that contains what GeoJSON has, as an object or as a text: the leaf of each point, and of the rest a covering
+ * of at most `atBorder` cells (10,000), or 50 for each polygon and line. Edges are straight on the map. Rings may be
+ * open; `covering` has more options.
+ * @throws ShapeError, RangeError, SyntaxError, Error for what is no GeoJSON
  */
 export function fromGeoJSON(geojson: object | string, atBorder?: number): CellUnion;

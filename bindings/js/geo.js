@@ -1,43 +1,90 @@
-// Points in degrees and GeoJSON for s2union.js, over sphere.js and geojson.js of the page, which stand below: in plain
-// floating point, tested beside S2, not proved. The longitude comes first.
-import {CellUnion, fromFaceIJ, fromPoints, parent, square, token} from "./s2union.js";
+// Points and shapes in degrees for s2union.js, by shapes.js, which the page has too and which stands below. The
+// longitude comes first.
+import {CellUnion, Refusal, internals, square} from "./s2union.js";
 
-const MOST_AT_BORDER = 1_000_000;
+const {calls, cellsIn, unionOf} = internals;
 
-/** What geojson.js asks of the library. */
-const library = {
-  leafAt: fromFaceIJ, parent, square, token,
-  unionOf: (lists) => CellUnion.unionOf(lists.map((list) => new CellUnion(list))),
-  denormalised: (union, min, modulus) => union.denormalized(min, modulus),
-};
+// ---- numbers
 
-function inRange(longitude, latitude) {
-  for (const [value, most, what] of [[longitude, 540, "longitude"], [latitude, 90, "latitude"]]) {
-    if (typeof value !== "number") throw new TypeError(`a ${what} is a number`);
-    if (!(Math.abs(value) <= most)) throw new RangeError(`a ${what} is from -${most} to ${most}: ${value}`);
-  }
-  return leafPlace(longitude, latitude);
+function numberIn(value, least, most, what) {
+  if (typeof value !== "number") throw new TypeError(`a ${what} is a number`);
+  if (!(value >= least && value <= most)) throw new RangeError(`a ${what} is from ${least} to ${most}: ${value}`);
+  return value;
 }
 
-export const fromLngLat = (longitude, latitude) => fromFaceIJ(...inRange(longitude, latitude));
-export const fromLngLats = (positions) => fromPoints(Array.from(positions, (position) => inRange(...position)));
+function wholeIn(value, least, most, what) {
+  numberIn(value, least, most, what);
+  if (!Number.isInteger(value)) throw new RangeError(`a ${what} is a whole number: ${value}`);
+  return value;
+}
+
+const placeOf = ([longitude, latitude]) =>
+  [numberIn(longitude, -540, 540, "longitude"), numberIn(latitude, -90, 90, "latitude")];
+
+/** What the module takes of the options of a covering. */
+function optionsOf({maxCells, minLevel = 0, maxLevel = 30, within, margin = 0, edges = "map"} = {}) {
+  const usual = within === undefined ? USUAL_CELLS : MOST_CELLS_COVERED;
+  const cells = maxCells === undefined ? usual : wholeIn(maxCells, 0, MOST_CELLS_COVERED, "maxCells");
+  let deepest = wholeIn(maxLevel, 0, 30, "maxLevel");
+  const least = wholeIn(minLevel, 0, deepest, "minLevel");
+  if (!Object.hasOwn(EDGES, edges)) throw new RangeError(`edges are one of ${Object.keys(EDGES).join(", ")}: ${edges}`);
+  if (within !== undefined) {
+    const meters = numberIn(within, Number.MIN_VALUE, Infinity, "number of meters of within");
+    deepest = Math.max(least, Math.min(deepest, calls().levelWithin(KEPT * meters)));
+  }
+  return {cells, least, deepest, edges: EDGES[edges], margin: numberIn(margin, 0, 300_000, "margin")};
+}
+
+// ---- places
+
+export const fromLngLat = (longitude, latitude) => fromLngLats([[longitude, latitude]])[0];
+export const fromLngLats = (positions) => calls().leavesOf(Float64Array.from(Array.from(positions, placeOf).flat()));
 
 export function toLngLat(cell) {
   const {face, i, j, size} = square(cell);
-  return geographic(face, (i + size / 2) / SIDE, (j + size / 2) / SIDE);
+  return Array.from(calls().degreesOf(Float64Array.of(face, i + size / 2, j + size / 2)));
 }
 
-export function toGeoJSON(union, properties = {}) {
-  if (union.denormalizedSize(1) > MOST_POLYGONS) throw new RangeError("too many cells for GeoJSON");
-  return collectionOf(library, properties, union);
+// ---- coverings
+
+/** GeoJSON, or the bytes of WKB: an object, a text, a view or a buffer. */
+function given(shape) {
+  if (typeof shape === "string") return shapeOf(JSON.parse(shape));
+  if (shape instanceof ArrayBuffer) return new Uint8Array(shape);
+  return ArrayBuffer.isView(shape) ? new Uint8Array(shape.buffer, shape.byteOffset, shape.byteLength) : shapeOf(shape);
+}
+
+function covered(shape, options, which) {
+  const {outer, inner} = coveringsIn(calls(), given(shape), optionsOf(options), which);
+  return {outer: unionOf(outer), inner: unionOf(inner)};
+}
+
+export const covering = (shape, options) => covered(shape, options, OUTER).outer;
+export const interior = (shape, options) => covered(shape, options, INNER).inner;
+export const coverings = (shape, options) => covered(shape, options, BOTH);
+
+export function circle(longitude, latitude, radius, options) {
+  const place = placeOf([longitude, latitude]);
+  const meters = numberIn(radius, 0, 9_000_000, "radius");
+  const {cells, least, deepest} = optionsOf(options);
+  const words = [...place, meters, BigInt(cells), least, deepest, BOTH];
+  const {outer, inner} = fine(calls(), calls().coveredBy("s2js_circle", [], ...words), null);
+  return {outer: unionOf(outer), inner: unionOf(inner)};
 }
 
 export function fromGeoJSON(geojson, atBorder = AT_BORDERS) {
-  if (!(atBorder >= 1 && atBorder <= MOST_AT_BORDER)) {
-    throw new RangeError(`the cells at the border are from 1 to ${MOST_AT_BORDER}`);
+  if (!(atBorder >= 1 && atBorder <= MOST_CELLS_COVERED)) {
+    throw new RangeError(`the cells at the border are from 1 to ${MOST_CELLS_COVERED}`);
   }
-  const read = typeof geojson === "string" ? JSON.parse(geojson) : geojson;
-  const shapes = shapesOf(read);
-  checkShapes(shapes);
-  return coveringOf(library, shapes, () => {}, atBorder).ids;
+  const shape = shapeOf(typeof geojson === "string" ? JSON.parse(geojson) : geojson, true);
+  return unionOf(looselyCovered(calls(), shape, Math.floor(atBorder), OUTER).outer);
 }
+
+// ---- back to the map
+
+export const outline = (union) => outlineOf(calls(), cellsIn(union));
+
+export const toGeoJSON = (union, properties = {}, {dissolve = false} = {}) =>
+  (dissolve ? dissolvedOf : cellsOf)(calls(), properties, cellsIn(union));
+
+export {ShapeError};

@@ -884,3 +884,6 @@ export class UnionFile {
    */
   toUnion(): CellUnion;
 }
+
+/** What the module `geo` asks. It isn't for others, and may change. */
+export const internals: object;

@@ -409,4 +409,7 @@ export class UnionFile {
   }
 }
 
+/** What geo.js asks. */
+export const internals = {calls, cellsIn, unionOf};
+
 export {Refusal};

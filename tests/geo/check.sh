@@ -27,6 +27,8 @@ step "the extension for SQLite" in_sqlite
 [ "$failed" -eq 0 ] || finish
 installed() { make -C "$work/build" PREFIX="$work/usr" PG_CONFIG="$config" install DESTDIR="$copy"; }
 step "install" installed
+need_page
+export S2UNION_PAGE=$work/page
 step "a cluster on a socket" begun data
 [ "$failed" -eq 0 ] || finish
 

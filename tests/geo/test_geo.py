@@ -2,7 +2,6 @@
 import json
 import os
 import re
-import runpy
 import sqlite3
 import subprocess
 import sys
@@ -85,10 +84,7 @@ class Geo(page.Page):
             apart = numpy.abs(numpy.array([row[1:] for row in rows], float).T - back)
             self.assertLess(numpy.minimum(apart, 360 - apart).max(), 1e-12)
 
-        package = self.file("js")
-        stand_in = "".join(Path(page.TOP, path).read_text() for path in ("bindings/js/sphere.js",
-                                                                         "tests/page/standin.js"))
-        runpy.run_path(os.path.join(page.TOP, "tools", "page"))["make_package"](package, b"", stand_in)
+        package = os.environ["S2UNION_PAGE"] + "/js"
         Path(self.file("places.txt")).write_text(text)
         subprocess.run(["node", os.path.join(page.TOP, "tests", "js", "geo.mjs"), package, self.file("places.txt"),
                         "-", self.file("leaves.txt")], check=True)
@@ -332,6 +328,20 @@ SQL
         middle = 2 + len(said[2:]) // 2
         self.assertEqual(said[2:middle], said[middle:])
         self.assertGreater(middle, 100)
+
+    def test_countries_in_javascript(self):
+        """Each country has the cells there that it has in Python."""
+        lines = []
+        for feature in features_of(self.file("countries.geojson")):
+            for options in {"max_cells": 50}, {"max_cells": 500, "edges": "geodesic"}:
+                outer, inner = (" ".join(union.tokens()) for union in coverings(feature, **options))
+                lines.append(json.dumps({"name": "GeoJSON", "given": feature, "options": options, "outer": outer,
+                                         "inner": inner, "outlines": []}))
+        Path(self.file("shapes")).write_text("\n".join(lines))
+        compare = os.path.join(page.TOP, "tests", "js", "shapes.mjs")
+        said = subprocess.run(["node", compare, os.environ["S2UNION_PAGE"] + "/js", self.file("shapes")], check=False,
+                              capture_output=True, text=True).stdout
+        self.assertTrue(said.endswith(f"{len(lines)} passed, 0 failed\n"), said[-2000:])
 
     def test_coverings_have_their_borders(self):
         """Of many triangles with an edge along both axes of the map: each place of one is in its coverings, and none

@@ -140,6 +140,6 @@ export function namesOf(module) {
   const ofAll = ["constructor", "length", "name", "prototype"];
   const members = (made) => [made, made.prototype].flatMap(Object.getOwnPropertyNames)
     .filter((name) => !ofAll.includes(name)).map((name) => `${made.name}.${name}`);
-  const exported = Object.keys(module).filter((name) => name !== "Refusal");
+  const exported = Object.keys(module).filter((name) => !["Refusal", "internals"].includes(name));
   return [...exported, ...[module.CellUnion, module.UnionFile].flatMap(members)];
 }

@@ -1,30 +1,24 @@
 #!/usr/bin/env bash
 # The package for JavaScript, in Node: tests/run js. It needs Node 18 or later, and installs Debian's if there is none.
-# With --short, as the gate has it, a plain stand-in takes the place of the proved module, and there are fewer cases.
+# With --short, as the gate has it, there are fewer cases, and TypeScript is asked only if it is there.
 # Its last line is 'N passed, M failed'; the status is 1 if any failed.
 . "$(dirname "$0")/../steps.sh"
 tests=$top/tests/js
 package=$work/page/js
 module=$package/s2union.js
-
-over_a_stand_in() { # the package as tools/page makes it, but with the stand-in for the module
-  /usr/bin/python3 -c 'import runpy, sys; runpy.run_path(sys.argv[1])["make_package"](sys.argv[2], b"", sys.argv[3])' \
-    "$top/tools/page" "$package" "$(cat "$top/bindings/js/sphere.js" "$top/tests/page/standin.js")"
-}
+version=$(cat "$top/VERSION")
 
 need node nodejs
 if [ "${1:-}" = --short ]; then
-  rounds=60 version=1.23.45 cells=3000
-  need_packages
-  step "the package, over a stand-in for its module" over_a_stand_in
+  rounds=60 cells=3000
 else
-  rounds=300 version=$(cat "$top/VERSION") cells=200000
-  need wasm-opt binaryen
+  rounds=300 cells=200000
   need tsc node-typescript
-  need_packages
-  step "tools/page" "$top/tools/page" "$work/page" --jobs 1
 fi
-[ "$failed" -eq 0 ] || finish
+need_linker
+need_packages
+need_library
+need_page
 
 questions() { PYTHONPATH=$top/tests /usr/bin/python3 -B -m model.vectors "$rounds" >"$work/vectors"; }
 step "questions" questions
@@ -37,8 +31,13 @@ for place in POINTS: print(*place)' >"$work/places"; }
 step "places, with the leaves that S2 has there" places
 borders() { PYTHONPATH=$top/tests /usr/bin/python3 -B -m model.borders >"$work/borders"; }
 step "triangles, and places along their borders" borders
-step "points in degrees, and GeoJSON, on a small stack and heap" \
+shapes() { # with the cells that the library has, by its module for Python
+  PYTHONPATH=$work/usr/lib/python:$top/tests /usr/bin/python3 -B "$tests/shapes.py" "$rounds" >"$work/shapes"
+}
+step "shapes, with the cells that Python has" shapes
+step "points, coverings and GeoJSON, on a small stack and heap" \
   node --stack-size=100 --max-old-space-size=400 "$tests/geo.mjs" "$package" "$work/places" "$work/borders"
+step "coverings and outlines are those of Python" node "$tests/shapes.mjs" "$package" "$work/shapes"
 
 by_name() { # NAME: a program of the page, in a package that has ours
   mkdir -p "$work/program/node_modules" && cp -rT "$package" "$work/program/node_modules/s2union" &&

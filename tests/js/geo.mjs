@@ -9,12 +9,33 @@ import {pathToFileURL} from "node:url";
 const [folder, places, borders, leaves] = process.argv.slice(2).map((name) => resolve(name));
 const {exports} = JSON.parse(readFileSync(join(folder, "package.json"), "utf8"));
 const imported = (name) => import(pathToFileURL(join(folder, exports[name].default)));
-const {CellUnion, Refusal, load, tokens, fromToken, face, level, parents, token} = await imported(".");
+const {CellUnion, Refusal, internals, load, tokens, fromToken, face, level, parents, token} = await imported(".");
 const geo = await imported("./geo");
 const rows = readFileSync(places, "utf8").trim().split("\n").map((line) => line.trim().split(" "));
 const positions = rows.map(([longitude, latitude]) => [Number(longitude), Number(latitude)]);
 const square = [[0, 0], [10, 0], [10, 10], [0, 10], [0, 0]];
 const polygon = {type: "Polygon", coordinates: [square]};
+
+/** What was instantiated last. */
+let [bytes, imports] = [];
+const {instantiate} = WebAssembly;
+WebAssembly.instantiate = (...given) => {
+  [bytes, imports] = given;
+  return instantiate(...given);
+};
+
+/** The calls over a memory of at most some pages: the module says so after the least that it needs. */
+async function withPages(pages) {
+  const number = (at) => (bytes[at] < 128 ? [bytes[at], at + 1] : [bytes[at] - 128 + 128 * number(at + 1)[0],
+    number(at + 1)[1]]);
+  let [at, size, from] = [8];
+  for (; bytes[at] !== 5; at = from + size) [size, from] = number(at + 1);
+  [size, from] = number(at + 1);
+  assert.equal(bytes[from + 1], 0, "a memory without a limit");
+  const section = [5, size + 2, 1, 1, ...bytes.slice(from + 2, from + size), 128 + pages % 128, pages >> 7];
+  const limited = Uint8Array.from([...bytes.slice(0, at), ...section, ...bytes.slice(from + size)]);
+  return new (internals.calls().constructor)((await instantiate(limited, imports)).instance);
+}
 
 const tests = {
   "before load": () => assert.throws(() => geo.fromLngLat(0, 0), /await load/),
@@ -41,19 +62,99 @@ const tests = {
     assert.throws(() => geo.fromGeoJSON({type: "Nothing"}), /no GeoJSON/);
     assert.throws(() => geo.fromGeoJSON("{"), SyntaxError);
     assert.throws(() => geo.fromGeoJSON({type: "Point", coordinates: [0, 91]}), /out of range/);
+    for (const wrong of [null, 7, [], "7", {}, {type: 7}, {type: "toString"}, {type: "Feature"}, {type: "Polygon"},
+      {type: "FeatureCollection"}, {type: "Polygon", coordinates: [7]}, {type: "LineString", coordinates: [1, 2]}]) {
+      if (wrong?.type === "Feature") assert.equal(geo.covering(wrong).size, 0);
+      else assert.throws(() => geo.covering(wrong), Error, JSON.stringify(wrong));
+    }
     for (const position of [["0", "1"], [0, "1"], [true, 1], [null, 1], [[0], 1], [0], [0, NaN]]) {
       assert.throws(() => geo.fromGeoJSON({type: "Point", coordinates: position}), /out of range/, String(position));
       const coordinates = [position, ...square.slice(1, 4), position];
       assert.throws(() => geo.fromGeoJSON({type: "Polygon", coordinates: [coordinates]}), /out of range/);
     }
-    for (const [length, steps] of [[1000, 404_000], [1_000_000, 4_000_000]]) {
-      const coordinates = Array.from({length}, (_, k) => [k % 2 ? 540 : -540, 0]);
-      assert.throws(() => geo.fromGeoJSON({type: "LineString", coordinates}), RegExp(`more than ${steps} steps`));
-    }
     for (const most of [0, -1, NaN, 1_000_001, 1e9, Infinity, "many"]) {
       assert.throws(() => geo.fromGeoJSON(polygon, most), RangeError, String(most));
     }
     assert.throws(() => geo.toGeoJSON(CellUnion.fromTokens("1").denormalized(1)), TypeError);
+  },
+  "what is wrong with a shape, by its kind, ring and position": () => {
+    const [hole, bytes] = [[[2, 2], [3, 2], [3, 3], [2, 2]], (...all) => Uint8Array.from(all)];
+    const of = (...coordinates) => ({type: "Polygon", coordinates});
+    const wkb = (type, ...more) => bytes(1, type, 0, 0, 0, ...more);
+    for (const [shape, kind, ring, position, said] of [
+      [of(square, [...hole.slice(0, 2), [3, 91], [2, 2]]), "NUMBER", 1, 2, /^polygon 0, ring 1: position 2 is out of /],
+      [of(square, [...hole.slice(0, 2), ["3", 9], [2, 2]]), "NUMBER", 1, 2, /^polygon 0, ring 1: position 2/],
+      [of(square, [...hole.slice(0, 2), null, [2, 2]]), "NUMBER", 1, 2, /^polygon 0, ring 1: position 2/],
+      [of(square, hole.slice(0, 3)), "FEW", 1, undefined, /^polygon 0, ring 1 has fewer than four positions/],
+      [of(square, [...hole, [4, 4]]), "OPEN", 1, undefined, /^polygon 0, ring 1 is open/],
+      [{type: "LineString", coordinates: [[0, 0], [541, 0]]}, "NUMBER", 0, 1, /^line 0: position 1 is out of range/],
+      [wkb(3, 1, 0, 0, 0), "WKB", undefined, 5, /no WKB: at byte 5/],
+      [wkb(3, 255, 255, 255, 255), "WKB", undefined, 5, /no WKB: at byte 5/],
+      [wkb(9), "TYPE", undefined, 0, /at byte 0/],
+      [bytes(1, 3, 0, 0, 32, 7, 0, 0, 0), "SRID", undefined, 0, /SRID/],
+      [bytes(), "WKB", undefined, 0, /no WKB/], [bytes(...Array(40).fill([1, 7, 0, 0, 0, 1, 0, 0, 0]).flat()), "DEEP"],
+    ]) {
+      assert.throws(() => geo.coverings(shape), (error) => error instanceof geo.ShapeError && error.kind === kind &&
+        (ring === undefined || error.ring === ring) && (position === undefined || error.position === position) &&
+        (said ?? /./).test(error.message), kind);
+    }
+    const line = {type: "LineString", coordinates: [[0, 90], [0, -90]]};
+    assert.throws(() => geo.covering(line, {edges: "geodesic"}), ({kind}) => kind === "OPPOSITE");
+  },
+  "options out of range, and of other types": () => {
+    for (const [name, ...wrong] of [["maxCells", -1, 1_000_001, 1.5, NaN], ["minLevel", -1, 31], ["maxLevel", 31, 0.5],
+      ["within", 0, -1, NaN], ["margin", -1, 300_001, NaN], ["edges", "straight", "toString"]]) {
+      for (const value of wrong) assert.throws(() => geo.covering(polygon, {[name]: value}), RangeError, name);
+      assert.throws(() => geo.covering(polygon, {[name]: name === "edges" ? "x" : "1"}), Error, name);
+    }
+    assert.throws(() => geo.covering(polygon, {minLevel: 9, maxLevel: 8}), RangeError);
+    for (const wrong of [[541, 0, 1], [0, 91, 1], [0, 0, -1], [0, 0, 9_000_001], [0, 0, NaN]]) {
+      assert.throws(() => geo.circle(...wrong), RangeError, String(wrong));
+    }
+    assert.throws(() => geo.circle(0, 0), TypeError);
+    assert.equal(geo.covering(polygon, {maxCells: 0}).size, 1);
+  },
+  "shapes that a few bytes make are covered soon": () => {
+    const long = Array.from({length: 20_000}, (_, k) => [k % 2 ? 540 : -540, (k % 180) - 90]);
+    const nested = `${'{"type":"GeometryCollection","geometries":['.repeat(5000)}${"]}".repeat(5000)}`;
+    const begun = performance.now();
+    assert.throws(() => geo.covering({type: "LineString", coordinates: long}), ({kind}) => kind === "PIECES");
+    assert.ok(geo.covering({type: "LineString", coordinates: long.slice(0, 1000)}).size);
+    assert.equal(geo.covering(nested).size, 0);
+    assert.throws(() => geo.covering({type: "Polygon", coordinates: [Array(5_000_000).fill([0, 0])]}), /positions/);
+    const loop = {type: "GeometryCollection", geometries: []};
+    loop.geometries.push(loop, loop);
+    assert.throws(() => geo.covering(loop), Error);
+    assert.ok(performance.now() - begun < 60_000);
+  },
+  "with less and less memory: an error by its name, and all goes on": async () => {
+    const own = {...internals.calls()};
+    const teeth = Array.from({length: 3000}, (_, k) => [k % 2 ? 0.1 : 0, k / 1e4]);
+    const asked = [() => geo.covering({type: "LineString", coordinates: teeth}, {maxCells: 2000}).size,
+      () => geo.outline(geo.covering(polygon, {maxCells: 3000})).coordinates[0][0].length];
+    const wanted = asked.map((ask) => ask());
+    const stack = own.calls.__stack_pointer.value;
+    /** What the first call with enough memory answers; those before it are refused. */
+    const first = async (ask) => {
+      for (let pages = 12; ; pages += 5) {
+        Object.assign(internals.calls(), await withPages(pages));
+        try {
+          return [ask(), pages];
+        } catch (error) {
+          assert.ok(error instanceof Refusal && error.kind === "MEMORY", error.stack);
+          assert.equal(geo.covering({type: "Point", coordinates: [0, 0]}, {maxCells: 1}).size, 1);
+          assert.equal(internals.calls().calls.__stack_pointer.value, stack);
+        }
+      }
+    };
+    try {
+      for (const [k, ask] of asked.entries()) {
+        const [answer, pages] = await first(ask);
+        assert.ok(answer === wanted[k] && pages > 20, `${answer} ${pages}`);
+      }
+    } finally {
+      Object.assign(internals.calls(), own);
+    }
   },
   "a covering has all points of a polygon, and few more with more cells": () => {
     const sizes = [[50, 0], [1000, 0], [1000, 360], [1000, -360]].map(([most, turn]) => {
@@ -87,11 +188,6 @@ const tests = {
       const ring = [...edges, [-540, edges[15][1]], [-540, south - (90 - south) / 100], edges[0]];
       assert.ok(geo.fromGeoJSON({type: "Polygon", coordinates: [ring]}).has(geo.fromLngLat(-539.5, edges[7][1])));
     }
-  },
-  "too many edges near one another": () => {
-    const teeth = Array.from({length: 3000}, (_, k) => [k % 2 ? 0.1 : 0, k / 1e12]);
-    const line = {type: "LineString", coordinates: teeth};
-    assert.throws(() => geo.fromGeoJSON(line), /too many edges lie near one another: \d+ pairs/);
   },
   "a strip along a parallel and one along a meridian have a narrow margin": () => {
     const strip = [[0, 60], [10, 60], [10, 60.001], [0, 60.001], [0, 60]];
@@ -152,7 +248,11 @@ const tests = {
       assert.equal(ring.length, isAtPole || ofPole.some(Boolean) ? 6 : 5, properties.cell);
     }
     assert.deepEqual(geo.toGeoJSON(new CellUnion()), {type: "FeatureCollection", features: []});
-    assert.throws(() => geo.toGeoJSON({denormalizedSize: () => 200_001n}), RangeError);
+    const many = new CellUnion(BigUint64Array.from({length: 200_001}, (_, k) => BigInt(4 * k + 1)));
+    assert.throws(() => geo.toGeoJSON(many), RangeError);
+    const {features: [one, ...others]} = geo.toGeoJSON(union, {name: "three"}, {dissolve: true});
+    assert.deepEqual([one.properties, one.geometry, others], [{name: "three"}, geo.outline(union), []]);
+    assert.throws(() => geo.outline([...union]), TypeError);
   },
 };
 

@@ -5,8 +5,8 @@ import {readFileSync} from "node:fs";
 import {join} from "node:path";
 
 const top = process.argv[2];
-const SCRIPTS = ["bindings/js/core.js", "bindings/js/sphere.js", "bindings/js/geojson.js", "page/words.js",
-  "page/worker.js", "page/view.js", "page/page.js"];
+const SCRIPTS = ["bindings/js/core.js", "bindings/js/shapes.js", "page/words.js", "page/features.js",
+  "page/worker.js", "page/sphere.js", "page/view.js", "page/page.js"];
 const NAMES = "{Coverer, MOST_CELLS, Page, Refusal, SIDE, Stopped, View}";
 const read = (name) => readFileSync(join(top, name), "utf8");
 const elements = {};

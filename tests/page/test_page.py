@@ -1,5 +1,5 @@
-"""Drives the page in Chromium and compares what it answers with the library, by its module for Python: the page of
---page, or one over standin.js, for which the tests that are slow there may be left out (-m "not slow")."""
+"""Drives the page of --page in Chromium and compares what it answers with the library, by its module for Python. The
+tests that are slow may be left out (-m "not slow")."""
 import base64
 import json
 import math
@@ -7,7 +7,6 @@ import random
 import struct
 import time
 from pathlib import Path
-from runpy import run_path
 
 import pytest
 from model.edges import REFUSALS
@@ -53,12 +52,6 @@ def random_union(choice, count, depth):
         near = parent(choice.choice(leaves), choice.randrange(1, 8))
         cells.append(parent(leaf_in(choice, near), choice.randrange(level(near), depth)))
     return Union(cells)
-
-
-def page_over_a_stand_in(folder):
-    """Makes the page in a folder as tools/page does, but with a stand-in for the module."""
-    sample, stand_in = (TOP / "page/land.cells").read_bytes(), (HERE / "standin.js").read_text()
-    (folder / "index.html").write_text(run_path(str(TOP / "tools/page"))["page_of"](b"", sample, stand_in))
 
 
 def middle(face, i, j, side):
@@ -125,9 +118,7 @@ class TestPage:
     def in_browser(self, request, tmp_path_factory):
         asked, here = request.config.option, request.cls
         here.downloads = tmp_path_factory.mktemp("page")
-        if not asked.page:
-            page_over_a_stand_in(here.downloads)
-        here.folder, here.driver = Path(asked.page or here.downloads).resolve(), browser(here.downloads, not asked.page)
+        here.folder, here.driver = Path(asked.page).resolve(), browser(here.downloads, asked.short)
         yield
         if asked.figures:
             here().figures()
@@ -728,25 +719,27 @@ class TestPage:
         middles = [[sum(corner[k] for corner in ring[:3]) / 3 for k in (0, 1)] for (ring,) in made]
         assert all(union.contains_cells(leaves(*zip(*middles)).tolist()))
         assert wanted < union.leaf_count() < 4 * wanted, (union.leaf_count() / wanted, self.status())
-        times = float(self.status().partition("about ")[2].split()[0])
-        assert 0.7 < times * wanted / union.leaf_count() < 1.4, (times, union.leaf_count() / wanted)
+        times = float(self.status().partition("at most ")[2].split()[0])
+        assert 0.99 < times * wanted / union.leaf_count() < 3, (times, union.leaf_count() / wanted)
         assert "cells at borders are of level 1" in self.status(), self.status()
 
-    def test_too_many_shapes(self):
-        """They are refused before any is covered; points are no such shapes."""
+    def test_too_many_positions(self):
+        """They are refused before any shape is covered."""
         self.begin()
-        self.drop("many", json.dumps({"type": "MultiPolygon", "coordinates": [[[[0, 0], [0, 1]]]] * 100_001}).encode())
-        said = "many: refused: there are more than 100000 polygons and lines"
-        assert self.status() == said and self.count() == 2, self.status()
-        points = [{"type": "Point", "coordinates": [2.35, 48.86]}] * 100_001
-        self.drop("points", json.dumps({"type": "GeometryCollection", "geometries": points}).encode())
-        assert self.last() == Union(leaves([2.35], [48.86]).tolist()).to_bytes(), self.status()
+        made = self.driver.execute_async_script("""const done = arguments[0];
+            const ring = JSON.stringify(Array(1_000_001).fill([0, 0]));
+            s2page.open([new File([`{"type": "Polygon", "coordinates": [${Array(4).fill(ring)}]}`], 'many')]).then(
+              () => done(at('status').textContent));""")
+        assert made == "many: refused: there are more than 4000000 positions" and self.count() == 2, made
 
     def test_stopping(self):
         """While GeoJSON is covered the page answers; if that is stopped, nothing is changed, and all goes on."""
         self.begin()
         self.click("undo")
-        text = json.dumps({"type": "MultiPolygon", "coordinates": triangles(self.choice, 3000)[0]})
+        shapes = [triangles(self.choice, 300)[0] for _ in range(10)]
+        text = json.dumps({"type": "FeatureCollection", "features": [
+            {"type": "Feature", "id": k, "geometry": {"type": "MultiPolygon", "coordinates": it}}
+            for k, it in enumerate(shapes)]})
         for kind in ("texts", "files"):
             frames, parts, drawn = self.driver.execute_async_script("""const [kind, text, done] = arguments;
                 const [parts, count] = [[], s2page.regions.length];
@@ -808,7 +801,7 @@ class TestPage:
             view.fit();
             view.draw();
             return [[20, 0], [-100, 40], [130, -25], [-150, 0], [-30, 30]].map(([x, y]) => {
-              const {face, i, j} = s2page.core.square(leafOf(s2page.core, x, y));
+              const {face, i, j} = s2page.core.square(s2page.core.leavesOf(Float64Array.of(x, y))[0]);
               const [px, py] = view.pixelAt(...view.planeAt(face, i / SIDE, j / SIDE)).map(Math.floor);
               return view.pixels[py * view.image.width + px] === wordOf(...view.colors.land);
             });"""
@@ -826,10 +819,10 @@ class TestPage:
         for text, said in (('{"type": "Circle"}', "it is no GeoJSON"), ('{"a": {}}', "it is no GeoJSON"),
                            ('{"type"', "JSON"), ("{}", "there is no cell"), ("[]", "there is no cell"),
                            ('{"type": "Feature", "geometry": null}', "there is no cell"),
-                           ('{"type": "Point", "coordinates": [0, 91]}', "a position is out of range"),
-                           ('{"type": "Point", "coordinates": ["x", 0]}', "a position is out of range"),
-                           ('{"type": "Point", "coordinates": ["1", "2"]}', "a position is out of range"),
-                           ('{"type": "Point", "coordinates": [null, null]}', "a position is out of range"),
+                           ('{"type": "Point", "coordinates": [0, 91]}', "position 0 is out of range"),
+                           ('{"type": "Point", "coordinates": ["x", 0]}', "position 0 is out of range"),
+                           ('{"type": "Point", "coordinates": ["1", "2"]}', "position 0 is out of range"),
+                           ('{"type": "Point", "coordinates": [null, null]}', "position 0 is out of range"),
                            ('{"type": "Point"}', "it is no GeoJSON"), ('{"type": "Polygon"}', "it is no GeoJSON"),
                            ('{"type": "LineString", "coordinates": [1, 2]}', "it is no GeoJSON"),
                            ('{"type": "Polygon", "coordinates": [7]}', "it is no GeoJSON"),
@@ -852,14 +845,28 @@ class TestPage:
                 ring, same = it["geometry"]["coordinates"][0], other["geometry"]["coordinates"][0]
                 assert len(ring) == len(same) and all(math.dist(x, y) < 1e-9 for x, y in zip(ring, same)), (ring, same)
 
+    def test_outline_out(self):
+        """It is what s2union_geo makes of the same union."""
+        self.begin()
+        made = json.loads(self.saved("outline a", "a.geojson"))
+        wanted = to_geojson(self.a, dissolve=True, name="a")
+        (one,), (same,) = made["features"], wanted["features"]
+        assert one["properties"] == same["properties"] and one["geometry"]["type"] == "MultiPolygon"
+        ours, others = ([ring for polygon in it["geometry"]["coordinates"] for ring in polygon] for it in (one, same))
+        assert [len(ring) for ring in ours] == [len(ring) for ring in others]
+        for ring, other in zip(ours, others):
+            assert all(math.dist(x, y) < 1e-9 for x, y in zip(ring, other)), (ring, other)
+
     def test_the_most_polygons(self):
         """GeoJSON is made of 200,000 cells, and of no more."""
         self.open()
-        made = self.run("""const core = {token: () => '', square: () => ({face: 0, i: 0, j: 0, size: 1})};
+        made = self.run("""const core = {token: () => '', square: () => ({face: 0, i: 0, j: 0, size: 1}),
+              degreesOf: ({length}) => new Float64Array(length)};
             return [200_000, 200_001].map((length) => {
+              core.denormalisedCount = () => BigInt(length);
               core.denormalised = () => ({length});
               try {
-                return JSON.parse(geojsonOf(core, '', {length})).features.length;
+                return cellsOf(core, {}, []).features.length;
               } catch (error) {
                 return error.message;
               }

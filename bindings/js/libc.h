@@ -1,0 +1,87 @@
+/* The little of C's own headers that s2union_cover.h and s2union_outline.h need, for the module for WebAssembly, where
+ * no C library is: module.c has the functions, and JavaScript's Math those that are imported. */
+#ifndef S2UNION_LIBC_H
+#define S2UNION_LIBC_H
+
+typedef __INT32_TYPE__ int32_t;
+typedef __INT64_TYPE__ int64_t;
+typedef __UINT8_TYPE__ uint8_t;
+typedef __UINT32_TYPE__ uint32_t;
+typedef __UINT64_TYPE__ uint64_t;
+typedef __UINTPTR_TYPE__ uintptr_t;
+typedef __SIZE_TYPE__ size_t;
+
+#define bool _Bool
+#define true 1
+#define false 0
+#define NULL ((void*)0)
+#define SIZE_MAX __SIZE_MAX__
+#define INT64_C(number) number##L
+#define INT64_MIN (-__INT64_MAX__ - 1)
+#define UINT32_MAX __UINT32_MAX__
+#define UINT64_MAX (2UL * __INT64_MAX__ + 1)
+#define INFINITY __builtin_inf()
+
+void* malloc(size_t size);
+void* calloc(size_t count, size_t size);
+void* realloc(void* at, size_t size);
+void free(void* at);
+void* memcpy(void* to, const void* from, size_t size);
+void* memset(void* to, int byte, size_t size);
+
+/* Instructions of WebAssembly. */
+double fabs(double x);
+double sqrt(double x);
+double ceil(double x);
+double floor(double x);
+double nearbyint(double x);
+
+/* Imported: Math's, and the operator %. */
+double sin(double x);
+double cos(double x);
+double tan(double x);
+double asin(double x);
+double atan(double x);
+double atan2(double y, double x);
+double fmod(double x, double y);
+
+static inline double fmin(double x, double y) { return x < y || y != y ? x : y; }
+
+static inline double fmax(double x, double y) { return x > y || y != y ? x : y; }
+
+/* Of a number that is normal, and stays so. */
+static inline double ldexp(double x, int exponent) {
+  uint64_t bits = (uint64_t)(1023 + exponent) << 52;
+  double power;
+  memcpy(&power, &bits, sizeof power);
+  return x * power;
+}
+
+/* What is left of x without the nearest multiple of y, the even one of two; y is more than 0. */
+static inline double remainder(double x, double y) {
+  double left = fabs(fmod(x, 2 * y));
+  if (left > y / 2) left -= left < y * 1.5 ? y : 2 * y;
+  return x < 0 ? -left : left;
+}
+
+/* Merges sorted runs, whose length doubles. It is always inlined, so that no function is called by its address. */
+__attribute__((always_inline)) static inline void qsort(void* at, size_t count, size_t size,
+                                                       int (*order)(const void*, const void*)) {
+  char *from = (char*)at, *to = (char*)malloc(count * size), *other = to;
+  for (size_t run = 1; run < count; run *= 2) {
+    for (size_t begin = 0; begin < count; begin += 2 * run) {
+      size_t middle = begin + run < count ? begin + run : count, end = middle + run < count ? middle + run : count;
+      size_t left = begin, right = middle;
+      for (size_t k = begin; k < end; k++) {
+        int is_right = left == middle || (right < end && order(from + size * right, from + size * left) < 0);
+        memcpy(to + size * k, from + size * (is_right ? right++ : left++), size);
+      }
+    }
+    char* sorted = to;
+    to = from, from = sorted;
+  }
+  if (from != (char*)at) memcpy(at, from, count * size);
+  free(other);
+}
+
+#endif

@@ -1,0 +1,155 @@
+/* What the module for WebAssembly has beside the proved calls: coverings and outlines by s2union_cover.h and
+ * s2union_outline.h, as the package for JavaScript calls them, and a heap. It is tested, not proved.
+ *
+ * JavaScript lays out the memory. A call that takes some of it gets what lies behind all that JavaScript has there, and
+ * what it made is gone when the next one begins. If there is none, s2js_no_memory is called, which doesn't return. */
+#include "s2union_cover.h"
+#include "s2union_outline.h"
+
+__attribute__((noreturn)) void s2js_no_memory(void);
+
+/* ---- the heap: blocks of a power of two, with their exponent in front */
+
+enum { S2JS_LEAST = 5, S2JS_HEAD = 16, S2JS_PAGE = 65536 };
+#define S2JS_MOST ((uint64_t)1 << 32) /* of the memory, in bytes */
+
+static void* s2js_freed[33]; /* by the exponent: blocks, each with the address of the next one */
+static uint64_t s2js_front;  /* where nothing was taken yet */
+
+/* Begins a heap at some address; all blocks of the one before are gone. */
+void s2js_begin(uint64_t at) {
+  memset(s2js_freed, 0, sizeof s2js_freed);
+  s2js_front = (at + 15) / 16 * 16;
+}
+
+/* Sees to it that the memory has the bytes before some address. */
+static void s2js_reach(uint64_t end) {
+  uint64_t pages = __builtin_wasm_memory_size(0), wanted = (end + S2JS_PAGE - 1) / S2JS_PAGE;
+  if (end > S2JS_MOST) s2js_no_memory();
+  if (wanted > pages && (uint32_t)__builtin_wasm_memory_grow(0, wanted - pages) == UINT32_MAX) s2js_no_memory();
+}
+
+__attribute__((noinline)) void* malloc(size_t size) {
+  if (size > S2JS_MOST / 2) s2js_no_memory();
+  uint32_t exponent = size <= 1 << S2JS_LEAST ? S2JS_LEAST : 64 - (uint32_t)__builtin_clzll(size - 1);
+  void** block = (void**)s2js_freed[exponent];
+  if (block) {
+    s2js_freed[exponent] = *block;
+    return block;
+  }
+  uint64_t at = s2js_front + S2JS_HEAD, end = at + ((uint64_t)1 << exponent);
+  s2js_reach(end);
+  s2js_front = end;
+  ((uint64_t*)at)[-1] = exponent;
+  return (void*)at;
+}
+
+void free(void* at) {
+  if (!at) return;
+  uint64_t exponent = ((uint64_t*)at)[-1];
+  *(void**)at = s2js_freed[exponent];
+  s2js_freed[exponent] = at;
+}
+
+void* realloc(void* at, size_t size) {
+  uint64_t old = at ? (uint64_t)1 << ((uint64_t*)at)[-1] : 0;
+  if (size <= old && at) return at;
+  void* more = malloc(size);
+  if (at) memcpy(more, at, old);
+  free(at);
+  return more;
+}
+
+void* calloc(size_t count, size_t size) {
+  if (size && count > S2JS_MOST / size) s2js_no_memory();
+  return memset(malloc(count * size), 0, count * size);
+}
+
+/* The same for the proved calls. */
+void s2u_block_take(s2u_block* block, size_t size, size_t align) {
+  (void)align;
+  block->ok = 1;
+  block->at = malloc(size);
+}
+
+void s2u_block_grow(s2u_block* block, void* at, size_t old_size, size_t size, size_t align) {
+  (void)old_size, (void)align;
+  block->ok = 1;
+  block->at = realloc(at, size);
+}
+
+void s2u_block_give_back(void* at) { free(at); }
+
+/* The product of two numbers of 128 bits, which the compiler calls by this name. */
+__int128 __multi3(__int128 a, __int128 b) {
+  uint64_t x = (uint64_t)a, y = (uint64_t)b, low = x & UINT32_MAX, high = x >> 32;
+  uint64_t less = y & UINT32_MAX, more = y >> 32;
+  uint64_t first = low * less, second = high * less + (first >> 32), third = low * more + (second & UINT32_MAX);
+  uint64_t upper = high * more + (second >> 32) + (third >> 32);
+  upper += x * (uint64_t)(b >> 64) + (uint64_t)(a >> 64) * y;
+  return (__int128)((unsigned __int128)upper << 64 | third << 32 | (first & UINT32_MAX));
+}
+
+/* ---- calls */
+
+enum { S2JS_OUTER = 1, S2JS_INNER = 2 };
+
+typedef struct s2js_coverings {
+  s2u_cover_cells outer, inner;
+  s2u_cover_fault fault;
+} s2js_coverings;
+
+static s2u_cover_options s2js_options(uint64_t cells, uint32_t least, uint32_t deepest, uint32_t edges,
+                                        double margin) {
+  s2u_cover_options options = {cells, least, deepest, edges, margin};
+  return options;
+}
+
+static s2u_cover_cells* s2js_if(uint32_t which, uint32_t wanted, s2u_cover_cells* cells) {
+  cells->ids = NULL;
+  cells->count = 0;
+  return which & wanted ? cells : NULL;
+}
+
+/* The leaves of places; numbers are two for each. */
+void s2js_leaves(const double* positions, size_t numbers, uint64_t* leaves) {
+  for (size_t k = 0; k < numbers / 2; k++) leaves[k] = s2u_geo_leaf(positions[2 * k], positions[2 * k + 1]);
+}
+
+/* The longitudes and latitudes of points of faces; numbers are three for each: a face, and how many leaves a point lies
+ * from its corner along each axis. */
+void s2js_places(const double* points, size_t numbers, double* positions) {
+  for (size_t k = 0; k < numbers / 3; k++, points += 3, positions += 2)
+    s2u_geo_place((uint32_t)points[0], points[1], points[2], &positions[0], &positions[1]);
+}
+
+/* A ring is two words: where it ends, and its polygon. */
+int32_t s2js_cover(const double* positions, size_t numbers, const s2u_cover_ring* rings, size_t words, uint64_t cells,
+                     uint32_t least, uint32_t deepest, uint32_t edges, double margin, uint32_t which,
+                     s2js_coverings* made) {
+  s2u_cover_shape shape = {positions, rings, words / 2};
+  s2u_cover_options options = s2js_options(cells, least, deepest, edges, margin);
+  (void)numbers;
+  return s2u_cover(&shape, &options, s2js_if(which, S2JS_OUTER, &made->outer),
+                   s2js_if(which, S2JS_INNER, &made->inner), &made->fault);
+}
+
+int32_t s2js_cover_wkb(const uint8_t* bytes, size_t size, uint64_t cells, uint32_t least, uint32_t deepest,
+                         uint32_t edges, double margin, uint32_t which, s2js_coverings* made) {
+  s2u_cover_options options = s2js_options(cells, least, deepest, edges, margin);
+  return s2u_cover_wkb(bytes, size, &options, s2js_if(which, S2JS_OUTER, &made->outer),
+                       s2js_if(which, S2JS_INNER, &made->inner), &made->fault);
+}
+
+int32_t s2js_circle(double longitude, double latitude, double radius, uint64_t cells, uint32_t least,
+                      uint32_t deepest, uint32_t which, s2js_coverings* made) {
+  s2u_cover_options options = s2js_options(cells, least, deepest, S2U_COVER_GEODESIC, 0);
+  return s2u_cover_circle(longitude, latitude, radius, &options, s2js_if(which, S2JS_OUTER, &made->outer),
+                          s2js_if(which, S2JS_INNER, &made->inner), &made->fault);
+}
+
+int32_t s2js_outline(const uint64_t* ids, size_t n, s2u_geo_rings* rings) { return s2u_geo_outline(ids, n, rings); }
+
+uint32_t s2js_level_within(double meters) { return s2u_cover_level_within(meters); }
+
+const char* s2js_text(int32_t status) { return s2u_cover_status_text(status); }
