@@ -121,8 +121,6 @@ shapes() { # $work/shapes: shapes in degrees, with the coverings that the module
 
 # The page and the package for JavaScript in $work/page, over the module that tools/page makes; or over that of the file
 # S2UNION_MODULE, if that is set; or without a kit over the release's.
-# The page and the package for JavaScript in $work/page, over the module that tools/page makes; or over that of the file
-# S2UNION_MODULE, if that is set; or without a kit over the release's.
 need_page() {
   local words=(--jobs 1)
   if [ -n "${S2UNION_MODULE:-}" ]; then

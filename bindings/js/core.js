@@ -355,7 +355,7 @@ class Core {
     return {positions, ringEnds, polygonEnds: ends(ofPolygons, polygons)};
   }
 
-  /** The first level whose cells are nowhere wider than some meters. */
+  /** The level of cells at the border that keep within some meters. */
   levelWithin(meters) {
     return this.calls.s2js_level_within(meters);
   }

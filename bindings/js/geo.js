@@ -30,7 +30,7 @@ function optionsOf({maxCells, minLevel = 0, maxLevel = 30, within, margin = 0, e
   if (!Object.hasOwn(EDGES, edges)) throw new RangeError(`edges are one of ${Object.keys(EDGES).join(", ")}: ${edges}`);
   if (within !== undefined) {
     const meters = numberIn(within, Number.MIN_VALUE, Infinity, "number of meters of within");
-    deepest = Math.max(least, Math.min(deepest, calls().levelWithin(KEPT * meters)));
+    deepest = Math.max(least, Math.min(deepest, calls().levelWithin(meters)));
   }
   return {cells, least, deepest, edges: EDGES[edges], margin: numberIn(margin, 0, 300_000, "margin")};
 }

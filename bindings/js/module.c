@@ -150,6 +150,11 @@ int32_t s2js_circle(double longitude, double latitude, double radius, uint64_t c
 
 int32_t s2js_outline(const uint64_t* ids, size_t n, s2u_geo_rings* rings) { return s2u_geo_outline(ids, n, rings); }
 
-uint32_t s2js_level_within(double meters) { return s2u_cover_level_within(meters); }
+/* The deepest level of cells at the border that keep within some meters. */
+uint32_t s2js_level_within(double meters) {
+  s2u_cover_options options = s2js_options(0, 0, 30, S2U_COVER_MAP, 0);
+  s2u_cover_keep_within(&options, meters);
+  return options.max_level;
+}
 
 const char* s2js_text(int32_t status) { return s2u_cover_status_text(status); }

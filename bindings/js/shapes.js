@@ -11,8 +11,6 @@ const AT_BORDERS = 10_000;
 /** How many cells each polygon or line of a loose shape may have in any case. */
 const LEAST_EACH = 50;
 const DEEPEST = 30;
-/** The part of `within` that a cell at the border may be wide; the rest pays for bends and rounding. */
-const KEPT = 0.96;
 const EDGES = {map: 0, geodesic: 1, left: 2};
 /** Which coverings are wanted. */
 const OUTER = 1, INNER = 2, BOTH = 3;

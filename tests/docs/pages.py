@@ -56,7 +56,7 @@ CALLS = {
                r"\b(?:def|class) (?:{0}|__{0}__)\b"),
     "SQL": (r"s2_\w+", ["bindings/sqlite/*.c", "bindings/postgres/*.sql"], r"\b{}\b"),
     "Script": (r"[a-z]{2,}", ["docs/SCRIPT.md"], r"`{}\b"),
-    "JavaScript": (r"\w+", ["bindings/js/s2union.d.ts"], r"(?:\bfunction |^  (?:static |readonly )?|\bclass ){}\b"),
+    "JavaScript": (r"\w+", ["bindings/js/*.d.ts"], r"(?:\bfunction |^  (?:static |readonly )?|\bclass ){}\b"),
     "Java": (r"\w+", ["bindings/java/s2union/*.java"], r"\bpublic (?:static |final )*[\w\[\]]+ {}\b"),
 }
 # The sections of docs/TROUBLESHOOTING.md: the sources that make its errors, and what an error's name is there.

@@ -18,7 +18,7 @@ import pandas
 import pywraps2 as s2
 import s2union_geo.frames
 from earth import all_pairs, points_of_the_sphere
-from model import borders
+from model import borders, shapes
 from s2union import CellUnion, child, from_tokens, to_signed, tokens
 from s2union_geo import Index, area, boundary, coverings, leaves, outline, points, to_geojson
 from s2union_geo.geojson import rings
@@ -333,14 +333,16 @@ SQL
         """Each country has the cells there that it has in Python."""
         lines = []
         for feature in features_of(self.file("countries.geojson")):
-            for options in {"max_cells": 50}, {"max_cells": 500, "edges": "geodesic"}:
-                outer, inner = (" ".join(union.tokens()) for union in coverings(feature, **options))
-                lines.append(json.dumps({"name": "GeoJSON", "given": feature, "options": options, "outer": outer,
-                                         "inner": inner, "outlines": []}))
+            geometry = feature["geometry"]
+            polygons = geometry["coordinates"] if geometry["type"] == "MultiPolygon" else [geometry["coordinates"]]
+            rings = [(k, [tuple(at) for at in ring]) for k, polygon in enumerate(polygons) for ring in polygon]
+            for options in shapes.options(50), shapes.options(500, edges=shapes.GEODESIC):
+                made = coverings(feature, options[0], edges=("map", "geodesic")[options[3]])
+                cells = (" ".join(f"{cell:x}" for cell in union) for union in made)
+                lines.append("\t".join(["rings", shapes.shape_in_words(rings), shapes.in_words(options), *cells]))
         Path(self.file("shapes")).write_text("\n".join(lines))
-        compare = os.path.join(page.TOP, "tests", "js", "shapes.mjs")
-        said = subprocess.run(["node", compare, os.environ["S2UNION_PAGE"] + "/js", self.file("shapes")], check=False,
-                              capture_output=True, text=True).stdout
+        words = ["node", os.path.join(page.TOP, "tests", "js", "shapes.mjs"), os.environ["S2UNION_PAGE"] + "/js"]
+        said = subprocess.run([*words, self.file("shapes")], check=False, capture_output=True, text=True).stdout
         self.assertTrue(said.endswith(f"{len(lines)} passed, 0 failed\n"), said[-2000:])
 
     def test_coverings_have_their_borders(self):

@@ -31,8 +31,8 @@ for place in POINTS: print(*place)' >"$work/places"; }
 step "places, with the leaves that S2 has there" places
 borders() { PYTHONPATH=$top/tests /usr/bin/python3 -B -m model.borders >"$work/borders"; }
 step "triangles, and places along their borders" borders
-shapes() { # with the cells that the library has, by its module for Python
-  PYTHONPATH=$work/usr/lib/python:$top/tests /usr/bin/python3 -B "$tests/shapes.py" "$rounds" >"$work/shapes"
+shapes() { # in degrees, with the coverings that the module for Python makes
+  PYTHONPATH=$top/tests:$work/usr/lib/python /usr/bin/python3 -B -m model.shapes >"$work/shapes"
 }
 step "shapes, with the cells that Python has" shapes
 step "points, coverings and GeoJSON, on a small stack and heap" \

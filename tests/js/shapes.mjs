@@ -1,6 +1,6 @@
-// Compares coverings and outlines of the package for JavaScript with those that shapes.py has of the same shapes:
-// shapes.mjs FOLDER SHAPES. Cells are the same, number by number, and positions to 1e-12 degrees, since JavaScript's
-// sines aren't the C library's. The last line is 'N passed, M failed'.
+// Compares leaves, coverings and outlines of the package for JavaScript with those that tests/model/shapes.py has of
+// the same shapes: shapes.mjs FOLDER SHAPES. Cells are the same, number by number, and positions to 1e-12 degrees, since
+// JavaScript's sines aren't the C library's. The last line is 'N passed, M failed'.
 import assert from "node:assert/strict";
 import {createReadStream} from "node:fs";
 import {join, resolve} from "node:path";
@@ -9,17 +9,64 @@ import {pathToFileURL} from "node:url";
 
 const [folder, shapes] = process.argv.slice(2).map((name) => resolve(name));
 const imported = (name) => import(pathToFileURL(join(folder, name)));
-const {load} = await imported("s2union.js");
+const {CellUnion, load} = await imported("s2union.js");
 const geo = await imported("geo.js");
 await load();
 
-const NAMES = {max_cells: "maxCells", min_level: "minLevel", max_level: "maxLevel"};
-const named = (options) => Object.fromEntries(Object.entries(options).map(([name, it]) => [NAMES[name] ?? name, it]));
-const ASKED = {
-  GeoJSON: (shape, options) => geo.coverings(shape, options),
-  WKB: (hex, options) => geo.coverings(Uint8Array.from(Buffer.from(hex, "hex")), options),
-  circle: (numbers, options) => geo.circle(...numbers, options),
-};
+/** Kinds of edges, by their numbers. */
+const EDGES = ["map", "geodesic", "left"];
+
+const bytesOf = (hex) => Uint8Array.from(Buffer.from(hex, "hex"));
+
+/** The numbers of doubles in hexadecimal. */
+function doubles(hex) {
+  const bytes = Buffer.from(hex, "hex");
+  return Array.from({length: bytes.length / 8}, (_, k) => bytes.readDoubleBE(8 * k));
+}
+
+const placesOf = (hex) => doubles(hex).reduce((all, it, k) => (k % 2 ? all.at(-1).push(it) : all.push([it]), all), []);
+const cellsOf = (hex) => BigUint64Array.from(hex ? hex.split(" ") : [], (word) => BigInt(`0x${word}`));
+
+/** A shape as a collection of GeoJSON. */
+function shapeOf(text) {
+  const geometries = [];
+  let last = "-";
+  for (const [number, hex] of text.split(" ").filter(Boolean).map((word) => word.split(":"))) {
+    const ring = placesOf(hex);
+    if (number === "-") geometries.push({type: "LineString", coordinates: ring});
+    else if (number === last) geometries.at(-1).coordinates.push(ring);
+    else geometries.push({type: "Polygon", coordinates: [ring]});
+    last = number;
+  }
+  return {type: "GeometryCollection", geometries};
+}
+
+/** The options of a covering. */
+function optionsOf(text) {
+  const [maxCells, minLevel, maxLevel, edges] = text.split(" ").slice(0, 4).map(Number);
+  const [margin, within] = text.split(" ").slice(4).map((hex) => doubles(hex)[0]);
+  return {maxCells, minLevel, maxLevel, edges: EDGES[edges], margin, ...(within ? {within} : {})};
+}
+
+/** What a covering is, or the name of its error, with its ring and position. */
+function coveredBy(ask) {
+  try {
+    const {outer, inner} = ask();
+    return [outer, inner].map((union) => Array.from(union, (cell) => cell.toString(16)).join(" "));
+  } catch (error) {
+    if (error instanceof geo.ShapeError) return [error.kind.toLowerCase(), error.ring, error.position];
+    return [error.kind === "MANY" ? "many" : error instanceof RangeError ? "option" : `${error.stack}`];
+  }
+}
+
+/** Compares what is covered, or the error: its place is that of the library where the library says one. */
+function isCovered(ask, [outer, inner = ""]) {
+  const found = coveredBy(ask);
+  if (!outer.startsWith("!")) return assert.deepEqual(found, [outer, inner]);
+  const [name, ...place] = outer.slice(1).split(" ");
+  assert.equal(found[0], name);
+  if (place.length && found.length > 1) assert.deepEqual(found.slice(-place.length), place.map(Number));
+}
 
 /** Whether two lists in each other have the same numbers, nearly. */
 function isNear(made, wanted) {
@@ -27,29 +74,44 @@ function isNear(made, wanted) {
   return made.length === wanted.length && wanted.every((it, k) => isNear(made[k], it));
 }
 
-function compare({name, given, options, outer, inner, outlines}) {
-  const made = ASKED[name](given, named(options));
-  assert.equal(made.outer.toString(), outer, "outer");
-  assert.equal(made.inner.toString(), inner, "inner");
-  outlines.forEach((wanted, k) => {
-    assert.ok(isNear(geo.outline([made.outer, made.inner][k]).coordinates, wanted), "outline");
-  });
-  if (!outlines.length || name === "circle") return;
-  const shape = name === "WKB" ? Buffer.from(given, "hex") : JSON.stringify(given);
-  assert.ok(geo.covering(shape, named(options)).equals(made.outer), "covering");
-  assert.ok(geo.interior(shape, named(options)).equals(made.inner), "interior");
-}
+const TESTS = {
+  leaf: (place, wanted) => {
+    if (wanted.startsWith("!")) assert.throws(() => geo.fromLngLat(...doubles(place)), RangeError);
+    else assert.equal(geo.fromLngLat(...doubles(place)).toString(16), wanted);
+  },
+  middle: (cell, wanted) => assert.ok(isNear(geo.toLngLat(BigInt(`0x${cell}`)), doubles(wanted))),
+  rings: (shape, options, ...wanted) => {
+    const [given, how] = [shapeOf(shape), optionsOf(options)];
+    isCovered(() => geo.coverings(given, how), wanted);
+    if (wanted[0].startsWith("!")) return;
+    const both = geo.coverings(given, how);
+    assert.ok(geo.covering(given, how).equals(both.outer) && geo.interior(given, how).equals(both.inner));
+  },
+  wkb: (hex, options, ...wanted) => isCovered(() => geo.coverings(bytesOf(hex), optionsOf(options)), wanted),
+  circle: (numbers, options, ...wanted) => isCovered(() => geo.circle(...doubles(numbers), optionsOf(options)), wanted),
+  holds: (shape, options, inside, outside) => {
+    const {outer, inner} = geo.coverings(shapeOf(shape), optionsOf(options));
+    assert.ok(outer.hasEach(geo.fromLngLats(placesOf(inside))).every(Boolean), "a place is lost");
+    assert.ok(!inner.hasEach(geo.fromLngLats(placesOf(outside))).some(Boolean), "a place is outside");
+  },
+  outline: (cells, wanted) => {
+    const {coordinates} = geo.outline(CellUnion.fromNormalized(cellsOf(cells)));
+    assert.ok(isNear(coordinates, shapeOf(wanted).geometries.map((polygon) => polygon.coordinates)));
+  },
+};
+/** What JavaScript has no call for. */
+const LEFT_OUT = new Set(["box", "boundary"]);
 
 let [passed, failed] = [0, 0];
 for await (const line of createInterface({input: createReadStream(shapes)})) {
-  const it = JSON.parse(line);
+  const [call, ...words] = line.split("\t");
+  if (LEFT_OUT.has(call)) continue;
   try {
-    compare(it);
+    TESTS[call](...words);
     passed++;
   } catch (error) {
     failed++;
-    const given = JSON.stringify(it.given).slice(0, 200);
-    console.log(`${it.name} ${given} ${JSON.stringify(it.options)}: ${error.message.slice(0, 400)}`);
+    console.log(`${call} ${words.map((word) => word.slice(0, 100)).join(" | ")}: ${error.message.slice(0, 400)}`);
   }
 }
 console.log(`${passed} passed, ${failed} failed`);
