@@ -1,5 +1,5 @@
 // Compares leaves, coverings and outlines of the package for JavaScript with those that tests/model/shapes.py has of
-// the same shapes: shapes.mjs FOLDER SHAPES. Cells are the same, number by number, and positions to 1e-12 degrees, since
+// the same shapes: shapes.mjs FOLDER SHAPES. Cells are the same, number by number, and positions to 1e-12 degrees, as
 // JavaScript's sines aren't the C library's. The last line is 'N passed, M failed'.
 import assert from "node:assert/strict";
 import {createReadStream} from "node:fs";
