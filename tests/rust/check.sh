@@ -13,6 +13,7 @@ need_file "$(compgen -G "$registry/bincode-1*")" librust-bincode-dev
 . "$top/tests/library.sh"
 
 step "questions and edges" questions
+step "shapes in degrees" shapes
 for_rust() ( # in a copy, since cargo writes beside the sources
   cp -r "$top/bindings/rust" "$work/for-rust" && cd "$work/for-rust" &&
     RUSTFLAGS=-Dwarnings CARGO_TARGET_DIR=$work/target timeout 300 cargo test -q --offline

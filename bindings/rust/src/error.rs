@@ -1,6 +1,6 @@
 use std::fmt;
 
-use crate::calls;
+use crate::{calls, geo};
 
 /// A refusal.
 #[derive(Clone, Copy, Debug, PartialEq, Eq, Hash)]
@@ -37,8 +37,58 @@ pub enum Error {
         /// Which ring, from 0 on.
         place: usize,
     },
+    /// A shape in degrees, or an option of its covering, is wrong.
+    Shape {
+        /// In which way.
+        fault: ShapeFault,
+        /// At which ring or line, from 0 on; 0 if no place is wrong.
+        ring: usize,
+        /// At which position of the ring, or at which byte of WKB; 0 if no place is wrong.
+        position: usize,
+    },
     /// Another status below 0, of a later version of the library.
     Other(i32),
+}
+
+/// In which way a shape in degrees is wrong.
+#[derive(Clone, Copy, Debug, PartialEq, Eq, Hash)]
+#[non_exhaustive]
+pub enum ShapeFault {
+    /// A longitude or a latitude is out of range, or not a number.
+    Number = -101,
+    /// A ring has fewer than four positions, or a line none.
+    Few = -102,
+    /// The last position of a ring is not its first.
+    Open = -103,
+    /// The edges are too long for the number of positions.
+    Pieces = -104,
+    /// No place was found that is outside of the shape.
+    Outside = -105,
+    /// Two positions that follow each other lie opposite each other on the sphere.
+    Opposite = -106,
+    /// A number of cells, a level or a number of meters is out of range.
+    Option = -107,
+    /// The bytes are no WKB.
+    Wkb = -108,
+    /// The WKB has a type of geometry that has no covering.
+    Type = -109,
+    /// The coordinates of the WKB are no degrees: its SRID is neither 0 nor 4326.
+    Srid = -110,
+    /// The WKB has collections in more than 32 collections.
+    Deep = -111,
+}
+
+impl ShapeFault {
+    /// The fault of a status, if it is one.
+    pub(crate) fn of(status: i32) -> Option<ShapeFault> {
+        use ShapeFault::*;
+        let all = [Number, Few, Open, Pieces, Outside, Opposite, Option, Wkb, Type, Srid, Deep];
+        all.into_iter().find(|fault| fault.status() == status)
+    }
+
+    pub(crate) fn status(self) -> i32 {
+        self as i32
+    }
 }
 
 impl Error {
@@ -74,6 +124,7 @@ impl Error {
             Error::FileCell => calls::FILE_CELL,
             Error::Corner { .. } => calls::CORNER,
             Error::Ring { .. } => calls::RING,
+            Error::Shape { fault, .. } => fault.status(),
             Error::Other(status) => status,
         }
     }
@@ -84,6 +135,15 @@ impl fmt::Display for Error {
         match self {
             Error::NoCell { place } | Error::Corner { place } | Error::Ring { place } => {
                 write!(f, "{} at place {place}", calls::text(self.status()))
+            }
+            Error::Shape { fault, ring, position } => {
+                use ShapeFault::*;
+                f.write_str(geo::text(*fault))?;
+                match fault {
+                    Number | Few | Open | Opposite => write!(f, ": ring {ring}, position {position}"),
+                    Pieces | Outside | Option => Ok(()),
+                    Wkb | Type | Srid | Deep => write!(f, ": at byte {position}"),
+                }
             }
             Error::Other(status) => write!(f, "{} {status}", calls::text(*status)),
             known => f.write_str(calls::text(known.status())),

@@ -19,7 +19,10 @@
 //! outside can be refused: numbers, lists, texts, files, levels. If there is no memory, calls that answer a [`Result`],
 //! as `union`, `union_of` and `intersection` do, answer [`Error::Memory`]; the operators `|`, `&`, `-`, `^` and `!`,
 //! `collect` of unions, and texts that are made, panic; `collect` of cells, calls for many cells that answer a [`Vec`],
-//! and a list that becomes one, end the program, as [`Vec`] does. There is no geometry: no points, areas or bounds.
+//! and a list that becomes one, end the program, as [`Vec`] does.
+//!
+//! A [`RegionCoverer`] covers polygons, lines, circles and boxes in degrees by proved calls; how degrees become whole
+//! numbers is plain C, tested beside S2 and not proved.
 #![warn(missing_docs)]
 
 mod calls;
@@ -28,6 +31,7 @@ mod cells;
 mod covering;
 mod error;
 mod file;
+mod geo;
 mod lists;
 mod operators;
 mod polygon;
@@ -36,8 +40,9 @@ mod union;
 pub use cell::{CellId, Square};
 pub use cells::{FacePoint, Point};
 pub use covering::{Rect, MOST_COVERING};
-pub use error::Error;
+pub use error::{Error, ShapeFault};
 pub use file::UnionFile;
+pub use geo::{Edges, Position, RegionCoverer, Shape};
 pub use polygon::{Direction, Polygon};
 pub use union::CellUnion;
 

@@ -6,7 +6,7 @@ use std::cell::Cell;
 use std::fmt::Debug;
 use std::sync::atomic::{AtomicUsize, Ordering};
 
-use s2union::{CellId, CellUnion, Error, Rect, UnionFile};
+use s2union::{CellId, CellUnion, Error, Rect, RegionCoverer, Shape, UnionFile};
 
 thread_local! {
     /// The allocation of this thread that is refused, counted from 1; or 0, if none is left.
@@ -125,6 +125,11 @@ fn each_allocation_refused_in_turn() {
     asked(|| CellUnion::decode(&bytes));
     asked(|| file.ancestors());
     asked(|| file.to_union());
+    let (coverer, circle) = (RegionCoverer::default(), Shape::circle([2.0, 48.0], 5e4));
+    asked(|| coverer.coverings(&circle));
+    let few = CellUnion::from_ids([1, 91, 1 << 60]).unwrap();
+    asked(|| few.outline());
+    asked(|| few.boundary());
     // Lists that have more memory than they need, which go back by all of it.
     let mut cells = Vec::with_capacity(5000);
     cells.extend_from_slice(y.cells());

@@ -1,0 +1,45 @@
+/* What src/geo.rs calls of the headers for degrees, whose functions are inline: build.rs compiles it. */
+#include <s2union_cover.h>
+#include <s2union_outline.h>
+
+uint64_t s2union_rust_leaf(double longitude, double latitude) { return s2u_geo_leaf(longitude, latitude); }
+
+int32_t s2union_rust_middle(uint64_t cell, double* place) { return s2u_geo_middle(cell, &place[0], &place[1]); }
+
+const char* s2union_rust_text(int32_t status) { return s2u_cover_status_text(status); }
+
+int32_t s2union_rust_keep_within(s2u_cover_options* options, double meters) {
+  return s2u_cover_keep_within(options, meters);
+}
+
+int32_t s2union_rust_cover(const s2u_cover_shape* shape, const s2u_cover_options* options, s2u_cover_cells* outer,
+                           s2u_cover_cells* inner, s2u_cover_fault* fault) {
+  return s2u_cover(shape, options, outer, inner, fault);
+}
+
+int32_t s2union_rust_cover_wkb(const uint8_t* bytes, size_t size, const s2u_cover_options* options,
+                               s2u_cover_cells* outer, s2u_cover_cells* inner, s2u_cover_fault* fault) {
+  return s2u_cover_wkb(bytes, size, options, outer, inner, fault);
+}
+
+int32_t s2union_rust_cover_circle(double longitude, double latitude, double radius, const s2u_cover_options* options,
+                                  s2u_cover_cells* outer, s2u_cover_cells* inner, s2u_cover_fault* fault) {
+  return s2u_cover_circle(longitude, latitude, radius, options, outer, inner, fault);
+}
+
+int32_t s2union_rust_cover_box(double west, double south, double east, double north, const s2u_cover_options* options,
+                               s2u_cover_cells* outer, s2u_cover_cells* inner, s2u_cover_fault* fault) {
+  return s2u_cover_box(west, south, east, north, options, outer, inner, fault);
+}
+
+void s2union_rust_free(s2u_cover_cells* cells) { s2u_cover_free(cells); }
+
+int32_t s2union_rust_outline(const uint64_t* ids, size_t n, s2u_geo_rings* rings) {
+  return s2u_geo_outline(ids, n, rings);
+}
+
+int32_t s2union_rust_boundary(const uint64_t* ids, size_t n, s2u_geo_rings* rings) {
+  return s2u_geo_boundary(ids, n, rings);
+}
+
+void s2union_rust_free_rings(s2u_geo_rings* rings) { s2u_geo_free(rings); }
