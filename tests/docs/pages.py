@@ -62,8 +62,10 @@ CALLS = {
 # The sections of docs/TROUBLESHOOTING.md: the sources that make its errors, and what an error's name is there.
 ERRORS = {
     "The library": (["crates/s2union_c/include/s2union.h"], r"^  (S2U_\w+) = -|^    case S2U_\w+: return \"(.*)\";"),
+    "Shapes in degrees": (["bindings/c/s2union_cover.h"],
+                          r"^  (S2U_COVER_\w+) = -|^    case S2U_COVER_\w+: return \"(.*)\";"),
     "C++": (["bindings/cpp/s2union.hpp"], r"throw ([\w:]+)\("),
-    "Go": (["bindings/go/library.go"], r"^\t(Err\w+) +Error\b"),
+    "Go": (["bindings/go/library.go", "bindings/go/geo.go"], r"^\t(Err\w+) +Error\b"),
     "Rust": (["bindings/rust/src/error.rs"], r"^    ([A-Z]\w+)(?: \{|\(\w+\),|,)$"),
     "Python": (["bindings/python/s2union/*.[cp]*", "bindings/python/s2union_geo/[!_]*.py"],
                r"raise (\w+)\(|PyExc_(\w+)|^class (?!UnionFile)(\w+Error)\((?!Exception)"),
