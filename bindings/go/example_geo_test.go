@@ -116,3 +116,53 @@ func ExamplePosition_UnmarshalJSON() {
 	// <nil> [[2.35 48.85] [2.36 48.86]]
 	// true
 }
+
+func ExampleCellID_EdgeNeighbors() {
+	face, _ := s2union.CellIDFromToken("1")
+	for _, cell := range face.EdgeNeighbors() {
+		fmt.Print(cell.ToToken(), " ")
+	}
+	// Output: b 3 5 9
+}
+
+func ExampleCellID_VertexNeighbors() {
+	cell, _ := s2union.CellIDFromToken("89c25")
+	for _, each := range append(cell.VertexNeighbors(3), cell.Children()[0].VertexNeighbors(0)...) {
+		fmt.Print(each.ToToken(), " ")
+	}
+	// Output: 89c 4cc 884 4d4 9 5 1
+}
+
+func ExampleCellID_AllNeighbors() {
+	cell, _ := s2union.CellIDFromToken("89c25")
+	fmt.Println(cell.AllNeighbors(8))
+	_, err := cell.AllNeighbors(7)
+	fmt.Println(err)
+	_, err = cell.AllNeighbors(28)
+	fmt.Println(err)
+	// Output:
+	// 89c21 89c23 89c27 89c29 89c2f 89c31 89c3b 89c3d <nil>
+	// s2union: argument out of range
+	// s2union: too many cells
+}
+
+func ExampleCellUnion_ExpandedAtLevel() {
+	cells, _ := s2union.CellUnionFromTokens("3 9")
+	fmt.Println(cells.ExpandedAtLevel(0))
+	_, err := cells.ExpandedAtLevel(30)
+	fmt.Println(err)
+	// Output:
+	// 1 3 5 7 9 b <nil>
+	// s2union: too many cells
+}
+
+func ExampleCellUnion_RectBound() {
+	cells, _ := s2union.CellUnionFromTokens("7")
+	box, err := cells.RectBound()
+	fmt.Printf("%.6f %.6f %.6f %.6f %v\n", box.West, box.South, box.East, box.North, err)
+	box, _ = s2union.CellUnion{}.RectBound()
+	fmt.Println(box.South > box.North)
+	// Output:
+	// 135.000000 -45.000000 -135.000000 45.000000 <nil>
+	// true
+}
