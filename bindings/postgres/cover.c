@@ -219,9 +219,10 @@ static Datum value_around(FunctionCallInfo fcinfo, int32_t status, s2u_cover_cel
 PG_FUNCTION_INFO_V1(s2_neighbors);
 Datum s2_neighbors(PG_FUNCTION_ARGS) {
   uint64_t cell = cell_argument(fcinfo, 0);
-  uint32_t level = PG_NARGS() > 1 ? (uint32_t)PG_GETARG_INT32(1) : (uint32_t)s2u_level(cell);
+  int32 own = s2u_level(cell), level = PG_NARGS() > 1 ? PG_GETARG_INT32(1) : own;
   s2u_cover_cells cells;
-  return value_around(fcinfo, s2u_cover_neighbors(cell, level, &cells), &cells);
+  if (level >= 0 && level < own) PG_RETURN_NULL();
+  return value_around(fcinfo, s2u_cover_neighbors(cell, (uint32_t)level, &cells), &cells);
 }
 
 PG_FUNCTION_INFO_V1(s2_expanded);

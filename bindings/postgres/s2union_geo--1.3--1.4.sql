@@ -62,7 +62,8 @@ AS 'MODULE_PATHNAME'
 LANGUAGE C IMMUTABLE STRICT PARALLEL SAFE COST 10;
 COMMENT ON FUNCTION s2_neighbors(bigint)
   IS 'the cells of a level that touch a cell, at an edge or a corner, as a union: of its own level, if none is '
-  'named. Errors: an invalid cell, a level above its own or beyond 30, more than 1,000,000 cells';
+  'named; NULL for a level above its own. Errors: a level outside 0 to 30, an invalid cell, more than 1,000,000 '
+  'cells';
 
 CREATE FUNCTION s2_neighbors(cell text)
 RETURNS s2union
@@ -70,7 +71,8 @@ LANGUAGE SQL IMMUTABLE STRICT PARALLEL SAFE
 RETURN s2_neighbors(s2_cell($1));
 COMMENT ON FUNCTION s2_neighbors(text)
   IS 'the cells of a level that touch a cell, at an edge or a corner, as a union: of its own level, if none is '
-  'named. Errors: an invalid cell, a level above its own or beyond 30, more than 1,000,000 cells';
+  'named; NULL for a level above its own. Errors: a level outside 0 to 30, an invalid cell, more than 1,000,000 '
+  'cells';
 
 CREATE FUNCTION s2_neighbors(cell bigint, level integer)
 RETURNS s2union
@@ -78,7 +80,8 @@ AS 'MODULE_PATHNAME'
 LANGUAGE C IMMUTABLE STRICT PARALLEL SAFE COST 10;
 COMMENT ON FUNCTION s2_neighbors(bigint, integer)
   IS 'the cells of a level that touch a cell, at an edge or a corner, as a union: of its own level, if none is '
-  'named. Errors: an invalid cell, a level above its own or beyond 30, more than 1,000,000 cells';
+  'named; NULL for a level above its own. Errors: a level outside 0 to 30, an invalid cell, more than 1,000,000 '
+  'cells';
 
 CREATE FUNCTION s2_neighbors(cell text, level integer)
 RETURNS s2union
@@ -86,7 +89,8 @@ LANGUAGE SQL IMMUTABLE STRICT PARALLEL SAFE
 RETURN s2_neighbors(s2_cell($1), $2);
 COMMENT ON FUNCTION s2_neighbors(text, integer)
   IS 'the cells of a level that touch a cell, at an edge or a corner, as a union: of its own level, if none is '
-  'named. Errors: an invalid cell, a level above its own or beyond 30, more than 1,000,000 cells';
+  'named; NULL for a level above its own. Errors: a level outside 0 to 30, an invalid cell, more than 1,000,000 '
+  'cells';
 
 CREATE FUNCTION s2_expanded(region s2union, level integer)
 RETURNS s2union

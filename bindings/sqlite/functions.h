@@ -103,12 +103,12 @@ static const char* const listed[][4] = {
    "a union that lies in polygons in WKB. Errors: those of s2_covering", "s2union_geo"},
   {"s2_neighbors", "cell",
    "the cells of a level that touch a cell, at an edge or a corner, as a union: of its own level, if "
-   "none is named. Errors: an invalid cell, a level above its own or beyond 30, more than 1,000,000 "
-   "cells", "s2union_geo"},
+   "none is named; NULL for a level above its own. Errors: a level outside 0 to 30, an invalid cell, "
+   "more than 1,000,000 cells", "s2union_geo"},
   {"s2_neighbors", "cell, level",
    "the cells of a level that touch a cell, at an edge or a corner, as a union: of its own level, if "
-   "none is named. Errors: an invalid cell, a level above its own or beyond 30, more than 1,000,000 "
-   "cells", "s2union_geo"},
+   "none is named; NULL for a level above its own. Errors: a level outside 0 to 30, an invalid cell, "
+   "more than 1,000,000 cells", "s2union_geo"},
   {"s2_expanded", "region, level",
    "a union with the cells of a level that touch it, at an edge or a corner; cells that are deeper are "
    "replaced by those of the level that have them. Errors: a level outside 0 to 30, more than 4,000,000 "

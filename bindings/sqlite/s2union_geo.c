@@ -136,8 +136,8 @@ static void neighbors_function(sqlite3_context* c, int n, sqlite3_value** v) {
     result_around(c, status, v[0], &cells);
     return;
   }
-  sqlite3_int64 level = s2u_level(cell);
-  if (as_count(c, n > 1 ? v[1] : NULL, "a level is from 0 to 30", 30, &level))
+  sqlite3_int64 own = s2u_level(cell), level = own;
+  if (as_count(c, n > 1 ? v[1] : NULL, "a level is from 0 to 30", 30, &level) && level >= own)
     result_around(c, s2u_cover_neighbors(cell, (uint32_t)level, &cells), v[n - 1], &cells);
 }
 

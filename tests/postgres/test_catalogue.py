@@ -82,6 +82,7 @@ CALLS = [
 RIGHT = {"s2union": "'04 0c'::s2union", "bigint": "s2_cell('0401')", "text": "'0401'::text", "bytea": "'\\x01'::bytea",
          "shape": "'\\x010100000000000000000000000000000000000000'::bytea",
          "double precision": "1", "level": "4", "face": "0", "child": "1", "modulus": "1"}
+OTHER = {"s2_neighbors": {"level": "9"}}  # not above the cell's
 WRONG = {"bigint": ("0::bigint", "2::bigint", "'-1'::bigint", "'-9223372036854775808'::bigint"),
          "text": ("'X'::text", "'2'::text", "'0/4'::text", "'6/'::text", "'-5'::text", "'04 0'::text"),
          "level": ("-1", "31", "50", "2147483647", "2147483648"), "face": ("-1", "6", "2147483648"),
@@ -108,7 +109,7 @@ class Catalogue(Tests):
             types, names = types.split(","), names.split(",")
             kinds = [names[k] if names[k] in {*WRONG, "shape"} else "place" if each == "integer" else each
                      for k, each in enumerate(types)]
-            values = [RIGHT.get(each, "5") for each in kinds]
+            values = [{**RIGHT, **OTHER.get(name, {})}.get(each, "5") for each in kinds]
             call = f"(SELECT count(*) FROM {name}({{}}))" if rows == "t" else f"{name}({{}})"
             call = f"(SELECT {name}(v) FROM (SELECT {{}} AS v) t)" if kind == "a" else call
             right.append(call.format(", ".join(values)))
@@ -119,6 +120,10 @@ class Catalogue(Tests):
         for call, answer in zip(wrong, ask(wrong)):
             self.assertRegex(answer, "^error: .*(out of range|not a cell|names no cell|does not exist)", call)
         self.assertGreater(len(wrong), 300)
+
+    def test_a_level_above_the_cell(self):
+        """It has no neighbors of it: NULL."""
+        self.all_are([(f"s2_neighbors('0401', {level})", "null") for level in (0, 5, 6)])
 
     def test_a_level_deeper_than_the_cell(self):
         """No cell of it contains the cell, which has no child if it is a leaf: NULL."""

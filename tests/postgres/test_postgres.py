@@ -1394,13 +1394,14 @@ class Shapes(Tests):
         """Cells that touch a cell, across faces too; unions with them; and boxes, over the date line and at a pole."""
         self.assertEqual(psql("SELECT s2_neighbors('14'), s2_neighbors(s2_cell('1'), 0), s2_neighbors('1', 1),"
                               " s2_neighbors(s2_cell('89c25')) = s2_expanded('89c25', 8) - '89c25',"
-                              " s2_count(s2_neighbors('89c25', 10)), s2_expanded('3 9', 0), s2_expanded('', 9) = ''"),
-                         ["04 0c 1c 24 3c 44 4c|3 5 9 b|24 3c 44 4c 8c 94 b4 bc|t|20|1 3 5 7 9 b|t"])
+                              " s2_count(s2_neighbors('89c25', 10)), s2_expanded('3 9', 0), s2_expanded('', 9) = '',"
+                              " s2_neighbors(1, 29) IS NULL, s2_neighbors(NULL::bigint, 31) IS NULL"),
+                         ["04 0c 1c 24 3c 44 4c|3 5 9 b|24 3c 44 4c 8c 94 b4 bc|t|20|1 3 5 7 9 b|t|t|t"])
         self.assertEqual(psql("SELECT s2_bounds('7')::numeric(9, 3)[], (s2_bounds('5'))[2]::numeric(9, 3),"
                               " s2_bounds('1 3')::numeric(9, 3)[], s2_bounds('') IS NULL"),
                          ["{135.000,-45.000,-135.000,45.000}|35.264|{-45.000,-45.000,135.000,45.000}|t"])
         for call, said in (("s2_neighbors(2)", "not a cell: 2"), ("s2_neighbors('zz')", "not a cell"),
-                           ("s2_neighbors('1', 18)", "too many cells: 18"), ("s2_neighbors(1, 29)", "out of range: 29"),
+                           ("s2_neighbors('1', 18)", "too many cells: 18"),
                            ("s2_neighbors(1, -1)", "out of range: -1"), ("s2_neighbors('1', 31)", "out of range: 31"),
                            ("s2_expanded('1', 31)", "out of range: 31"), ("s2_expanded('1', -1)", "out of range: -1"),
                            ("s2_expanded('1', 30)", "too many cells: 30")):
