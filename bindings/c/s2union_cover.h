@@ -140,15 +140,23 @@ static inline s2u_cover_list s2u_cover_list_of(size_t unit) {
   return list;
 }
 
+/* Whether there is memory for this many elements. */
+static inline int s2u_cover_take(s2u_cover_list* list, size_t room) {
+  void* at = room <= SIZE_MAX / 2 / list->unit ? realloc(list->at, room * list->unit) : NULL;
+  if (!at) return 0;
+  list->at = (char*)at;
+  list->room = room;
+  return 1;
+}
+
+/* For how many elements to take memory where some more come: for twice as many as there is memory for, at least. */
+static inline size_t s2u_cover_more(const s2u_cover_list* list, size_t more) {
+  return list->count + (more > list->room ? more : list->room);
+}
+
 /* Room for one more element at the end, or NULL. */
 static inline void* s2u_cover_add(s2u_cover_list* list) {
-  if (list->count == list->room) {
-    size_t room = list->room ? 2 * list->room : 16;
-    void* at = room <= SIZE_MAX / 2 / list->unit ? realloc(list->at, room * list->unit) : NULL;
-    if (!at) return NULL;
-    list->at = (char*)at;
-    list->room = room;
-  }
+  if (list->count == list->room && !s2u_cover_take(list, list->room ? 2 * list->room : 16)) return NULL;
   return list->at + list->unit * list->count++;
 }
 
@@ -1229,19 +1237,29 @@ static inline int32_t s2u_cover_read_count(s2u_cover_reader* reader, size_t leas
   return S2U_COVER_WKB;
 }
 
+/* A number of 8 bytes. */
+static inline double s2u_cover_number(const uint8_t* at, int is_little) {
+  uint64_t bits = 0;
+  double number;
+  if (is_little)
+    bits = (uint64_t)at[7] << 56 | (uint64_t)at[6] << 48 | (uint64_t)at[5] << 40 | (uint64_t)at[4] << 32 |
+           (uint64_t)at[3] << 24 | (uint64_t)at[2] << 16 | (uint64_t)at[1] << 8 | at[0];
+  else
+    for (int k = 0; k < 8; k++) bits = bits << 8 | at[k];
+  memcpy(&number, &bits, sizeof number);
+  return number;
+}
+
 /* A position of some numbers, of which the first two count. A point without numbers has NaN. */
 static inline int32_t s2u_cover_read_position(s2u_cover_reader* reader, size_t numbers, int is_point) {
-  double position[2];
+  const uint8_t* at = reader->bytes + reader->at;
   if (s2u_cover_left(reader) < 8 * numbers) return S2U_COVER_WKB;
-  for (size_t k = 0; k < 2; k++) {
-    uint64_t bits = s2u_cover_read(reader, 8);
-    memcpy(&position[k], &bits, 8);
-  }
-  reader->at += 8 * (numbers - 2);
-  if (is_point && position[0] != position[0] && position[1] != position[1]) return S2U_OK;
-  void* to = s2u_cover_add(&reader->positions);
+  const double x = s2u_cover_number(at, reader->is_little), y = s2u_cover_number(at + 8, reader->is_little);
+  reader->at += 8 * numbers;
+  if (is_point && x != x && y != y) return S2U_OK;
+  double* to = (double*)s2u_cover_add(&reader->positions);
   if (!to) return S2U_MEMORY;
-  memcpy(to, position, sizeof position);
+  to[0] = x, to[1] = y;
   return S2U_OK;
 }
 
@@ -1258,6 +1276,9 @@ static inline int32_t s2u_cover_end_positions(s2u_cover_reader* reader, uint64_t
 static inline int32_t s2u_cover_read_line(s2u_cover_reader* reader, size_t numbers, uint64_t polygon) {
   uint64_t count;
   int32_t status = s2u_cover_read_count(reader, 8 * numbers, &count);
+  if (status == S2U_OK && reader->positions.room - reader->positions.count < count &&
+      !s2u_cover_take(&reader->positions, s2u_cover_more(&reader->positions, (size_t)count)))
+    return S2U_MEMORY;
   for (uint64_t k = 0; status == S2U_OK && k < count; k++) status = s2u_cover_read_position(reader, numbers, 0);
   return status == S2U_OK ? s2u_cover_end_positions(reader, polygon) : status;
 }

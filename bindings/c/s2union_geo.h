@@ -1,6 +1,6 @@
-/* Points in degrees for s2union.h: the leaf of a place, as S2 has it, and the middle of a cell; and the cells beside a
- * cell. All of it is in this header, in plain floating point or whole numbers, and needs the library for cells and
- * -lm. It is tested beside S2, not proved. The longitude comes first. */
+/* Points in degrees for s2union.h: the leaf of a place, as S2 has it, the middle and the box of a cell, and the cells
+ * beside a cell. All of it is in this header, in plain floating point or whole numbers, and needs the library for cells
+ * and -lm. It is tested beside S2, not proved. The longitude comes first. */
 #ifndef S2UNION_GEO_H
 #define S2UNION_GEO_H
 
@@ -126,6 +126,63 @@ static inline int32_t s2u_geo_vertex_neighbors(uint64_t cell, uint32_t level, ui
     uint64_t leaf = s2u_geo_leaf_beside(at.face, places[k][0], places[k][1]);
     if (leaf) neighbors[(*count)++] = s2u_parent(leaf, level);
   }
+
+/* ---- the box of a cell */
+
+#define S2U_GEO_AROUND 1e-9 /* degrees, a tenth of a millimeter: more than rounding moves a place */
+
+/* Degrees; a box may go on beyond 180 or -180. */
+typedef struct s2u_geo_box {
+  double west, south, east, north;
+} s2u_geo_box;
+
+/* Longitudes around the middle and latitudes, with what is around. Those that reach a pole have all longitudes. */
+static inline s2u_geo_box s2u_geo_box_around(double middle, double across, double south, double north) {
+  double far = fabs(south) < fabs(north) ? fabs(north) : fabs(south);
+  s2u_geo_box box;
+  if (far >= 90)
+    middle = 0, across = 180;
+  else
+    across += S2U_GEO_AROUND / cos(far * (S2U_GEO_PI / 180));
+  box.west = middle - across, box.east = middle + across;
+  box.south = south - S2U_GEO_AROUND < -90 ? -90 : south - S2U_GEO_AROUND;
+  box.north = north + S2U_GEO_AROUND > 90 ? 90 : north + S2U_GEO_AROUND;
+  return box;
+}
+
+/* The box of a face, of which no corner has the highest latitude. */
+static inline s2u_geo_box s2u_geo_box_of_face(uint32_t face, double middle) {
+  double corner, latitude;
+  s2u_geo_place(2, 0, 0, &corner, &latitude);
+  if (face == 2) return s2u_geo_box_around(0, 180, latitude, 90);
+  return face == 5 ? s2u_geo_box_around(0, 180, -90, -latitude) : s2u_geo_box_around(middle, 45, -45, 45);
+}
+
+/* The box of a smaller cell: all of it lies on one side of the middle of its face, so its corners are the farthest to
+ * each side. */
+static inline s2u_geo_box s2u_geo_box_of_corners(const s2u_square* square, double middle) {
+  double across = 0, south = 90, north = -90;
+  for (int corner = 0; corner < 4; corner++) {
+    double longitude, latitude, i = square->i + (corner > 1 ? square->size : 0.0);
+    double j = square->j + (corner == 1 || corner == 2 ? square->size : 0.0);
+    s2u_geo_place(square->face, i, j, &longitude, &latitude);
+    double away = fabs(longitude - middle) > 180 ? 360 - fabs(longitude - middle) : fabs(longitude - middle);
+    if (away > across) across = away;
+    if (latitude < south) south = latitude;
+    if (latitude > north) north = latitude;
+  }
+  return s2u_geo_box_around(middle, across, south, north);
+}
+
+/* The longitudes and the latitudes between which a cell lies, rounding with them. S2U_NO_CELL if it is none. */
+static inline int32_t s2u_geo_box_of(uint64_t cell, s2u_geo_box* box) {
+  double longitude, latitude;
+  s2u_square square;
+  int32_t status = s2u_geo_middle(cell, &longitude, &latitude);
+  if (status != S2U_OK) return status;
+  s2u_square_of(cell, &square);
+  *box = square.size == S2U_GEO_SIDE ? s2u_geo_box_of_face(square.face, longitude)
+                                     : s2u_geo_box_of_corners(&square, longitude);
   return S2U_OK;
 }
 

@@ -114,6 +114,11 @@ Datum answer(int32_t status);
 uint64_t cell_argument(FunctionCallInfo fcinfo, int k);
 uint64_t cell_named(const text* word);
 
+/* ---- geo.c ---- */
+
+/* A longitude or a latitude, which is an error if it is beyond the most that it may be. */
+double degrees_of(double number, double most, const char* what);
+
 /* ---- gin.c: the questions that both classes of indexes are asked ---- */
 
 enum { OVERLAPS = 1, CONTAINS = 2, WITHIN = 3, CONTAINS_CELL = 4, OVERLAPS_CELL = 5 };

@@ -116,6 +116,12 @@ static const char* const listed[][4] = {
   {"s2_bounds", "region",
    "the west, south, east and north of a union in degrees; over the date line the east is less than the "
    "west. NULL without cells. A list of JSON: `s2_bounds(region) ->> 0` is the west", "s2union_geo"},
+  {"s2_covers", "shape, longitude, latitude",
+   "whether a shape in WKB has a place in degrees, on its border too. Errors: those of s2_covering and "
+   "of s2_leaf_at", "s2union_geo"},
+  {"s2_clip", "shape, tile",
+   "a shape in WKB of fewer corners, for which s2_covers has the same answers in a tile. Errors: those "
+   "of s2_covering, an invalid cell", "s2union_geo"},
   {"s2_version", "",
    "the version of the code that is loaded", "s2union"},
   {"s2_cells", "x",
@@ -131,6 +137,14 @@ static const char* const listed[][4] = {
   {"s2_tiles", "x, level",
    "rows of tile, part: the cells of a level that share a leaf with a union, and what the union has in "
    "each. Errors: a level outside 0 to 30, too many cells", "s2union"},
+  {"s2_join_tiles", "x, level",
+   "rows of tile, part, sure, clip: the tiles of a level that a shape in WKB meets, for joins: what its "
+   "covering and its interior have in each, and its clip if these differ. Errors: those of s2_covering "
+   "and of s2_tiles", "s2union_geo"},
+  {"s2_join_tiles", "x, level, max_cells",
+   "rows of tile, part, sure, clip: the tiles of a level that a shape in WKB meets, for joins: what its "
+   "covering and its interior have in each, and its clip if these differ. Errors: those of s2_covering "
+   "and of s2_tiles", "s2union_geo"},
   {"s2_prepared", "x",
    "rows of value: one: the union, ready for many questions", "s2union"},
   {"s2_functions", "",

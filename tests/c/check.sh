@@ -74,9 +74,9 @@ around() { # cells around cells
   program neighbors "$static" -fsanitize=address,undefined -fno-sanitize-recover "$work/refuse.o"
 }
 step "cells around cells, and the boxes of unions, under the sanitizers" around
-included() { echo '#include <s2union_cover.h>' | "$@" "${strict[@]}" -I"$include" -fsyntax-only -; }
+included() { echo '#include <s2union_join.h>' | "$@" "${strict[@]}" -I"$include" -fsyntax-only -; }
 for compiler in "gcc -x c -std=c99" "clang -x c -std=c17" "g++ -x c++ -std=c++11" "clang++ -x c++ -std=c++20"; do
-  step "header of coverings: $compiler" included $compiler
+  step "headers of coverings and joins: $compiler" included $compiler
 done
 step "200,000 lists of garbage" program garbage "$static" -fsanitize=address
 step "few pages read of the cells that a search passes" program pages "$static"

@@ -1,7 +1,7 @@
-/* Coverings of s2union_cover.h of what libFuzzer makes: bytes as WKB, and shapes of few and of odd numbers. Whatever
- * they are, there is an error by name, or an outer covering that has the inner one and the corners. The first two bytes
- * are options. tests/c/check.sh builds it. */
-#include <s2union_cover.h>
+/* Coverings of s2union_cover.h and clips of s2union_join.h of what libFuzzer makes: bytes as WKB, and shapes of few and
+ * of odd numbers. Whatever they are, there is an error by name, or an outer covering that has the inner one and the
+ * corners, and a clip that has the same places. The first two bytes are options. tests/c/check.sh builds it. */
+#include <s2union_join.h>
 #include <stdio.h>
 
 static void must(int holds, const char* what) {
@@ -26,6 +26,24 @@ static void look(int32_t status, const s2u_cover_options* options, s2u_cover_cel
   }
 }
 
+/* A clip has the shape's places of its tile: the middle, which is in the tile, and what the clip's own clip has. */
+static void of_clip(const uint8_t* bytes, size_t size, uint64_t tile) {
+  s2u_join_bytes clip, again;
+  s2u_cover_fault fault;
+  double longitude, latitude;
+  int whole, part;
+  int32_t status = s2u_join_clip(bytes, size, tile, &clip, &fault);
+  MUST(status == S2U_OK || (status <= S2U_COVER_NUMBER && status >= S2U_COVER_DEEP) || status == S2U_MEMORY);
+  if (status != S2U_OK) return;
+  s2u_geo_middle(tile, &longitude, &latitude);
+  if (s2u_join_covers(bytes, size, longitude, latitude, &whole, &fault) == S2U_OK &&
+      s2u_join_covers(clip.at, clip.size, longitude, latitude, &part, &fault) == S2U_OK)
+    MUST(whole == part);
+  if (s2u_join_clip(clip.at, clip.size, tile, &again, &fault) == S2U_OK) MUST(again.size <= clip.size);
+  free(clip.at);
+  free(again.at);
+}
+
 static void of_wkb(const uint8_t* bytes, size_t size, const s2u_cover_options* options) {
   s2u_cover_cells outer, inner;
   s2u_cover_fault fault;
@@ -36,6 +54,8 @@ static void of_wkb(const uint8_t* bytes, size_t size, const s2u_cover_options* o
   MUST(fault.position <= size);
   s2u_cover_free(&outer);
   s2u_cover_free(&inner);
+  uint64_t leaf = s2u_geo_leaf((double)(options->max_cells * 6) - 180, options->max_level * 6.0 - 90);
+  of_clip(copy, size, s2u_parent(leaf, options->max_level / 3));
   free(copy);
 }
 

@@ -75,8 +75,10 @@ step "the file loads under any name, and is not taken for the Python module" any
 step "against the model" tests plain test_sqlite.py::AgainstTheModel
 step "what is refused" tests plain test_sqlite.py::WhatIsRefused
 step "mod_s2union_geo: points, and what is refused" tests plain test_geo.py
+step "mod_s2union_geo: exact joins" tests plain test_joins.py
 step "a union that is asked for each row is looked at once" tests counted test_sqlite.py::Steps
-step "under the sanitizers" sanitized test_sqlite.py::{AgainstTheModel,WhatIsRefused} test_geo.py
+step "under the sanitizers" sanitized test_sqlite.py::{AgainstTheModel,WhatIsRefused} \
+  test_geo.py test_joins.py
 
 refused() {
   gcc -std=c11 -D_DEFAULT_SOURCE -Wall -Wextra -Werror "$top"/tests/{sqlite/memory,refuse}.c -lsqlite3 \
@@ -92,11 +94,12 @@ step "docs/SQLITE.md" documented plain
 step "docs/ENGINES.md, without the extension" /usr/bin/python3 "$top/tests/docs/documented.py" "$top/docs/ENGINES.md"
 covered() {
   build covered CFLAGS="-O0 -g --coverage" && export S2UNION_ROUNDS=300 &&
-    tests covered test_sqlite.py::{AgainstTheModel,WhatIsRefused} test_geo.py &&
+    tests covered test_sqlite.py::{AgainstTheModel,WhatIsRefused} test_geo.py test_joins.py &&
     "$work/memory" "$work/covered/"mod_s2union{,_geo} && documented covered &&
     "${sqlite[@]}" ".load $work/covered/mod_s2union sqlite3_sunion_init" &&
     /usr/bin/python3 "$top/tests/coverage.py" "$work/covered" s2union.c=bindings/sqlite/s2union.c \
       s2union_geo.c=bindings/sqlite/s2union_geo.c s2union_geo.h=bindings/c/s2union_geo.h \
+      s2union_join.h=bindings/c/s2union_join.h \
       s2union_host.h=bindings/c/s2union_host.h
 }
 step "what these tests execute" covered

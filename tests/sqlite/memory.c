@@ -8,6 +8,11 @@
 #include <stdlib.h>
 #include <string.h>
 
+/* The polygon (0 0, 1 0, 1 1, 0 0) in WKB. */
+#define ZERO "0000000000000000"
+#define ONE "000000000000F03F"
+#define SHAPE "x'01030000000100000004000000" ZERO ZERO ONE ZERO ONE ONE ZERO ZERO "'"
+
 static const char* const queries[] = {
   "SELECT s2_union('1 04', '3'), s2_intersection('1', '04 0c'), s2_difference('1', '0000000000000001')",
   "SELECT s2_normalise(x'010200000000000000000000000000001c0000000000000014'), s2_range('04', '3')",
@@ -36,6 +41,12 @@ static const char* const queries[] = {
   "SELECT hex(s2_covering(x'0101000000000000000000F03F0000000000000040', 8, 9))",
   "SELECT hex(s2_interior(x'0103', 8))",
   "SELECT s2_latitude(x'04')",
+  "SELECT s2_covers(" SHAPE ", 0.5, 0.5), s2_covers(" SHAPE ", 1, 0), hex(s2_clip(" SHAPE ", '1/0'))",
+  "SELECT s2_covers(x'0103', 1, 1)",
+  "SELECT s2_clip(" SHAPE ", 2)",
+  "SELECT tile, hex(part), hex(sure), hex(clip), level, max_cells FROM s2_join_tiles(" SHAPE ", 6, 9)",
+  "SELECT count(*) FROM s2_join_tiles(" SHAPE ", 31)",
+  "SELECT count(*) FROM s2_join_tiles(x'0103', 3)",
   NULL,
 };
 

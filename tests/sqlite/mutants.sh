@@ -9,6 +9,7 @@ build() { # FOLDER FLAGS..
   local folder=$1
   shift
   mkdir -p "$folder" && cp "$work"/mutant/* "$work/c/s2union_host.h" "$folder" &&
+    cp "$work/c/s2union_join.h" "$work/usr/include/" &&
     make -C "$folder" -B PREFIX="$work/usr" "$@"
 }
 
@@ -20,12 +21,12 @@ tests() { # FOLDER PRELOAD
     cd "$top/tests/sqlite" && export PYTHONPATH=$top/tests PYTHONDONTWRITEBYTECODE=1
     export ASAN_OPTIONS=detect_leaks=0
     LD_PRELOAD=$2 S2UNION_ROUNDS=300 S2UNION_SQLITE=$1/mod_s2union.so timeout 300 \
-      /usr/bin/python3 -m pytest -x test_sqlite.py::{WhatIsRefused,AgainstTheModel} test_geo.py
+      /usr/bin/python3 -m pytest -x test_sqlite.py::{WhatIsRefused,AgainstTheModel} test_{geo,joins}.py
   )
 }
 
 survives() { # NAME
-  mkdir -p "$work/c" && cp "$top/bindings/c/s2union_host.h" "$work/c/" &&
+  mkdir -p "$work/c" && cp "$top"/bindings/c/s2union_{host,join}.h "$work/c/" &&
     mutant "$1" "$top"/bindings/sqlite/{Makefile,*.[ch]} && build "$work/plain" CFLAGS="-O1 -Wno-error" || return 2
   refuse "$work/plain" "" || return
   build "$work/sanitized" CFLAGS="-O1 -g -Wno-error -fsanitize=address,undefined -fno-sanitize-recover" || return 2
