@@ -15,7 +15,7 @@
 #include "value.h"
 
 #pragma GCC visibility push(hidden)
-#include <s2union_cover.h>
+#include <s2union_join.h>
 #include <s2union_outline.h>
 #pragma GCC visibility pop
 
@@ -91,6 +91,39 @@ Datum s2_coverings(PG_FUNCTION_ARGS) {
   PG_END_TRY();
   values[1] = value_of_cells(&inner);
   PG_RETURN_DATUM(HeapTupleGetDatum(heap_form_tuple(pair, values, nulls)));
+}
+
+/* ---- exact joins: whether a shape has a place, and its clips */
+
+PG_FUNCTION_INFO_V1(s2_covers);
+Datum s2_covers(PG_FUNCTION_ARGS) {
+  bytea* wkb = PG_GETARG_BYTEA_PP(0);
+  double longitude = degrees_of(PG_GETARG_FLOAT8(1), S2U_GEO_MOST_LONGITUDE, "longitude");
+  double latitude = degrees_of(PG_GETARG_FLOAT8(2), S2U_GEO_MOST_LATITUDE, "latitude");
+  s2u_cover_fault fault;
+  int covers;
+  must_be_covered(s2u_join_covers(FILE_ARGUMENT(wkb), longitude, latitude, &covers, &fault), &fault);
+  PG_RETURN_BOOL(covers);
+}
+
+PG_FUNCTION_INFO_V1(s2_clip);
+Datum s2_clip(PG_FUNCTION_ARGS) {
+  bytea* wkb = PG_GETARG_BYTEA_PP(0);
+  s2u_cover_fault fault;
+  s2u_join_bytes clip;
+  bytea* value = NULL;
+  CHECK_FOR_INTERRUPTS();
+  int32_t status = s2u_join_clip(FILE_ARGUMENT(wkb), (uint64_t)PG_GETARG_INT64(1), &clip, &fault);
+  if (status == S2U_NO_CELL) refuse_number(PG_GETARG_INT64(1));
+  must_be_covered(status, &fault);
+  if (clip.size <= MaxAllocSize - VARHDRSZ) value = palloc_extended(VARHDRSZ + clip.size, MCXT_ALLOC_NO_OOM);
+  if (value) {
+    SET_VARSIZE(value, VARHDRSZ + clip.size);
+    memcpy(VARDATA(value), clip.at, clip.size);
+  }
+  free(clip.at);
+  if (!value) must_be_covered(S2U_MEMORY, &fault);
+  PG_RETURN_BYTEA_P(value);
 }
 
 /* ---- regions as WKB, in the machine's order of bytes */

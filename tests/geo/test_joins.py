@@ -133,9 +133,12 @@ class Joins(unittest.TestCase):
         psql("CREATE TABLE keyless (geom geometry); CREATE TABLE other (id int PRIMARY KEY, geom geometry);"
              "CREATE TABLE other_tiles (id int);")
         crossed = geometry(polygon([[0, 0], [9, 9], [9, 0], [0, 9], [0, 0]]))
-        for place, said in (("ST_Point(0, 0)", "Operation on mixed SRID geometries"),
+        self.assertEqual(psql("SELECT id FROM zones_at(ST_Point(1, 1)) ORDER BY id"),  # which has no SRID
+                         psql("SELECT id FROM zones_at(ST_SetSRID(ST_Point(1, 1), 4326)) ORDER BY id"))
+        for place, said in (("ST_SetSRID(ST_Point(1, 1), 4258)", "a place has degrees (SRID 4326), not SRID 4258"),
+                            ("ST_SetSRID(ST_Point(1, 1), 3857)", "a place has degrees (SRID 4326), not SRID 3857"),
                             ("ST_Transform(ST_SetSRID(ST_Point(9, 9), 4326), 3857)", "a longitude is a number from")):
-            self.assertIn(said, psql("SELECT * FROM zones_at(ST_SetSRID(ST_Point(0, 0), 4326)) AS there,"
+            self.assertIn(said, psql("SELECT * FROM zones_at(ST_SetSRID(ST_Point(1, 1), 4326)) AS there,"
                                      f" zones_at({place})", status=3))
         for call, said in (("s2_join_table('keyless')", "s2union: table keyless has no primary key"),
                            ("s2_join_table('other')", "s2union: table public.other_tiles is there, and not made by"),
@@ -143,7 +146,11 @@ class Joins(unittest.TestCase):
                            ("s2_join_table('zones', level => 31)", "s2union: argument out of range: 31"),
                            ("s2_join_table('none')", 'relation "none" does not exist')):
             self.assertIn(said, psql(f"SELECT {call}", status=3))
-        self.assertIn("Self-intersection",  # of the clip, by GEOS
-                      psql(f"INSERT INTO zones VALUES (900, {crossed})", status=3))
+        endless = "ST_SetSRID(ST_GeomFromText('POLYGON((0 0, 9 9, 600 0, 0 0))'), 4326)"
+        self.assertIn("a longitude is from -540 to 540", psql(f"INSERT INTO zones VALUES (900, {endless})", status=3))
         self.assertEqual(psql("SELECT count(*) FROM zones WHERE id = 900"), ["0"])
+        self.assertEqual(psql(f"BEGIN; DELETE FROM zones; INSERT INTO zones VALUES (900, {crossed});"
+                              " SELECT x, count(id) FROM generate_series(1, 8) AS x LEFT JOIN zones_at(x, 7) ON true"
+                              " GROUP BY x ORDER BY x; ROLLBACK"),  # which crosses itself at (4.5, 4.5)
+                         [f"{x}|{int(x in (1, 2, 7, 8))}" for x in range(1, 9)])
         self.assertEqual(pairs_of(ZONES), self.wanted)  # what failed has changed nothing

@@ -15,6 +15,8 @@ MEMBERS = """
     SELECT d.classid, d.objid, pg_describe_object(d.classid, d.objid, 0) AS object FROM pg_depend d
     JOIN pg_extension e ON e.oid = d.refobjid AND e.extname IN ('s2union', 's2union_geo') WHERE d.deptype = 'e'
 """
+# Functions that make a table of a table, which test_wkb.py asks: they are not of values.
+OF_TABLES = "'regclass'::regtype = ANY (p.proargtypes)"
 # All that the extension has in the catalogue, a line for each: functions, aggregates, operators, classes with their
 # members, casts, the type, and comments. Numbers of objects are their names here.
 CATALOGUE = f"""
@@ -102,7 +104,8 @@ class Catalogue(Tests):
             SELECT p.proname, p.prokind, p.proretset, array_to_string(p.proargtypes::regtype[], ','),
                 array_to_string(coalesce(p.proargnames, '{{}}')::text[], ',')
             FROM pg_proc p JOIN ({MEMBERS}) m ON m.classid = 'pg_proc'::regclass AND m.objid = p.oid
-            WHERE starts_with(p.proname, 's2_') AND p.pronargs > 0 AND p.proname <> 's2_is_cell' ORDER BY 1, 4;
+            WHERE starts_with(p.proname, 's2_') AND p.pronargs > 0 AND p.proname <> 's2_is_cell' AND NOT {OF_TABLES}
+            ORDER BY 1, 4;
         """)
         right, wrong = [], []
         for name, kind, rows, types, names in (line.split("|") for line in said):
@@ -149,10 +152,13 @@ class Catalogue(Tests):
     def test_all_functions_but_the_version_are_immutable(self):
         said = psql(f"""
             SELECT proname, provolatile FROM pg_proc p JOIN ({MEMBERS}) m ON m.objid = p.oid
-            WHERE starts_with(proname, 's2_')
+            WHERE starts_with(proname, 's2_') AND NOT {OF_TABLES}
                 AND (provolatile, proparallel, proisstrict OR prokind = 'a') <> ('i', 's', true);
         """)
         self.assertEqual(said, ["s2_version|s"])
+        said = psql(f"SELECT proname, provolatile, proparallel, proisstrict, prosecdef FROM pg_proc p"
+                    f" JOIN ({MEMBERS}) m ON m.objid = p.oid WHERE {OF_TABLES}")
+        self.assertEqual(said, ["s2_join_table|v|u|f|f"])
 
     def test_each_function_that_takes_a_cell_takes_a_text(self):
         """In place of each bigint; but no text beside a union, where an untyped literal is a union."""

@@ -105,7 +105,8 @@ class Points(unittest.TestCase):
     def test_cells_that_there_are_not(self):
         """Asked of each function that SQLite lists."""
         names = {name for name, in self.db.execute("SELECT name FROM pragma_function_list WHERE name LIKE 's2%'")}
-        for name in names - {"s2_leaf_at", "s2_covering", "s2_interior", "s2_covers", "s2_clip", "s2_expanded", "s2_bounds"}:
+        take_other = {"s2_leaf_at", "s2_covering", "s2_interior", "s2_covers", "s2_clip", "s2_expanded", "s2_bounds"}
+        for name in names - take_other:
             for wrong in NO_CELLS:
                 with self.assertRaisesRegex(sqlite3.OperationalError, "^s2: not a cell: "):
                     self.said(f"{name}(?)", wrong)
