@@ -50,6 +50,7 @@ step "what is refused; 100 stored values, each bit flipped" tests WhatIsRefused
 step "indexes: 2,000 questions by GIN, GiST and by a scan" tests Indexes
 step "no two regions overlap" tests Exclusion
 step "s2union_geo: points and shapes, and what is refused" tests Points Shapes
+step "exact joins of points with polygons in WKB" tests test_wkb.py
 step "plans: the index where values are large and where few rows are found" tests Planner
 step "large questions end before they have taken twice their timeout" tests LargeQuestions
 step "the aggregate, in parallel" tests Aggregates
@@ -74,6 +75,38 @@ from_python() { # what the page shows of psycopg, in the page's database
   PGDATABASE=page /usr/bin/python3 "$top/tests/docs/documented.py" --python --only psycopg "$top/docs/POSTGRES.md"
 }
 step "docs/POSTGRES.md, from a program" from_python
+# Drivers of other languages, where Debian's packages of them are.
+by_go() { # without modules: Debian's sources are in one folder for all
+  local path to
+  path=$(sed -n 's/^module //p' "$top/bindings/go/go.mod") to=$work/drivers
+  mkdir -p "$to/src/$path" && cp "$top"/bindings/go/*.go "$to/src/$path" && rm "$to/src/$path"/*_test.go &&
+    GO111MODULE=off GOPATH=$to:/usr/share/gocode GOCACHE=$to/cache PKG_CONFIG_PATH=$work/usr/lib/pkgconfig \
+      go build -o "$to/by-go" "$top/tests/postgres/drivers/drivers.go" &&
+    LD_LIBRARY_PATH=$work/usr/lib "$to/by-go"
+}
+by_jdbc() { # which knows no socket in a folder, so another server listens to this machine
+  local jar=/usr/share/java/postgresql.jar jdk port to=$work/jdbc
+  jdk=$(dirname "$(dirname "$(realpath "$(command -v javac)")")")
+  port=$(/usr/bin/python3 -c 'import socket; print(socket.create_server(("127.0.0.1", 0)).getsockname()[1])')
+  mkdir -p "$to" && gcc -std=c11 -O2 -fPIC -shared -I"$jdk/include" -I"$jdk/include/linux" -I"$work/usr/include" \
+    "$top/bindings/java/s2union.c" "$work/usr/lib/libs2union.a" -o "$to/libs2union_java.so" &&
+    javac -d "$to" "$top"/bindings/java/s2union/*.java "$top/tests/postgres/drivers/Drivers.java" &&
+    begun network "listen_addresses = '127.0.0.1'" "port = $port" &&
+    PGHOST=127.0.0.1 PGPORT=$port psql -qc "CREATE EXTENSION s2union" &&
+    java -cp "$to:$jar" -Ds2union.library="$to/libs2union_java.so" Drivers "jdbc:postgresql://127.0.0.1:$port/postgres" &&
+    stopped network
+}
+gocode=/usr/share/gocode/src/github.com
+if command -v go >/dev/null && [ -d $gocode/jackc/pgx/v4 ] && [ -d $gocode/lib/pq ]; then
+  step "drivers of Go: pgx, and database/sql with pgx and lib/pq" by_go
+else
+  echo "       left out: drivers of Go (golang-go, golang-github-jackc-pgx-v4-dev, golang-github-lib-pq-dev)"
+fi
+if command -v javac >/dev/null && [ -e /usr/share/java/postgresql.jar ]; then
+  step "the driver of Java: JDBC" by_jdbc
+else
+  echo "       left out: the driver of Java (openjdk-17-jdk-headless, libpostgresql-jdbc-java)"
+fi
 step "docs/SCALE.md" page SCALE.md scale
 step "docs/ENGINES.md, without the extension" page ENGINES.md engines
 step "its joins by tile, beside loops over all pairs" tests Tiles
@@ -82,7 +115,7 @@ step "200 questions over two servers" tests Servers
 export S2UNION_ROUNDS=150
 again() {
   tests Guarded AgainstTheModel WhatIsRefused Indexes Points Shapes Exclusion Aggregates test_kept.py::AroundACall \
-    test_catalogue.py::Catalogue "$@"
+    test_wkb.py test_catalogue.py::Catalogue "$@"
 }
 put_in counted
 step "guarded: each allocation refused in turn, nothing written over, nothing left" again Planner
