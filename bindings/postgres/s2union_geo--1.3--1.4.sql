@@ -108,6 +108,7 @@ LANGUAGE C IMMUTABLE STRICT PARALLEL SAFE COST 100;
 COMMENT ON FUNCTION s2_bounds(s2union)
   IS 'the west, south, east and north of a union in degrees; over the date line the east is less than the west. NULL'
   ' without cells';
+
 -- ---- exact joins of points with polygons, by tiles
 
 CREATE FUNCTION s2_covers(shape bytea, longitude float8, latitude float8)
