@@ -1,6 +1,6 @@
 """What pyproject.toml can't say: the module in C, which is one for each Python from 3.8 on.
 
-`tools/library` compiles it for the wheel; where it has, that one is taken. Where the folder libs2union is, as in what
+tools/package and tools/portable compile it for the wheels; where it is, that one is taken. Where the folder libs2union is, as in what
 tools/portable makes, the library is compiled into the module by the C compiler's driver. Else s2union.h is looked for
 in the folder $S2UNION_INCLUDE, by pkg-config, and in the compiler's own places, and the library is needed at run time.
 """
@@ -41,7 +41,7 @@ def include():
     return said.stdout.split()
 
 
-ready = (Path(__file__).parent / "s2union" / "_library.abi3.so").exists()
+ready = any((Path(__file__).parent / "s2union").glob("_library.*[od]"))  # .abi3.so, or .pyd on Windows
 carried = [f"libs2union/{name}" for name in ("s2union.S", "blocks.c", "heap.c")]
 if not (Path(__file__).parent / carried[0]).exists():
     carried = []
