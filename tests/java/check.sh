@@ -88,9 +88,20 @@ step "docs/JAVA.md" by_page -cp "$jar"
 by_property() ( # named from the root and from here, where the classes have none
   cd "$work" && mv classes/s2union/amd64/libs2union_java.so named.so &&
     by_page -cp classes -Ds2union.library="$work/named.so" && by_page -cp classes -Ds2union.library=named.so &&
-    ! by_page -cp classes >said 2>&1 && grep "s2union has no library for amd64" said
+    ! by_page -cp classes >said 2>&1 && grep "s2union has no library for Linux on amd64" said
 )
 step "the property s2union.library" by_property
+elsewhere() ( # the names of other systems, over this one's library; Windows keeps what is loaded, so the next one deletes
+  cd "$work" && mkdir -p classes/s2union/{windows,macos}-amd64 temporary &&
+    cp named.so classes/s2union/windows-amd64/libs2union_java.dll &&
+    cp named.so classes/s2union/macos-amd64/libs2union_java.dylib &&
+    by_page -Dos.name="Mac OS X" -cp classes && ! by_page -Dos.name=Plan9 -cp classes >said 2>&1 &&
+    grep "s2union has no library for Plan9 on amd64" said && touch -d "2 minutes ago" temporary/libs2union_java1.dll &&
+    touch temporary/{libs2union_java2.dll,mine.dll} && ! by_page -Dos.name="Windows 11" -cp classes >said &&
+    [ "$(ls temporary | paste -sd' ')" = "libs2union_java2.dll mine.dll" ] && rm temporary/* &&
+    by_page -Dos.name="Windows 11" -cp classes
+)
+step "the library of another system, and what Windows keeps" elsewhere
 of_its_own() ( # whoever may write what is made, by the umask: asked when it is deleted
   cat >"$work/deleted.c" <<'END' &&
 #define _GNU_SOURCE

@@ -1,8 +1,10 @@
 package s2union;
 
+import java.io.File;
 import java.io.IOException;
 import java.io.InputStream;
 import java.io.OutputStream;
+import java.nio.file.DirectoryStream;
 import java.nio.file.Files;
 import java.nio.file.Path;
 import java.nio.file.StandardOpenOption;
@@ -62,19 +64,45 @@ final class Calls {
     load();
   }
 
-  /** Loads the library that the property s2union.library names, or the one in the jar for this processor. */
+  private static final String LIBRARY = "libs2union_java";
+  private static final long UNUSED_FOR = 60_000; // milliseconds
+
+  /** The library in the jar for a system and a processor, by the names that Java has for them. */
+  static String placeOf(String system, String processor) {
+    if (system.startsWith("Windows")) return "windows-" + processor + "/" + LIBRARY + ".dll";
+    if (system.startsWith("Mac")) return "macos-" + processor + "/" + LIBRARY + ".dylib";
+    return (system.equals("Linux") ? "" : system + "-") + processor + "/" + LIBRARY + ".so";
+  }
+
+  /** Deletes a copy of the library; those that are in use stay on Windows, so the next program deletes them. */
+  private static void delete(Path copy) throws IOException {
+    if (!copy.toString().endsWith(".dll")) {
+      Files.delete(copy);
+      return;
+    }
+    long before = System.currentTimeMillis() - UNUSED_FOR; // a younger one may be about to be loaded
+    try (DirectoryStream<Path> copies = Files.newDirectoryStream(copy.getParent(), LIBRARY + "*.dll")) {
+      for (Path other : copies) {
+        File file = other.toFile();
+        if (file.lastModified() < before || other.equals(copy)) file.delete();
+      }
+    }
+  }
+
+  /** Loads the library that the property s2union.library names, or the one in the jar for this system. */
   private static void load() {
     String named = System.getProperty("s2union.library");
     if (named != null) {
       System.load(Path.of(named).toAbsolutePath().toString());
       return;
     }
-    String place = "/s2union/" + System.getProperty("os.arch") + "/libs2union_java.so";
-    try (InputStream library = Calls.class.getResourceAsStream(place)) {
+    String system = System.getProperty("os.name"), processor = System.getProperty("os.arch");
+    String place = placeOf(system, processor);
+    try (InputStream library = Calls.class.getResourceAsStream("/s2union/" + place)) {
       if (library == null) {
-        throw new UnsatisfiedLinkError("s2union has no library for " + System.getProperty("os.arch"));
+        throw new UnsatisfiedLinkError("s2union has no library for " + system + " on " + processor);
       }
-      Path copy = Files.createTempFile("libs2union_java", ".so");
+      Path copy = Files.createTempFile(LIBRARY, place.substring(place.lastIndexOf('.')));
       try {
         // Into the file that was made, which nobody else may write: to replace it would make one by the umask.
         try (OutputStream to = Files.newOutputStream(copy, StandardOpenOption.WRITE)) {
@@ -82,7 +110,7 @@ final class Calls {
         }
         System.load(copy.toString());
       } finally {
-        Files.delete(copy);
+        delete(copy);
       }
     } catch (IOException error) {
       throw new UnsatisfiedLinkError("s2union can't unpack its library: " + error);
