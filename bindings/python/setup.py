@@ -1,8 +1,9 @@
 """What pyproject.toml can't say: the module in C, which is one for each Python from 3.8 on.
 
-tools/package and tools/portable compile it for the wheels; where it is, that one is taken. Where the folder libs2union is, as in what
-tools/portable makes, the library is compiled into the module by the C compiler's driver. Else s2union.h is looked for
-in the folder $S2UNION_INCLUDE, by pkg-config, and in the compiler's own places, and the library is needed at run time.
+tools/package and tools/portable compile it for the wheels; where it is, that one is taken. Where the folder
+libs2union is, as in what tools/portable makes, the library is compiled into the module by the C compiler's driver.
+Else s2union.h is looked for in the folder $S2UNION_INCLUDE, by pkg-config, and in the compiler's own places, and the
+library is needed at run time.
 """
 import os
 import subprocess

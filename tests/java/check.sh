@@ -91,7 +91,7 @@ by_property() ( # named from the root and from here, where the classes have none
     ! by_page -cp classes >said 2>&1 && grep "s2union has no library for Linux on amd64" said
 )
 step "the property s2union.library" by_property
-elsewhere() ( # the names of other systems, over this one's library; Windows keeps what is loaded, so the next one deletes
+elsewhere() ( # the names of other systems, over this one's library; what Windows keeps, the next program deletes
   cd "$work" && mkdir -p classes/s2union/{windows,macos}-amd64 temporary &&
     cp named.so classes/s2union/windows-amd64/libs2union_java.dll &&
     cp named.so classes/s2union/macos-amd64/libs2union_java.dylib &&

@@ -3,7 +3,8 @@
 # archive alone the library is built for x86-64 with glibc, with musl and for Windows, for ARM and for RISC-V. Each
 # answers ROUNDS of all calls three times, with wrong arguments and memory refused, and the sums have to be those of the
 # library that was proved; 340,000 rounds are asked if none are given. Windows is wine, and ARM and RISC-V are qemu. For
-# macOS it is compiled, and its object files are looked at. Then it is built in a new system in which no prover and
+# macOS it is compiled, and its object files are looked at. So are the wheels and the library of the jar, and what of
+# them can be run here is. Then it is built in a new system in which no prover and
 # nothing of this repository is. It has to run as root, and installs the Debian packages that it needs. The last line is
 # 'N passed, M failed'; the status is 1 if any failed.
 . "$(dirname "$0")/../steps.sh"
@@ -24,6 +25,9 @@ need aarch64-linux-gnu-gcc gcc-aarch64-linux-gnu libc6-dev-arm64-cross
 need riscv64-linux-gnu-gcc gcc-riscv64-linux-gnu libc6-dev-riscv64-cross
 need qemu-aarch64-static qemu-user-static
 need mmdebstrap mmdebstrap
+need javac openjdk-17-jdk-headless
+need_modules build,setuptools,wheel python3-{build,setuptools,wheel}
+need_headers
 need_packages
 need_library
 
@@ -46,6 +50,7 @@ step "LLVM's text names no processor" names_no_processor
 
 # ---- the same answers
 
+with_kit=$PATH
 export PATH=/usr/bin:/bin # where no kit is
 asked=$work/source/test/answers.c
 include=$work/source/include
@@ -152,6 +157,69 @@ compiled_for() { # TARGET NAME-OF-A-SYMBOL: it defines the calls of the header, 
 step "macOS on ARM: compiled, not run" compiled_for arm64-apple-macos11 _
 step "macOS on x86-64: compiled, not run" compiled_for x86_64-apple-macos10.12 _
 step "Windows on ARM: compiled, not run" compiled_for aarch64-w64-windows-gnu ""
+
+# ---- wheels, and the library of the jar
+
+wheel() { # PLATFORM: unpacked, as $work/PLATFORM, with one module in it
+  mkdir "$work/$1" && /usr/bin/python3 -m zipfile -e "$work"/made/s2union-*-abi3-"$1".whl "$work/$1" &&
+    modules=("$work/$1"/s2union/_library.*[od]) && [ ${#modules[@]} = 1 ] && [ -s "${modules[0]}" ]
+}
+entry() { # COMMAND..: what it says of the module is its entry point alone
+  [ "$("$@" "${modules[0]}" | awk '{ print $NF }')" = PyInit__library ]
+}
+for_musl() { # PROCESSOR: it names no other library, and of glibc nothing
+  wheel "musllinux_1_2_$1" && entry nm -D --defined-only && readelf -hW "${modules[0]}" | grep "Machine:.*$2" &&
+    ! readelf -dW "${modules[0]}" | grep NEEDED && ! nm -D "${modules[0]}" | grep GLIBC
+}
+by_python() ( # Debian's, since it asks nothing of a C library but what each has
+  cd / && PYTHONDONTWRITEBYTECODE=1 PYTHONPATH=$work/musllinux_1_2_x86_64 /usr/bin/python3 -m doctest \
+    "$top/docs/PYTHON.md"
+)
+step "the wheel for musl on x86-64" for_musl x86_64 X86-64
+step "the wheel for musl on ARM" for_musl aarch64 AArch64
+step "docs/PYTHON.md by the wheel for musl" by_python
+for_macos() { # PLATFORM FORM OLDEST: names of Python are looked up, all others are libSystem's
+  wheel "$1" && file=${modules[0]} && [ "$(llvm-nm -gjU "$file")" = _PyInit__library ] &&
+    llvm-objdump --macho --private-header "$file" | grep "$2 .* DYLIB " &&
+    llvm-objdump --macho --private-headers "$file" | grep -E "^ *(minos|version) $3\$" &&
+    [ "$(llvm-objdump --macho --dylibs-used "$file" | sed 1d | grep -v "^.@rpath" | awk '{ print $1 }')" = \
+      /usr/lib/libSystem.B.dylib ] && llvm-nm -m -u "$file" >"$work/names" &&
+    grep -q '_PyTuple_Size (dyn' "$work/names" &&
+    ! grep -vE '_?_?Py[A-Za-z_]+ \(dynamically looked up\)$|\(from libSystem\)$' "$work/names"
+}
+signed() { llvm-objdump --macho --private-headers "$work"/macosx_11_0_arm64/s2union/*.so | grep LC_CODE_SIGNATURE; }
+step "the wheel for macOS on x86-64: looked at, not run" for_macos macosx_10_12_x86_64 X86_64 10.12
+step "the wheel for macOS on ARM: looked at, not run" for_macos macosx_11_0_arm64 ARM64 11.0
+step "its module is signed, without which macOS on ARM doesn't load it" signed
+loaded() ( # over a python3.dll that has the names of Python's, and does nothing
+  wheel win_amd64 && cd "$work/win_amd64" && cp s2union/_library.pyd . &&
+    awk '/DATA/ { print "int " $1 ";"; next } /^  / { at = $1 ~ /^PyModuleDef_Init$/ ? "given" : "0"
+      print "void* " $1 "(void* given) { return (void*)" at "; }" }' "$top/tools/packaging/python3.def" >python3.c &&
+    x86_64-w64-mingw32-gcc -w -shared python3.c "$top/tools/packaging/python3.def" -o python3.dll &&
+    x86_64-w64-mingw32-gcc -w "$tests/loads.c" -o loads.exe &&
+    [ "$(in_windows ./loads.exe | tr -d '\r')" = s2union._library ]
+)
+step "the wheel for Windows: its module is loaded" loaded
+jar() { PATH=$with_kit "$top/tools/java" "$work/java" --target x86_64 --source "$archive"; }
+step "tools/java, with the library for other systems" jar
+asked_as_java_does() { # on Linux and in Windows: one sum
+  local java file=$top/tests/portable/hosted.c flags
+  java=$(dirname "$(dirname "$(realpath "$(command -v javac)")")")
+  flags=(-std=gnu11 -O2 -Wall -Wextra -Werror -I"$java/include" -I"$top/bindings/java")
+  mkdir "$work/hosted" && cd "$work/hosted" && /usr/bin/python3 -m zipfile -e "$work/java/s2union.jar" . &&
+    gcc "${flags[@]}" -I"$java/include/linux" "$file" -ldl -o here &&
+    x86_64-w64-mingw32-gcc "${flags[@]}" -I"$top/tools/packaging/windows" "$file" -o there.exe &&
+    ./here s2union/amd64/libs2union_java.so "$rounds" >wanted && grep '^sum ' wanted &&
+    in_windows ./there.exe s2union/windows-amd64/libs2union_java.dll "$rounds" | tr -d '\r' | diff wanted -
+}
+step "the natives for Windows answer as those for Linux" asked_as_java_does
+natives_for_macos() { # PROCESSOR
+  local file=$work/hosted/s2union/macos-$1/libs2union_java.dylib
+  diff <(nm -D --defined-only "$work/hosted/s2union/amd64/libs2union_java.so" | awk '{ print "_" $3 }' | sort) \
+    <(llvm-nm -gjU "$file" | sort) && ! llvm-nm -m -u "$file" | grep -v '(from libSystem)$'
+}
+step "the natives for macOS on x86-64: looked at, not run" natives_for_macos x86_64
+step "the natives for macOS on ARM: looked at, not run" natives_for_macos aarch64
 
 # ---- in a new system
 

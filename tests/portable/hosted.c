@@ -42,7 +42,9 @@ static void* JNICALL taken(JNIEnv* env, jarray of, jboolean* copy) {
   if (copy) *copy = JNI_FALSE;
   return of->bytes;
 }
-static void JNICALL given_back(JNIEnv* env, jarray of, void* at, jint mode) { (void)env, (void)of, (void)at, (void)mode; }
+static void JNICALL given_back(JNIEnv* env, jarray of, void* at, jint mode) {
+  (void)env, (void)of, (void)at, (void)mode;
+}
 static jint* JNICALL ints_of(JNIEnv* env, jintArray of, jboolean* copy) { return taken(env, of, copy); }
 static void JNICALL ints_back(JNIEnv* env, jintArray of, jint* at, jint mode) { given_back(env, of, at, mode); }
 static void JNICALL longs_set(JNIEnv* env, jlongArray to, jsize at, jsize n, const jlong* from) {

@@ -6,17 +6,17 @@
 #
 # For Windows it is what Debian's mingw-w64 makes. For musl and macOS the compiler and the linker are the kit's, and the
 # headers of C are those of Debian's musl-dev: for macOS too, whose own aren't here. So the C may call the functions of
-# $of_c alone, which C declares in one way, and which each of these systems has by these names. On musl the program that
-# loads the object has them; on macOS they are libSystem's. What it wants besides has to be Python's, or the linking
-# fails. The same files make the same bytes.
+# $of_c alone, which C declares in one way, and which each of these systems has by these names. On musl the program
+# that loads the object has them; on macOS they are libSystem's. What it wants besides has to be Python's, or the
+# linking fails. The same files make the same bytes.
 set -euo pipefail
 export LC_ALL=C
 system=$1 source=$(realpath "$2") file=$(realpath -m "$3") entry=$4
 shift 4
 work=$(mktemp -d)
 trap 'rm -rf "$work"' EXIT
-of_c="abort asin atan atan2 calloc ceil cos fabs floor fmax fmin fmod free ldexp malloc memchr memcmp memcpy memmove memset
-  nearbyint qsort realloc remainder rint round sin snprintf sqrt strcmp strlen tan trunc"
+of_c="abort asin atan atan2 calloc ceil cos fabs floor fmax fmin fmod free ldexp malloc memchr memcmp memcpy memmove
+  memset nearbyint qsort realloc remainder rint round sin snprintf sqrt strcmp strlen tan trunc"
 of_python='_?Py[A-Z_][A-Za-z_]+'
 compile=(-std=gnu11 -O2 -g0 -fvisibility=hidden -ffp-contract=off "-ffile-prefix-map=$work=." -I"$source/include")
 code=("$source"/src/{s2union.S,blocks.c,heap.c})
@@ -65,8 +65,9 @@ case $system in
     of_c+=" bzero __bzero __sincos_stret __stack_chk_fail __stack_chk_guard"
     wants_only "$of_python"
     symbols=$(printf '_%s, ' $of_c)
-    printf -- '--- !tapi-tbd\ntbd-version: 4\ntargets: [ %s-macos ]\ninstall-name: /usr/lib/libSystem.B.dylib\n%s\n...\n' \
-      "$processor" "exports: [ { targets: [ $processor-macos ], symbols: [ ${symbols}dyld_stub_binder ] } ]" \
+    printf '%s\n' '--- !tapi-tbd' 'tbd-version: 4' "targets: [ $processor-macos ]" \
+      'install-name: /usr/lib/libSystem.B.dylib' \
+      "exports: [ { targets: [ $processor-macos ], symbols: [ ${symbols}dyld_stub_binder ] } ]" ... \
       >"$work/libSystem.tbd"
     named --defined-only --extern-only | grep -xE "$entry" | sed 's/^/_/' >"$work/exported"
     of_kit ld64.lld -dylib -arch "$processor" -platform_version macos "$oldest" "$oldest" -x -no_data_in_code_info \

@@ -1,8 +1,8 @@
 #!/usr/bin/env bash
 # Makes a wheel of the modules for Python: wheel MODULE PLATFORM FOLDER [PYTHON] [LIBRARY].
 #
-# MODULE is the folder of the module, compiled, with s2union_geo beside it; a LIBRARY is put into it. PLATFORM is that of
-# the wheel's name, and PYTHON the oldest CPython that it is for: cp38, if it isn't named. As manylinux_PROCESSOR the
+# MODULE is the folder of the module, compiled, with s2union_geo beside it; a LIBRARY is put into it. PLATFORM is that
+# of the wheel's name, and PYTHON the oldest CPython that it is for: cp38, if it isn't named. As manylinux_PROCESSOR the
 # platform is each Linux whose C library has the symbols that the module and the library want, by the newest of them.
 # Debian's python3-build makes it. The same files make the same bytes, with the time of SOURCE_DATE_EPOCH.
 set -euo pipefail
