@@ -46,7 +46,7 @@ step "files of others stay in the folder, and older packages don't" others_stay
 names_of() { # PACKAGE: the names of its files
   case $1 in
     *.deb) dpkg-deb --fsys-tarfile "$1" | tar -t ;;
-    *.tar.gz) tar -tzf "$1" ;;
+    *.tar.xz | *.tgz) tar -tf "$1" ;;
     *) /usr/bin/python3 -c 'import sys, zipfile; print(*zipfile.ZipFile(sys.argv[1]).namelist(), sep="\n")' "$1" ;;
   esac
 }
@@ -71,7 +71,7 @@ of_another_version() ( # the program says that it is; nothing is made of it
 )
 step "refused: a program of another version" of_another_version
 for_arm() (
-  cd "$work/packages/aarch64" && sha256sum --quiet -c SHA256SUMS && [ -e s2union-*-aarch64-linux.tar.gz ] &&
+  cd "$work/packages/aarch64" && sha256sum --quiet -c SHA256SUMS && [ -e s2union-*-aarch64-linux.tar.xz ] &&
     [ -e s2union-*-manylinux_2_17_aarch64.whl ] && [ "$(dpkg-deb -f s2calc_*_arm64.deb Architecture)" = arm64 ]
 )
 step "those for ARM are in a folder of their own" for_arm

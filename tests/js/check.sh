@@ -52,14 +52,29 @@ by_comments() {
     node "$work/examples.mjs" "$module"
 }
 step "the examples of its types" by_comments
-packed() ( # without a warning, with what it names
+tgz=$work/to-npm/s2union-$version.tgz
+to_npm() { # the file of a release, twice
+  mkdir -p "$work/to-npm" && for file in "$tgz" "$work/again"; do
+    SOURCE_DATE_EPOCH=1000000000 bash "$top/tools/packaging/npm.sh" "$package" "$file" || return 1
+  done
+  cmp "$tgz" "$work/again"
+}
+step "the file for npm, twice the same bytes" to_npm
+packed() ( # npm finds no fault, and would pack these files
   cd "$work" && npm pack --offline --loglevel warn "$package" >packed 2>&1 && ! grep -i warn packed &&
-    tar -tf "$(tail -1 packed)" | sed 's|^package/||' | sort | diff - <(ls "$package" | sort)
+    diff <(tar -tf "$tgz" | sort) <(tar -tf "$(tail -1 packed)" | sort)
+)
+installed() ( # by the line of docs/JS.md, into a package that has the page's program
+  mkdir "$work/installed" && cd "$work/installed" && ln -s ../to-npm dist && echo '{"name": "x"}' >package.json &&
+    line=$(grep '^    npm install ./dist/' "$top/docs/JS.md") &&
+    eval "npm_config_offline=true npm_config_audit=false ${line%%#*}" && cp "$work/program/program.mjs" . &&
+    node program.mjs | diff "$work/program/wanted" -
 )
 if command -v npm >/dev/null; then
   step "npm pack" packed
+  step "npm install, and docs/JS.md" installed
 else
-  echo "       npm is not there: the package is not packed"
+  echo "       npm is not there: the package is not packed, nor its file installed"
 fi
 step "its types have its names, and what calls answer" node "$tests/types.mjs" "$package"
 if command -v tsc >/dev/null; then

@@ -17,7 +17,7 @@ PAGE = """# The release of version {version}
 - Kit: `a kit`
 - Sources: `{two}`
 """.format(version="7.8.9", one="1" * 40, two="2" * 64)
-FILES = {"README.md": PAGE, "s2calc": "#!/bin/sh\necho s2calc 7.8.9\n", "s2union-7.8.9-x86_64-linux.tar.gz": "tar",
+FILES = {"README.md": PAGE, "s2calc": "#!/bin/sh\necho s2calc 7.8.9\n", "s2union-7.8.9-x86_64-linux.tar.xz": "tar",
          "s2calc_7.8.9_amd64.deb": "deb", "aarch64/s2calc": "arm", "aarch64/s2calc_7.8.9_arm64.deb": "deb for arm"}
 
 
@@ -27,7 +27,7 @@ mkdir -p "$room/s2union/share/s2union/page" "$1/aarch64" && cp "$PROGRAM" "$room
 touch "$room/s2union/libs2union.so"
 echo page >"$room/s2union/share/s2union/page/index.html"
 for at in x86_64/. aarch64/aarch64; do
-  tar -C "$room" -czf "$1/${at#*/}/s2union-$version-${at%/*}-linux.tar.gz" s2union
+  tar -C "$room" -cJf "$1/${at#*/}/s2union-$version-${at%/*}-linux.tar.xz" s2union
   touch "$1/${at#*/}/s2union-$version-${at%/*}.jar"
 done
 touch "$1/aarch64/s2union-doc_${version}_all.deb"

@@ -122,7 +122,7 @@ step "pkg-config names no folder that the compiler knows" says "-ls2union" flags
 step "install python3-s2union" by_page 'python3-s2union_*.deb'
 page() { (cd / && "$1" -m doctest $docs/python3-s2union/PYTHON.md); }
 step "docs/PYTHON.md" page python3
-step "the wheel in a venv" by_page 's2union-*.whl'
+step "the wheel in a venv" by_page 's2union-*-manylinux_*.whl'
 step "docs/PYTHON.md there" page "$work/venv/bin/python"
 with_numpy() { # the module for points, once numpy is there
   apt-get install -y --no-install-recommends python3-numpy &&
@@ -225,7 +225,7 @@ step "the server ends" as_postgres "$bin/pg_ctl" -D "$data" -m fast -w stop
 # ---- the tarball, in a folder of its own
 
 unpacked() ( # and its SHA256SUMS fit
-  as_the_page_says 's2union-*-x86_64-linux.tar.gz' && mv "$PWD" "$work/all"
+  as_the_page_says 's2union-*-x86_64-linux.tar.*' && mv "$PWD" "$work/all"
 )
 step "unpack the tarball" unpacked
 
@@ -272,5 +272,17 @@ of_page() { # what computes in the page, by itself
 step "the module of its page" of_page
 module=$work/all/lib/sqlite3/mod_s2union
 step "its extension for SQLite" says 1c sqlite3 -batch :memory: ".load $module" "SELECT s2_tokens('1c')"
+# ---- an image: the last one, since it leaves no lists of packages
+
+image() { # what the Containerfile copies and runs
+  local files to
+  files=$(sed -n 's/^COPY //p' /trial/Containerfile) && to=${files##* } && cd /trial/packages && mkdir -p "$to" &&
+    cp ${files% *} "$to" && sed -n '/^RUN /,/[^\\]$/p' /trial/Containerfile | sed '1s/^RUN //' >"$work/steps" &&
+    bash -e "$work/steps"
+}
+step "the steps of the Containerfile" image
+step "s2calc in it" says "$first" row s2calc
+step "Python in it" says 47e66e1d8f8be23b python3 -c \
+  'import s2union, s2union_geo; print(s2union.token(s2union_geo.leaf(2.3522, 48.8566)))'
 echo "$passed passed, $failed failed"
 [ "$failed" -eq 0 ]
