@@ -93,7 +93,8 @@ by_jdbc() { # which knows no socket in a folder, so another server listens to th
     javac -d "$to" "$top"/bindings/java/s2union/*.java "$top/tests/postgres/drivers/Drivers.java" &&
     begun network "listen_addresses = '127.0.0.1'" "port = $port" &&
     PGHOST=127.0.0.1 PGPORT=$port psql -qc "CREATE EXTENSION s2union" &&
-    java -cp "$to:$jar" -Ds2union.library="$to/libs2union_java.so" Drivers "jdbc:postgresql://127.0.0.1:$port/postgres" &&
+    java -cp "$to:$jar" -Ds2union.library="$to/libs2union_java.so" Drivers \
+      "jdbc:postgresql://127.0.0.1:$port/postgres" &&
     stopped network
 }
 gocode=/usr/share/gocode/src/github.com
