@@ -77,6 +77,30 @@ static void check_the_most_cells(void) {
   CHECK(memcmp(made, leaves + 1, 8 * (MOST - 1)) == 0);
 }
 
+/* A covering of a polygon at one level takes as many blocks of memory as cells of edges are looked into: it is refused
+ * soon after it has too many cells, where few of them merge. */
+static void check_the_cells_that_are_looked_into(void) {
+  static const s2u_direction line[] = {{10, 1, 1}, {1, 10, 1}, {11, 11, 2}};
+  static const s2u_direction large[] = {{10, 1, 1}, {1, 10, 1}, {1, 1, 10}};
+  static const uint64_t width = UINT64_C(1) << 32, face_3 = UINT64_C(0x7000000000000001); /* of a cell of level 30 */
+  static const struct {
+    const s2u_direction* corners;
+    int is_inner;
+    uint64_t margin;
+    uint32_t level;
+  } rows[] = {{line, 0, 0, 20}, {line, 0, 0, 30}, {large, 0, 0, 30}, {large, 1, 0, 30}, {line, 0, width, 30}};
+  for (size_t k = 0; k < sizeof rows / sizeof *rows; k++) {
+    const size_t ends[] = {3};
+    refuse_memory(0);
+    CHECK((rows[k].is_inner ? s2u_polygon_inner : s2u_polygon_outer)(rows[k].corners, 3, ends, 1, face_3,
+                                                                     rows[k].margin, rows[k].level, 1000, out, ROOM,
+                                                                     &len) == S2U_MANY);
+    long blocks = refuse_memory(0);
+    printf("a polygon of too many cells: %ld blocks of memory\n", blocks);
+    CHECK(len == 0 && blocks > 1000 && blocks < 20000);
+  }
+}
+
 int main(void) {
   size_t right = 0;
   static const struct {
@@ -129,5 +153,6 @@ int main(void) {
     printf("%s: %ld allocations refused in turn\n", calls[k].name, allocations);
   }
   check_the_most_cells();
+  check_the_cells_that_are_looked_into();
   return report();
 }

@@ -36,7 +36,7 @@
  *              straight to it.
  *   otherwise  *len is 0 and out is not touched, but by S2U_MANY of s2u_outer_of and s2u_inner_of for a list that is no
  *              union. (With S2U_NO_CELL, s2u_from_tokens and s2u_union_of_many report in *len where the first wrong
- *              word or number is.)
+ *              word or number is, and with S2U_CORNER or S2U_RING a call for a polygon which corner or ring it is.)
  * Only s2u_normalise works in the list that it is given, and it never needs more room. So `room` 0 (and out NULL) asks
  * for the length, which costs as much as the call itself. Only for s2u_denormalised is it ever necessary to ask: each
  * other call has a bound, given as a macro S2U_MOST_.. if it is worth one, which is computed in 64 bits even from an
@@ -912,8 +912,11 @@ int32_t s2u_inner_in(const uint64_t* ids, size_t n, const s2u_rect* bounds, uint
  * Outer leaves are those inside and those that an edge touches, inner leaves those inside that no edge touches. With a
  * margin an edge touches a leaf that it comes near. A covering of outer leaves misses none of them, a covering of inner
  * leaves has no other leaf: proved. Memory is taken for the edges, some hundred bytes for each and for each level. Time
- * follows the edges and the cells that they touch, down to the level: at a deep one long edges touch very many, also
- * where an inner covering has no cell.
+ * follows the edges and the cells that they touch, down to the level. Of one level an outer covering ends soon after it
+ * has `most` cells, if the margin is no wider than a cell, 2^(62 - level). With a wider one, where cells that are touched
+ * merge, and of an inner covering, which has none of them, all are looked into, half a microsecond for each and for each
+ * edge there: three corners on the whole Earth touch some millions at level 20, and take hours at level 30. Coverings
+ * of few cells look into no more than `cells`, or 6, at each level.
  * @{ */
 
 /** The cells of a level that have an outer leaf of a polygon, normalized: S2's GetCovering with one level.
