@@ -11,6 +11,7 @@ from fractions import Fraction
 
 import pytest
 
+from model import plain_sql
 from model.zones import plain_pairs, polygon, some_points, some_zones, star
 from test_geo import SQUARE, opened, wkb
 
@@ -190,6 +191,27 @@ class Joins(unittest.TestCase):
             self.assertEqual(set(self.db.execute(query + exact)), self.wanted)
             self.assertGreater(set(self.db.execute(query)), self.wanted)
             self.assertLess(set(self.db.execute(query + " AND (clip IS NULL OR s2_contains(sure, leaf))")), self.wanted)
+
+    def test_plain_sql(self):
+        """The exact join of docs/ENGINES.md, whose cells are cut to tiles without the extension: all pairs."""
+        made, _, of_cells, cut, join = plain_sql.statements("sql", "CREATE TABLE exact_cells")
+        self.db.executescript(f"""{made}; {of_cells}; CREATE TABLE places AS
+            SELECT id AS place, x AS longitude, y AS latitude, s2_leaf_at(x, y) AS leaf FROM points;
+            INSERT INTO both_coverings SELECT id, cell, 1 FROM zones, s2_cells(s2_interior(zones.shape, 20));
+            INSERT INTO both_coverings SELECT id, cell, 0
+            FROM zones, s2_cells(s2_difference(s2_covering(zones.shape, 20), s2_interior(zones.shape, 20)));
+            {cut}""")
+        tile = next(plain_sql.key("leaf", 5))
+        self.db.execute(f"CREATE TABLE of_tiles AS SELECT *, {tile} AS tile FROM places")
+        join = join.replace("points", "of_tiles").replace("place, name, sure FROM", "place, name + 0 FROM")
+        exact = join.replace(" ORDER BY place, name", """ JOIN zones ON zones.id = name
+            WHERE sure = 1 OR s2_covers(shape, longitude, latitude)""")
+        found = self.db.execute(exact).fetchall()
+        self.assertEqual(len(found), len(self.wanted))
+        self.assertEqual(set(found), self.wanted)
+        self.assertGreater(set(self.db.execute(join)), self.wanted)
+        self.assertGreater(self.db.execute("SELECT count(*) FROM both_coverings WHERE (cell & -cell) > ?",
+                                           [plain_sql.UNIT]).fetchone()[0], 9)
 
     def test_rows(self):
         """The parts together are the covering, the sure ones the interior; only what isn't sure has a clip."""
