@@ -24,7 +24,7 @@ FILES = {"README.md": PAGE, "s2calc": "#!/bin/sh\necho s2calc 7.8.9\n", "s2union
 # What stands for tools/package: both tarballs with the program and the page, and what a release doesn't take.
 PACKAGE = """version=$(cat VERSION) room=$(mktemp -d)
 mkdir -p "$room/s2union/share/s2union/page" "$1/aarch64" && cp "$PROGRAM" "$room/s2union/s2calc"
-touch "$room/s2union/libs2union.so"
+printf '\\177ELF' >"$room/s2union/libs2union.so"
 echo page >"$room/s2union/share/s2union/page/index.html"
 for at in x86_64/. aarch64/aarch64; do
   tar -C "$room" -cJf "$1/${at#*/}/s2union-$version-${at%/*}-linux.tar.xz" s2union
@@ -45,7 +45,7 @@ class Release(unittest.TestCase):
             os.makedirs(os.path.dirname(os.path.join(self.room, name)), exist_ok=True)
             shutil.copy(os.path.join(TOP, name), os.path.join(self.room, name))
         self.write("VERSION", "7.8.9\n")
-        self.write("CHANGELOG.md", "# Changes\n\n## 7.8.9 (2026-11-28)\n\nAll.\n\n## 7.8.8 (2026-11-27)\n")
+        self.write("CHANGELOG.md", "# Changes\n\n## 7.8.9 (2026-11-28)\n\nMade from commit 1111111111.\n\nAll.\n\n## 7.8.8 (2026-11-27)\n")
         self.release(FILES)
 
     def write(self, name, text):
@@ -132,7 +132,7 @@ class Release(unittest.TestCase):
                            ("tools/java", 'mkdir "$1" && python3 -m zipfile -c "$1/s2union.jar" VERSION'),
                            ("tools/portable", 'mkdir "$1" && touch "$1/s2union-$(cat VERSION)-source.tar.xz"'),
                            ("bin/rt", "echo a-kit-3 logic 5"),
-                           *((f"bin/{tool}", "") for tool in ("javac", "aarch64-linux-gnu-gcc",
+                           *((f"bin/{tool}", "") for tool in ("javac", "aarch64-linux-gnu-gcc", "musl-gcc",
                                                               "x86_64-w64-mingw32-gcc"))):
             self.write(name, f"#!/bin/sh\n{text}\n")
         for name, text in (("VERSION", f"{version}\n"), ("KIT", "a-kit-1 logic 5\na-kit-2 logic 5\n"),
