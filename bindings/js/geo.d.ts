@@ -80,7 +80,7 @@ export function coverings(shape: Shape, options?: CoveringOptions): Coverings;
  * @throws RangeError, TypeError, Refusal -2
  */
 export function circle(longitude: number, latitude: number, radius: number,
-                       options?: Omit<CoveringOptions, "margin" | "edges">): Coverings;
+                       options?: Omit<CoveringOptions, "edges">): Coverings;
 
 /**
  * The outline of a union as a MultiPolygon of GeoJSON that a map can fill, without the borders between cells: rings

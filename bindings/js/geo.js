@@ -66,8 +66,8 @@ export const coverings = (shape, options) => covered(shape, options, BOTH);
 export function circle(longitude, latitude, radius, options) {
   const place = placeOf([longitude, latitude]);
   const meters = numberIn(radius, 0, 9_000_000, "radius");
-  const {cells, least, deepest} = optionsOf(options);
-  const words = [...place, meters, BigInt(cells), least, deepest, BOTH];
+  const {cells, least, deepest, margin} = optionsOf(options);
+  const words = [...place, meters, BigInt(cells), least, deepest, margin, BOTH];
   const {outer, inner} = fine(calls(), calls().coveredBy("s2js_circle", [], ...words), null);
   return {outer: unionOf(outer), inner: unionOf(inner)};
 }

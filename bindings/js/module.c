@@ -100,7 +100,7 @@ typedef struct s2js_coverings {
 } s2js_coverings;
 
 static s2u_cover_options s2js_options(uint64_t cells, uint32_t least, uint32_t deepest, uint32_t edges,
-                                        double margin) {
+                                      double margin) {
   s2u_cover_options options = {cells, least, deepest, edges, margin};
   return options;
 }
@@ -141,9 +141,9 @@ int32_t s2js_cover_wkb(const uint8_t* bytes, size_t size, uint64_t cells, uint32
                        s2js_if(which, S2JS_INNER, &made->inner), &made->fault);
 }
 
-int32_t s2js_circle(double longitude, double latitude, double radius, uint64_t cells, uint32_t least,
-                      uint32_t deepest, uint32_t which, s2js_coverings* made) {
-  s2u_cover_options options = s2js_options(cells, least, deepest, S2U_COVER_GEODESIC, 0);
+int32_t s2js_circle(double longitude, double latitude, double radius, uint64_t cells, uint32_t least, uint32_t deepest,
+                    double margin, uint32_t which, s2js_coverings* made) {
+  s2u_cover_options options = s2js_options(cells, least, deepest, S2U_COVER_GEODESIC, margin);
   return s2u_cover_circle(longitude, latitude, radius, &options, s2js_if(which, S2JS_OUTER, &made->outer),
                           s2js_if(which, S2JS_INNER, &made->inner), &made->fault);
 }
