@@ -704,14 +704,16 @@ class CellUnionOf {
     return polygon;
   }
   /// The cells of the level that have an outer leaf of a polygon: one inside, or one that an edge touches. The level is
-  /// 0 to 30. S2U_ARGUMENT, S2U_CORNER, S2U_RING, S2U_MANY, S2U_MEMORY. @since 1.4
+  /// 0 to 30. S2U_ARGUMENT, S2U_CORNER, S2U_RING, S2U_MANY, also if edges touch more than 4,000,000 cells of the
+  /// level and the margin is wider than a cell, S2U_MEMORY. @since 1.4
   /// @snippet examples.cc PolygonCovering
   static CellUnionOf PolygonCovering(const Polygon& polygon, int level, size_t most = S2U_MOST_COVERING,
                                      int32_t* status = nullptr) {
     return CoveredPolygon(s2u_polygon_outer, polygon, level, most, status);
   }
   /// The cells of the level that have inner leaves of a polygon alone: leaves inside that no edge touches. The level is
-  /// 0 to 30. S2U_ARGUMENT, S2U_CORNER, S2U_RING, S2U_MANY, S2U_MEMORY. @since 1.4
+  /// 0 to 30. S2U_ARGUMENT, S2U_CORNER, S2U_RING, S2U_MANY, also if edges touch more than 4,000,000 cells of the level,
+  /// S2U_MEMORY. @since 1.4
   /// @snippet examples.cc PolygonInteriorCovering
   static CellUnionOf PolygonInteriorCovering(const Polygon& polygon, int level, size_t most = S2U_MOST_COVERING,
                                              int32_t* status = nullptr) {

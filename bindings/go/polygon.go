@@ -24,7 +24,8 @@ type Polygon struct {
 // Covering is the union of the cells of a level that have an outer leaf: one inside, or one that an edge touches.
 // ErrArgument: the level is above 30, the margin above 2^60, or Outside is not a leaf. ErrCorner, ErrRing: a corner is
 // no direction or lies opposite the next one, a ring has a wrong end or fewer than three corners; a PlaceError says
-// which. ErrMemory. ErrMany: there would be more than `most` cells, or more than MostCovering. Since 1.4.
+// which. ErrMemory. ErrMany: there would be more than `most` cells, or more than MostCovering; or edges touch more than
+// 4,000,000 cells of the level, and the margin is wider than a cell. Since 1.4.
 func (polygon Polygon) Covering(level, most int) (CellUnion, error) {
 	ends := polygon.ends()
 	return made(roomOfPolygonOuter(), func(out *C.uint64_t, room C.size_t, length *C.size_t) C.int32_t {
@@ -35,7 +36,7 @@ func (polygon Polygon) Covering(level, most int) (CellUnion, error) {
 }
 
 // InteriorCovering is the union of the cells of a level that have inner leaves alone: leaves inside that no edge
-// touches. Errors are those of Covering. Since 1.4.
+// touches. Errors are those of Covering; ErrMany for what edges touch with any margin. Since 1.4.
 func (polygon Polygon) InteriorCovering(level, most int) (CellUnion, error) {
 	ends := polygon.ends()
 	return made(roomOfPolygonInner(), func(out *C.uint64_t, room C.size_t, length *C.size_t) C.int32_t {

@@ -2082,7 +2082,8 @@ class CellUnion:
         RingError
             A ring ends in a wrong place or has fewer than three corners, or there is none.
         TooManyCellsError
-            There would be more than `most` cells.
+            There would be more than `most` cells; or edges touch more than 4,000,000 cells of the level, with `inner`
+            or with a margin wider than a cell.
         OutOfMemoryError
             There is no memory for the result.
 

@@ -5,6 +5,7 @@ mod Bare
 mod Borders
 mod Cells
 mod Changes
+mod Countings
 mod Crossings
 mod Descents
 mod Framing

@@ -1,4 +1,5 @@
 pub mod Cells
+pub mod Counts
 pub mod Crosses
 pub mod Directions
 pub mod Faces

@@ -5,6 +5,7 @@
 //! signs of products of whole numbers: nothing is rounded.
 #![tactic(auto)]
 
+mod counting;
 mod covering;
 mod crossing;
 mod descent;
@@ -22,6 +23,7 @@ mod polygon;
 mod quadrant;
 mod rings;
 
+pub use counting::MOST_TOUCHED;
 pub use directions::{Direction, DirectionFault, Edge};
 pub use fault::PolygonFault;
 pub use polygon::{MOST_MARGIN, Polygon};

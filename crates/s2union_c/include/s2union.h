@@ -912,10 +912,9 @@ int32_t s2u_inner_in(const uint64_t* ids, size_t n, const s2u_rect* bounds, uint
  * Outer leaves are those inside and those that an edge touches, inner leaves those inside that no edge touches. With a
  * margin an edge touches a leaf that it comes near. A covering of outer leaves misses none of them, a covering of inner
  * leaves has no other leaf: proved. Memory is taken for the edges, some hundred bytes for each and for each level. Time
- * follows the edges and the cells that they touch, down to the level. Of one level an outer covering ends soon after it
- * has `most` cells, if the margin is no wider than a cell, 2^(62 - level). With a wider one, where cells that are touched
- * merge, and of an inner covering, which has none of them, all are looked into, half a microsecond for each and for each
- * edge there: three corners on the whole Earth touch some millions at level 20, and take hours at level 30. Coverings
+ * follows the edges and the cells that they touch, down to the level, and few edges take some seconds at most: an outer
+ * covering of one level ends soon after `most` cells. Edges may touch at most 4,000,000 cells of the level where cells
+ * that are touched merge, with a margin wider than a cell, and for an inner covering, which has none of them. Coverings
  * of few cells look into no more than `cells`, or 6, at each level.
  * @{ */
 
@@ -934,7 +933,8 @@ int32_t s2u_inner_in(const uint64_t* ids, size_t n, const s2u_rect* bounds, uint
  * @retval S2U_ARGUMENT the level above 30, the margin above 2^60, or outside is not a leaf
  * @retval S2U_CORNER a corner is no direction, or lies opposite the next corner of its ring
  * @retval S2U_RING a ring ends in a wrong place or has fewer than three corners, or there is none
- * @retval S2U_MANY there would be more than most cells, or than S2U_MOST_COVERING
+ * @retval S2U_MANY there would be more than most cells, or than S2U_MOST_COVERING; or the margin is greater
+ *   than 2^(62 - level), about the width of a cell, and edges touch more than 4,000,000 cells of the level
  * @since 1.4
  * @snippet examples.c s2u_polygon_outer
  */
@@ -956,7 +956,8 @@ int32_t s2u_polygon_outer(const s2u_direction* corners, size_t n, const size_t* 
  * @retval S2U_ARGUMENT the level above 30, the margin above 2^60, or outside is not a leaf
  * @retval S2U_CORNER a corner is no direction, or lies opposite the next corner of its ring
  * @retval S2U_RING a ring ends in a wrong place or has fewer than three corners, or there is none
- * @retval S2U_MANY there would be more than most cells, or than S2U_MOST_COVERING
+ * @retval S2U_MANY there would be more than most cells, or than S2U_MOST_COVERING; or edges touch more than 4,000,000
+ *   cells of the level
  * @since 1.4
  * @snippet examples.c s2u_polygon_inner
  */

@@ -1,13 +1,15 @@
 -- The polygon that a caller passes by its corners, what the calls for its coverings answer, and when they refuse it.
-use Rattle.std.specs.Prelude.{◌≡◌, ◌<◌, ◌≤◌, ◌+◌, ◌^◌, ◌⊎◌, ℕ, ℤ, List, [], All, length, map, max, get_or}
+use Rattle.std.specs.Prelude.{◌≡◌, ◌<◌, ◌≤◌, ◌+◌, ◌^◌, ◌⊎◌, ℕ, ℤ, Bool, List, [], All, length, map, max, get_or}
 use Rattle.s2cell.specs.Cell.{IsCell, first_leaf, level_of}
 use Rattle.s2list.specs.Denorm.{denormalised}
 use Rattle.s2list.specs.Union.{IsLocal, IsWithin, has_leaf}
 use Rattle.s2cover.specs.Coverings.{EachShares, HasAllOf, NoneDeeper}
 use Rattle.s2cover.specs.declared.TheConstants.{MOST_COVERING}
+use Rattle.s2polygon.specs.Counts.{IsTooFine, IsWide}
 use Rattle.s2polygon.specs.Directions.{IsDirection, Point}
 use Rattle.s2polygon.specs.Leaves.{Region, inner_leaf, outer_leaf}
 use Rattle.s2polygon.specs.Rings.{AreRings, EndsWrong, IsAntipodal, corner, rings_edges, start_of}
+use Rattle.s2union_c.specs.Coverings.{Covers}
 use Rattle.s2union_c.specs.Results.{Made, Refused}
 use Rattle.s2union_c.specs.Status.{bad_corner, bad_ring, no_memory, too_many}
 use Rattle.s2union_c.specs.declared.polygons.Direction.{Direction}
@@ -59,6 +61,16 @@ RefusesRings corners ends status old new len =
     ((status ≡ bad_corner) × IsWrongCorner corners ends len × (new ≡ old))
     ⊎ ((status ≡ bad_ring) × IsWrongRing corners ends len × (new ≡ old))
     ⊎ Refused status no_memory old new len
+
+-- the edges touch too many cells of level `k`, and the margin is wider than one
+abbrev pub IsTooFineOuter : Region → ℕ → Type 0
+IsTooFineOuter r k = IsWide r k × IsTooFine r k
+
+-- the normal form of `S` was written or refused as `Covers` says; or the edges touch too many cells, and the call was
+-- refused
+abbrev pub CoversUnless : Type 0 → ℕ → (ℕ → Bool) → ℤ → List ℕ → List ℕ → ℕ → Type 0
+CoversUnless IsMuch most S status old new len = Covers most S status old new len
+    ⊎ (Refused status too_many old new len × IsMuch)
 
 -- the cells `u` are an outer covering of at most `most` cells, or 6 if that is more: none is deeper than `deepest`, no
 -- outer leaf is missing, and each cell has one

@@ -1,18 +1,18 @@
 //! The coverings of polygons: at one level, and by few cells.
-ghost use Rattle.std.specs.Prelude.{◌≡◌, ◌<◌, ◌≤◌, ℕ, All, IfErr, IfOk, List, SomeIff, length, min};
+ghost use Rattle.std.specs.Prelude.{◌≡◌, ◌<◌, ◌≤◌, ◌⊎◌, ℕ, All, IfErr, IfOk, List, SomeIff, length, min};
 ghost use Rattle.s2cell.specs.Cell.{level_of};
 ghost use Rattle.s2list.specs.Denorm.{denormalised};
 ghost use Rattle.s2list.specs.Union.{IsLocal, IsNormalForm};
 ghost use Rattle.s2cover.specs.Coverings.{TooManyMeans, inner_set, outer_set};
+ghost use Rattle.s2polygon.specs.Counts.{IsTooFine};
 ghost use Rattle.s2polygon.specs.Directions.{IsDirection};
 ghost use Rattle.s2polygon.specs.Leaves.{inner_leaf, outer_leaf};
 ghost use Rattle.s2polygon.specs.Rings.{FaultMeans};
-ghost use Rattle.s2union_c.specs.Coverings.{Covers};
-ghost use Rattle.s2union_c.specs.Polygons.{AnswersCut, AreGiven, IsAsked, IsInnerUpTo, IsOuterUpTo, RefusesRings};
-ghost use Rattle.s2union_c.specs.Polygons.{point_of, points_of, region_of};
+ghost use Rattle.s2union_c.specs.Polygons.{AnswersCut, AreGiven, CoversUnless, IsAsked, IsInnerUpTo, IsOuterUpTo};
+ghost use Rattle.s2union_c.specs.Polygons.{IsTooFineOuter, RefusesRings, point_of, points_of, region_of};
 ghost use Rattle.s2union_c.specs.Results.{Made, Refused};
 ghost use Rattle.s2union_c.specs.Status.{bad_argument, too_many};
-ghost use Rattle.s2union_c.specs.Working.Polygons.{FaultIs, IsUpTo, polygon_covering_of};
+ghost use Rattle.s2union_c.specs.Working.Polygons.{FaultIs, IsTooFineFor, IsUpTo, polygon_covering_of};
 
 use crate::coverings::Side;
 use crate::results::put_cells;
@@ -37,8 +37,9 @@ pub struct Direction {
 }
 
 /// The cells of a level that have an outer leaf of a polygon, normalized: at most `most` of them, and at most
-/// `MOST_COVERING`. `ends` has the number of corners up to the end of each ring, and `outside` is a leaf that lies
-/// outside. If a corner or a ring is wrong, `len` is its place.
+/// `MOST_COVERING`. If the margin is wider than a cell, edges may touch at most `MOST_TOUCHED` cells of the level.
+/// `ends` has the number of corners up to the end of each ring, and `outside` is a leaf that lies outside. If a corner
+/// or a ring is wrong, `len` is its place.
 #[unsafe(no_mangle)]
 pub extern "C" fn s2u_polygon_outer(
     alloc: Global,
@@ -51,7 +52,8 @@ pub extern "C" fn s2u_polygon_outer(
     out: &mut [u64],
     len: &mut usize,
 ) -> i32
-    ensures made { IsAsked outside margin 0 level → AreGiven corners.now ends.now → Covers (min most MOST_COVERING)
+    ensures made { IsAsked outside margin 0 level → AreGiven corners.now ends.now → CoversUnless
+        (IsTooFineOuter (region_of corners.now ends.now outside margin) level) (min most MOST_COVERING)
         (outer_set (outer_leaf (region_of corners.now ends.now outside margin)) level) result out.old out.new len.new }
     ensures most { AreGiven corners.now ends.now → len.new ≤ min most MOST_COVERING }
     ensures argument { (IsAsked outside margin 0 level → ⊥) → Refused result bad_argument out.old out.new len.new }
@@ -73,7 +75,7 @@ pub extern "C" fn s2u_polygon_outer(
 }
 
 /// The cells of a level that have inner leaves of a polygon alone, normalized: at most `most` of them, and at most
-/// `MOST_COVERING`. The rest is as for `s2u_polygon_outer`.
+/// `MOST_COVERING`. Edges may touch at most `MOST_TOUCHED` cells of the level. The rest is as for `s2u_polygon_outer`.
 #[unsafe(no_mangle)]
 pub extern "C" fn s2u_polygon_inner(
     alloc: Global,
@@ -86,7 +88,8 @@ pub extern "C" fn s2u_polygon_inner(
     out: &mut [u64],
     len: &mut usize,
 ) -> i32
-    ensures made { IsAsked outside margin 0 level → AreGiven corners.now ends.now → Covers (min most MOST_COVERING)
+    ensures made { IsAsked outside margin 0 level → AreGiven corners.now ends.now → CoversUnless
+        (IsTooFine (region_of corners.now ends.now outside margin) level) (min most MOST_COVERING)
         (inner_set (inner_leaf (region_of corners.now ends.now outside margin)) level) result out.old out.new len.new }
     ensures most { AreGiven corners.now ends.now → len.new ≤ min most MOST_COVERING }
     ensures argument { (IsAsked outside margin 0 level → ⊥) → Refused result bad_argument out.old out.new len.new }
@@ -208,7 +211,8 @@ fn cover_polygon(
     out: &mut [u64],
     len: &mut usize,
 ) -> i32
-    ensures made { IsAsked outside margin 0 level → AreGiven corners.now ends.now → Covers (min most MOST_COVERING)
+    ensures made { IsAsked outside margin 0 level → AreGiven corners.now ends.now → CoversUnless
+        (IsTooFineFor side (region_of corners.now ends.now outside margin) level) (min most MOST_COVERING)
         (polygon_covering_of side level (region_of corners.now ends.now outside margin))
         result out.old out.new len.new }
     ensures most { AreGiven corners.now ends.now → len.new ≤ min most MOST_COVERING }
@@ -389,7 +393,8 @@ fn polygon_covering(
     requires bound { bound ≤ MOST_COVERING }
     ensures normal { IfOk result (λ u. IsNormalForm (polygon_covering_of side level polygon.now) u.cells) }
     ensures within { IfOk result (λ u. length u.cells ≤ bound) }
-    ensures many { IfErr result (TooManyMeans (polygon_covering_of side level polygon.now) bound) }
+    ensures many { IfErr result (λ fault. TooManyMeans (polygon_covering_of side level polygon.now) bound fault
+        ⊎ IsTooFineFor side polygon.now level) }
 {
     match side {
         Side::Outer => polygon.outer(alloc, level, bound),
@@ -410,7 +415,8 @@ fn put_covering(
     requires level { level ≤ 30 }
     requires bound { bound ≤ MOST_COVERING }
     requires len { len.old ≡ 0 }
-    ensures made { Covers bound (polygon_covering_of side level polygon.now) result out.old out.new len.new }
+    ensures made { CoversUnless (IsTooFineFor side polygon.now level) bound
+        (polygon_covering_of side level polygon.now) result out.old out.new len.new }
     ensures most { len.new ≤ bound }
 {
     match polygon_covering(alloc, side, polygon, level, bound) {
