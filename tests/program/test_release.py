@@ -45,7 +45,8 @@ class Release(unittest.TestCase):
             os.makedirs(os.path.dirname(os.path.join(self.room, name)), exist_ok=True)
             shutil.copy(os.path.join(TOP, name), os.path.join(self.room, name))
         self.write("VERSION", "7.8.9\n")
-        self.write("CHANGELOG.md", "# Changes\n\n## 7.8.9 (2026-11-28)\n\nMade from commit 1111111111.\n\nAll.\n\n## 7.8.8 (2026-11-27)\n")
+        self.write("CHANGELOG.md", "# Changes\n\n## 7.8.9 (2026-11-28)\n\nMade from commit 1111111111.\n\nAll.\n\n"
+                   "## 7.8.8 (2026-11-27)\n")
         self.release(FILES)
 
     def write(self, name, text):
