@@ -77,11 +77,12 @@ static void check_the_most_cells(void) {
   CHECK(memcmp(made, leaves + 1, 8 * (MOST - 1)) == 0);
 }
 
-/* How much memory a covering of a polygon at one level takes, which is as many blocks as cells of edges are looked
- * into: it is refused soon after it has too many cells. Where it has few, or merges most, it looks into no more cells of
- * the level than edges may touch. */
+/* A covering of a polygon at one level takes as many blocks of memory as cells of edges are looked into: it is refused
+ * soon after it has too many cells. Where it has few, or merges most, it looks into no more cells than edges may
+ * touch. */
 static void check_the_cells_that_are_looked_into(void) {
-  static const s2u_direction line[] = {{10, 1, 1}, {1, 10, 1}, {11, 11, 2}}, point[] = {{1, 0, 0}, {1, 0, 0}, {1, 0, 0}};
+  static const s2u_direction line[] = {{10, 1, 1}, {1, 10, 1}, {11, 11, 2}};
+  static const s2u_direction point[] = {{1, 0, 0}, {1, 0, 0}, {1, 0, 0}};
   static const uint64_t half = UINT64_C(1) << 60, face_3 = 0x7000000000000001u;
   static const struct {
     const s2u_direction* corners;
@@ -106,9 +107,9 @@ static void check_the_cells_that_are_looked_into(void) {
     size_t ends[] = {3};
     len = 77;
     refuse_memory(0);
-    CHECK((rows[k].is_inner ? s2u_polygon_inner : s2u_polygon_outer)(rows[k].corners, 3, ends, 1, face_3, rows[k].margin,
-                                                                   rows[k].level, rows[k].most, out, ROOM, &len) ==
-          rows[k].status);
+    CHECK((rows[k].is_inner ? s2u_polygon_inner : s2u_polygon_outer)(rows[k].corners, 3, ends, 1, face_3,
+                                                                     rows[k].margin, rows[k].level, rows[k].most,
+                                                                     out, ROOM, &len) == rows[k].status);
     long blocks = refuse_memory(0);
     printf("row %zu: %ld blocks of memory taken\n", k, blocks);
     CHECK(blocks < rows[k].blocks && (rows[k].status == S2U_OK || len == 0));

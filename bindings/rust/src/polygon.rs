@@ -59,8 +59,8 @@ impl Polygon<'_> {
     /// - [`Error::Argument`]: the level is above 30, the margin above 2^60, or `outside` is not a leaf
     /// - [`Error::Corner`]: a corner is no direction, or lies opposite the next corner of its ring
     /// - [`Error::Ring`]: a ring ends in a wrong place or has fewer than three corners, or there is none
-    /// - [`Error::Many`]: there would be more than `most` cells, or than [`MOST_COVERING`](crate::MOST_COVERING); or edges
-    ///   touch more than 4,000,000 cells of the level, and the margin is wider than a cell
+    /// - [`Error::Many`]: there would be more than `most` cells, or than [`MOST_COVERING`](crate::MOST_COVERING);
+    ///   or edges touch more than 4,000,000 cells of the level, and the margin is wider than a cell
     ///
     /// # Examples
     ///
@@ -86,8 +86,8 @@ impl Polygon<'_> {
     /// - [`Error::Argument`]: the level is above 30, the margin above 2^60, or `outside` is not a leaf
     /// - [`Error::Corner`]: a corner is no direction, or lies opposite the next corner of its ring
     /// - [`Error::Ring`]: a ring ends in a wrong place or has fewer than three corners, or there is none
-    /// - [`Error::Many`]: there would be more than `most` cells, or than [`MOST_COVERING`](crate::MOST_COVERING); or edges
-    ///   touch more than 4,000,000 cells of the level
+    /// - [`Error::Many`]: there would be more than `most` cells, or than [`MOST_COVERING`](crate::MOST_COVERING);
+    ///   or edges touch more than 4,000,000 cells of the level
     ///
     /// # Examples
     ///

@@ -60,8 +60,8 @@ loop-digit-preserved g t c =
     let strict : level_of (g.Q.Quadrant.id q) < c.args.level = (let k = c.requires.above in omega arith) in (
       omega (arith, c.if-n-limit.false),
       child_added c.args.level (g.Q.Quadrant.id q) (g.Q.Quadrant.id child.child) c.loop-digit.digit
-          c.in_ok-n-in-Cross-2.n child.ensures.outer child.ensures.inner cell strict c.requires.level c.loop-digit-test.true
-          child.ensures.cell c.in_ok-n-in-Cross-2.ensures.counted,
+          c.in_ok-n-in-Cross-2.n child.ensures.outer child.ensures.inner cell strict c.requires.level
+          c.loop-digit-test.true child.ensures.cell c.in_ok-n-in-Cross-2.ensures.counted,
     )
 
 pub returns-in-Out-clause-counted : goal.returns-in-Out-clause-counted

@@ -13,4 +13,5 @@ returns-clause-proper c =
     c.quartered_inner.ensures.leaves
 
 pub returns-clause-many : goal.returns-clause-many
-returns-clause-many c = IfErr-weaker c.quartered_inner.result _ _ (λ fault many. inl many) c.quartered_inner.ensures.many
+returns-clause-many c =
+    IfErr-weaker c.quartered_inner.result _ _ (λ fault many. inl many) c.quartered_inner.ensures.many

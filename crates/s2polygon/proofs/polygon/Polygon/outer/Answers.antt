@@ -13,4 +13,5 @@ returns-clause-missed c =
     c.quartered_outer.ensures.leaves
 
 pub returns-clause-many : goal.returns-clause-many
-returns-clause-many c = IfErr-weaker c.quartered_outer.result _ _ (λ fault many. inl many) c.quartered_outer.ensures.many
+returns-clause-many c =
+    IfErr-weaker c.quartered_outer.result _ _ (λ fault many. inl many) c.quartered_outer.ensures.many
