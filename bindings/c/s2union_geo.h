@@ -126,6 +126,8 @@ static inline int32_t s2u_geo_vertex_neighbors(uint64_t cell, uint32_t level, ui
     uint64_t leaf = s2u_geo_leaf_beside(at.face, places[k][0], places[k][1]);
     if (leaf) neighbors[(*count)++] = s2u_parent(leaf, level);
   }
+  return S2U_OK;
+}
 
 /* ---- the box of a cell */
 
