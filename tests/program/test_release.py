@@ -17,6 +17,8 @@ PAGE = """# The release of version {version}
 - Kit: `a kit`
 - Sources: `{two}`
 """.format(version="7.8.9", one="1" * 40, two="2" * 64)
+MADE = f"Made from commit {'1' * 10}.\n"
+CHANGES = f"# Changes\n\n## 7.8.9 (2026-11-28)\n\n{MADE}\nAll.\n\n## 7.8.8 (2026-11-27)\n\n{MADE}"
 FILES = {"README.md": PAGE, "s2calc": "#!/bin/sh\necho s2calc 7.8.9\n", "s2union-7.8.9-x86_64-linux.tar.xz": "tar",
          "s2calc_7.8.9_amd64.deb": "deb", "aarch64/s2calc": "arm", "aarch64/s2calc_7.8.9_arm64.deb": "deb for arm"}
 
@@ -45,8 +47,7 @@ class Release(unittest.TestCase):
             os.makedirs(os.path.dirname(os.path.join(self.room, name)), exist_ok=True)
             shutil.copy(os.path.join(TOP, name), os.path.join(self.room, name))
         self.write("VERSION", "7.8.9\n")
-        self.write("CHANGELOG.md", "# Changes\n\n## 7.8.9 (2026-11-28)\n\nMade from commit 1111111111.\n\nAll.\n\n"
-                   "## 7.8.8 (2026-11-27)\n")
+        self.write("CHANGELOG.md", CHANGES)
         self.release(FILES)
 
     def write(self, name, text):
@@ -108,19 +109,19 @@ class Release(unittest.TestCase):
             self.assertEqual(self.refused("--check")[:len(wanted)], wanted, name)
         self.release({**FILES, "README.md": PAGE.replace("1" * 40, "1" * 39)})
         self.assertEqual(self.refused("--check"), ["dist/README.md names version, commit, kit and sources"])
-        self.release({**FILES, "s2union-7.8.9.html": "x" * 12_000_000})
-        self.assertEqual(self.refused("--check"), ["at most 12000000 bytes"])
+        self.release({**FILES, "s2union-7.8.9.html": "x" * 10_500_000})
+        self.assertEqual(self.refused("--check"), ["at most 10500000 bytes"])
 
     def test_a_version_without_its_date(self):
         for head in "## 7.8.9", "## 7.8.8 (2026-11-28)", "## 7.8.9 (soon)":
-            self.write("CHANGELOG.md", f"# Changes\n\n{head}\n\n## 7.8.9 (2026-11-27)\n")
+            self.write("CHANGELOG.md", f"# Changes\n\n{head}\n\n## 7.8.9 (2026-11-27)\n\n{MADE}")
             self.assertEqual(self.refused("--check"), ["CHANGELOG.md begins with version 7.8.9 and its date"])
 
     def commit(self):
         """Commits all of it, and answers the day."""
         how = {"cwd": self.room, "check": True, "capture_output": True, "timeout": SECONDS, "text": True}
         for words in (["init", "-q"], ["add", "-A"],
-                      ["-c", "user.name=x", "-c", "user.email=x@x", "commit", "-q", "-m", "All of it"]):
+                      ["-c", "user.name=x", "-c", "user.email=x@x", "commit", "-q", "--allow-empty", "-m", "All"]):
             subprocess.run(["git", *words], **how)
         words = ["git", "log", "-1", "--format=%cd", "--date=format-local:%F"]
         return subprocess.run(words, env={**os.environ, "TZ": "UTC"}, **how).stdout.strip()
@@ -149,6 +150,7 @@ class Release(unittest.TestCase):
             for folder, kit in ("", one), ("aarch64", other):
                 record = json.dumps({"sources": "", "kit": f"a-kit-{kit}", "parts": {}})
                 self.write(os.path.join("crates/s2union_c/out", folder, "archive.json"), record)
+            self.commit()  # what tools/release has written into CHANGELOG.md
             self.assertEqual(self.refused(**given), refused)
             with open(os.path.join(self.room, "dist/README.md"), encoding="utf-8") as it:
                 self.assertIn("\n- Kit: `a-kit-3 logic 5`\n", it.read())
@@ -176,6 +178,7 @@ class Release(unittest.TestCase):
         self.write("crates/calculator/out/calculator", "proved")
         for source, found in (("one", "calculator\n"), ("two", "")):
             self.write("source", source)
+            self.write("CHANGELOG.md", CHANGES.replace("1" * 10, commit[:10]))
             self.commit()
             self.release({**FILES, "README.md": PAGE.replace("1" * 40, commit)})
             self.assertEqual(self.refused("--again"), [])
