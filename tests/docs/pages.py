@@ -33,7 +33,7 @@ PATH = re.compile(r"[\w.*/-]+")
 FILE = re.compile(r"[\w.-]+\.(?:rt|antt|py|sh|md|hpp|h|cc|go|rs|sql)")
 # Names that stand for any file of their kind, and headers of S2; and the page that tools/statement makes.
 EXAMPLES = {"s2union--OLD--NEW.sql", "s2union--NEW.sql", "s2cell_id.h", "s2cell_union.h"}
-MADE = "docs/STATEMENT.md"
+MADE = ("docs/STATEMENT.md", "docs/STATEMENT.txt")
 GONE = {"peer", "faults", "examples"}
 STEP = re.compile(r"^\d+\. `(\w+/src)/(\w+\.rt)`: (.*)$", re.M)
 CALL = re.compile(r"`(\w+)`(?: and `(\w+)`)? calls? `(\w+)`")
@@ -116,7 +116,7 @@ def paths():
             if FILE.fullmatch(path):
                 yield page, path, path in names
             elif PATH.fullmatch(path) and "/" in path and path.split("/")[0] in folders:
-                yield page, path, path == MADE or is_there(page, path.rstrip("/."))
+                yield page, path, path in MADE or is_there(page, path.rstrip("/."))
 
 
 def is_there(page, path):
