@@ -162,17 +162,31 @@ static int32_t region_of(sqlite3_value* v, s2u_cover_cells* cells) {
                              : s2u_decode(bytes, n, cells->ids, room, &cells->count);
 }
 
+static void refuse_value(sqlite3_context* c, const char* what, sqlite3_value* v) {
+  char* text = NULL;
+  int code = wrong(&text, what, v);
+  refuse(c, code, text);
+}
+
+/* Whether an argument is a level, or isn't there; else there is an error. */
+static int is_level(sqlite3_context* c, sqlite3_value* v, sqlite3_int64* level) {
+  char* text = NULL;
+  int code = level_of(v, level, &text);
+  refuse(c, code, text);
+  return code == SQLITE_OK;
+}
+
 static void result_around(sqlite3_context* c, int32_t status, sqlite3_value* v, s2u_cover_cells* cells) {
   if (status == S2U_OK) result_cells(c, cells);
   else if (status == S2U_MEMORY) sqlite3_result_error_nomem(c);
-  else refuse(c, s2u_status_text(status), v);
+  else refuse_value(c, s2u_status_text(status), v);
   s2u_cover_free(cells);
 }
 
 static void neighbors_function(sqlite3_context* c, int n, sqlite3_value** v) {
   uint64_t cell;
   s2u_cover_cells cells = {NULL, 0};
-  if (sqlite3_value_type(v[0]) == SQLITE_NULL || sqlite3_value_type(v[n - 1]) == SQLITE_NULL) return;
+  if (has_null(n, v)) return;
   int32_t status = cell_of(v[0], &cell);
   if (status == S2U_OK && !s2u_is_cell(cell)) status = S2U_NO_CELL;
   if (status != S2U_OK) {
@@ -180,16 +194,14 @@ static void neighbors_function(sqlite3_context* c, int n, sqlite3_value** v) {
     return;
   }
   sqlite3_int64 own = s2u_level(cell), level = own;
-  if (as_count(c, n > 1 ? v[1] : NULL, "a level is from 0 to 30", 30, &level) && level >= own)
+  if (is_level(c, n > 1 ? v[1] : NULL, &level) && level >= own)
     result_around(c, s2u_cover_neighbors(cell, (uint32_t)level, &cells), v[n - 1], &cells);
 }
 
 static void expanded_function(sqlite3_context* c, int n, sqlite3_value** v) {
   s2u_cover_cells region = {NULL, 0}, cells = {NULL, 0};
   sqlite3_int64 level;
-  if (sqlite3_value_type(v[0]) == SQLITE_NULL || sqlite3_value_type(v[1]) == SQLITE_NULL ||
-      !as_count(c, v[1], "a level is from 0 to 30", 30, &level))
-    return;
+  if (has_null(n, v) || !is_level(c, v[1], &level)) return;
   int32_t status = region_of(v[0], &region);
   if (status == S2U_OK) status = s2u_cover_expanded(region.ids, region.count, (uint32_t)level, &cells);
   result_around(c, status, v[status == S2U_MANY ? 1 : 0], &cells);
