@@ -126,7 +126,8 @@ class Catalogue(Tests):
 
     def test_a_level_above_the_cell(self):
         """It has no neighbors of it: NULL."""
-        self.all_are([(f"s2_neighbors('0401', {level})", "null") for level in (0, 4, 5)])
+        self.all_are([(f"s2_neighbors('0401', {level})", "null") for level in (0, 4, 5)]
+                     + [("s2_count(s2_neighbors('0401', 6))", "8"), ("s2_level('0401')", "6")])
 
     def test_a_level_deeper_than_the_cell(self):
         """No cell of it contains the cell, which has no child if it is a leaf: NULL."""
