@@ -43,7 +43,8 @@ NO_TEXT = "a cell is an int, not str: from_token reads a token, and from_tokens 
 DEGREES = "from_face_ij takes one point, and s2union_geo.leaves longitudes and latitudes"
 POLYGON = (memoryview(array("q", [10, 1, 1, 10, 9, 1, 10, 1, 9])), memoryview(array("Q", [3])),
            s2union.from_face_ij(3, 0, 0), 0)  # a triangle: corners, ends, a leaf outside, and no margin
-OTHERS = {"from_debug": ("0/2",), "file_contains": (FILE, FILE), "file_intersects": (FILE, FILE),
+OTHERS = {"from_debug": ("0/2",), "neighbors": (CELL, 4),
+          **dict.fromkeys(("file_contains", "file_intersects"), (FILE, FILE)),
           **dict.fromkeys(("polygon_outer", "polygon_inner"), ("", 1, *POLYGON, 3, 99)),
           **dict.fromkeys(("polygon_outer_up_to", "polygon_inner_up_to"), ("", 1, *POLYGON, 0, 3, 9))}
 TYPES = (Path(calls.__file__).parent / "_library.pyi").read_text()
@@ -66,6 +67,7 @@ REFUSED = {
     "union_of_many": (CELLS, memoryview(array("Q", [3]))),
     "coverings": (bytes(16), memoryview(array("Q", [4, 0])), (9, 0, 30, 0, 0.0), 3),
     "coverings_of_wkb": (b"", (9, 0, 31, 0, 0.0), 3), "coverings_of_circle": (0, 0, 1, (9, 0, 30, 0, "x"), 3),
+    "neighbors": (CELL, 0), "vertex_neighbors": (CELL, 1), "expanded": (CELLS, 30), "edge_neighbors": (2,),
     "complement": ("", 2**62, CELLS), "refuse": (-5, "what"), "token": (object(),),
 }
 
