@@ -16,7 +16,7 @@ from pathlib import Path
 sys.path.insert(0, str(Path(__file__).resolve().parents[1] / "tools"))
 from compiled_statement import NAME, Compiled  # noqa: E402
 from definitions import House  # noqa: E402
-from over_gate import crate_over, has_libraries, words_of_check  # noqa: E402
+from over_gate import crate_of, has_libraries, words_of_check  # noqa: E402
 
 # What a changed page would say: a level too much, another order of the curve, a text with one more newline, more bytes
 # that wait, another status, and a call that took another thing. With each the lemma that has to be refused. No others
@@ -34,10 +34,22 @@ CHANGES = [
 PROVED, REFUSED = re.compile(r"^logic=proved ", re.M), re.compile(r"^\./proofs/\S+: error: `([^`]*)`", re.M)
 
 
-def said_of(crate, folder):
+def words_over(libraries):
+    """The words of a check of a crate over these libraries and those of the kit that they name."""
+    crates = [crate_of(name) for name in libraries]
+    first, *more = [words_of_check(crate) for crate in crates]
+    first[first.index("--crate-name") + 1] = NAME
+    first[first.index("--links") + 1] = f"{NAME}="
+    given = [pair for words in [first, *more] for pair in zip(words, words[1:]) if pair[0] in ("--extern", "-L")]
+    given += [pair for crate in crates
+              for pair in (("--extern", f"{crate.name}={crate.rlib}"), ("-L", f"dependency={Path(crate.rlib).parent}"))]
+    before = {word for pair in zip(first, first[1:]) if pair[0] in ("--extern", "-L") for word in pair}
+    return [word for word in first if word not in before] + [word for pair in dict.fromkeys(given) for word in pair]
+
+
+def said_of(words, folder):
     """What the kit says of the crate in this folder."""
-    done = subprocess.run(words_of_check(crate), cwd=folder, stdin=subprocess.DEVNULL, capture_output=True, text=True,
-                          check=False)
+    done = subprocess.run(words, cwd=folder, stdin=subprocess.DEVNULL, capture_output=True, text=True, check=False)
     return done.stdout + done.stderr
 
 
@@ -54,19 +66,20 @@ def plant(page):
 
 def main():
     compiled = Compiled(House())
-    crate = crate_over(NAME, compiled.libraries, compiled.of_kit())
-    if not has_libraries(crate):
+    above = set(compiled.house.crates) - set(compiled.libraries)
+    if not all(has_libraries(crate_of(name)) for name in sorted(above)):
         print("the libraries are not all proved\n0 passed, 1 failed")
         return 1
+    words = words_over(compiled.libraries)
     with tempfile.TemporaryDirectory() as room:
         folder = Path(room)
         compiled.write(folder)
-        said = said_of(crate, folder)
+        said = said_of(words, folder)
         if not PROVED.search(said):
             print(said[-5000:], "\n0 passed, 1 failed")
             return 1
         plant(folder / "specs" / "Page.antt")
-        refused = set(REFUSED.findall(said_of(crate, folder)))
+        refused = set(REFUSED.findall(said_of(words, folder)))
     wrong = [lemma for _, _, lemma in CHANGES if lemma not in refused]
     for lemma in wrong:
         print(f"{lemma}: NOT REFUSED, though its definition was changed in the module")

@@ -266,10 +266,6 @@ class Compiled:
         uses = self.uses(lambda key, name: key not in by_name or is_named(by_name[key]))
         return "\n".join([HEAD, *used(uses), *lines, *self.kit()]) + "\n"
 
-    def of_kit(self):
-        """The kit's libraries that the module names, beside the one that each crate has."""
-        return sorted({module.split(".")[1] for module, _ in self.names if not OF_CRATES.match(module)} - {"std"})
-
     def kit(self):
         """The words of the kit that the module uses, each with its meaning."""
         names = {name for module, name in self.names if not OF_CRATES.match(module)}
