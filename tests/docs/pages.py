@@ -48,7 +48,8 @@ DEFINES = r"\b(?:fn|struct|trait|record|data|abbrev pub|unfoldable pub) {}\b"
 # The columns of docs/FROM_S2.md: what a name is in them, where it is defined, and how.
 CALLS = {
     "C++": (r"operator==|\w+", ["bindings/cpp/s2union.hpp"], r"\b{}(?!\w)"),
-    "C": (r"s2u_\w+", ["crates/s2union_c/include/s2union.h", "bindings/c/s2union_*.h"], r"\b{}\("),
+    "C": (r"s2u_\w+", ["crates/s2union_c/include/s2union.h", "bindings/c/s2union_*.h"],
+          r"^(?:static inline )?(?:const )?\w+\*? {}\("),
     "Go": (r"\w+", ["bindings/go/*.go"], r"(?:\bfunc (?:\(\w+ \*?\w+\) )?|^type ){}\b"),
     "Rust": (r"\w{2,}", ["bindings/rust/src/*.rs"], r"\b(?:fn|struct) {}\b"),
     "Rattle": (r"\w{2,}", ["crates/s2*/src/*.rt"], r"\bpub (?:fn|struct) {}\b"),
