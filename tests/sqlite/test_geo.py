@@ -141,6 +141,10 @@ class Points(unittest.TestCase):
             for region in ("'89c25'", "s2_normalise('89c25')", "s2_cell('89c25')"):
                 self.assertEqual(said(f"s2_tokens(s2_expanded({region}, 8)), round(s2_bounds({region}) ->> 0, 3)"),
                                  ("89c24 89c29 89c2f 89c31 89c3b 89c3d", -74.218))
+            for face, cell in enumerate("13579b"):  # all faces but itself and the one behind it
+                others = "".join(each for other, each in enumerate("13579b") if other % 3 != face % 3)
+                self.assertEqual(said("s2_tokens(s2_neighbors(?)), s2_count(s2_neighbors(?, 1))", cell, cell),
+                                 (" ".join(others), 8))
             self.assertEqual(said("s2_expanded('89c25', 8) = s2_union(s2_neighbors('89c25'), '89c25'),"
                                   "s2_count(s2_neighbors('89c25', 10)), s2_count(s2_neighbors('1', 17))"),
                              (1, 20, 524288))
