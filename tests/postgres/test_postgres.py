@@ -1397,6 +1397,8 @@ class Shapes(Tests):
                               " s2_count(s2_neighbors('89c25', 10)), s2_expanded('3 9', 0), s2_expanded('', 9) = '',"
                               " s2_neighbors(1, 29) IS NULL, s2_neighbors(NULL::bigint, 31) IS NULL"),
                          ["04 0c 1c 24 3c 44 4c|3 5 9 b|24 3c 44 4c 8c 94 b4 bc|t|20|1 3 5 7 9 b|t|t|t"])
+        self.assertEqual(psql("SELECT s2_neighbors(face) FROM unnest('{1,3,5,7,9,b}'::text[]) AS face"),
+                         ["3 5 9 b", "1 5 7 b", "1 3 7 9", "3 5 9 b", "1 5 7 b", "1 3 7 9"])  # not the one behind it
         self.assertEqual(psql("SELECT s2_bounds('7')::numeric(9, 3)[], (s2_bounds('5'))[2]::numeric(9, 3),"
                               " s2_bounds('1 3')::numeric(9, 3)[], s2_bounds('') IS NULL"),
                          ["{135.000,-45.000,-135.000,45.000}|35.264|{-45.000,-45.000,135.000,45.000}|t"])
