@@ -16,7 +16,8 @@
  *     to. On the map polygons may overlap: a shape is all of them together. Geodesic rings are counted all together,
  *     as in S2.
  *   - A ring has a longitude outside of -180 to 180 where it goes over the date line. Edges of one polygon or of two
- *     that run along it on both sides cancel.
+ *     that run along it on both sides cancel, and so do parts of a polygon wider than 360 degrees that lie on each
+ *     other after a turn.
  *
  * Work and memory follow the positions: all edges have together at most S2U_COVER_MOST_PIECES pieces. */
 #ifndef S2UNION_COVER_H

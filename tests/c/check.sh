@@ -53,6 +53,7 @@ refusing() { # what refuses them is built without the sanitizer, which takes mem
     program memory "$static" -fsanitize=address "$work/refuse.o"
 }
 step "each allocation refused in turn" refusing
+step "cells that a covering of a polygon looks into" program looked_into "$static" "$work/refuse.o"
 own_heap() { # tools/runtime's, which stands for the kit's where the kit has none, under the header's names
   gcc -std=c11 -O2 "${strict[@]}" -Drattle_alloc=s2u_heap_take -Drattle_realloc=s2u_heap_grow \
     -Drattle_dealloc=s2u_heap_give_back -c "$top/tools/runtime/heap.c" -o "$work/heap.o" &&

@@ -65,6 +65,16 @@ static double degrees_of(const uint8_t* bytes, double most) {
   return bytes[1] % 4 ? most / 6 * (bytes[0] % 13 - 6) : whole * some[bytes[1] / 4 % 8];
 }
 
+/* From the least longitude to the greatest. Parts of a polygon that lie on each other after a turn cancel. */
+static double west_to_east(const double* positions, size_t count) {
+  double west = 540, east = -540;
+  for (size_t k = 0; k < count; k++) {
+    if (positions[2 * k] < west) west = positions[2 * k];
+    if (positions[2 * k] > east) east = positions[2 * k];
+  }
+  return east - west;
+}
+
 static void of_positions(const uint8_t* bytes, size_t size, const s2u_cover_options* options) {
   enum { MOST = 40 };
   double positions[2 * MOST];
@@ -86,7 +96,8 @@ static void of_positions(const uint8_t* bytes, size_t size, const s2u_cover_opti
   s2u_cover_fault fault;
   int32_t status = s2u_cover(&shape, options, &outer, &inner, &fault);
   look(status, options, &outer, &inner);
-  for (size_t k = 0; status == S2U_OK && options->edges == S2U_COVER_MAP && k < begin; k++)
+  int is_wound = west_to_east(positions, count) > 360;
+  for (size_t k = 0; status == S2U_OK && options->edges == S2U_COVER_MAP && !is_wound && k < begin; k++)
     MUST(has(&outer, s2u_geo_leaf(positions[2 * k], positions[2 * k + 1])));
   s2u_cover_free(&outer);
   s2u_cover_free(&inner);

@@ -77,50 +77,6 @@ static void check_the_most_cells(void) {
   CHECK(memcmp(made, leaves + 1, 8 * (MOST - 1)) == 0);
 }
 
-/* A covering of a polygon at one level takes as many blocks of memory as cells of edges are looked into: it is refused
- * soon after it has too many cells. Where it has few, or merges most, it looks into no more cells than edges may
- * touch. */
-static void check_the_cells_that_are_looked_into(void) {
-  static const s2u_direction line[] = {{10, 1, 1}, {1, 10, 1}, {11, 11, 2}};
-  static const s2u_direction point[] = {{1, 0, 0}, {1, 0, 0}, {1, 0, 0}};
-  static const uint64_t half = UINT64_C(1) << 60, face_3 = 0x7000000000000001u;
-  static const struct {
-    const s2u_direction* corners;
-    int is_inner;
-    uint64_t margin;
-    uint32_t level;
-    size_t most;
-    int32_t status;
-    long blocks;
-  } rows[] = {
-      {line, 0, 0, 20, 1000, S2U_MANY, 100000},
-      {line, 0, 0, 30, 1000, S2U_MANY, 100000},
-      {line, 0, half >> 28, 30, 1000, S2U_MANY, 100000}, /* 2^(62 - 30), as wide as a cell */
-      {line, 1, 0, 20, 1000, S2U_OK, 20000000},
-      {line, 1, 0, 23, 1000, S2U_MANY, 20000000},
-      {line, 1, 0, 30, 1000, S2U_MANY, 20000000},
-      {point, 0, half, 12, 100000, S2U_OK, 20000000},
-      {point, 0, half, 13, 100000, S2U_MANY, 20000000},
-      {point, 0, half, 30, 100000, S2U_MANY, 20000000},
-  };
-  for (size_t k = 0; k < sizeof rows / sizeof *rows; k++) {
-    size_t ends[] = {3};
-    len = 77;
-    refuse_memory(0);
-    CHECK((rows[k].is_inner ? s2u_polygon_inner : s2u_polygon_outer)(rows[k].corners, 3, ends, 1, face_3,
-                                                                     rows[k].margin, rows[k].level, rows[k].most,
-                                                                     out, ROOM, &len) == rows[k].status);
-    long blocks = refuse_memory(0);
-    printf("row %zu: %ld blocks of memory taken\n", k, blocks);
-    CHECK(blocks < rows[k].blocks && (rows[k].status == S2U_OK || len == 0));
-  }
-  /* Where more cells than allowed lie inside, those that edges touch aren't counted to the end. */
-  static const s2u_direction triangle[] = {{10, 1, 1}, {1, 10, 1}, {1, 1, 10}};
-  size_t ends[] = {3};
-  CHECK(s2u_polygon_inner(triangle, 3, ends, 1, face_3, 0, 30, 1000, out, ROOM, &len) == S2U_MANY && len == 0);
-  CHECK(refuse_memory(0) < 100000);
-}
-
 int main(void) {
   size_t right = 0;
   static const struct {
@@ -173,6 +129,5 @@ int main(void) {
     printf("%s: %ld allocations refused in turn\n", calls[k].name, allocations);
   }
   check_the_most_cells();
-  check_the_cells_that_are_looked_into();
   return report();
 }
