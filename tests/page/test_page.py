@@ -211,10 +211,14 @@ class TestPage:
         self.driver.find_element(By.CSS_SELECTOR, f'#legend button[aria-label="{words}"]').click()
 
     def saved(self, words, name):
-        """What a button of a union's line saves, under this name."""
+        """What a button of a union's line saves, under this name.
+
+        Chromium lays an empty file of that name before it moves its own, `.crdownload` or hidden, over it.
+        """
         self.click_of(words)
         file, end = self.downloads / name, time.monotonic() + SECONDS
-        while not file.exists():
+        while not file.exists() or any(other.name.endswith(".crdownload") or other.name.startswith(".")
+                                       for other in self.downloads.iterdir()):
             assert time.monotonic() < end, list(self.downloads.iterdir())
             time.sleep(0.05)
         data = file.read_bytes()
