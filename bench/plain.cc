@@ -235,7 +235,7 @@ class Loop {
     else if (name == "add") each(words, n, &Loop::add);
     else if (name == "remove") each(words, n, &Loop::remove);
     else if (name == "load") replace(words[1], loaded(words[2]));
-    else if (name == "keep") replace(words[1], By::intersect(at(words[1]), named(words + 2, n - 2)));
+    else if (name == "keep") keep(at(words[1]), By::named(words[2]));
     else if (name == "copy") replace(words[1], Union(at(words[2])));
     else if (name == "clear") replace(words[1], Union());
     else if (name == "union") replace(words[1], By::unite(at(words[1]), at(words[2])));
@@ -285,24 +285,28 @@ class Loop {
 
   void changed(size_t taken, size_t put) { out_.text("ok ").number(taken).text(" ").number(put).text("\n"); }
 
-  // The register is now this union; the answer is how many cells only the one list has, and only the other.
-  void replace(Word name, Union next) {
-    const List &before = By::cells(at(name)), &after = By::cells(next);
+  // How many cells both lists have, of which the first is no longer. One that is much shorter is looked for.
+  static size_t count_shared(const List& few, const List& many) {
     size_t shared = 0;
-    for (size_t i = 0, j = 0; i < before.size() && j < after.size();) {
-      bool is_same = before[i] == after[j], is_before = before[i] < after[j];
+    if (few.size() < many.size() / 16) {
+      for (Cell cell : few) shared += std::binary_search(many.begin(), many.end(), cell);
+      return shared;
+    }
+    for (size_t i = 0, j = 0; i < few.size() && j < many.size();) {
+      bool is_same = few[i] == many[j], is_before = few[i] < many[j];
       shared += is_same;
       i += is_same | is_before;
       j += !is_before;
     }
-    changed(before.size() - shared, after.size() - shared);
-    at(name) = std::move(next);
+    return shared;
   }
 
-  Union named(const Word* words, size_t n) {
-    List cells(n);
-    for (size_t k = 0; k < n; k++) cells[k] = By::named(words[k]);
-    return By::normalised(std::move(cells));
+  // The register is now this union; the answer is how many cells only the one list has, and only the other.
+  void replace(Word name, Union next) {
+    const List &before = By::cells(at(name)), &after = By::cells(next);
+    size_t shared = before.size() < after.size() ? count_shared(before, after) : count_shared(after, before);
+    changed(before.size() - shared, after.size() - shared);
+    at(name) = std::move(next);
   }
 
   Union loaded(Word name) {
@@ -326,6 +330,17 @@ class Loop {
     List cells;
     for (S2CellId cell : covering_by_descent(bounds, number_of(words[0]), true)) cells.push_back(By::of(cell.id()));
     return By::made(std::move(cells));
+  }
+
+  // The run of the list's cells in this one is left, or this one if a larger cell of the list has it.
+  void keep(Union& all, Cell cell) {
+    const List& cells = By::cells(all);
+    size_t from = place_of(cells, cell), to = end_of(cells, from, cell);
+    List kept(cells.begin() + from, cells.begin() + to);
+    bool is_held = kept.empty() && from < cells.size() && By::has(cells[from], cell);
+    if (is_held) kept.push_back(cell);
+    changed(cells.size() - (to - from), is_held);
+    all = By::made(std::move(kept));
   }
 
   // Several cells are answered as one edit; a plain loop may count a cell twice there, so scripts name one.

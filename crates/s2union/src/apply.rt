@@ -201,18 +201,19 @@ fn move_rest(list: &mut Vec<CellId>, from: usize, to: usize, part: &[CellId])
     }
 }
 
-/// Takes cells out of a list, those from index `from` to `to`. A single one is taken out fastest alone.
+/// Takes cells out of a list, those from index `from` to `to`.
 fn shrink(list: &mut Vec<CellId>, from: usize, to: usize)
     requires order { from < to }
     requires within { to ≤ vec_len list.old }
     ensures items { list.new.items ≡ take from list.old.items ++ drop to list.old.items }
     ensures room { vec_capacity list.new ≡ vec_capacity list.old }
 {
+    let len = list.len();
     if to - from == 1 {
-        list.remove(from);
+        move_down_by_one(&mut list[from..]);
+        list.truncate(len - 1);
         return;
     }
-    let len = list.len();
     list.copy_within(to..len, from);
     list.truncate(from + (len - to));
 }
@@ -226,13 +227,35 @@ fn grow(list: &mut Vec<CellId>, at: usize, more: &[CellId])
     ensures back { drop (at + length more.now) list.new.items ≡ drop at list.old.items }
     ensures room { vec_capacity list.old ≤ vec_capacity list.new }
 {
-    if more.len() == 1 {
-        let _ = list.insert(at, more[0]);
-        return;
-    }
     let len = list.len();
     extend_reserved(list, more);
-    list.copy_within(at..len, at + more.len());
+    if more.len() == 1 {
+        move_up_by_one(&mut list[at..]);
+    } else {
+        list.copy_within(at..len, at + more.len());
+    }
+}
+
+/// Moves all cells but the first down by one place. Alone, where LLVM sees the distance and makes this one `memmove`.
+#[inline(never)]
+fn move_down_by_one(cells: &mut [CellId])
+    requires { 0 < length cells.old }
+    ensures len { length cells.new ≡ length cells.old }
+    ensures moved { take (length cells.old - 1) cells.new ≡ drop 1 cells.old }
+{
+    let n = cells.len();
+    cells.copy_within(1..n, 0);
+}
+
+/// Moves all cells but the last up by one place, in the same way.
+#[inline(never)]
+fn move_up_by_one(cells: &mut [CellId])
+    requires { 0 < length cells.old }
+    ensures len { length cells.new ≡ length cells.old }
+    ensures moved { drop 1 cells.new ≡ take (length cells.old - 1) cells.old }
+{
+    let n = cells.len();
+    cells.copy_within(0..n - 1, 1);
 }
 
 /// The cells without `out` and with `put`, in the room of a list whose own cells are dropped.
