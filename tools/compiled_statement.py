@@ -1,6 +1,6 @@
-"""The statement as one module that Rattle's kit reads, and the lemmas by which the kit checks that each definition of
-the module says what the crates' own definition of that name says. tools/statement writes the module, and
-tests/statement.py has it checked."""
+"""The statement's definitions as one module that Rattle's kit reads, and the lemmas by which the kit checks that each
+says what the crates' own definition of that name says. tools/compiled_contracts.py adds the contracts. tools/statement
+writes both, and tests/statement.py has them checked."""
 import re
 import textwrap
 
@@ -9,9 +9,9 @@ from definitions import BINDER, LAMBDA, ROOT, WORD, closing, equations, imports_
 
 NAME, PAGE = "statement", "Rattle.statement.specs.Page"
 HEAD = """\
--- The statement, as one module that Rattle's kit reads: every definition that a public contract of a library needs,
--- each once, under a name that nothing else has here, after all that it needs. `tools/statement` makes it from crates/,
--- and `tests/run statement` has the kit check that each says what the crates' own definition of that name says.
+-- The statement, as one module that Rattle's kit reads: every definition that a public contract needs, each once,
+-- under a name that nothing else has here, after all that it needs. STATEMENT.rt has the contracts. `tools/statement`
+-- makes both from crates/, and `tests/run statement` has the kit check that each says what the crates' own says.
 --
 -- The module needs nothing but its `use` lines: words of the kit, whose meanings are at the end; types of Rust with
 -- their variants and constants; and the crates' records, types of data and `unfoldable` functions. What such a one,
@@ -78,22 +78,26 @@ def used(uses):
         yield f"use {module}.{{{line}}}"
 
 
-def libraries(house):
-    """The crates that another crate may use. A program's definitions, and a static library's, are out of its reach."""
+def stated(house):
+    """The crates that the module is about: all, without those of tests."""
+    return [name for name in house.crates if not name.startswith("test_")]
+
+
+def libraries():
+    """The crates that another crate may use: no program, and no static library."""
     lines = [line.partition(":")[0].split() for line in (ROOT / "crates.txt").read_text().splitlines()]
-    static = {words[0] for words in lines if "staticlib" in words}
-    return [name for name in house.crates
-            if name not in static and (ROOT / "crates" / name / "src" / "lib.rt").exists()]
+    return {words[0] for words in lines if words and "staticlib" not in words
+            and (ROOT / "crates" / words[0] / "src" / "lib.rt").exists()}
 
 
 class Compiled:
     """The module and its lemmas."""
 
     def __init__(self, house):
-        self.house, self.libraries = house, libraries(house)
+        self.house, self.crates = house, stated(house)
         needed = house.closure(house.public_roots())
         self.items = [item for item in house.definitions.values()
-                      if item.key in needed and item.key[0].split(".")[1] in self.libraries]
+                      if item.key in needed and item.key[0].split(".")[1] in self.crates]
         self.of_file = {}
         for item in self.items:
             self.of_file.setdefault(item.file, []).append(item)
@@ -102,6 +106,7 @@ class Compiled:
         self.imports = {file: imports_of(file.read_text()) for file in self.files}
         self.names, self.taken = {}, {}
         self.take_names()
+        self.of_definitions = set(self.names)
         self.hidden = {key: value for key in self.names for value in [self.hidden_value(*key)] if value is not None}
 
     def in_order(self):
@@ -263,7 +268,8 @@ class Compiled:
                 inside = item.inside
                 lines += ["", *item.sentence, self.text_of(item)]
         by_name = {item.key: item for item in self.items}
-        uses = self.uses(lambda key, name: key not in by_name or is_named(by_name[key]))
+        uses = self.uses(lambda key, name: key in self.of_definitions
+                         and (key not in by_name or is_named(by_name[key])))
         return "\n".join([HEAD, *used(uses), *lines, *self.kit()]) + "\n"
 
     def kit(self):
@@ -326,11 +332,3 @@ class Compiled:
             names = names or [f"a{at}" for at in range(signature.count("→"))]
             left, right = (" ".join([f"{it}.{case}{end}", *names]) for it, end in zip((one, other), ends))
             yield f"{name} ({left}) = {right}" if names else f"{name} {left} = {right}"
-
-    def write(self, folder):
-        """Writes a crate with the module and its lemmas."""
-        for part, text in {"src/lib.rt": "//! The statement.\n#![tactic(auto)]\n", "specs/Lib.antt": "pub mod Page\n",
-                           "specs/Page.antt": self.page(), "proofs/Lib.antt": "mod Same\n",
-                           "proofs/Same.antt": self.lemmas()}.items():
-            (folder / part).parent.mkdir(parents=True, exist_ok=True)
-            (folder / part).write_text(text)

@@ -257,14 +257,15 @@ def source_module(file):
     return ".".join(file.relative_to(ROOT / "crates").with_suffix("").parts[2:])  # below the crate's src
 
 
-def rust_names(text):
-    """What the names of a source stand for that it takes from elsewhere: (library, name) for each."""
-    names = {}
-    for library, path, listed in re.findall(r"^use (\w+)((?:::\w+)*)(?:::\{([^}]*)\})?;", text, re.M):
-        for entry in listed.split(",") if listed else [path.rpartition("::")[2]]:
-            name, _, other = entry.strip().partition(" as ")
-            names[other or name] = (library, name)
-    return names
+def rust_paths(text):
+    """The paths of the names of a source that it takes from elsewhere."""
+    paths = {}
+    for path, listed in re.findall(r"^use (\w+(?:::\w+)*)(?:::\{([^}]*)\})?;", text, re.M):
+        for entry in filter(None, (part.strip() for part in listed.split(","))) if listed else [""]:
+            inner, _, other = entry.partition(" as ")
+            whole = "::".join(filter(None, [path, inner.removesuffix("self").removesuffix("::")]))
+            paths[other or whole.rpartition("::")[2]] = whole
+    return paths
 
 
 class Source:
@@ -275,7 +276,8 @@ class Source:
         self.text = file.read_text()
         self.blank = blanked(self.text)
         self.names, self.aliases = imports_of(re.sub(r"//[^\n]*", "", self.text))
-        self.rust = rust_names(self.blank)
+        self.paths = rust_paths(self.blank)
+        self.rust = {name: (path.split("::")[0], path.split("::")[-1]) for name, path in self.paths.items()}
         self.pieces = pieces(self.blank, 0, len(self.blank))
         self.types = {piece.name for piece in self.pieces if piece.kind in ("struct", "enum", "trait", "type")}
 
@@ -459,14 +461,18 @@ class House:
                 found.append((source.crate, KINDS[piece.kind], piece.name))
         return found
 
+    def shows(self, source, block):
+        """Whether an impl is one of an exported type, or of another crate's."""
+        named = re.search(r"(?:\w+::)*([A-Z]\w*)", without_parameters(block.head).rpartition(" for ")[2])
+        name = named and named[1]
+        home = self.module_of(source.crate, name) or source_module(source.file)
+        return name not in source.types and name not in source.rust or self.is_exported(source.crate, name, home)
+
     def roots_of_impl(self, source, piece, module):
         """What an impl shows: the public methods of an exported type, and all of a trait that both sides know."""
-        trait, _, subject = without_parameters(piece.head).rpartition(" for ")
-        named = re.search(r"(?:\w+::)*([A-Z]\w*)", subject)
-        name = named and named[1]
-        is_ours = name in source.types or name in source.rust
-        if is_ours and not self.is_exported(source.crate, name, self.module_of(source.crate, name) or module):
+        if not self.shows(source, piece):
             return []
+        trait = without_parameters(piece.head).rpartition(" for ")[0]
         if not trait:
             return [use for inner in piece.inner if inner.kind == "fn" and inner.public
                     for use in self.uses_of_function(source, inner)]
