@@ -1,5 +1,5 @@
 #!/usr/bin/env python3
-"""Each run of the worked rows, watched from outside by strace: tests/run --tier full watched.
+"""Each run of the worked rows, watched from outside by strace: tests/run watched.
 
 The rows are those of crates/test_script in which nothing fails, and the script with every command. Of each run all
 calls of the system, from the first read of the script on, have to be those that the definitions allow: reads of the
@@ -12,7 +12,6 @@ are changed one by one, and each change has to be refused. The last line is 'N p
 """
 import os
 import re
-import shutil
 import subprocess
 import sys
 import tempfile
@@ -267,8 +266,6 @@ def changed(calls):
 
 def main():
     has_program("tests/run watched")
-    if not shutil.which("strace"):
-        raise SystemExit("tests/run watched: there is no strace: Debian's package strace has it\n0 passed, 1 failed")
     passed = failed = 0
     with tempfile.TemporaryDirectory() as room:
         for number, run in enumerate(runs()):
