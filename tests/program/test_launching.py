@@ -146,6 +146,20 @@ def test_output_that_can_not_be_written():
     assert found == wanted
 
 
+@pytest.mark.parametrize("line", ["run", "", "run --stop script --limit 5", "run -c history -c undo", "cell 64c",
+                                  f"check --dir {PICTURES} land.outer", "draw --cells 1", "--version"])
+@pytest.mark.parametrize("to_file", [False, True])
+def test_two_programs_at_most(line, to_file, tmp_path):
+    """A call without an error starts the shell, and the program once; strace sees it."""
+    (tmp_path / "script").write_bytes(b"cell 1\n")
+    with open(tmp_path / "answer", "wb") as file:
+        subprocess.run(["strace", "-ff", "-qq", "-e", "trace=execve", "-o", tmp_path / "trace", LAUNCHER,
+                        *line.split()], cwd=tmp_path, env=ENVIRONMENT, timeout=60, check=False,
+                       stdin=subprocess.DEVNULL, stdout=file if to_file else subprocess.PIPE)
+    calls = "".join(path.read_text() for path in tmp_path.glob("trace.*"))
+    assert sorted(re.findall(r'^execve\("([^"]*)".* = 0$', calls, re.M)) == sorted([LAUNCHER, PROGRAM])
+
+
 class TheProgram(unittest.TestCase):
     """What the launcher adds nothing to."""
 

@@ -452,10 +452,12 @@ class Keys(unittest.TestCase):
             session = self.started(PATH=folders)
 
     def test_without_python(self):
-        """Then the program's own prompt serves."""
+        """Then the program's own prompt serves, and the terminal drops a line at Ctrl-C."""
         session = self.started(PATH=os.path.join(self.room, "empty"))
         self.assertEqual(session.banner, "")
         self.assertEqual(self.answered(session, "add a 04"), "ok 0 1\n")
+        self.signaled(session, "clear a" + INTERRUPT)
+        session.expect_exact("^C")
         self.assertEqual(self.answered(session, "count a"), "cells 1 leaves 288230376151711744\n")
         self.assertEqual(self.status(session, END), 0)
 

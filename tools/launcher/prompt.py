@@ -229,9 +229,10 @@ class Keyboard:
         self.is_typing, self.is_covered = True, False
 
     def interrupted(self, *_):
-        """Ctrl-C: drops the line that is typed. The program doesn't notice."""
+        """Ctrl-C: drops the line that is typed. The program doesn't notice. It may come while something is printed, so
+        this writes without Python's buffer."""
         is_line = self.is_typing and self.readline and self.readline.get_line_buffer()
-        print("" if is_line else f"\n({LEAVING})", flush=True)
+        os.write(1, b"\n" if is_line else f"\n({LEAVING})\n".encode())
         if self.is_typing:
             self.is_typing = False  # so this is raised once, where it is caught
             raise KeyboardInterrupt

@@ -2,10 +2,11 @@
 
     words.py PROGRAM WORD..
 
-`run` takes a script from a file, in words or at a terminal. `cell` takes several cells with commas between them,
-decimal identifiers and --explain; `check` and `draw` take paths of files that lie in one folder. Where one of them has
-an error, standard error says why. A picture goes out only if it is whole. Help is the program's, with what stands
-beside it after it; and a word that is no command may mean one.
+The launcher itself says `--prompt OPTION..` for a run at a terminal, `--notes SCRIPT OPTION..` for one whose reasons
+are to be shown, and `--unread FILE WORD..` for a script that can't be read. `cell` takes several cells with commas
+between them, decimal identifiers and --explain; `check` and `draw` take paths of files that lie in one folder. Where
+one of them has an error, standard error says why. A picture goes out only if it is whole. Help is the program's, with
+what stands beside it after it; and a word that is no command may mean one.
 """
 import signal
 
@@ -87,48 +88,6 @@ def put(answer):
 # ---- scripts
 
 
-class Script:
-    """What `run` is asked for: the options that the program takes, and where the script is: lines, or a file, which is
-    - for standard input; and whether a prompt is wanted, if that is said."""
-
-    def __init__(self, words):
-        self.options, self.lines, self.file, self.prompt, self.wrong = [], [], None, None, None
-        words = list(words)
-        while words and not self.wrong:
-            self.take(words.pop(0), words)
-
-    def take(self, word, rest):
-        if word in ("--limit", "--depth", "--dir") and rest:
-            self.options += [word, rest.pop(0)]
-        elif word == "-c" and rest and self.file is None:
-            self.lines.append(rest.pop(0))
-        elif word == "--no-prompt" or word == "--prompt" and self.prompt is None:
-            self.prompt = word == "--prompt"
-        elif re.match("--(limit|depth|dir)=|--(stop|explain|prompt)$", word):
-            self.options.append(word)
-        elif self.file is None and not self.lines and (word == "-" or not word.startswith("-")):
-            self.file = word
-        else:
-            self.wrong = [word, *rest]  # which the program refuses
-
-    def is_named(self):
-        return self.file not in (None, "-")
-
-
-def open_script(script):
-    """Makes the script standard input, or says why it isn't."""
-    if script.lines:
-        it = os.memfd_create("script")
-        with open(it, "wb", closefd=False) as lines:
-            lines.write(b"".join(os.fsencode(line) + b"\n" for line in script.lines))
-        os.lseek(it, 0, os.SEEK_SET)
-    elif os.path.isdir(script.file):
-        raise PermissionError
-    else:
-        it = os.open(script.file, os.O_RDONLY)
-    os.dup2(it, 0)
-
-
 def noted(program, options, name):
     """Runs the program, with the script's name before each note; and if nobody reads the pipe any more, as if by
     SIGPIPE."""
@@ -140,32 +99,30 @@ def noted(program, options, name):
     return process.returncode if process.returncode >= 0 else 128 - process.returncode
 
 
-def is_at_terminal():
-    return os.isatty(0) and (os.isatty(1) or os.isatty(2)) and os.path.exists("/dev/fd/1")
+def prompted(program, options):
+    """The prompt, where a terminal is there for it."""
+    if (os.isatty(1) or os.isatty(2)) and os.path.exists("/dev/fd/1"):
+        return session(program.path, [word for word in options if word != "--prompt"])
+    return noted(program, options, b"") if is_pipe(1) else program.instead("run", *options)
 
 
-def run(program, words):
-    script = Script(words)
-    options = script.options
-    if script.wrong:
-        return program.instead("run", *script.wrong)
-    if script.lines or script.is_named():
-        try:
-            open_script(script)
-        except OSError as error:
-            missing = isinstance(error, FileNotFoundError)
-            why = f"there is no file '{script.file}'" if missing else f"'{script.file}' is a folder, or can't be read"
-            print(f"s2calc: input\nerror: {why}", file=sys.stderr)
-            return 2
-        if os.isatty(2) and "--explain" not in options:
-            options.append("--explain")
-    elif script.prompt is not False and is_at_terminal():
-        return session(program.path, options)
-    if script.prompt:
-        return program.instead("run", "--prompt", *options)
-    if is_pipe(1) or script.is_named() and "--explain" in options:
-        return noted(program, options, os.fsencode(f"{script.file}: ") if script.is_named() else b"")
+def explained(program, script, *options):
+    """A run with reasons. The script is standard input already; it has a name if it came from a file."""
+    if os.isatty(2) and "--explain" not in options:
+        options += ("--explain",)
+    if is_pipe(1) or script:
+        return noted(program, options, os.fsencode(f"{script}: ") if script else b"")
     return program.instead("run", *options)
+
+
+def unread(program, script, *others):
+    """Why there is no such script, if the words beside it are no fault."""
+    others = [word for word in others if word != "--no-prompt"]
+    if program("run", *others).returncode == 2:
+        return program.instead("run", *others)
+    why = f"'{script}' is a folder, or can't be read" if os.path.exists(script) else f"there is no file '{script}'"
+    print(f"s2calc: input\nerror: {why}", file=sys.stderr)
+    return 2
 
 
 # ---- cells
@@ -279,8 +236,12 @@ def main(path, *words):
         return helped(program, rest)
     if first in MORE and {"-h", "--help"}.intersection(rest):
         return help_of(program, first)
-    if first == "run":
-        return run(program, rest)
+    if first == "--prompt":
+        return prompted(program, rest)
+    if first == "--notes":
+        return explained(program, *rest)
+    if first == "--unread":
+        return unread(program, *rest)
     if first == "cells":
         return cells.main(rest)
     if first == "cell":
