@@ -86,12 +86,8 @@ MISTAKES = [
     Mistake("another kit on a page", pages.other_kits, "docs/PROOF.md", ended_by(f"\n`{'rattle-kit-'}0`\n")),
     Mistake("another logic on a page", pages.other_kits, "docs/INSTALL.md", ended_by("\nThe logic `0`.\n")),
     Mistake("a kit that no page names", pages.other_kits, "KIT", ended_by("a-kit-0 logic dac8208d650f15bf\n")),
-    Mistake("a call that isn't made on the way of a line", pages.calls_on_the_walk, "docs/ARCHITECTURE.md",
-            swapped("`run` calls `run_with`", "`run` calls `run_without`")),
     Mistake("a change that is said twice", pages.said_twice, "CHANGELOG.md",
             lambda text: re.sub(r"^- .*\n", r"\g<0>\g<0>", text, count=1, flags=re.M)),
-    Mistake("a limit as a number", pages.limits_as_numbers, "crates/s2file/src/union_file.rt",
-            ended_by("\nfn planted() -> u64\n    ensures few { result < 1_000_000 }\n{\n    0\n}\n")),
     Mistake("a part of the tests that isn't there", pages.unknown_parts, "README.md",
             ended_by(f"\n`tests/run {'docks'}`\n")),
     Mistake("a command that doesn't know --help", pages.without_usage, "tools/java",
@@ -116,7 +112,7 @@ MISTAKES = [
             ended_by(f"\nfn planted(x: u8) -> u8 {{\n    match x {{\n{ARMS}    }}\n}}\n")),
     Mistake("a line that is too long", rot.long_lines, "tests/steps.sh", ended_by(f"#{'=' * 120}\n")),
     Mistake("the host of a registry", rot.hosts, "README.md", ended_by(f"\n{HOST}\n")),
-    Mistake("a word that the house avoids", rot.avoided, "README.md", ended_by("\nWhat was asked\nabout.\n")),
+    Mistake("words that the house avoids", prose.habits, "README.md", ended_by("\nIt was asked\nabout.\n")),
     Mistake("a sentence that begins with a free what", prose.habits, "README.md",
             ended_by("\nWhat is here has to be read twice.\n")),
     Mistake("a mutant whose text is gone", texts.misfits, "crates/s2cell/mutants.txt",
@@ -294,6 +290,15 @@ def ends_of_parts(counts, room):
             contextlib.redirect_stdout(io.StringIO()) as said:
         lacking = [module.lacks_kit(module.chosen([], tier)) for tier in ("quick", "gate")]
     counts.tell("the quick tier without the kit", lacking == [False, True], said.getvalue())
+    lane = module.Over(room / "proofs")
+    lane.file.write_text(f"{room}\n")
+    (room / "part.sh").write_text(f"echo '{module.ENDED}' >>'{lane.file}'; echo 1 passed, 0 failed\n")
+    parts = [module.Part(*it, {"gate": "part.sh"}, 0, over=over) for it, over in (("ab", "s2union_c"), ("cd", ""))]
+    with contextlib.redirect_stdout(io.StringIO()) as said:
+        runs = [list(lane.runs(parts, "gate").items()) for _ in range(2)]
+    order = [(name, done.failed) for name, done in runs[0]]
+    counts.tell("a part that waits for proofs, before one that doesn't, or twice",
+                (order, runs[1]) == ([("c", 0), ("a", 1)], []), said.getvalue())
     (room / "sources.py").write_text("raise ImportError\n")
     done = subprocess.run([TOP / "tests" / "run", "--list"], capture_output=True, text=True, check=False,
                           env={**os.environ, "PYTHONPATH": str(room), "LC_ALL": "xx_YY"})

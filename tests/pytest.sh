@@ -7,5 +7,7 @@ python=/usr/bin/python3
 ! python3 -c 'import pytest' 2>/dev/null || python=python3
 [ "$python" = python3 ] || need_pytest
 need nm binutils
+need xz xz-utils
+need strace strace
 need_packages
 cd "$top" && exec timeout 3600 "$python" -m pytest "$@" # a test may wait for an answer that never comes

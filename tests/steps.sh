@@ -15,7 +15,7 @@ step() { # NAME COMMAND..: its output is shown if it fails
     passed=$((passed + 1))
     checks=$(sed -nE 's/^([0-9]+) passed, 0 failed$/: \1 checks/p' "$work/log")
     echo "ok     $name${checks##*$'\n'}"
-    grep -E ' us a row$| ms$|lines of code$| branches$' "$work/log" | sed 's/^/         /'
+    grep -E ' us a row$| ms$| branches$' "$work/log" | sed 's/^/         /'
   else
     failed=$((failed + 1))
     echo "FAILED $name"
@@ -95,21 +95,27 @@ need_linker() { # what tools/library links with
   [ ! -x /usr/bin/python3 ] || need_headers
 }
 
-# libs2union and its module for Python, installed as a package would be, in $work/usr: what is in S2UNION_PREFIX, if
-# that is set. Where it was not proved and no kit is, it is the release's; then tools/java is given what $released has.
+# Which library is asked: where it was not proved and no kit is, the release's. Then tools/library and tools/java are
+# given what $released has.
 released=()
+choose_library() {
+  ! command -v rt >/dev/null && ! "$top/tools/archive" --is-kept || return 0
+  released=(--released)
+  need xz xz-utils
+  echo "       without Rattle's kit: the library of the release $(released_version) is asked, without what changed" \
+    "in crates since then"
+}
+
+# libs2union and its module for Python, installed as a package would be, in $work/usr: what is in S2UNION_PREFIX, if
+# that is set.
 need_library() {
   if [ -n "${S2UNION_PREFIX:-}" ]; then
     cp -a "$S2UNION_PREFIX" "$work/usr"
     return
   fi
   need_linker
+  choose_library
   need_packages
-  if ! command -v rt >/dev/null && ! "$top/tools/archive" --is-kept; then
-    released=(--released)
-    echo "       without Rattle's kit: the library of the release $(released_version) is asked, without what changed" \
-      "in crates since then"
-  fi
   step "tools/library${released:+ --released}" "$top/tools/library" "$work/usr" "${released[@]}"
   [ "$failed" -eq 0 ] || finish
 }
@@ -119,19 +125,26 @@ shapes() { # $work/shapes: shapes in degrees, with the coverings that the module
     /usr/bin/python3 -m model.shapes >"$work/shapes"
 }
 
+need_compiler() { # what tools/page makes a module with
+  [ -z "${S2UNION_MODULE:-}" ] || return 0
+  need wasm-opt binaryen
+  command -v rt >/dev/null && return
+  need clang-15 clang-15
+  need ld.lld lld
+}
+
 # The page and the package for JavaScript in $work/page, over the module that tools/page makes; or over that of the file
-# S2UNION_MODULE, if that is set; or without a kit over the release's.
+# S2UNION_MODULE, if that is set; or without a kit over that of the release's library.
 need_page() {
   local words=(--jobs 1)
+  need_compiler
+  need_packages
   if [ -n "${S2UNION_MODULE:-}" ]; then
     words=(--module "$S2UNION_MODULE")
-  elif command -v rt >/dev/null; then
-    need wasm-opt binaryen
-    need_packages
-  else
-    words=(--module "$(echo "$top"/dist/s2union-*.html)")
-    echo "       without Rattle's kit: the module of the release $(released_version) is asked, without what changed" \
-      "in crates and in bindings/c since then"
+  elif ! command -v rt >/dev/null; then
+    words=(--released)
+    echo "       without Rattle's kit: the library of the release $(released_version) is in the module, without what" \
+      "changed in crates since then"
   fi
   step "tools/page" "$top/tools/page" "$work/page" "${words[@]}"
   [ "$failed" -eq 0 ] || finish

@@ -16,12 +16,13 @@ if [ -z "$system" ]; then
   need g++ g++
   need_file "$includes/s2/s2cell_union.h" libs2-dev
   need_file "$includes/gtest/gtest.h" libgtest-dev
+  choose_library
   need_packages
 fi
 set -e
 mkdir -p "$out"
 bash "$top/bench/s2_sources.sh" "$sources"
-"$top/tools/library" "$out/usr" --target "$processor" "$@"
+"$top/tools/library" "$out/usr" --target "$processor" "$@" "${released[@]}"
 source=$sources/source/src
 compiler="${cross}g++ -std=c++17 -w"
 [ -z "$cross" ] || compiler="$compiler -Wno-psabi -isystem $includes -isystem $includes/$processor-linux-gnu"
@@ -43,7 +44,7 @@ $compiler -O1 -I"$out/usr/include" -I"$source" -c "$top/tests/cpp/s2_operations.
 
 objects=("$out/s2_operations.o" "$out/s2_union_weak.o")
 for name in "${users[@]}"; do objects+=("$out/$name.o"); done
-headers=("$source"/s2/s2{cell_union,cell_id,cell_index,region_coverer,region_term_indexer}.h)
+headers=("$source"/s2/s2{cell_union,cell_id,cell_index,polygon,region_coverer,region_term_indexer}.h)
 named=$(sed -n 's/^| \(`[^|]*`\) |.*/\1/p' "$top/docs/FROM_S2.md" | grep -o '`[A-Za-z0-9_=]*' | tr -d '`' | sort -u)
 for name in $named; do
   if grep -qwF -- "$name" "${headers[@]}"; then

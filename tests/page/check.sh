@@ -1,10 +1,8 @@
 #!/usr/bin/env bash
 # The page in Chromium without a screen, beside the library: tests/run --tier full page. With -- --figures it prints the
 # figures of docs/PAGE.md too, with -- --pictures it makes the stored pictures anew, and with -- --screenshot that of
-# docs/PAGE.md. It installs the Debian packages that it needs.
-# With --short, as the gate has it, nothing is installed, and the slowest tests are left out; if Chromium, its driver,
-# wasm-opt or what links the library isn't there, a line says that it isn't tested.
-# Its last line is 'N passed, M failed'; the status is 1 if any failed.
+# docs/PAGE.md. With --short, as the gate has it, the slowest tests are left out. It installs the Debian packages that
+# it needs. Its last line is 'N passed, M failed'; the status is 1 if any failed.
 . "$(dirname "$0")/../steps.sh"
 
 need_pytest
@@ -13,17 +11,12 @@ need chromedriver chromium-driver
 need_modules selenium python3-selenium
 need_modules numpy python3-numpy
 need_linker
-[ -n "${S2UNION_MODULE:-}" ] || need wasm-opt binaryen
 
 in_browser() { # the library's module for Python answers beside the page
   PYTHONPATH=$work/usr/lib/python PYTHONDONTWRITEBYTECODE=1 \
     timeout 1200 /usr/bin/python3 -m pytest -s "$top/tests/page" "$@"
 }
 
-if [ "${1:-}" = --short ] && [ ${#packages[@]} -gt 0 ]; then
-  echo "       the page is not tested: ${packages[*]} are not there"
-  finish
-fi
 need_packages
 need_library
 need_page

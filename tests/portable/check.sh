@@ -1,12 +1,13 @@
 #!/usr/bin/env bash
-# The archive that tools/portable makes, on each system that can be tried here: tests/run portable -- [ROUNDS]. From the
-# archive alone the library is built for x86-64 with glibc, with musl and for Windows, for ARM and for RISC-V. Each
-# answers ROUNDS of all calls three times, with wrong arguments and memory refused, and the sums have to be those of the
-# library that was proved; 340,000 rounds are asked if none are given. Windows is wine, and ARM and RISC-V are qemu. For
-# macOS it is compiled, and its object files are looked at. So are the wheels and the library of the jar, and what of
-# them can be run here is. Then it is built in a new system in which no prover and
-# nothing of this repository is. It has to run as root, and installs the Debian packages that it needs. The last line is
-# 'N passed, M failed'; the status is 1 if any failed.
+# The archive that tools/portable makes, on each system that can be tried here: tests/run portable -- [ROUNDS]. Without
+# the kit it is the release's, with its wheels and its jar, beside the release's library. From the archive alone the
+# library is built for x86-64 with glibc, with musl and for Windows, for ARM and for RISC-V. Each answers ROUNDS of all
+# calls three times, with wrong arguments and memory refused, and the sums have to be those of the library that was
+# proved; 340,000 rounds are asked if none are given. Windows is wine, and ARM and RISC-V are qemu. For macOS it is
+# compiled, and its object files are looked at. So are the wheels and the library of the jar, and what of them can be
+# run here is. Then it is built in a new system in which no prover and nothing of this repository is. It has to run as
+# root, and installs the Debian packages that it needs. The last line is 'N passed, M failed'; the status is 1 if any
+# failed.
 . "$(dirname "$0")/../steps.sh"
 rounds=${1:-340000}
 tests=$top/tests/portable
@@ -33,15 +34,20 @@ need_library
 
 # ---- the archive
 
-step "tools/portable" "$top/tools/portable" "$work/made"
-again() { "$top/tools/portable" "$work/again" && diff -r "$work/made" "$work/again"; }
-step "the same bytes a second time" again
+made=$work/made
+again() { "$top/tools/portable" "$work/again" && diff -r "$made" "$work/again"; }
+if [ ${#released[@]} -gt 0 ]; then
+  made=$top/dist
+else
+  step "tools/portable" "$top/tools/portable" "$made"
+  step "the same bytes a second time" again
+fi
 [ "$failed" -eq 0 ] || finish
-archive=$(echo "$work"/made/s2union-*-source.tar.xz)
+archive=$(echo "$made"/s2union-*-source.tar.xz)
 is_small() { [ "$(stat -c %s "$archive")" -lt 1000000 ]; }
 step "less than a megabyte" is_small
 unpacked() {
-  (cd "$work/made" && sha256sum --quiet --strict -c SHA256SUMS) &&
+  (cd "$made" && sha256sum --quiet --strict -c SHA256SUMS) &&
     mkdir "$work/source" && tar -C "$work/source" --strip-components=1 -xf "$archive"
 }
 step "it is unpacked" unpacked
@@ -117,7 +123,7 @@ of_elf() { nm -D --defined-only "$1" | awk '$2 == "T" { sub(/@.*/, "", $3); prin
 step "the DLL has the calls of the header alone" exports "$work/s2union.dll" of_dll
 handed_out() { # the DLL of the zip, in the folder of a program, by its file for pkg-config
   local at
-  at=$(cd "$work" && /usr/bin/python3 -m zipfile -e made/s2union-*-windows.zip . && echo "$PWD"/s2union-*-windows) &&
+  at=$(cd "$work" && /usr/bin/python3 -m zipfile -e "$made"/s2union-*-windows.zip . && echo "$PWD"/s2union-*-windows) &&
     mkdir "$work/beside" && cp "$at/bin/s2union.dll" "$work/beside/" &&
     asking beside/of-zip.exe x86_64-w64-mingw32-gcc "$at/include" \
       $(PKG_CONFIG_PATH=$at/lib/pkgconfig pkg-config --libs s2union) &&
@@ -161,7 +167,7 @@ step "Windows on ARM: compiled, not run" compiled_for aarch64-w64-windows-gnu ""
 # ---- wheels, and the library of the jar
 
 wheel() { # PLATFORM: unpacked, as $work/PLATFORM, with one module in it
-  mkdir "$work/$1" && /usr/bin/python3 -m zipfile -e "$work"/made/s2union-*-abi3-"$1".whl "$work/$1" &&
+  mkdir "$work/$1" && /usr/bin/python3 -m zipfile -e "$made"/s2union-*-abi3-"$1".whl "$work/$1" &&
     modules=("$work/$1"/s2union/_library.*[od]) && [ ${#modules[@]} = 1 ] && [ -s "${modules[0]}" ]
 }
 entry() { # COMMAND..: what it says of the module is its entry point alone
@@ -200,8 +206,14 @@ loaded() ( # over a python3.dll that has the names of Python's, and does nothing
     [ "$(in_windows ./loads.exe | tr -d '\r')" = s2union._library ]
 )
 step "the wheel for Windows: its module is loaded" loaded
-jar() { PATH=$with_kit "$top/tools/java" "$work/java" --target x86_64 --source "$archive"; }
-step "tools/java, with the library for other systems" jar
+jar() {
+  if [ "$made" = "$top/dist" ]; then
+    install -D "$made"/s2union-*.jar "$work/java/s2union.jar"
+  else
+    PATH=$with_kit "$top/tools/java" "$work/java" --target x86_64 --source "$archive"
+  fi
+}
+step "the jar, with the library for other systems" jar
 asked_as_java_does() { # on Linux and in Windows: one sum
   local java file=$top/tests/portable/hosted.c flags
   java=$(dirname "$(dirname "$(realpath "$(command -v javac)")")")
@@ -229,7 +241,7 @@ trial=$work/trial
 mkdir -p "$trial/tests" "$trial/docs"
 cp "$top/tests/steps.sh" "$trial/tests/"
 cp "$tests/trial.sh" "$trial/run"
-cp "$work"/made/s2union-*.tar.gz "$trial/"
+cp "$made"/s2union-*.tar.gz "$trial/"
 for page in RUST GO PYTHON; do cp "$top/docs/$page.md" "$trial/docs/"; done
 cp -r "$work/source" "$trial/source"
 export PATH=/usr/sbin:/usr/bin:/sbin:/bin

@@ -51,10 +51,6 @@ static void JNICALL longs_set(JNIEnv* env, jlongArray to, jsize at, jsize n, con
   (void)env;
   memcpy(to->bytes + 8 * at, from, 8 * (size_t)n);
 }
-static void JNICALL bytes_set(JNIEnv* env, jbyteArray to, jsize at, jsize n, const jbyte* from) {
-  (void)env;
-  memcpy(to->bytes + at, from, (size_t)n);
-}
 static void JNICALL ints_get(JNIEnv* env, jintArray of, jsize at, jsize n, jint* to) {
   (void)env;
   memcpy(to, of->bytes + 4 * at, 4 * (size_t)n);
@@ -80,10 +76,10 @@ static void cells(array* it) {
     memcpy(it->bytes + 8 * k, &id, 8);
   }
 }
-static void numbers(array* it) {
-  empty(it, 7, 4);
-  for (jsize k = 0; k < 7; k++) {
-    jint number = (jint)(drawn() % (k < 2 ? 32 : k == 2 ? 7 : 1u << 30));
+static void rectangle(array* it) {
+  empty(it, 5, 4);
+  for (jsize k = 0; k < 5; k++) {
+    jint number = (jint)(drawn() % (k == 0 ? 7 : 1u << 30));
     memcpy(it->bytes + 4 * k, &number, 4);
   }
 }
@@ -97,58 +93,44 @@ static void add_array(const array* it) { add(it->bytes, (size_t)it->length * (si
 int main(int count, char** words) {
   void* library = count == 3 ? open_library(words[1]) : NULL;
   if (!library) return printf("no library\n"), 1;
-  NATIVE(jlong, number, jint, jlong, jlong);
   NATIVE(jlong, leafAt, jint, jint, jint);
-  NATIVE(jint, text, jint, jlong, jbyteArray);
-  NATIVE(jlong, ask, jint, jlongArray, jlongArray, jlong);
-  NATIVE(jint, make, jint, jlongArray, jlongArray, jintArray, jlongArray, jlongArray);
-  NATIVE(jint, write, jint, jarray, jlongArray, jbyteArray, jlongArray);
-  NATIVE(jint, read, jint, jbyteArray, jlongArray, jlongArray);
-  NATIVE(jint, askFile, jint, jbyteArray, jbyteArray, jlong, jlongArray);
-  struct JNINativeInterface_ calls;
-  memset(&calls, 0, sizeof calls);
-  calls.GetArrayLength = length_of, calls.GetPrimitiveArrayCritical = taken;
-  calls.ReleasePrimitiveArrayCritical = given_back, calls.GetIntArrayElements = ints_of;
-  calls.ReleaseIntArrayElements = ints_back, calls.SetLongArrayRegion = longs_set;
-  calls.SetByteArrayRegion = bytes_set, calls.GetIntArrayRegion = ints_get;
-  const struct JNINativeInterface_* table = &calls;
+  NATIVE(jlong, call, jint, jarray, jarray, jarray, jlong, jlong, jintArray, jlongArray);
+  struct JNINativeInterface_ host;
+  memset(&host, 0, sizeof host);
+  host.GetArrayLength = length_of, host.GetPrimitiveArrayCritical = taken;
+  host.ReleasePrimitiveArrayCritical = given_back, host.GetIntArrayElements = ints_of;
+  host.ReleaseIntArrayElements = ints_back, host.SetLongArrayRegion = longs_set, host.GetIntArrayRegion = ints_get;
+  const struct JNINativeInterface_* table = &host;
   JNIEnv* env = &table;
-  static array xs, ys, of, out, bytes, found, length;
+  static array xs, ys, of, file, out, bounds, found;
   array* lists[] = {&xs, &ys};
-  add_number(number(env, NULL, VERSION, 0, 0));
   for (long round = atol(words[2]); round > 0; round--) {
+    jlong n;
     for (int k = 0; k < 2; k++) { /* unions mostly, made by the library */
-      cells(&of), numbers(&found), empty(&length, 1, 8), empty(&ys, 0, 8), empty(lists[k], of.length, 8);
-      if (make(env, NULL, NORMALISE, &of, &ys, &found, lists[k], &length) >= 0 && drawn() % 20) {
-        jlong n;
-        memcpy(&n, length.bytes, 8);
+      cells(&of), empty(&found, 1, 8), empty(lists[k], of.length, 8);
+      if (call(env, NULL, NORMALISE, &of, NULL, lists[k], 0, 0, NULL, &found) >= 0 && drawn() % 20) {
+        memcpy(&n, found.bytes, 8);
         lists[k]->length = (jsize)n;
       }
     }
-    for (jint call = CHILD; call <= COMMON_ANCESTOR; call++)
-      add_number(number(env, NULL, call, (jlong)cell(), (jlong)(drawn() % 5)));
+    empty(&file, MOST * 8, 1), call(env, NULL, ENCODE, &xs, NULL, &file, 0, 0, NULL, &found);
+    memcpy(&n, found.bytes, 8);
+    file.length = n < MOST * 8 ? (jsize)n : MOST * 8;
+    if (drawn() % 4 == 0) file.bytes[drawn() % 20] ^= (uint8_t)drawn();
     add_number(leafAt(env, NULL, (jint)(drawn() % 7), (jint)drawn(), (jint)(drawn() >> 34)));
-    for (jint call = TOKEN; call <= DEBUG; call++)
-      empty(&bytes, MOST, 1), add_number(text(env, NULL, call, (jlong)cell(), &bytes)), add_array(&bytes);
-    for (jint call = IS_UNION; call <= COMPARE; call++) add_number(ask(env, NULL, call, &xs, &ys, (jlong)cell()));
-    for (jint call = UNION; call <= COMPLEMENT; call++) {
-      if (call == RANGE && (xs.length == 0 || ys.length == 0)) continue;
-      empty(&out, call >= PARENTS && call <= RANGE_MAXES ? xs.length : MOST, 8), empty(&length, 1, 8), numbers(&of);
-      add_number(make(env, NULL, call, &xs, &ys, &of, &out, &length)), add_array(&out), add_array(&length);
+    for (jint k = 0; k < (jint)(sizeof forms / sizeof *forms); k++) {
+      const form* it = &forms[k];
+      int is_of_each = k == PARENTS || k == RANGE_MINS || k == RANGE_MAXES;
+      int is_of_cells = k == RANGE || k == COMMON_ANCESTOR;
+      if (k == UNION_OF_MANY) continue; /* whose second list says where others end */
+      jlong a = (jlong)(is_of_cells || drawn() % 2 ? cell() : drawn() % 32);
+      jlong b = (jlong)(is_of_cells ? cell() : drawn() % 32);
+      empty(&out, it->is_bytes[OUT] ? MOST * 8 : is_of_each ? xs.length : MOST, it->is_bytes[OUT] ? 1 : 8);
+      rectangle(&bounds), empty(&found, 1, 8);
+      add_number(call(env, NULL, k, it->is_bytes[0] ? &file : &xs, it->is_bytes[1] ? &file : &ys, &out, a, b, &bounds,
+                      &found));
+      add_array(&out), add_array(&found);
     }
-    for (jint call = ENCODE; call <= INTERSECTS_CELLS; call++) {
-      empty(&bytes, MOST * 8, 1), empty(&length, 1, 8);
-      add_number(write(env, NULL, call, &xs, &ys, &bytes, &length)), add_array(&bytes), add_array(&length);
-      if (call == ENCODE) of = bytes, memcpy(&of.length, length.bytes, sizeof of.length);
-    }
-    if (of.length > MOST * 8) of.length = MOST * 8;
-    if (drawn() % 4 == 0) of.bytes[drawn() % 20] ^= (uint8_t)drawn();
-    for (jint call = DECODE; call <= FILE_ANCESTORS; call++) {
-      empty(&out, MOST, 8), empty(&length, 1, 8);
-      add_number(read(env, NULL, call, &of, &out, &length)), add_array(&out), add_array(&length);
-    }
-    for (jint call = FILE_CHECK; call <= FILE_INTERSECTS; call++)
-      empty(&out, 1, 8), add_number(askFile(env, NULL, call, &of, &of, (jlong)cell(), &out)), add_array(&out);
   }
   printf("sum %016llx\n", (unsigned long long)sum);
   return 0;

@@ -1,21 +1,37 @@
 #!/usr/bin/env bash
 # What the commands of tools/ say of words that they don't know, of other sources, and without the kit: tests/run tools.
-# It needs the archive of `tests/run archive`; where neither that nor the kit is, it leaves out what is asked of it. It
-# installs the Debian packages that it needs. The last line is 'N passed, M failed'; the status is 1 if any failed.
+# Where no archive was kept, and no kit is that makes it, what is asked of it is left out. It installs the Debian
+# packages that it needs. The last line is 'N passed, M failed'; the status is 1 if any failed.
 . "$(dirname "$0")/../steps.sh"
 taken=--no-build
-[ -e "$top/crates/s2union_c/out/archive.json" ] || command -v rt >/dev/null || taken=--released
+command -v rt >/dev/null || "$top/tools/archive" --is-kept || { taken=--released && need xz xz-utils; }
 need_linker
 need_packages
 
+taken_after() { # FOLDER: a run waits for one that makes it of the same sources, and takes what that kept
+  /usr/bin/python3 - "$1" <<'END'
+import os, runpy, shutil, subprocess, sys
+sys.path.insert(0, "tools")
+archive = runpy.run_path("tools/archive")
+with archive["alone"](archive["sum_of_sources"]("s2union_c")):
+    run = subprocess.Popen(["tools/archive"], stdout=subprocess.PIPE, text=True)
+    said = run.stdout.readline()
+    shutil.copytree(sys.argv[1], os.path.join(archive["KEPT"], "made"))
+said += run.stdout.read()
+print(said)
+sys.exit("this waits for another run" not in said or "was kept" not in said or run.wait())
+END
+}
 own_sources() ( # in a copy, where no kit is, the archive stays as long as its sources do
   cd "$top" && mkdir "$work/copy" &&
     cp -r --parents tools crates.txt crates/*/{src,specs,proofs} \
       crates/s2union_c/out/{libs2union_c.a,heap.o,s2union_c.bc,archive.json} "$work/copy" && cd "$work/copy" &&
     export PATH=/usr/bin:/bin XDG_CACHE_HOME=$work/cache &&
-    tools/archive && echo >>crates/s2cell/src/lib.rt && ! tools/archive
+    tools/archive && mv crates/s2union_c/out "$work/made" && taken_after "$work/made" &&
+    echo >>crates/s2cell/src/lib.rt && ! tools/archive
 )
 if [ "$taken" = --no-build ]; then
+  step "tools/archive" "$top/tools/archive" --jobs 1
   step "tools/archive: no archive of other sources" own_sources
 else
   echo "       without Rattle's kit: there is no archive, so none of other sources is tried" && mkdir "$work/copy"
