@@ -117,10 +117,10 @@ static inline uint32_t s2u_cover_level_within(double meters) {
 
 /* Makes cells at the border so small that no place of the outer covering is farther than some meters from the shape,
  * and each place of the shape that is farther from its border lies in the inner one, if max_cells allows it.
- * S2U_COVER_OPTION if the number isn't more than 0. */
+ * S2U_COVER_OPTION if the number isn't more than 0, or max_level is beyond 30. */
 static inline int32_t s2u_cover_keep_within(s2u_cover_options* options, double meters) {
   uint32_t level = s2u_cover_level_within(S2U_COVER_KEPT * meters);
-  if (!(meters > 0)) return S2U_COVER_OPTION;
+  if (!(meters > 0) || options->max_level > 30) return S2U_COVER_OPTION;
   if (level < options->min_level) level = options->min_level;
   if (level < options->max_level) options->max_level = level;
   return S2U_OK;
@@ -254,6 +254,13 @@ typedef struct s2u_cover_part {
   const size_t* rings;
   size_t count;
 } s2u_cover_part;
+
+static inline uint64_t s2u_cover_positions(const s2u_cover_part* part) {
+  uint64_t positions = 0;
+  for (size_t k = 0; k < part->count; k++)
+    positions += part->shape->rings[part->rings[k]].end - s2u_cover_begin(part->shape, part->rings[k]);
+  return positions;
+}
 
 typedef struct s2u_cover_bounds {
   double west, south, east, north;
@@ -426,8 +433,10 @@ static inline int s2u_cover_add_ends(s2u_cover_list* ends, const double* a, cons
   return 1;
 }
 
-/* The parts of meridians that just two edges of polygons run along, on two sides of the map. */
-static inline int32_t s2u_cover_find_seams(const s2u_cover_part* part, s2u_cover_list* seams) {
+/* The parts of meridians that just two edges of polygons run along, on two sides of the map. In a part wider than 360
+ * degrees both may have the same places beside them, which cancel: such edges stay. So do those that it would take too
+ * long to ask about. */
+static inline int32_t s2u_cover_find_seams(const s2u_cover_part* part, int is_wide, s2u_cover_list* seams) {
   s2u_cover_list ends = s2u_cover_list_of(sizeof(s2u_cover_end));
   int32_t status = S2U_OK;
   for (size_t k = 0; k < part->count; k++) {
@@ -440,11 +449,15 @@ static inline int32_t s2u_cover_find_seams(const s2u_cover_part* part, s2u_cover
   }
   s2u_cover_end* all = (s2u_cover_end*)ends.at;
   if (ends.count) qsort(all, ends.count, sizeof *all, s2u_cover_by_latitude);
-  double turns = 0, squares = 0;
+  double turns = 0, squares = 0, positions = (double)s2u_cover_positions(part), work = 100000 + 64 * positions;
   int count = 0;
   for (size_t k = 0; status == S2U_OK && k < ends.count; k++) {
-    int is_between = k && all[k].latitude != all[k - 1].latitude;
-    if (count == 2 && is_between && 2 * squares != turns * turns) {
+    int is_seam = k && count == 2 && all[k].latitude != all[k - 1].latitude && 2 * squares != turns * turns;
+    if (is_seam && is_wide) {
+      double middle = all[k - 1].latitude + (all[k].latitude - all[k - 1].latitude) / 2;
+      is_seam = (work -= positions) >= 0 && s2u_cover_is_odd(part, all[k].meridian, middle);
+    }
+    if (is_seam) {
       s2u_cover_seam* seam = (s2u_cover_seam*)s2u_cover_add(seams);
       if (!seam) status = S2U_MEMORY;
       else seam->meridian = all[k].meridian, seam->south = all[k - 1].latitude, seam->north = all[k].latitude;
@@ -708,7 +721,8 @@ static inline int32_t s2u_cover_join(s2u_cover_build* build) {
 static inline int32_t s2u_cover_build_part(s2u_cover_build* build, const s2u_cover_part* part) {
   s2u_cover_bounds box = s2u_cover_bounds_of(part);
   int32_t status = S2U_OK;
-  if (build->is_on_map && box.east - box.west >= 360) status = s2u_cover_find_seams(part, &build->seams);
+  if (build->is_on_map && box.east - box.west >= 360)
+    status = s2u_cover_find_seams(part, box.east - box.west > 360, &build->seams);
   for (size_t k = 0; status == S2U_OK && k < part->count; k++)
     status = s2u_cover_add_ring(build, part->shape, part->rings[k]);
   return status == S2U_OK ? s2u_cover_join(build) : status;
@@ -755,15 +769,16 @@ static inline double s2u_cover_distance(const s2u_cover_vector* at, const s2u_co
   return is_between ? fmin(height * height / size, ends) : ends;
 }
 
-/* Whether a place is farther from all edges than some radians. */
-static inline int s2u_cover_is_clear(const s2u_cover_build* build, const s2u_cover_vector* at, double least) {
+/* Whether a place is farther from all edges than some radians, or from all but the one that ends at some corner. */
+static inline int s2u_cover_is_clear(const s2u_cover_build* build, const s2u_cover_vector* at, double least,
+                                     size_t but) {
   const s2u_direction* corners = (const s2u_direction*)build->corners.at;
   const size_t* ends = (const size_t*)build->ends.at;
   for (size_t ring = 0, k = 0; ring < build->ends.count; ring++) {
     s2u_cover_vector before = s2u_cover_vector_of(&corners[ends[ring] - 1]);
     for (; k < ends[ring]; k++) {
       s2u_cover_vector here = s2u_cover_vector_of(&corners[k]);
-      if (s2u_cover_distance(at, &before, &here) <= least * least) return 0;
+      if (k != but && s2u_cover_distance(at, &before, &here) <= least * least) return 0;
       before = here;
     }
   }
@@ -787,6 +802,26 @@ static inline double s2u_cover_beside(const s2u_cover_bounds* box, double* x, do
   return gap;
 }
 
+/* A leaf outside of polygons on the map, on either side of some of their edges; 0 if none was found. */
+static inline uint64_t s2u_cover_beside_edges(const s2u_cover_build* build, const s2u_cover_part* part, double least) {
+  uint64_t step = s2u_cover_positions(part) / 64 + 1, edges = 0;
+  for (size_t k = 0; k < part->count; k++) {
+    uint64_t end = part->shape->rings[part->rings[k]].end;
+    for (uint64_t n = s2u_cover_begin(part->shape, part->rings[k]) + 1; n < end; n++) {
+      const double *a = s2u_cover_at(part->shape, n - 1), *b = s2u_cover_at(part->shape, n);
+      if (edges++ % step) continue;
+      for (double away = 0.25; fabs(away) > 1e-4; away *= away > 0 ? -1 : -0.1) {
+        double x = (a[0] + b[0]) / 2 + away * (b[1] - a[1]), y = (a[1] + b[1]) / 2 - away * (b[0] - a[0]);
+        if (!(fabs(y) <= 90) || !(fabs(x) <= 540) || s2u_cover_is_odd(part, x, y)) continue;
+        s2u_direction corner = s2u_cover_direction(x, y);
+        s2u_cover_vector at = s2u_cover_vector_of(&corner);
+        if (s2u_cover_is_clear(build, &at, least, SIZE_MAX)) return s2u_geo_leaf(x, y);
+      }
+    }
+  }
+  return 0;
+}
+
 /* A leaf outside of polygons on the map; 0 if none was found. */
 static inline uint64_t s2u_cover_outside_on_map(const s2u_cover_build* build, const s2u_cover_part* part) {
   s2u_cover_bounds box = s2u_cover_bounds_of(part);
@@ -796,21 +831,9 @@ static inline uint64_t s2u_cover_outside_on_map(const s2u_cover_build* build, co
     x = remainder(k * 137.50776405003785, 360), y = asin((k + 0.5) / 64 - 1) * (180 / S2U_GEO_PI);
     s2u_direction corner = s2u_cover_direction(x, y);
     s2u_cover_vector at = s2u_cover_vector_of(&corner);
-    if (!s2u_cover_is_odd(part, x, y) && s2u_cover_is_clear(build, &at, least)) return s2u_geo_leaf(x, y);
+    if (!s2u_cover_is_odd(part, x, y) && s2u_cover_is_clear(build, &at, least, SIZE_MAX)) return s2u_geo_leaf(x, y);
   }
-  for (size_t k = 0; k < part->count && k < 64; k++) { /* places beside edges */
-    uint64_t begin = s2u_cover_begin(part->shape, part->rings[k]);
-    if (part->shape->rings[part->rings[k]].end < begin + 2) continue;
-    const double *a = s2u_cover_at(part->shape, begin), *b = a + 2;
-    for (double away = 0.25; fabs(away) > 1e-4; away *= away > 0 ? -1 : -0.1) { /* on either side */
-      x = (a[0] + b[0]) / 2 + away * (b[1] - a[1]), y = (a[1] + b[1]) / 2 - away * (b[0] - a[0]);
-      if (!(fabs(y) <= 90) || !(fabs(x) <= 540) || s2u_cover_is_odd(part, x, y)) continue;
-      s2u_direction corner = s2u_cover_direction(x, y);
-      s2u_cover_vector at = s2u_cover_vector_of(&corner);
-      if (s2u_cover_is_clear(build, &at, least)) return s2u_geo_leaf(x, y);
-    }
-  }
-  return 0;
+  return s2u_cover_beside_edges(build, part, least);
 }
 
 /* The area of the side of a ring that a place isn't on, more than 0 if it is on the left. */
@@ -826,21 +849,49 @@ static inline double s2u_cover_area_beside(const s2u_direction* corners, size_t 
   return area;
 }
 
-/* Whether a place is outside of rings: of the smaller side of each, or of what they have on their left. */
-static inline int s2u_cover_is_outside(const s2u_cover_build* build, const s2u_cover_vector* at, uint32_t edges) {
+/* Whether a place is outside of the smaller side of rings. */
+static inline int s2u_cover_is_outside(const s2u_cover_build* build, const s2u_cover_vector* at) {
   const s2u_direction* corners = (const s2u_direction*)build->corners.at;
   const size_t* ends = (const size_t*)build->ends.at;
-  int is_inside = 0, is_right = 0;
-  for (size_t ring = 0, begin = 0; ring < build->ends.count; begin = ends[ring++]) {
-    double area = s2u_cover_area_beside(corners + begin, ends[ring] - begin, at);
-    is_inside ^= fabs(area) > 2 * S2U_GEO_PI;
-    is_right |= area > 0;
+  int is_inside = 0;
+  for (size_t ring = 0, begin = 0; ring < build->ends.count; begin = ends[ring++])
+    is_inside ^= fabs(s2u_cover_area_beside(corners + begin, ends[ring] - begin, at)) > 2 * S2U_GEO_PI;
+  return !is_inside;
+}
+
+/* A leaf to the right of the edge between two corners, of which the last is a number of the list, so near that no other
+ * edge is between; 0 if none was found. */
+static inline uint64_t s2u_cover_beside_edge(const s2u_cover_build* build, const s2u_cover_vector* a,
+                                             const s2u_cover_vector* b, size_t last) {
+  s2u_cover_vector right = s2u_cover_cross(b, a), middle = s2u_cover_unit(a->x + b->x, a->y + b->y, a->z + b->z);
+  right = s2u_cover_unit(right.x, right.y, right.z);
+  for (double away = 0.25; right.x == right.x && away > 1e-8; away /= 8) {
+    s2u_cover_vector at = s2u_cover_unit(middle.x + away * right.x, middle.y + away * right.y,
+                                         middle.z + away * right.z);
+    if (s2u_cover_is_clear(build, &at, 1.000001 * away, last)) return s2u_cover_leaf_at(&at);
   }
-  return edges == S2U_COVER_LEFT ? is_right : !is_inside;
+  return 0;
+}
+
+/* A leaf to the right of geodesic rings; 0 if none was found beside some of their edges. */
+static inline uint64_t s2u_cover_outside_on_the_right(const s2u_cover_build* build) {
+  const s2u_direction* corners = (const s2u_direction*)build->corners.at;
+  const size_t* ends = (const size_t*)build->ends.at;
+  size_t step = build->corners.count / 16 + 1;
+  for (size_t ring = 0, k = 0; ring < build->ends.count; ring++) {
+    s2u_cover_vector before = s2u_cover_vector_of(&corners[ends[ring] - 1]);
+    for (; k < ends[ring]; k++) {
+      s2u_cover_vector here = s2u_cover_vector_of(&corners[k]);
+      uint64_t leaf = k % step == 0 ? s2u_cover_beside_edge(build, &before, &here, k) : 0;
+      if (leaf) return leaf;
+      before = here;
+    }
+  }
+  return 0;
 }
 
 /* A leaf outside of geodesic rings; 0 if none was found. */
-static inline uint64_t s2u_cover_outside_on_sphere(const s2u_cover_build* build, uint32_t edges) {
+static inline uint64_t s2u_cover_outside_on_sphere(const s2u_cover_build* build) {
   const s2u_direction* corners = (const s2u_direction*)build->corners.at;
   s2u_cover_vector sum = {0, 0, 0};
   for (size_t k = 0; k < build->corners.count; k++) {
@@ -851,7 +902,7 @@ static inline uint64_t s2u_cover_outside_on_sphere(const s2u_cover_build* build,
     double height = (k + 0.5) / 32 - 1, across = sqrt(1 - height * height), turn = k * 2.399963229728653;
     s2u_cover_vector at = k < 0 ? s2u_cover_unit(sum.x, sum.y, sum.z)
                               : s2u_cover_unit(across * cos(turn), across * sin(turn), height);
-    if (at.x == at.x && s2u_cover_is_clear(build, &at, 1e-8) && s2u_cover_is_outside(build, &at, edges))
+    if (at.x == at.x && s2u_cover_is_clear(build, &at, 1e-8, SIZE_MAX) && s2u_cover_is_outside(build, &at))
       return s2u_cover_leaf_at(&at);
   }
   return 0;
@@ -1001,13 +1052,6 @@ static inline double s2u_cover_length(const s2u_cover_part* part) {
   return length;
 }
 
-static inline uint64_t s2u_cover_positions(const s2u_cover_part* part) {
-  uint64_t positions = 0;
-  for (size_t k = 0; k < part->count; k++)
-    positions += part->shape->rings[part->rings[k]].end - s2u_cover_begin(part->shape, part->rings[k]);
-  return positions;
-}
-
 static inline int s2u_cover_has_area(const s2u_cover_part* part) {
   for (size_t k = 0; k < part->count; k++)
     if (part->shape->rings[part->rings[k]].polygon != S2U_COVER_LINE) return 1;
@@ -1041,7 +1085,8 @@ static inline int32_t s2u_cover_add_build(const s2u_cover_build* build, const s2
   }
   uint64_t outside = !is_area ? s2u_geo_leaf(0, 90)
                      : is_on_map ? s2u_cover_outside_on_map(build, part)
-                                 : s2u_cover_outside_on_sphere(build, wanted->options->edges);
+                     : wanted->options->edges == S2U_COVER_LEFT ? s2u_cover_outside_on_the_right(build)
+                                                                : s2u_cover_outside_on_sphere(build);
   if (!outside) return S2U_COVER_OUTSIDE;
   if (wanted->outer)
     status = s2u_cover_add_cells(build, outside, wanted->options, share, 1, wanted->outer);
@@ -1136,6 +1181,11 @@ static inline int32_t s2u_cover_add_polygons(const s2u_cover_shape* shape, const
   for (size_t k = areas; k < shape->count; k++) together[n++] = rings[k];
   common.count = n;
   int32_t status = s2u_cover_add_part(&common, wanted);
+  if (status == S2U_COVER_OUTSIDE && wanted->options->edges == S2U_COVER_MAP) { /* together they may have all places */
+    s2u_cover_part lines = {shape, rings + areas, shape->count - areas};
+    for (size_t k = 0; k < count; k++) polygons[k].is_alone = 1;
+    status = s2u_cover_add_part(&lines, wanted);
+  }
   for (size_t k = 0; status == S2U_OK && k < count; k++)
     if (polygons[k].is_alone) status = s2u_cover_add_part(&polygons[k].part, wanted);
   return status;
@@ -1374,12 +1424,20 @@ static inline int32_t s2u_cover_wkb(const uint8_t* bytes, size_t size, const s2u
 
 /* ---- boxes, circles and corridors */
 
-/* A box of the map. One that ends to the west of where it begins goes over the date line. */
+/* A box of the map. One that ends to the west of where it begins goes over the date line, and one wider than 360
+ * degrees has all longitudes. */
 static inline int32_t s2u_cover_box(double west, double south, double east, double north,
                                         const s2u_cover_options* options, s2u_cover_cells* outer,
                                         s2u_cover_cells* inner, s2u_cover_fault* fault) {
-  double far = east < west ? east + 360 : east;
-  double positions[10] = {west, south, far, south, far, north, west, north, west, south};
+  const double most = S2U_GEO_MOST_LONGITUDE, from[2] = {west, 0}, to[2] = {east, 0};
+  double begin = west, end = east;
+  if (s2u_cover_is_place(from) && s2u_cover_is_place(to)) {
+    if (end < begin) end += 360 * ceil((begin - end) / 360);
+    if (end > begin + 360) begin = -180, end = 180;
+    double back = end > most ? 360 * ceil((end - most) / 360) : 0;
+    begin -= back, end -= back;
+  }
+  double positions[10] = {begin, south, end, south, end, north, begin, north, begin, south};
   s2u_cover_ring ring = {5, 0};
   s2u_cover_shape shape = {positions, &ring, 1};
   return s2u_cover(&shape, options, outer, inner, fault);

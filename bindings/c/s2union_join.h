@@ -4,8 +4,9 @@
  *
  * Edges are straight on the map, as for S2U_COVER_MAP, and inside is what an odd number of crossings with the rings of
  * a polygon leads to. A place on an edge is in the shape. The answer is that of the numbers as they are given: no sum
- * is rounded where that would change it. A shape that goes on beyond 180 degrees has the places at the other end of
- * the map too.
+ * is rounded where that would change it (of numbers below 1e-290 it may be). A shape that goes on beyond 180 degrees
+ * has the places at the other end of the map too, and parts of a polygon wider than 360 degrees that lie on each other
+ * after a turn cancel, as in its coverings.
  *
  * A join compares tiles first: coverings by s2union_cover.h, cut at one level, tell most pairs apart. It asks about the
  * clipped shape only where a leaf is in the outer covering and not in the inner one. */
@@ -26,17 +27,19 @@ static inline void s2u_join_add(double* sum, size_t* count, double number) {
   sum[(*count)++] = number;
 }
 
+#define S2U_JOIN_SCALE 3.273390607896142e150 /* 2^500: so small numbers, and what rounding leaves out, stay numbers */
+
 /* 1 if a place is to the left of the way from a to b, -1 if it is to the right, and 0 on its line. */
 static inline int s2u_join_side(const double* a, const double* b, double x, double y) {
   double left = (b[0] - a[0]) * (y - a[1]), right = (b[1] - a[1]) * (x - a[0]), turn = left - right;
-  double noise = 4e-16 * (fabs(left) + fabs(right)); /* more than the five roundings come to */
+  double noise = 4e-16 * (fabs(left) + fabs(right)) + 1e-300; /* more than the five roundings come to */
   if (turn > noise || turn < -noise) return turn > 0 ? 1 : -1;
   const double pairs[6][2] = {{b[0], y}, {-b[0], a[1]}, {-a[0], y}, {-b[1], x}, {b[1], a[0]}, {a[1], x}};
   double sum[12];
   size_t count = 0;
   for (int k = 0; k < 6; k++) {
-    double product = pairs[k][0] * pairs[k][1];
-    s2u_join_add(sum, &count, fma(pairs[k][0], pairs[k][1], -product));
+    double one = S2U_JOIN_SCALE * pairs[k][0], other = S2U_JOIN_SCALE * pairs[k][1], product = one * other;
+    s2u_join_add(sum, &count, fma(one, other, -product));
     s2u_join_add(sum, &count, product);
   }
   while (count > 0 && sum[count - 1] == 0) count--;
@@ -64,12 +67,13 @@ static inline int s2u_join_meets_ring(const s2u_cover_shape* shape, size_t ring,
   return 0;
 }
 
-/* Whether a shape has a place on its own turn of the map. */
-static inline int s2u_join_has(const s2u_cover_shape* shape, double x, double y) {
+/* Whether a shape, whose positions lie in a box, has a place on any turn of the map. */
+static inline int s2u_join_has(const s2u_cover_shape* shape, const s2u_cover_bounds* box, double x, double y) {
   int is_odd = 0;
   for (size_t ring = 0; ring < shape->count; ring++) {
     uint64_t polygon = shape->rings[ring].polygon;
-    if (s2u_join_meets_ring(shape, ring, x, y, &is_odd)) return 1;
+    for (double turn = ceil((box->west - x) / 360); x + 360 * turn <= box->east; turn++)
+      if (s2u_join_meets_ring(shape, ring, x + 360 * turn, y, &is_odd)) return 1;
     if (ring + 1 < shape->count && shape->rings[ring + 1].polygon == polygon && polygon != S2U_COVER_LINE) continue;
     if (is_odd && polygon != S2U_COVER_LINE) return 1;
     is_odd = 0;
@@ -103,8 +107,7 @@ static inline int32_t s2u_join_covers(const uint8_t* bytes, size_t size, double 
   if (status == S2U_OK && !s2u_cover_is_place(place)) status = S2U_ARGUMENT;
   s2u_cover_bounds box = s2u_join_bounds(&shape);
   if (status == S2U_OK && latitude >= box.south && latitude <= box.north)
-    for (double turn = ceil((box.west - longitude) / 360); !*covers && longitude + 360 * turn <= box.east; turn++)
-      *covers = s2u_join_has(&shape, longitude + 360 * turn, latitude);
+    *covers = s2u_join_has(&shape, &box, longitude, latitude);
   s2u_cover_close(&reader);
   return status;
 }

@@ -295,7 +295,10 @@ static inline bool s2u_geo_put_next(s2u_geo_outliner* o, s2u_geo_loop* loop, dou
   size_t n = o->positions_len;
   bool is_first = !loop->length++;
   if (!o->is_map && !is_first) longitude += 360 * nearbyint((o->positions[n - 2] - longitude) / 360);
-  if (!is_first) loop->twice_area += o->positions[n - 2] * latitude - longitude * o->positions[n - 1];
+  if (!is_first) { /* from the first position: that of leaves is lost in the squares of their places */
+    const double *first = o->positions + 2 * loop->begin, *last = o->positions + n - 2;
+    loop->twice_area += (last[0] - first[0]) * (latitude - first[1]) - (longitude - first[0]) * (last[1] - first[1]);
+  }
   return s2u_geo_put_position(o, longitude, latitude);
 }
 

@@ -1,6 +1,7 @@
 /* Coverings of s2union_cover.h and clips of s2union_join.h of what libFuzzer makes: bytes as WKB, and shapes of few and
- * of odd numbers. Whatever they are, there is an error by name, or an outer covering that has the inner one and the
- * corners, and a clip that has the same places. The first two bytes are options. tests/c/check.sh builds it. */
+ * of odd numbers. Whatever they are, there is an error by name, or an outer covering that has the inner one, and a clip
+ * that has the same places. Both coverings agree with the shape itself about its corners, and a place. The first two
+ * bytes are options. tests/c/check.sh builds it. */
 #include <s2union_join.h>
 #include <stdio.h>
 
@@ -65,14 +66,23 @@ static double degrees_of(const uint8_t* bytes, double most) {
   return bytes[1] % 4 ? most / 6 * (bytes[0] % 13 - 6) : whole * some[bytes[1] / 4 % 8];
 }
 
-/* From the least longitude to the greatest. Parts of a polygon that lie on each other after a turn cancel. */
-static double west_to_east(const double* positions, size_t count) {
-  double west = 540, east = -540;
-  for (size_t k = 0; k < count; k++) {
-    if (positions[2 * k] < west) west = positions[2 * k];
-    if (positions[2 * k] > east) east = positions[2 * k];
+/* Both coverings of a shape on the map say of its corners, and of a place, what the shape itself says. */
+static void of_places(const s2u_cover_shape* shape, const double* place, const s2u_cover_cells* outer,
+                      const s2u_cover_cells* inner) {
+  size_t count = shape->count ? shape->rings[shape->count - 1].end : 0;
+  s2u_join_bytes wkb = {NULL, 0};
+  s2u_cover_fault fault;
+  s2u_join_put_shape(&wkb, shape);
+  if (!(wkb.at = malloc(wkb.size))) return;
+  s2u_join_put_shape(&wkb, shape);
+  for (size_t k = 0; k <= count; k++) {
+    const double* at = k < count ? shape->positions + 2 * k : place;
+    uint64_t leaf = s2u_geo_leaf(at[0], at[1]);
+    int covers;
+    MUST(s2u_join_covers(wkb.at, wkb.size, at[0], at[1], &covers, &fault) == S2U_OK && (covers || k == count));
+    MUST(covers ? has(outer, leaf) : !has(inner, leaf));
   }
-  return east - west;
+  free(wkb.at);
 }
 
 static void of_positions(const uint8_t* bytes, size_t size, const s2u_cover_options* options) {
@@ -80,6 +90,7 @@ static void of_positions(const uint8_t* bytes, size_t size, const s2u_cover_opti
   double positions[2 * MOST];
   s2u_cover_ring rings[MOST];
   size_t count = 0, ended = 0, begin = 0;
+  const double place[2] = {options->max_cells * 17.0 - 540, options->max_level * 6.0 - 90};
   for (; size >= 5 && count + 1 < MOST; bytes += 5, size -= 5) {
     positions[2 * count] = degrees_of(bytes, bytes[4] & 4 ? 540 : 180);
     positions[2 * count + 1] = degrees_of(bytes + 2, 90);
@@ -96,9 +107,7 @@ static void of_positions(const uint8_t* bytes, size_t size, const s2u_cover_opti
   s2u_cover_fault fault;
   int32_t status = s2u_cover(&shape, options, &outer, &inner, &fault);
   look(status, options, &outer, &inner);
-  int is_wound = west_to_east(positions, count) > 360;
-  for (size_t k = 0; status == S2U_OK && options->edges == S2U_COVER_MAP && !is_wound && k < begin; k++)
-    MUST(has(&outer, s2u_geo_leaf(positions[2 * k], positions[2 * k + 1])));
+  if (status == S2U_OK && options->edges == S2U_COVER_MAP) of_places(&shape, place, &outer, &inner);
   s2u_cover_free(&outer);
   s2u_cover_free(&inner);
 }

@@ -130,6 +130,27 @@ static void boxes(void) {
   CHECK(s2u_cover_rect_bound(NULL, 0, &box) == S2U_OK && box.south > box.north && box.west > box.east);
 }
 
+/* The cells around the nearest corner of a larger cell have the four places that are half its side away. */
+static void corners(void) {
+  for (int turn = 0; turn < 5000; turn++) {
+    const uint64_t cell = random_cell(1, 30, 6);
+    const uint32_t level = (uint32_t)(draw() % (uint64_t)s2u_level(cell));
+    uint64_t four[4];
+    size_t count;
+    s2u_square at, above;
+    s2u_square_of(cell, &at), s2u_square_of(s2u_parent(cell, level), &above);
+    const uint32_t half = (uint32_t)above.size / 2, last = S2U_GEO_SIDE - 1 - half;
+    const uint32_t i = (uint32_t)at.i, j = (uint32_t)at.j;
+    if (i < half || j < half || i > last || j > last) continue; /* beside the face */
+    CHECK(s2u_geo_vertex_neighbors(cell, level, four, &count) == S2U_OK && count == 4);
+    for (int k = 0; k < 4; k++) {
+      uint64_t leaf = s2u_from_face_ij(at.face, k & 1 ? i + half : i - half, k & 2 ? j + half : j - half), here = 0;
+      for (int n = 0; n < 4; n++) here += four[n] == s2u_parent(leaf, level);
+      CHECK(here == 1);
+    }
+  }
+}
+
 static void refused(void) {
   const uint64_t face = nth_cell(0, 0), leaf = nth_cell(30, 5), none[2] = {face, 2};
   uint64_t four[4];
@@ -169,6 +190,7 @@ int main(void) {
   neighbors();
   expanded();
   boxes();
+  corners();
   refused();
   return report();
 }

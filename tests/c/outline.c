@@ -1,5 +1,6 @@
 /* Outlines and boundaries of unions by s2union_outline.h: how many polygons, rings and positions, each allocation
  * refused in turn, lists that are no unions, and that nothing stays allocated. */
+#include <s2union_cover.h>
 #include <s2union_outline.h>
 #include "../refuse.h"
 #include "tests.h"
@@ -23,6 +24,21 @@ static void check_rings(Way* way, const uint64_t* ids, size_t n, size_t polygons
   CHECK(blocks_taken() == blocks && !rings.positions);
 }
 
+/* The cells around a cell: a ring around them, and then their hole, which is as wide as the cell. */
+static void check_hole(double longitude, double latitude, uint32_t level) {
+  uint64_t cell = s2u_parent(s2u_geo_leaf(longitude, latitude), level);
+  s2u_cover_cells around;
+  s2u_geo_rings rings;
+  double south[2] = {90, 90};
+  CHECK(s2u_cover_neighbors(cell, level, &around) == S2U_OK);
+  CHECK(s2u_geo_outline(around.ids, around.count, &rings) == S2U_OK && rings.polygons == 1 && rings.rings == 2);
+  for (size_t k = 0; rings.rings == 2 && k < rings.ring_ends[1]; k++)
+    south[k >= rings.ring_ends[0]] = fmin(south[k >= rings.ring_ends[0]], rings.positions[2 * k + 1]);
+  CHECK(south[0] < south[1]);
+  s2u_cover_free(&around);
+  s2u_geo_free(&rings);
+}
+
 int main(void) {
   enum { N = 4096 };
   static uint64_t ids[N];
@@ -40,6 +56,7 @@ int main(void) {
   for (size_t k = 0; k < N; k++) ids[k] = 3 * half + 1 + 16 * k; /* leaves that lie apart */
   check_rings(s2u_geo_outline, ids, N, N, N);
   check_rings(s2u_geo_boundary, ids, N, 0, N);
+  for (uint32_t k = 0; k < 300; k++) check_hole(1.19 * k - 179, 0.28 * k - 42, 30 - k % 3);
   /* each second cell of level 5, and a leaf: sides aren't followed to the width of the leaf */
   for (uint64_t k = 0; k < 3072; k++) ids[k] = (4 * k + 1) << 50;
   ids[3072] = ids[3071] + (UINT64_C(1) << 50) + 1;

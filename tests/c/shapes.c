@@ -209,6 +209,22 @@ static void date_line(void) {
   }
 }
 
+/* Longitudes of boxes, and one inside and one outside of each; all are inside where both are the same. */
+static void boxes(void) {
+  const double some[][4] = {{170, -170, 175, 165},  {200, -170, 0, -165}, {540, 530, 0, 175}, {-540, 530, 0, 0},
+                            {-360, 360, -135, -135}, {0, 400, 20, 20},     {-540, 540, 0, 0},  {539, -539, 180, 0}};
+  for (size_t k = 0; k < sizeof some / sizeof *some; k++) {
+    answer it;
+    s2u_cover_options options = at_most(2000);
+    it.status = s2u_cover_box(some[k][0], -5, some[k][1], 5, &options, &it.outer, &it.inner, &it.fault);
+    INSIDE(it, some[k][2], 1);
+    if (some[k][3] != some[k][2]) OUTSIDE(it, some[k][3], 1);
+    OUTSIDE(it, some[k][2], 6);
+    drop(&it);
+    CHECK(s2u_cover_box(some[k][0], -5, 541, 5, &options, &it.outer, NULL, &it.fault) == S2U_COVER_NUMBER);
+  }
+}
+
 static void whole_sphere(void) {
   double positions[20];
   for (int begin = -180; begin <= 0; begin += 180) {
@@ -230,6 +246,44 @@ static void whole_sphere(void) {
   it = cover_ring(positions, 5, USUAL);
   INSIDE(it, 0, 89);
   CHECK(!has(&it.inner, 0, 90));
+  drop(&it);
+  double hole[20] = {-180, -90, 180, -90, 180, 90, -180, 90, -180, -90, 5, 5, 5, 5, 6, 5, 6, 6, 5, 5};
+  it = cover(hole, rings, 2, at_most(2000)); /* whose first edge has no length */
+  INSIDE(it, 4, 5);
+  OUTSIDE(it, 5.7, 5.3);
+  drop(&it);
+}
+
+/* Shapes that have all places together, and of which no polygon has. */
+static void together_everywhere(void) {
+  double boxes[8 * 10 + 4];
+  s2u_cover_ring rings[9];
+  for (int k = 0; k < 8; k++) {
+    box_of(k % 4 * 90 - 180, k / 4 * 90 - 90, k % 4 * 90 - 90, k / 4 * 90, boxes + 10 * k);
+    rings[k].end = 5 * (uint64_t)k + 5, rings[k].polygon = (uint64_t)k;
+  }
+  answer it = cover(boxes, rings, 8, USUAL);
+  CHECK(it.status == S2U_OK && it.outer.count == 6 && has(&it.inner, 45, 45) && !has(&it.inner, 0, 45));
+  drop(&it);
+  double line[] = {-180, -90, 180, -90, 180, 90, -180, 90, -180, -90, 1, 2, 3, 4};
+  const s2u_cover_ring both[] = {{5, 0}, {7, S2U_COVER_LINE}};
+  it = cover(line, both, 2, USUAL);
+  CHECK(it.status == S2U_OK && it.outer.count == 6 && it.inner.count == 6);
+  drop(&it);
+}
+
+/* Parts of a polygon that lie on each other after a turn cancel; the edges on both sides of its ends don't. */
+static void around_twice(void) {
+  double positions[10];
+  box_of(-360, -10, 360, 10, positions);
+  answer it = cover_ring(positions, 5, at_most(2000));
+  OUTSIDE(it, 90, 0);
+  CHECK(has(&it.outer, 0, 0) && has(&it.outer, 90, 10) && it.inner.count == 0);
+  drop(&it);
+  box_of(-180, -10, 270, 10, positions);
+  it = cover_ring(positions, 5, at_most(2000));
+  OUTSIDE(it, -135, 0);
+  INSIDE(it, 0, 0);
   drop(&it);
 }
 
@@ -418,6 +472,17 @@ static void geodesic(void) {
     decides(&it, -100, -45, k == 3, __LINE__);
     drop(&it);
   }
+  const double isles[][3] = {{2, 48, 1}, {2, 48, 1e-4}, {0, 89, 0.01}, {180, 0, 1e-5}}; /* with all else on the left */
+  for (int k = 0; k < 4; k++) {
+    const double x = isles[k][0], y = isles[k][1], size = isles[k][2];
+    double back[] = {x, y, x, y + size, x + size, y + size, x + size, y, x, y};
+    options.edges = S2U_COVER_LEFT;
+    it = cover_ring(back, 5, options);
+    OUTSIDE(it, x + size / 2, y + size / 2);
+    INSIDE(it, x, y - size / 2);
+    INSIDE(it, x - 90, -y);
+    drop(&it);
+  }
   double far[] = {0, 0, 180, 0, 90, 10, 0, 0};
   it = cover_ring(far, 4, options);
   CHECK(it.status == S2U_COVER_OPPOSITE && it.fault.ring == 0 && it.fault.position == 0);
@@ -455,6 +520,8 @@ static void refused(void) {
                                      {1, 0, 30, 0, -1},      {1, 0, 30, 0, NAN}, {1, 0, 30, 0, 1e9}};
   for (size_t k = 0; k < sizeof options / sizeof *options; k++)
     CHECK(cover_ring(positions, 5, options[k]).status == S2U_COVER_OPTION);
+  s2u_cover_options too_deep = options[1];
+  CHECK(s2u_cover_keep_within(&too_deep, 1000) == S2U_COVER_OPTION && too_deep.max_level == 31);
   enum { LONG = 4000 };
   double* comb = malloc(16 * LONG);
   for (int k = 0; comb && k < LONG; k++)
@@ -623,7 +690,10 @@ int main(void) {
   bends();
   near_poles();
   date_line();
+  boxes();
   whole_sphere();
+  together_everywhere();
+  around_twice();
   crossings();
   small_beside_large();
   many_islands();

@@ -7,7 +7,9 @@ the number of its polygon, or '-' for a line or a point, a colon, and its positi
 least and the deepest level, edges, a margin, and how many meters coverings may go beyond a shape, 0 for any number. The
 answers of 'rings', 'wkb', 'circle' and 'box' are the cells of the outer and the inner covering, or '!' and the name of
 an error, with the ring and the position or the byte if it has a place. 'holds' has no answer: the first places lie in
-the shape, and the others outside. An outline has its polygons as a shape, and a boundary its lines.
+the shape, and the others outside. An outline has its polygons as a shape, and a boundary its lines. 'neighbors',
+'edge_neighbors', 'vertex_neighbors' and 'expanded' take cells, and all but the second a level; 'bounds' answers four
+numbers, or 'none'.
 """
 
 import contextlib
@@ -16,7 +18,8 @@ import math
 import struct
 from random import Random
 
-from s2union import _library
+from s2union import CellUnion, OutOfRangeError, TooManyCellsError, _library
+from s2union_geo import bounds, edge_neighbors, expanded, neighbors, vertex_neighbors
 
 from model.places import MIDDLES, POINTS
 
@@ -311,9 +314,45 @@ def outlines():
             say(call, cells(union), shape_in_words(shape))
 
 
+# ---- what is around
+
+
+def around():
+    """Cells at corners and edges of faces, at poles and elsewhere, of each kind of level; and unions of them."""
+    ends = [face << 61 | place for face in range(6) for place in (1, (1 << 61) - 1, 1 << 60, 0x0955555555555555)]
+    cells_of_levels = [(leaf & -(1 << bit)) | 1 << bit for leaf in ends for bit in (0, 2, 20, 40, 58, 60)]
+    for cell in dict.fromkeys(cells_of_levels):
+        own = _library.level(cell)
+        say("edge_neighbors", f"{cell:x}", in_hex(edge_neighbors(cell)))
+        for level in {own - 1, own, own + 2, 31, 0} - {-1}:
+            say("neighbors", f"{cell:x}", level, answered(neighbors, cell, level))
+            say("vertex_neighbors", f"{cell:x}", level, answered(vertex_neighbors, cell, level))
+    say("neighbors", f"{1 << 60:x}", 18, answered(neighbors, 1 << 60, 18))
+    unions = [CellUnion([1 << 60]).complement(), CellUnion([cell for cell in cells_of_levels if cell >> 61 == 3])]
+    unions += [CellUnion(random.sample(cells_of_levels, count)) for count in (0, 1, 1, 2, 3, 5, 9) * 4]
+    for union in unions:
+        say("bounds", in_hex(union), doubles(*bounds(union)) if union else "none")
+        for level in (0, random.randint(1, 9), 30 if len(union) < 3 else 10, 31):
+            say("expanded", in_hex(union), level, answered(expanded, union, level))
+
+
+def in_hex(ids):
+    return " ".join(f"{cell:x}" for cell in ids)
+
+
+def answered(call, *words):
+    """The cells that a call answers, or the name of its error."""
+    try:
+        return in_hex(call(*words))
+    except OutOfRangeError:
+        return "!argument"
+    except TooManyCellsError:
+        return "!many"
+
+
 def say_all():
     for part in (places, triangles, zones, date_line_and_poles, holes_and_crossings, lines_and_points, of_wkb,
-                 circles_and_boxes, refusals, outlines):
+                 circles_and_boxes, refusals, outlines, around):
         part()
 
 
