@@ -46,7 +46,7 @@ func TestShapes(t *testing.T) {
 		}
 		asked[fields[0]]++
 	}
-	if lines.Err() != nil || len(asked) != 9 {
+	if lines.Err() != nil || len(asked) != 14 {
 		t.Fatal(lines.Err(), asked)
 	}
 }
@@ -66,6 +66,8 @@ func answersOf(fields []string) (found, wanted string) {
 	case "boundary":
 		shape, err := given(fields[1:]).union(0).Boundary()
 		return shown(shownShape(shape), err), wanted
+	case "neighbors", "edge_neighbors", "vertex_neighbors", "expanded", "bounds":
+		return around(fields), fields[len(fields)-1]
 	case "holds":
 		outer, inner, err := covererIn(fields[2]).Coverings(shapeIn(fields[1]))
 		return fmt.Sprint(hasEach(outer, fields[3], true), hasEach(inner, fields[4], false), err), "true true <nil>"
@@ -73,6 +75,37 @@ func answersOf(fields []string) (found, wanted string) {
 		wanted = strings.Join(fields[3:], "\t")
 		return coverings(covererIn(fields[2]), regionIn(fields[0], fields[1])), wanted
 	}
+}
+
+// around is the answer to a question about the cells around others.
+func around(fields []string) (found string) {
+	defer func() {
+		if err, ok := recover().(error); ok {
+			found = shown("", err)
+		}
+	}()
+	union, level := given(fields[1:]).union(0), 0
+	if len(fields) > 3 {
+		level, _ = strconv.Atoi(fields[2])
+	}
+	switch fields[0] {
+	case "edge_neighbors":
+		four := given(fields[1:]).cell(0).EdgeNeighbors()
+		return shown(four[:])
+	case "vertex_neighbors":
+		return shown(given(fields[1:]).cell(0).VertexNeighbors(level))
+	case "neighbors":
+		cells, err := given(fields[1:]).cell(0).AllNeighbors(level)
+		return shown(shown(cells), err)
+	case "expanded":
+		cells, err := union.ExpandedAtLevel(level)
+		return shown(shown(cells), err)
+	}
+	box, err := union.RectBound()
+	if box.South > box.North {
+		return "none"
+	}
+	return shown(shownPositions(Position{box.West, box.South}, Position{box.East, box.North}), err)
 }
 
 // coverings are both, if each alone is the same.

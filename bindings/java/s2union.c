@@ -1,44 +1,39 @@
-/* The calls of s2union.h for Java: Calls.java has the natives. The numbers of the calls are there and in calls.h,
- * which tools/calls makes of the cases here. A list is a long[], whose signs mean nothing. Lists of up to SHORT
- * elements are passed where they lie, which holds the collector up meanwhile. So are lists of any length to questions
- * that end soon, and to operations on two unions of which one is short. To other calls longer ones are copied. There is
- * no arithmetic on cells here. */
+/* The calls of s2union.h for Java: Calls.java has the natives. One of them makes nearly all calls, as calls.h has them,
+ * which tools/calls makes of the exports; it has their numbers too, and those of the cases here. A list is a long[],
+ * whose signs mean nothing. Lists of up to SHORT elements are passed where they lie, which holds the collector up
+ * meanwhile. So are lists of any length to calls that end soon. To others longer ones are copied. There is no
+ * arithmetic on cells here. */
 #include <jni.h>
 #include <s2union_cover.h>
 #include <s2union_outline.h>
-#include "calls.h"
+#include "calls.h" /* the numbers, and below what makes each call */
 
 #ifndef SHORT
 #define SHORT 1000000
 #endif
-enum { LISTS = 4 };
 
-/* The lists of a call, and where they are. */
+/* The lists of a call, and where they are. The last one is written. */
 typedef struct {
   JNIEnv* env;
   jarray given[LISTS];
   void* at[LISTS];
   jsize length[LISTS];
-  int is_bytes[LISTS], is_copy[LISTS], writes[LISTS];
-  int count, ends_soon;
+  int is_bytes[LISTS], is_copy[LISTS];
 } passed;
 
-static void add(passed* lists, jarray given, int is_bytes, int writes) {
-  int k = lists->count++;
+static void add(passed* lists, int k, jarray given, int is_bytes, int ends_soon) {
   JNIEnv* env = lists->env;
   lists->given[k] = given;
-  lists->at[k] = NULL;
   lists->length[k] = given != NULL ? (*env)->GetArrayLength(env, given) : 0;
   lists->is_bytes[k] = is_bytes;
-  lists->is_copy[k] = lists->length[k] > SHORT && !lists->ends_soon;
-  lists->writes[k] = writes;
+  lists->is_copy[k] = lists->length[k] > SHORT && !ends_soon;
 }
 
 /* Whether all lists are there: first those that are copied, since Java may not be asked for more after the others. */
 static int begin(passed* lists) {
   JNIEnv* env = lists->env;
   for (int turn = 0; turn < 2; turn++) {
-    for (int k = 0; k < lists->count; k++) {
+    for (int k = 0; k < LISTS; k++) {
       jarray given = lists->given[k];
       if (given == NULL || lists->is_copy[k] == turn) continue;
       lists->at[k] = !lists->is_copy[k]   ? (*env)->GetPrimitiveArrayCritical(env, given, NULL)
@@ -53,9 +48,9 @@ static int begin(passed* lists) {
 static void end(passed* lists) {
   JNIEnv* env = lists->env;
   for (int turn = 1; turn >= 0; turn--) {
-    for (int k = lists->count - 1; k >= 0; k--) {
+    for (int k = LISTS - 1; k >= 0; k--) {
       jarray given = lists->given[k];
-      jint mode = lists->writes[k] ? 0 : JNI_ABORT;
+      jint mode = k == OUT ? 0 : JNI_ABORT;
       if (lists->at[k] == NULL || lists->is_copy[k] == turn) continue;
       if (!lists->is_copy[k]) (*env)->ReleasePrimitiveArrayCritical(env, given, lists->at[k], mode);
       else if (lists->is_bytes[k]) (*env)->ReleaseByteArrayElements(env, given, lists->at[k], mode);
@@ -65,35 +60,61 @@ static void end(passed* lists) {
 }
 
 #define CALL(result, name) JNIEXPORT result JNICALL Java_s2union_Calls_##name
-#define LIST(k) ((uint64_t*)lists.at[k]), ((size_t)lists.length[k])
-#define BYTES(k) ((uint8_t*)lists.at[k]), ((size_t)lists.length[k])
-#define TEXT(k) ((char*)lists.at[k]), ((size_t)lists.length[k])
+#define LIST(k) ((uint64_t*)lists->at[k]), ((size_t)lists->length[k])
+#define BYTES(k) ((uint8_t*)lists->at[k]), ((size_t)lists->length[k])
+#define TEXT(k) ((char*)lists->at[k]), ((size_t)lists->length[k])
 
 static void put(JNIEnv* env, jlongArray to, uint64_t number) {
   jlong signed_number = (jlong)number;
   (*env)->SetLongArrayRegion(env, to, 0, 1, &signed_number);
 }
 
-/* Lets the lists of a call go, gives Java the number that it found, and answers its status. */
-static jint ended(passed* lists, int32_t status, jlongArray to, uint64_t found) {
-  end(lists);
-  put(lists->env, to, found);
-  return status;
+/* ---- calls of lists, in a form of their own */
+
+static int32_t normalised(const passed* lists, size_t* len) {
+  const uint64_t* from = lists->at[0];
+  uint64_t* to = lists->at[OUT];
+  for (jsize k = 0; k < lists->length[0]; k++) to[k] = from[k];
+  return s2u_normalise(to, (size_t)lists->length[0], len);
 }
 
-/* ---- one cell */
+/* The union of lists that lie one after another, each of which ends at the next of the second list. Of what is written,
+ * a third is for the union, and the rest is where the call works. */
+static int32_t united(const passed* lists, size_t* len) {
+  uint64_t* out = lists->at[OUT];
+  size_t n = (size_t)lists->length[0];
+  return s2u_union_of_many(LIST(0), lists->at[1], (size_t)lists->length[1], out + n, 2 * n, out, n, len);
+}
 
-CALL(jlong, number)(JNIEnv* env, jclass of, jint call, jlong a, jlong b) {
-  (void)env, (void)of;
-  uint64_t id = (uint64_t)a, other = (uint64_t)b;
-  switch (call) {
-    case VERSION: return s2u_version();
-    case CHILD: return (jlong)s2u_child(id, (uint32_t)other);
-    case NEXT: return (jlong)s2u_next(id);
-    case PREV: return (jlong)s2u_prev(id);
-    case COMMON_ANCESTOR: return (jlong)s2u_common_ancestor(id, other);
-    default: return S2U_ARGUMENT;
-  }
+#include "calls.h"
+
+/* Whether a call ends soon, so that lists of any length are passed where they lie. */
+static int ends_soon(JNIEnv* env, int when, jarray xs, jarray ys) {
+  int is_few = ys != NULL && (*env)->GetArrayLength(env, ys) <= SHORT;
+  int is_short = xs != NULL && (*env)->GetArrayLength(env, xs) <= SHORT;
+  return when == SOON || (when == SOON_IF_FEW && is_few) || (when == SOON_IF_ONE_IS_SHORT && (is_few || is_short));
+}
+
+/* What a call of lists and numbers answers. Java gets the number that it writes, if it wants one. */
+CALL(jlong, call)(JNIEnv* env, jclass of, jint call, jarray xs, jarray ys, jarray out, jlong a, jlong b, jintArray rect,
+                  jlongArray found) {
+  (void)of;
+  const form* it = &forms[call];
+  passed lists = {.env = env};
+  jint bounds[5] = {0};
+  size_t len = 0;
+  uint64_t number = 0;
+  int soon = ends_soon(env, it->when, xs, ys);
+  if (rect != NULL) (*env)->GetIntArrayRegion(env, rect, 0, 5, bounds);
+  add(&lists, 0, xs, it->is_bytes[0], soon);
+  add(&lists, 1, ys, it->is_bytes[1], soon);
+  add(&lists, OUT, out, it->is_bytes[OUT], soon);
+  jlong answer = S2U_MEMORY;
+  if (begin(&lists))
+    answer = called(call, &lists, (uint64_t)a, (uint64_t)b, (const s2u_rect*)(void*)bounds, &len, &number);
+  end(&lists);
+  if (found != NULL) put(env, found, len + number);
+  return answer;
 }
 
 CALL(jlong, leafAt)(JNIEnv* env, jclass of, jint face, jint i, jint j) {
@@ -110,151 +131,13 @@ CALL(jint, square)(JNIEnv* env, jclass of, jlong id, jlongArray out) {
   return status;
 }
 
-static int32_t written_of(jint call, uint64_t id, char* text, size_t room, size_t* len) {
-  switch (call) {
-    case TOKEN: return s2u_token(id, text, room, len);
-    case DEBUG: return s2u_debug(id, text, room, len);
-    default: return S2U_ARGUMENT;
-  }
-}
-
-/* The length of the token or the debug text of a cell, or a status. */
-CALL(jint, text)(JNIEnv* env, jclass of, jint call, jlong id, jbyteArray out) {
-  (void)of;
-  char text[S2U_MOST_DEBUG];
-  size_t len = 0;
-  int32_t status = written_of(call, (uint64_t)id, text, sizeof text, &len);
-  if (status < 0) return status;
-  (*env)->SetByteArrayRegion(env, out, 0, (jsize)len, (const jbyte*)text);
-  return (jint)len;
-}
-
-static int32_t named_by(jint call, const passed* given, uint64_t* id) {
-  passed lists = *given;
-  switch (call) {
-    case FROM_TOKEN: return s2u_from_token(TEXT(0), id);
-    case FROM_DEBUG: return s2u_from_debug(TEXT(0), id);
-    default: return S2U_ARGUMENT;
-  }
-}
-
-CALL(jint, named)(JNIEnv* env, jclass of, jint call, jbyteArray text, jlongArray out) {
-  (void)of;
-  passed lists = {.env = env};
-  uint64_t id = 0;
-  add(&lists, text, 1, 0);
-  int32_t status = begin(&lists) ? named_by(call, &lists, &id) : S2U_MEMORY;
-  end(&lists);
-  if (status >= 0) put(env, out, id);
-  return status;
-}
-
-/* ---- lists */
-
-static jlong asked(jint call, const passed* given, uint64_t cell) {
-  passed lists = *given;
-  switch (call) {
-    case IS_UNION: return s2u_is_union(LIST(0));
-    case LEAF_COUNT: return (jlong)s2u_leaf_count(LIST(0));
-    case CONTAINS_CELL: return s2u_contains_cell(LIST(0), cell);
-    case INTERSECTS_CELL: return s2u_intersects_cell(LIST(0), cell);
-    case CONTAINS: return s2u_contains(LIST(0), LIST(1));
-    case INTERSECTS: return s2u_intersects(LIST(0), LIST(1));
-    case COMPARE: return s2u_compare(LIST(0), LIST(1));
-    default: return S2U_ARGUMENT;
-  }
-}
-
-/* All but the first two are questions that end soon: of one cell, or of two lists up to where they decide it. */
-CALL(jlong, ask)(JNIEnv* env, jclass of, jint call, jlongArray xs, jlongArray ys, jlong cell) {
-  (void)of;
-  passed lists = {.env = env, .ends_soon = call != IS_UNION && call != LEAF_COUNT};
-  add(&lists, xs, 0, 0), add(&lists, ys, 0, 0);
-  jlong answer = begin(&lists) ? asked(call, &lists, (uint64_t)cell) : S2U_MEMORY;
-  end(&lists);
-  return answer;
-}
-
-static int32_t normalise(const passed* given, size_t* len) {
-  passed lists = *given;
-  uint64_t *from = lists.at[0], *to = lists.at[2];
-  for (jsize k = 0; k < lists.length[0]; k++) to[k] = from[k];
-  return s2u_normalise(to, (size_t)lists.length[0], len);
-}
-
-/* The union of lists that lie one after another, each of which ends at the next of `ends`. Of what is written, a third
- * is for the union, and the rest is where the call works. */
-static int32_t union_of_many(const passed* given, size_t* len) {
-  passed lists = *given;
-  uint64_t* out = lists.at[2];
-  size_t n = (size_t)lists.length[0];
-  return s2u_union_of_many(LIST(0), lists.at[1], (size_t)lists.length[1], out + n, 2 * n, out, n, len);
-}
-
-/* The calls that make a list of lists and numbers: n[0] and n[1], and a rectangle after them. */
-static int32_t made(jint call, const passed* given, const uint32_t* n, size_t* len) {
-  passed lists = *given;
-  const s2u_rect rect = {n[2], n[3], n[4], n[5], n[6]};
-  const uint64_t *first = lists.at[0], *last = lists.at[1];
-  switch (call) {
-    case UNION: return s2u_union(LIST(0), LIST(1), LIST(2), len);
-    case INTERSECTION: return s2u_intersection(LIST(0), LIST(1), LIST(2), len);
-    case DIFFERENCE: return s2u_difference(LIST(0), LIST(1), LIST(2), len);
-    case NORMALISE: return normalise(given, len);
-    case RANGE: return s2u_range(*first, *last, LIST(2), len);
-    case DENORMALISED: return s2u_denormalised(LIST(0), n[0], n[1], LIST(2), len);
-    case ANCESTORS: return s2u_ancestors(LIST(0), LIST(2), len);
-    case OUTER: return s2u_outer(&rect, n[0], n[1], LIST(2), len);
-    case INNER: return s2u_inner(&rect, n[0], n[1], LIST(2), len);
-    case OUTER_OF: return s2u_outer_of(LIST(0), n[0], n[1], LIST(2), len);
-    case INNER_OF: return s2u_inner_of(LIST(0), n[0], n[1], LIST(2), len);
-    case OUTER_IN: return s2u_outer_in(LIST(0), &rect, n[0], n[1], LIST(2), len);
-    case INNER_IN: return s2u_inner_in(LIST(0), &rect, n[0], n[1], LIST(2), len);
-    case PARENTS: return s2u_parents(LIST(0), n[0], LIST(2), len);
-    case RANGE_MINS: return s2u_range_mins(LIST(0), LIST(2), len);
-    case RANGE_MAXES: return s2u_range_maxes(LIST(0), LIST(2), len);
-    case SYMMETRIC_DIFFERENCE: return s2u_symmetric_difference(LIST(0), LIST(1), LIST(2), len);
-    case COMPLEMENT: return s2u_complement(LIST(0), LIST(2), len);
-    case UNION_OF_MANY: return union_of_many(given, len);
-    default: return S2U_ARGUMENT;
-  }
-}
-
-/* Operations of two unions end soon if one of them is short: along a long one they leap, or copy runs of it. */
-static int leaps(JNIEnv* env, jint call, jlongArray xs, jlongArray ys) {
-  int is_of_two = call == UNION || call == INTERSECTION || call == DIFFERENCE || call == SYMMETRIC_DIFFERENCE;
-  return is_of_two && ((*env)->GetArrayLength(env, xs) <= SHORT || (*env)->GetArrayLength(env, ys) <= SHORT);
-}
-
-CALL(jint, make)(JNIEnv* env, jclass of, jint call, jlongArray xs, jlongArray ys, jintArray numbers, jlongArray out,
-                 jlongArray length) {
-  (void)of;
-  passed lists = {.env = env, .ends_soon = leaps(env, call, xs, ys)};
-  jint n[7] = {0};
-  size_t len = 0;
-  (*env)->GetIntArrayRegion(env, numbers, 0, (*env)->GetArrayLength(env, numbers), n);
-  add(&lists, xs, 0, 0), add(&lists, ys, 0, 0), add(&lists, out, 0, 1);
-  int32_t status = begin(&lists) ? made(call, &lists, (const uint32_t*)n, &len) : S2U_MEMORY;
-  return ended(&lists, status, length, len);
-}
-
-CALL(jint, denormalisedLength)(JNIEnv* env, jclass of, jlongArray xs, jint min, jint modulus, jlongArray length) {
-  (void)of;
-  passed lists = {.env = env};
-  uint64_t len = 0;
-  add(&lists, xs, 0, 0);
-  int32_t status =
-      begin(&lists) ? s2u_denormalised_len(LIST(0), (uint32_t)min, (uint32_t)modulus, &len) : S2U_MEMORY;
-  return ended(&lists, status, length, len);
-}
-
 CALL(jint, cellsAt)(JNIEnv* env, jclass of, jlongArray xs, jlong cell, jlongArray out) {
   (void)of;
-  passed lists = {.env = env, .ends_soon = 1};
+  passed given = {.env = env}, *lists = &given;
   size_t first = 0, count = 0;
-  add(&lists, xs, 0, 0);
-  int32_t status = begin(&lists) ? s2u_cells_at(LIST(0), (uint64_t)cell, &first, &count) : S2U_MEMORY;
-  end(&lists);
+  add(lists, 0, xs, 0, 1);
+  int32_t status = begin(lists) ? s2u_cells_at(LIST(0), (uint64_t)cell, &first, &count) : S2U_MEMORY;
+  end(lists);
   jlong places[] = {(jlong)first, (jlong)count};
   (*env)->SetLongArrayRegion(env, out, 0, 2, places);
   return status;
@@ -263,87 +146,15 @@ CALL(jint, cellsAt)(JNIEnv* env, jclass of, jlongArray xs, jlong cell, jlongArra
 /* The leaves at points, each of which is three numbers. */
 CALL(jint, fromPoints)(JNIEnv* env, jclass of, jintArray points, jlongArray out, jlongArray bad) {
   (void)of;
-  passed lists = {.env = env};
+  passed given = {.env = env}, *lists = &given;
   size_t first = 0, count = (size_t)(*env)->GetArrayLength(env, points) / 3;
-  jint* given = (*env)->GetIntArrayElements(env, points, NULL);
-  if (given == NULL) return S2U_MEMORY;
-  add(&lists, out, 0, 1);
-  int32_t status = begin(&lists) ? s2u_from_points((const s2u_point*)given, count, LIST(0), &first) : S2U_MEMORY;
-  end(&lists);
-  (*env)->ReleaseIntArrayElements(env, points, given, JNI_ABORT);
+  jint* numbers = (*env)->GetIntArrayElements(env, points, NULL);
+  if (numbers == NULL) return S2U_MEMORY;
+  add(lists, OUT, out, 0, 0);
+  int32_t status = begin(lists) ? s2u_from_points((const s2u_point*)numbers, count, LIST(OUT), &first) : S2U_MEMORY;
+  end(lists);
+  (*env)->ReleaseIntArrayElements(env, points, numbers, JNI_ABORT);
   put(env, bad, first);
-  return status;
-}
-
-/* ---- bytes */
-
-static int32_t written(jint call, const passed* given, size_t* len) {
-  passed lists = *given;
-  switch (call) {
-    case ENCODE: return s2u_encode(LIST(0), BYTES(2), len);
-    case TOKENS: return s2u_tokens(LIST(0), TEXT(2), len);
-    case LEVELS: return s2u_levels(LIST(0), BYTES(2), len);
-    case TOKEN_FIELDS: return s2u_token_fields(LIST(0), TEXT(2), len);
-    case CONTAINS_CELLS: return s2u_contains_cells(LIST(0), LIST(1), BYTES(2), len);
-    case INTERSECTS_CELLS: return s2u_intersects_cells(LIST(0), LIST(1), BYTES(2), len);
-    case FILE_CONTAINS_CELLS: return s2u_file_contains_cells(BYTES(0), LIST(1), BYTES(2), len);
-    default: return S2U_ARGUMENT;
-  }
-}
-
-/* `xs` is the bytes of a file for the last of them, else a list. Questions of few cells end soon. */
-CALL(jint, write)(JNIEnv* env, jclass of, jint call, jarray xs, jlongArray ys, jbyteArray out, jlongArray length) {
-  (void)of;
-  passed lists = {.env = env, .ends_soon = call >= CONTAINS_CELLS && (*env)->GetArrayLength(env, ys) <= SHORT};
-  size_t len = 0;
-  add(&lists, xs, call == FILE_CONTAINS_CELLS, 0), add(&lists, ys, 0, 0), add(&lists, out, 1, 1);
-  int32_t status = begin(&lists) ? written(call, &lists, &len) : S2U_MEMORY;
-  return ended(&lists, status, length, len);
-}
-
-static int32_t read_from(jint call, const passed* given, size_t* len) {
-  passed lists = *given;
-  switch (call) {
-    case DECODE: return s2u_decode(BYTES(0), LIST(1), len);
-    case FILE_ANCESTORS: return s2u_file_ancestors(BYTES(0), LIST(1), len);
-    case FROM_TOKENS: return s2u_from_tokens(TEXT(0), LIST(1), len);
-    default: return S2U_ARGUMENT;
-  }
-}
-
-CALL(jint, read)(JNIEnv* env, jclass of, jint call, jbyteArray bytes, jlongArray out, jlongArray length) {
-  (void)of;
-  passed lists = {.env = env};
-  size_t len = 0;
-  add(&lists, bytes, 1, 0), add(&lists, out, 0, 1);
-  int32_t status = begin(&lists) ? read_from(call, &lists, &len) : S2U_MEMORY;
-  return ended(&lists, status, length, len);
-}
-
-static int32_t asked_of_file(jint call, const passed* given, uint64_t a, uint64_t* out) {
-  passed lists = *given;
-  switch (call) {
-    case FILE_CHECK: return s2u_file_check(BYTES(0));
-    case FILE_COUNT: return s2u_file_count(BYTES(0), out);
-    case FILE_LEAF_COUNT: return s2u_file_leaf_count(BYTES(0), out);
-    case FILE_CELL: return s2u_file_cell(BYTES(0), a, out);
-    case FILE_CONTAINS_CELL: return s2u_file_contains_cell(BYTES(0), a);
-    case FILE_INTERSECTS_CELL: return s2u_file_intersects_cell(BYTES(0), a);
-    case FILE_CONTAINS: return s2u_file_contains(BYTES(0), BYTES(1));
-    case FILE_INTERSECTS: return s2u_file_intersects(BYTES(0), BYTES(1));
-    default: return S2U_ARGUMENT;
-  }
-}
-
-/* The check and the count of leaves go through the whole file; the others end soon. `out` may be null. */
-CALL(jint, askFile)(JNIEnv* env, jclass of, jint call, jbyteArray xs, jbyteArray ys, jlong a, jlongArray out) {
-  (void)of;
-  passed lists = {.env = env, .ends_soon = call != FILE_CHECK && call != FILE_LEAF_COUNT};
-  uint64_t found = 0;
-  add(&lists, xs, 1, 0), add(&lists, ys, 1, 0);
-  int32_t status = begin(&lists) ? asked_of_file(call, &lists, (uint64_t)a, &found) : S2U_MEMORY;
-  end(&lists);
-  if (out != NULL) put(env, out, found);
   return status;
 }
 
@@ -361,10 +172,10 @@ CALL(jint, leavesAt)(JNIEnv* env, jclass of, jdoubleArray positions, jlongArray 
   jdouble* at = (*env)->GetDoubleArrayElements(env, positions, NULL);
   if (at == NULL) return S2U_MEMORY;
   jsize count = 0;
-  add(&lists, out, 0, 1);
+  add(&lists, OUT, out, 0, 0);
   int32_t status = begin(&lists) ? S2U_OK : S2U_MEMORY;
-  uint64_t* leaves = lists.at[0];
-  for (; status == S2U_OK && count < lists.length[0]; count++)
+  uint64_t* leaves = lists.at[OUT];
+  for (; status == S2U_OK && count < lists.length[OUT]; count++)
     if ((leaves[count] = s2u_geo_leaf(at[2 * count], at[2 * count + 1])) == 0) break;
   end(&lists);
   (*env)->ReleaseDoubleArrayElements(env, positions, at, JNI_ABORT);
@@ -462,6 +273,49 @@ CALL(jint, cover)(JNIEnv* env, jclass of, jint call, jint wanted, jarray given, 
   else if (it.given != NULL) (*env)->ReleaseDoubleArrayElements(env, given, it.given, JNI_ABORT);
   jlong place[] = {(jlong)it.fault.ring, (jlong)it.fault.position};
   if (status != S2U_OK && status != S2U_MEMORY) (*env)->SetLongArrayRegion(env, at, 0, 2, place);
+  return status;
+}
+
+/* ---- what is around cells */
+
+static int32_t around(jint call, const uint64_t* ids, size_t n, uint32_t level, s2u_cover_cells* cells) {
+  switch (call) {
+    case NEIGHBORS: return s2u_cover_neighbors(*ids, level, cells);
+    case EXPANDED: return s2u_cover_expanded(ids, n, level, cells);
+    case EDGE_NEIGHBORS: return cells->count = 4, s2u_geo_edge_neighbors(*ids, cells->ids);
+    case VERTEX_NEIGHBORS: return s2u_geo_vertex_neighbors(*ids, level, cells->ids, &cells->count);
+    default: return S2U_ARGUMENT;
+  }
+}
+
+/* The cells around a cell or a union, in `made`. The last two calls have room for four. */
+CALL(jint, around)(JNIEnv* env, jclass of, jint call, jlongArray cells, jint level, jobjectArray made) {
+  (void)of;
+  uint64_t four[4];
+  int is_of_four = call == EDGE_NEIGHBORS || call == VERTEX_NEIGHBORS;
+  s2u_cover_cells found = {is_of_four ? four : NULL, 0};
+  jlong* ids = (*env)->GetLongArrayElements(env, cells, NULL);
+  if (ids == NULL) return S2U_MEMORY;
+  int32_t status = around(call, (const uint64_t*)ids, (size_t)(*env)->GetArrayLength(env, cells), (uint32_t)level,
+                          &found);
+  (*env)->ReleaseLongArrayElements(env, cells, ids, JNI_ABORT);
+  jlongArray array = status == S2U_OK ? array_of(env, &found) : NULL;
+  if (array != NULL) (*env)->SetObjectArrayElement(env, made, 0, array);
+  else if (status == S2U_OK) status = S2U_MEMORY;
+  if (!is_of_four) s2u_cover_free(&found);
+  return status;
+}
+
+/* The west, south, east and north of a union; of no cell the south is more than the north. */
+CALL(jint, bounds)(JNIEnv* env, jclass of, jlongArray cells, jdoubleArray sides) {
+  (void)of;
+  s2u_cover_bounds box;
+  jlong* ids = (*env)->GetLongArrayElements(env, cells, NULL);
+  if (ids == NULL) return S2U_MEMORY;
+  int32_t status = s2u_cover_rect_bound((const uint64_t*)ids, (size_t)(*env)->GetArrayLength(env, cells), &box);
+  (*env)->ReleaseLongArrayElements(env, cells, ids, JNI_ABORT);
+  const jdouble numbers[] = {box.west, box.south, box.east, box.north};
+  (*env)->SetDoubleArrayRegion(env, sides, 0, 4, numbers);
   return status;
 }
 

@@ -13,7 +13,8 @@ import s2union.UnionFile;
 /** A public call of the package with its arguments, and the object that it is a method of, if it is one. */
 record EachCall(Method method, Object of, Object[] given) {
   private static final Map<String, Object[]> OWN = Map.of("denormalized", new Object[] {1, 1, Integer.MAX_VALUE},
-      "fromToken", new Object[] {"1"}, "fromDebugString", new Object[] {"0/2"});
+      "fromToken", new Object[] {"1"}, "fromDebugString", new Object[] {"0/2"}, "vertexNeighbors",
+      new Object[] {1L, 1});
 
   /** All of them, about a union of leaves: what an argument is follows from its type. */
   static List<EachCall> about(CellUnion union) {

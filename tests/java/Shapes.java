@@ -53,7 +53,11 @@ final class Shapes {
   }
 
   private static String shown(CellUnion union) {
-    return LongStream.of(union.cellIds()).mapToObj(Long::toHexString).collect(Collectors.joining(" "));
+    return shown(union.cellIds());
+  }
+
+  private static String shown(long... cells) {
+    return LongStream.of(cells).mapToObj(Long::toHexString).collect(Collectors.joining(" "));
   }
 
   private static byte[] bytes(String text) {
@@ -72,7 +76,7 @@ final class Shapes {
         .collect(Collectors.joining());
   }
 
-  /** A shape of rings; of polygons and lines together by WKB. */
+  /** A shape of rings and lines. */
   private static Shape shape(String text) {
     List<List<double[]>> polygons = new ArrayList<>();
     List<double[]> lines = new ArrayList<>();
@@ -88,7 +92,7 @@ final class Shapes {
     }
     if (polygons.isEmpty()) return lines(lines);
     double[][][] rings = polygons.stream().map(rows -> rows.toArray(double[][]::new)).toArray(double[][][]::new);
-    if (!lines.isEmpty()) return Shape.wkb(collection(rings, lines));
+    if (!lines.isEmpty()) return Shape.collection(rings, lines.toArray(double[][]::new));
     return rings.length == 1 ? Shape.polygon(rings[0]) : Shape.polygons(rings);
   }
 
@@ -96,24 +100,6 @@ final class Shapes {
     boolean arePoints = lines.stream().allMatch(line -> line.length == 2);
     return arePoints ? Shape.points(lines.stream().flatMapToDouble(Arrays::stream).toArray())
         : Shape.lines(lines.toArray(double[][]::new));
-  }
-
-  private static byte[] collection(double[][][] polygons, List<double[]> lines) {
-    ByteBuffer to = ByteBuffer.allocate(1 << 20);
-    to.put((byte) 0).putInt(7).putInt(polygons.length + lines.size());
-    for (double[][] rings : polygons) {
-      to.put((byte) 0).putInt(3).putInt(rings.length);
-      for (double[] ring : rings) put(to.putInt(ring.length / 2), ring);
-    }
-    for (double[] line : lines) {
-      to.put((byte) 0).putInt(line.length == 2 ? 1 : 2);
-      put(line.length == 2 ? to : to.putInt(line.length / 2), line);
-    }
-    return Arrays.copyOf(to.array(), to.position());
-  }
-
-  private static void put(ByteBuffer to, double[] numbers) {
-    for (double number : numbers) to.putDouble(number);
   }
 
   private static Shape shape(String call, String text) {
@@ -171,11 +157,18 @@ final class Shapes {
   /** The answer to a question, of which the last fields are the answers that are wanted. */
   private static String answer(String[] fields) {
     double[] place = fields[0].equals("leaf") ? numbers(fields[1]) : null;
+    long cell = fields[0].matches("middle|.*neighbors") ? Long.parseUnsignedLong(fields[1], 16) : 0;
+    int level = fields[0].matches("neighbors|vertex_neighbors|expanded") ? Integer.parseInt(fields[2]) : 0;
     switch (fields[0]) {
       case "leaf": return answered(() -> Long.toHexString(CellId.fromPosition(place[0], place[1])));
-      case "middle":
-        long cell = Long.parseUnsignedLong(fields[1], 16);
-        return shown(CellId.longitude(cell), CellId.latitude(cell));
+      case "middle": return shown(CellId.longitude(cell), CellId.latitude(cell));
+      case "neighbors": return answered(() -> shown(CellId.neighbors(cell, level)));
+      case "edge_neighbors": return shown(CellId.edgeNeighbors(cell));
+      case "vertex_neighbors": return answered(() -> shown(CellId.vertexNeighbors(cell, level)));
+      case "expanded": return answered(() -> shown(union(fields[1]).expanded(level)));
+      case "bounds":
+        double[] sides = union(fields[1]).bounds();
+        return sides.length == 0 ? "none" : shown(sides);
       case "outline": return shown(union(fields[1]).outline());
       case "boundary":
         return Arrays.stream(union(fields[1]).boundary()).map(line -> "-:" + shown(line))
@@ -194,13 +187,13 @@ final class Shapes {
     Set<String> calls = new HashSet<>();
     for (String line : Files.readAllLines(path)) {
       String[] fields = line.split("\t", -1);
-      int given = fields[0].matches("leaf|middle|outline|boundary") ? 2 : 3;
+      int given = fields[0].matches("leaf|middle|outline|boundary|edge_neighbors|bounds") ? 2 : 3;
       String wanted = String.join("\t", Arrays.copyOfRange(fields, given, fields.length));
       String found = answer(fields);
       check(found.equals(wanted), String.format("%.200s is %.200s, not %.200s", line, found, wanted));
       calls.add(fields[0]);
     }
-    check(calls.size() == 9, "nine calls are asked: " + calls);
+    check(calls.size() == 14, "14 calls are asked: " + calls);
   }
 
   // ---- what the questions don't ask
@@ -228,6 +221,14 @@ final class Shapes {
     for (Runnable odd : List.<Runnable>of(() -> Shape.polygon(SQUARE, new double[3]), () -> Shape.points(1, 2, 3),
         () -> Shape.lines(SQUARE, new double[1]), () -> Shape.polygons(new double[][] {SQUARE, new double[9]}))) {
       refused(Refusal.Kind.ARGUMENT, 0, 1, "argument out of range", odd);
+    }
+    for (Runnable none : List.<Runnable>of(() -> CellId.neighbors(2, 30), () -> CellId.edgeNeighbors(0),
+        () -> CellId.vertexNeighbors(-1, 0))) {
+      refused(Refusal.Kind.NO_CELL, 0, 0, "not a cell", none);
+    }
+    for (Runnable wrong : List.<Runnable>of(() -> CellId.neighbors(1, -1), () -> CellId.vertexNeighbors(1, -1),
+        () -> CellUnion.of(1).expanded(-1))) {
+      refused(Refusal.Kind.ARGUMENT, 0, 0, "argument out of range", wrong);
     }
     String option = "a number of cells, a level, a number of meters or a kind of edges is out of range";
     for (RegionCoverer wrong : List.of(usual.maxCells(-1), usual.maxCells(Integer.MAX_VALUE), usual.minLevel(-1),

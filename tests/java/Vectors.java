@@ -9,7 +9,9 @@ import java.util.Locale;
 import java.util.Map;
 import java.util.Set;
 import java.util.function.Function;
+import java.util.regex.Pattern;
 import java.util.stream.Collectors;
+import java.util.stream.IntStream;
 import java.util.stream.LongStream;
 import java.util.stream.Stream;
 import s2union.CellId;
@@ -171,10 +173,6 @@ final class Vectors {
 
   private static void unions() {
     QUESTIONS.put("union", g -> same(shown(g.union(0).union(g.union(1))), shown(united(g))));
-    QUESTIONS.put("intersection", g -> shown(g.union(0).intersection(g.union(1))));
-    QUESTIONS.put("difference", g -> shown(g.union(0).difference(g.union(1))));
-    QUESTIONS.put("symmetric_difference", g -> shown(g.union(0).symmetricDifference(g.union(1))));
-    QUESTIONS.put("complement", g -> shown(g.union(0).complement()));
     QUESTIONS.put("union_contains",
         g -> same(shown(g.union(0).contains(g.union(1))), shown(g.file(0).contains(g.file(1)))));
     QUESTIONS.put("union_intersects",
@@ -232,6 +230,19 @@ final class Vectors {
     });
   }
 
+  /** Another question has the name of a method of unions, which takes unions. */
+  private static String byName(String call, Given g) {
+    String name = Pattern.compile("_(.)").matcher(call).replaceAll(found -> found.group(1).toUpperCase(Locale.ROOT));
+    CellUnion[] others = IntStream.range(1, g.texts.length).mapToObj(g::union).toArray(CellUnion[]::new);
+    Class<?>[] kinds = new Class<?>[others.length];
+    Arrays.fill(kinds, CellUnion.class);
+    try {
+      return shown((CellUnion) CellUnion.class.getMethod(name, kinds).invoke(g.union(0), (Object[]) others));
+    } catch (ReflectiveOperationException error) {
+      throw new AssertionError(call, error);
+    }
+  }
+
   /** The answer; a refusal has its place if the wanted one has. */
   private static String answer(Function<Given, String> question, String[] texts, String wanted) {
     try {
@@ -252,7 +263,8 @@ final class Vectors {
     for (String line : Files.readAllLines(Path.of(words[0]))) {
       String[] fields = line.split("\t", -1);
       String wanted = fields[fields.length - 1];
-      String found = answer(QUESTIONS.get(fields[0]), Arrays.copyOfRange(fields, 1, fields.length - 1), wanted);
+      Function<Given, String> question = QUESTIONS.getOrDefault(fields[0], g -> byName(fields[0], g));
+      String found = answer(question, Arrays.copyOfRange(fields, 1, fields.length - 1), wanted);
       never.remove(fields[0]);
       if (found.equals(wanted)) {
         passed++;

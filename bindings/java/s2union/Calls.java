@@ -4,11 +4,13 @@ import java.io.File;
 import java.io.IOException;
 import java.io.InputStream;
 import java.io.OutputStream;
+import java.lang.reflect.Array;
 import java.nio.file.DirectoryStream;
 import java.nio.file.Files;
 import java.nio.file.Path;
 import java.nio.file.StandardOpenOption;
 import java.util.Arrays;
+import java.util.function.IntFunction;
 
 /** The calls of s2union.h, by their numbers in s2union.c, and what their statuses mean. */
 final class Calls {
@@ -17,22 +19,19 @@ final class Calls {
 
   // made by tools/calls, of s2union.h and of the cases of s2union.c
   static final int ROOM = -1, MEMORY = -2, MOST_TOKEN = 16, MOST_DEBUG = 32;
-  static final int VERSION = 0, CHILD = 1, NEXT = 2, PREV = 3, COMMON_ANCESTOR = 4;
-  static final int TOKEN = 5, DEBUG = 6;
-  static final int FROM_TOKEN = 7, FROM_DEBUG = 8;
-  static final int IS_UNION = 9, LEAF_COUNT = 10, CONTAINS_CELL = 11, INTERSECTS_CELL = 12, CONTAINS = 13,
-      INTERSECTS = 14, COMPARE = 15;
-  static final int UNION = 16, INTERSECTION = 17, DIFFERENCE = 18, NORMALISE = 19, RANGE = 20,
-      DENORMALISED = 21, ANCESTORS = 22, OUTER = 23, INNER = 24, OUTER_OF = 25, INNER_OF = 26,
-      OUTER_IN = 27, INNER_IN = 28, PARENTS = 29, RANGE_MINS = 30, RANGE_MAXES = 31,
-      SYMMETRIC_DIFFERENCE = 32, COMPLEMENT = 33, UNION_OF_MANY = 34;
-  static final int ENCODE = 35, TOKENS = 36, LEVELS = 37, TOKEN_FIELDS = 38, CONTAINS_CELLS = 39,
-      INTERSECTS_CELLS = 40, FILE_CONTAINS_CELLS = 41;
-  static final int DECODE = 42, FILE_ANCESTORS = 43, FROM_TOKENS = 44;
-  static final int FILE_CHECK = 45, FILE_COUNT = 46, FILE_LEAF_COUNT = 47, FILE_CELL = 48,
-      FILE_CONTAINS_CELL = 49, FILE_INTERSECTS_CELL = 50, FILE_CONTAINS = 51, FILE_INTERSECTS = 52;
-  static final int COVER = 53, COVER_WKB = 54, COVER_CIRCLE = 55, COVER_BOX = 56;
-  static final int OUTLINE = 57, BOUNDARY = 58;
+  static final int ANCESTORS = 0, CHILD = 1, COMMON_ANCESTOR = 2, COMPARE = 3, COMPLEMENT = 4,
+      CONTAINS = 5, CONTAINS_CELL = 6, CONTAINS_CELLS = 7, DEBUG = 8, DECODE = 9, DENORMALISED = 10,
+      DENORMALISED_LEN = 11, DIFFERENCE = 12, ENCODE = 13, FILE_ANCESTORS = 14, FILE_CELL = 15,
+      FILE_CHECK = 16, FILE_CONTAINS = 17, FILE_CONTAINS_CELL = 18, FILE_CONTAINS_CELLS = 19,
+      FILE_COUNT = 20, FILE_INTERSECTS = 21, FILE_INTERSECTS_CELL = 22, FILE_LEAF_COUNT = 23,
+      FROM_DEBUG = 24, FROM_TOKEN = 25, FROM_TOKENS = 26, INNER = 27, INNER_IN = 28, INNER_OF = 29,
+      INTERSECTION = 30, INTERSECTS = 31, INTERSECTS_CELL = 32, INTERSECTS_CELLS = 33, IS_UNION = 34,
+      LEAF_COUNT = 35, LEVELS = 36, NEXT = 37, NORMALISE = 38, OUTER = 39, OUTER_IN = 40, OUTER_OF = 41,
+      PARENTS = 42, PREV = 43, RANGE = 44, RANGE_MAXES = 45, RANGE_MINS = 46, SYMMETRIC_DIFFERENCE = 47,
+      TOKEN = 48, TOKEN_FIELDS = 49, TOKENS = 50, UNION = 51, UNION_OF_MANY = 52, VERSION = 53;
+  static final int COVER = 54, COVER_WKB = 55, COVER_CIRCLE = 56, COVER_BOX = 57;
+  static final int NEIGHBORS = 58, EXPANDED = 59, EDGE_NEIGHBORS = 60, VERTEX_NEIGHBORS = 61;
+  static final int OUTLINE = 62, BOUNDARY = 63;
   /** The room that what a call makes is first given, by the lengths of its lists. */
   private static long roomOf(int call, long n, long m) {
     switch (call) {
@@ -117,31 +116,19 @@ final class Calls {
     }
   }
 
-  static native long number(int call, long a, long b);
+  /**
+   * The answer of a call about two lists, each a long[] or a byte[], numbers and a rectangle. The list that it makes is
+   * put to `out`, and the number that it writes to `found`. Each may be null.
+   */
+  private static native long call(int call, Object xs, Object ys, Object out, long a, long b, int[] rect, long[] found);
 
   static native long leafAt(int face, int i, int j);
 
   static native int square(long id, long[] out);
 
-  static native int text(int call, long id, byte[] out);
-
-  static native int named(int call, byte[] text, long[] out);
-
-  static native long ask(int call, long[] xs, long[] ys, long cell);
-
-  static native int make(int call, long[] xs, long[] ys, int[] numbers, long[] out, long[] length);
-
-  static native int denormalisedLength(long[] xs, int min, int modulus, long[] length);
-
   static native int cellsAt(long[] xs, long cell, long[] out);
 
   static native int fromPoints(int[] points, long[] out, long[] bad);
-
-  static native int write(int call, Object xs, long[] ys, byte[] out, long[] length);
-
-  static native int read(int call, byte[] bytes, long[] out, long[] length);
-
-  static native int askFile(int call, byte[] xs, byte[] ys, long a, long[] out);
 
   static native long leafAtPosition(double longitude, double latitude);
 
@@ -156,6 +143,10 @@ final class Calls {
 
   static native int draw(int call, long[] cells, Object[] made);
 
+  static native int around(int call, long[] cells, int level, long[][] made);
+
+  static native int bounds(long[] cells, double[] sides);
+
   /** The status of a call, which is refused if it is negative. */
   static int checked(int status, long place) {
     if (status == MEMORY) throw new OutOfMemoryError("s2union: out of memory");
@@ -163,89 +154,102 @@ final class Calls {
     return status;
   }
 
+  /** The number that a call answers of numbers. */
+  static long number(int call, long a, long b) {
+    return call(call, null, null, null, a, b, null, null);
+  }
+
   /** The answer of a question of lists, yes or no. */
-  static boolean asks(int call, long[] xs, long[] ys, long cell) {
-    return checked((int) ask(call, xs, ys, cell), 0) == 1;
+  static boolean asks(int call, Object xs, Object ys, long cell) {
+    return checked((int) call(call, xs, ys, null, cell, 0, null, null), 0) == 1;
   }
 
   /** The number that a question of lists answers, which is above MEMORY. */
-  static long numberOf(int call, long[] xs, long[] ys) {
-    long answer = ask(call, xs, ys, 0);
+  static long numberOf(int call, Object xs, Object ys) {
+    long answer = call(call, xs, ys, null, 0, 0, null, null);
     if (answer == MEMORY) checked(MEMORY, 0);
     return answer;
   }
 
-  /** The list that a call makes of lists and numbers. */
-  static long[] made(int call, long[] xs, long[] ys, int... numbers) {
-    return madeIn(roomOf(call, xs.length, ys.length), call, xs, ys, numbers);
+  /** The number that a call of a list and numbers writes. */
+  static long found(int call, Object xs, long a, long b) {
+    long[] found = new long[1];
+    checked((int) call(call, xs, null, null, a, b, null, found), 0);
+    return found[0];
   }
 
-  /** The same in some room; it is called once more if that was too little. */
-  static long[] madeIn(long room, int call, long[] xs, long[] ys, int... numbers) {
+  private static int lengthOf(Object list) {
+    return list == null ? 0 : Array.getLength(list);
+  }
+
+  /** The list that a call makes of lists, numbers and a rectangle. */
+  static long[] made(int call, Object xs, Object ys, long a, long b, int[] rect) {
+    return madeIn(roomOf(call, lengthOf(xs), lengthOf(ys)), call, xs, ys, a, b, rect);
+  }
+
+  static long[] made(int call, Object xs, Object ys) {
+    return made(call, xs, ys, 0, 0, null);
+  }
+
+  /** The same in some room. */
+  static long[] madeIn(long room, int call, Object xs, Object ys, long a, long b, int[] rect) {
+    return (long[]) put(room, long[]::new, call, xs, ys, a, b, rect);
+  }
+
+  /** The bytes that a call writes of a list or a cell, in some room. */
+  static byte[] written(long room, int call, Object xs, long cell) {
+    return (byte[]) put(room, byte[]::new, call, xs, null, cell, 0, null);
+  }
+
+  static byte[] written(int call, long[] xs) {
+    return written(roomOf(call, xs.length, 0), call, xs, 0);
+  }
+
+  /** What a call makes, in an array with some room; it is called once more if that was too little. */
+  private static Object put(
+      long room, IntFunction<Object> array, int call, Object xs, Object ys, long a, long b, int[] rect) {
     long[] length = new long[1];
     for (long next = room; ; next = length[0]) {
-      long[] out = new long[lengthOf(next)];
-      int status = make(call, xs, ys, numbers, out, length);
+      Object out = array.apply(lengthOf(next));
+      int status = (int) call(call, xs, ys, out, a, b, rect, length);
       if (status == ROOM) continue;
       checked(status, length[0]);
-      return length[0] == out.length ? out : Arrays.copyOf(out, (int) length[0]);
+      if (length[0] == lengthOf(out)) return out;
+      Object copy = array.apply((int) length[0]);
+      System.arraycopy(out, 0, copy, 0, (int) length[0]);
+      return copy;
     }
   }
 
   /** The entries that a call makes, one for each number; the first that has none is refused at its place. */
-  static long[] entries(int call, long[] cells, int... numbers) {
+  static long[] entries(int call, long[] cells, long number) {
     long[] out = new long[cells.length];
-    long[] bad = new long[1];
-    whole(make(call, cells, NONE, numbers, out, bad), cells, bad[0]);
+    putEach(call, cells, number, out);
     return out;
+  }
+
+  static byte[] bytesOfEach(int call, long[] cells, int each) {
+    byte[] out = new byte[lengthOf((long) each * cells.length)];
+    putEach(call, cells, 0, out);
+    return out;
+  }
+
+  private static void putEach(int call, long[] cells, long number, Object out) {
+    long[] bad = new long[1];
+    int status = (int) call(call, cells, null, out, number, 0, null, bad);
+    if (status == MEMORY) checked(status, bad[0]);
+    if (bad[0] >= cells.length) return;
+    throw new Refusal(CellId.isCell(cells[(int) bad[0]]) ? Refusal.ARGUMENT : Refusal.NO_CELL, bad[0]);
   }
 
   /** The answers about many cells of a list, or of the bytes of a file. */
   static boolean[] asksEach(int call, Object of, long[] cells) {
     byte[] marks = new byte[cells.length];
     long[] bad = new long[1];
-    int status = write(call, of, cells, marks, bad);
-    checked(status, bad[0]);
+    checked((int) call(call, of, cells, marks, 0, 0, null, bad), bad[0]);
     boolean[] answers = new boolean[cells.length];
     for (int k = 0; k < answers.length; k++) answers[k] = marks[k] == 1;
     return answers;
-  }
-
-  static byte[] bytesOfEach(int call, long[] cells, int each) {
-    byte[] out = new byte[lengthOf((long) each * cells.length)];
-    long[] bad = new long[1];
-    whole(write(call, cells, NONE, out, bad), cells, bad[0]);
-    return out;
-  }
-
-  private static void whole(int status, long[] cells, long bad) {
-    if (status == MEMORY) checked(status, bad);
-    if (bad >= cells.length) return;
-    throw new Refusal(CellId.isCell(cells[(int) bad]) ? Refusal.ARGUMENT : Refusal.NO_CELL, bad);
-  }
-
-  /** The bytes that a call writes. */
-  static byte[] written(int call, long[] xs) {
-    long[] length = new long[1];
-    for (long next = roomOf(call, xs.length, 0); ; next = length[0]) {
-      byte[] out = new byte[lengthOf(next)];
-      int status = write(call, xs, NONE, out, length);
-      if (status == ROOM) continue;
-      checked(status, length[0]);
-      return length[0] == out.length ? out : Arrays.copyOf(out, (int) length[0]);
-    }
-  }
-
-  /** The list that a call reads from bytes. */
-  static long[] read(int call, byte[] bytes) {
-    long[] length = new long[1];
-    for (long next = roomOf(call, bytes.length, 0); ; next = length[0]) {
-      long[] out = new long[lengthOf(next)];
-      int status = read(call, bytes, out, length);
-      if (status == ROOM) continue;
-      checked(status, length[0]);
-      return length[0] == out.length ? out : Arrays.copyOf(out, (int) length[0]);
-    }
   }
 
   /** The rings that a call draws of cells, those of each polygon in turn. */
@@ -265,6 +269,13 @@ final class Calls {
       }
     }
     return polygons;
+  }
+
+  /** The cells of a level that a call finds around others. */
+  static long[] around(int call, int level, long... cells) {
+    long[][] made = new long[1][];
+    checked(around(call, cells, level, made), 0);
+    return made[0];
   }
 
   /** The length of an array, if Java has arrays of that length. */

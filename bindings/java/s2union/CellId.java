@@ -378,14 +378,11 @@ public final class CellId {
   }
 
   private static String text(int call, long id) {
-    byte[] text = new byte[Calls.MOST_DEBUG];
-    return new String(text, 0, Calls.checked(Calls.text(call, id, text), 0), StandardCharsets.US_ASCII);
+    return new String(Calls.written(Calls.MOST_DEBUG, call, null, id), StandardCharsets.US_ASCII);
   }
 
   private static long named(int call, String text) {
-    long[] id = new long[1];
-    Calls.checked(Calls.named(call, text.getBytes(StandardCharsets.UTF_8), id), 0);
-    return id[0];
+    return Calls.found(call, text.getBytes(StandardCharsets.UTF_8), 0, 0);
   }
 
   // Many cells in one call.
@@ -440,7 +437,7 @@ public final class CellId {
    * @since 1.1
    */
   public static long[] rangeMins(long... cells) {
-    return Calls.entries(Calls.RANGE_MINS, cells);
+    return Calls.entries(Calls.RANGE_MINS, cells, 0);
   }
 
   /**
@@ -457,7 +454,7 @@ public final class CellId {
    * @since 1.1
    */
   public static long[] rangeMaxes(long... cells) {
-    return Calls.entries(Calls.RANGE_MAXES, cells);
+    return Calls.entries(Calls.RANGE_MAXES, cells, 0);
   }
 
   /**
@@ -567,6 +564,61 @@ public final class CellId {
   }
 
   /**
+   * The cells of a level that touch a cell, at an edge or a corner, each once.
+   * S2: {@code S2CellId::AppendAllNeighbors}.
+   *
+   * <pre>{@code
+   * CellId.neighbors(CellId.fromToken("89c25"), 8) // 89c21 89c23 89c27 89c29 89c2f 89c31 89c3b 89c3d
+   * }</pre>
+   *
+   * @param id a cell
+   * @param level its own level or a deeper one
+   * @return a union: of its own level eight cells, seven at a corner of the cube, and four of a face
+   * @throws Refusal {@link Refusal.Kind#NO_CELL} if the number is no cell, {@link Refusal.Kind#ARGUMENT} if the level
+   *     is above that of the cell or beyond 30, or {@link Refusal.Kind#MANY} if there are more than 1,000,000
+   * @since 1.5
+   */
+  public static CellUnion neighbors(long id, int level) {
+    return CellUnion.holding(Calls.around(Calls.NEIGHBORS, level, id));
+  }
+
+  /**
+   * The four cells of a cell's level that share an edge with it.
+   * S2: {@code S2CellId::GetEdgeNeighbors}.
+   *
+   * <pre>{@code
+   * CellId.toToken(CellId.edgeNeighbors(CellId.fromToken("1"))[0]) // b
+   * }</pre>
+   *
+   * @param id a cell
+   * @return the one below it on its face, and then counterclockwise
+   * @throws Refusal {@link Refusal.Kind#NO_CELL} if the number is no cell
+   * @since 1.5
+   */
+  public static long[] edgeNeighbors(long id) {
+    return Calls.around(Calls.EDGE_NEIGHBORS, 0, id);
+  }
+
+  /**
+   * The cells of a level around the corner that is nearest to a cell, of those of its ancestor there.
+   * S2: {@code S2CellId::AppendVertexNeighbors}.
+   *
+   * <pre>{@code
+   * String.join(" ", CellId.toTokens(CellId.vertexNeighbors(CellId.fromToken("89c25"), 3))) // 89c 4cc 884 4d4
+   * }</pre>
+   *
+   * @param id a cell
+   * @param level 0 to its own less 1
+   * @return four cells, or three at a corner of the cube; the first has the cell
+   * @throws Refusal {@link Refusal.Kind#NO_CELL} if the number is no cell, or {@link Refusal.Kind#ARGUMENT} if the
+   *     level is not above that of the cell
+   * @since 1.5
+   */
+  public static long[] vertexNeighbors(long id, int level) {
+    return Calls.around(Calls.VERTEX_NEIGHBORS, level, id);
+  }
+
+  /**
    * The token of each cell, in one call.
    * S2: {@code S2CellId::ToToken}.
    *
@@ -607,6 +659,6 @@ public final class CellId {
    */
   public static long[] fromTokens(String text) {
     byte[] bytes = text.getBytes(StandardCharsets.UTF_8);
-    return Calls.read(Calls.FROM_TOKENS, bytes);
+    return Calls.made(Calls.FROM_TOKENS, bytes, null);
   }
 }

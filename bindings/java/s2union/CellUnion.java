@@ -36,7 +36,7 @@ public final class CellUnion implements Comparable<CellUnion> {
    * @since 1.1
    */
   public static CellUnion of(long... cells) {
-    return new CellUnion(Calls.madeIn(cells.length, Calls.NORMALISE, cells, Calls.NONE));
+    return new CellUnion(Calls.madeIn(cells.length, Calls.NORMALISE, cells, null, 0, 0, null));
   }
 
   /**
@@ -92,7 +92,7 @@ public final class CellUnion implements Comparable<CellUnion> {
     long[] ids = lists.stream().flatMapToLong(Arrays::stream).toArray();
     long[] ends = lists.stream().mapToLong(list -> list.length).toArray();
     Arrays.parallelPrefix(ends, Long::sum);
-    return new CellUnion(Calls.madeIn(3L * ids.length, Calls.UNION_OF_MANY, ids, ends));
+    return new CellUnion(Calls.madeIn(3L * ids.length, Calls.UNION_OF_MANY, ids, ends, 0, 0, null));
   }
 
   /**
@@ -113,7 +113,7 @@ public final class CellUnion implements Comparable<CellUnion> {
   public static CellUnion fromRange(long first, long last) {
     CellId.checked(first);
     CellId.checked(last);
-    return new CellUnion(Calls.made(Calls.RANGE, new long[] {first}, new long[] {last}));
+    return new CellUnion(Calls.made(Calls.RANGE, null, null, first, last, null));
   }
 
   /**
@@ -150,7 +150,7 @@ public final class CellUnion implements Comparable<CellUnion> {
    * @since 1.1
    */
   public static CellUnion decode(byte[] bytes) {
-    return new CellUnion(Calls.read(Calls.DECODE, bytes));
+    return new CellUnion(Calls.made(Calls.DECODE, bytes, null));
   }
 
   /**
@@ -198,11 +198,7 @@ public final class CellUnion implements Comparable<CellUnion> {
   }
 
   private static CellUnion covering(int call, long[] ids, int level, int... rectangle) {
-    int[] numbers = new int[2 + rectangle.length];
-    numbers[0] = level;
-    numbers[1] = MOST_COVERING;
-    System.arraycopy(rectangle, 0, numbers, 2, rectangle.length);
-    return new CellUnion(Calls.made(call, ids, Calls.NONE, numbers));
+    return new CellUnion(Calls.made(call, ids, null, level, MOST_COVERING, rectangle));
   }
 
   /**
@@ -490,7 +486,7 @@ public final class CellUnion implements Comparable<CellUnion> {
    * @since 1.1
    */
   public CellUnion complement() {
-    return new CellUnion(Calls.made(Calls.COMPLEMENT, ids, Calls.NONE));
+    return new CellUnion(Calls.made(Calls.COMPLEMENT, ids, null));
   }
 
   /**
@@ -528,7 +524,7 @@ public final class CellUnion implements Comparable<CellUnion> {
    * @since 1.1
    */
   public CellUnion outer(int level) {
-    return new CellUnion(Calls.made(Calls.OUTER_OF, ids, Calls.NONE, level, MOST_COVERING));
+    return new CellUnion(Calls.made(Calls.OUTER_OF, ids, null, level, MOST_COVERING, null));
   }
 
   /**
@@ -545,7 +541,7 @@ public final class CellUnion implements Comparable<CellUnion> {
    * @since 1.1
    */
   public CellUnion inner(int level) {
-    return new CellUnion(Calls.made(Calls.INNER_OF, ids, Calls.NONE, level, MOST_COVERING));
+    return new CellUnion(Calls.made(Calls.INNER_OF, ids, null, level, MOST_COVERING, null));
   }
 
   /**
@@ -604,7 +600,7 @@ public final class CellUnion implements Comparable<CellUnion> {
    * @since 1.1
    */
   public long[] ancestors() {
-    return Calls.made(Calls.ANCESTORS, ids, Calls.NONE);
+    return Calls.made(Calls.ANCESTORS, ids, null);
   }
 
   /**
@@ -627,7 +623,7 @@ public final class CellUnion implements Comparable<CellUnion> {
   public long[] denormalized(int min, int modulus, int most) {
     long count = denormalizedSize(min, modulus);
     if (Long.compareUnsigned(count, Math.max(most, 0)) > 0) throw new Refusal(Refusal.MANY, 0);
-    return Calls.madeIn(count, Calls.DENORMALISED, ids, Calls.NONE, min, modulus);
+    return Calls.madeIn(count, Calls.DENORMALISED, ids, null, min, modulus, null);
   }
 
   /**
@@ -645,9 +641,7 @@ public final class CellUnion implements Comparable<CellUnion> {
    * @since 1.1
    */
   public long denormalizedSize(int min, int modulus) {
-    long[] length = new long[1];
-    Calls.checked(Calls.denormalisedLength(ids, min, modulus, length), 0);
-    return length[0];
+    return Calls.found(Calls.DENORMALISED_LEN, ids, min, modulus);
   }
 
   /**
@@ -680,6 +674,43 @@ public final class CellUnion implements Comparable<CellUnion> {
    */
   public double[][] boundary() {
     return Calls.drawn(Calls.BOUNDARY, ids)[0];
+  }
+
+  /**
+   * With each cell of a level that touches one of its cells. Of its cells that are deeper than the level, those of the
+   * level that have them are taken.
+   * S2: {@code S2CellUnion::Expand}.
+   *
+   * <pre>{@code
+   * CellUnion.fromTokens("89c25").expanded(8) // 89c24 89c29 89c2f 89c31 89c3b 89c3d
+   * }</pre>
+   *
+   * @param level 0 to 30
+   * @return the union
+   * @throws Refusal {@link Refusal.Kind#ARGUMENT} if the level is out of range, or {@link Refusal.Kind#MANY} if there
+   *     are more than 4,000,000 cells around it, and nine for each of its own
+   * @since 1.5
+   */
+  public CellUnion expanded(int level) {
+    return holding(Calls.around(Calls.EXPANDED, level, ids));
+  }
+
+  /**
+   * The box of degrees in which it lies: at most 1e-13 degrees wider on each side than the narrowest one.
+   * S2: {@code S2CellUnion::GetRectBound}.
+   *
+   * <pre>{@code
+   * Math.round(CellUnion.fromTokens("7").bounds()[0]) // 135
+   * }</pre>
+   *
+   * @return the west, south, east and north. It goes over the date line if the east is less than the west; with a pole,
+   *     or where there is no gap, it has all longitudes, from -180 to 180. Without cells nothing: an array of length 0
+   * @since 1.5
+   */
+  public double[] bounds() {
+    double[] sides = new double[4];
+    Calls.checked(Calls.bounds(ids, sides), 0);
+    return sides[1] <= sides[3] ? sides : new double[0];
   }
 
   /** The union of cells that a call has made, which become its own. */

@@ -1,6 +1,8 @@
 package s2union;
 
 import java.util.Arrays;
+import java.util.stream.LongStream;
+import java.util.stream.Stream;
 
 /**
  * What a {@link RegionCoverer} covers: polygons, lines, points, a circle or a box, in degrees. The longitude comes
@@ -72,13 +74,7 @@ public final class Shape {
    * @since 1.4
    */
   public static Shape polygons(double[][]... polygons) {
-    double[][] rings = Arrays.stream(polygons).flatMap(Arrays::stream).toArray(double[][]::new);
-    long[] owners = new long[rings.length];
-    int ring = 0;
-    for (int number = 0; number < polygons.length; number++) {
-      for (int k = 0; k < polygons[number].length; k++) owners[ring++] = number;
-    }
-    return of(rings, owners);
+    return collection(polygons, new double[0][]);
   }
 
   /**
@@ -94,9 +90,30 @@ public final class Shape {
    * @since 1.4
    */
   public static Shape lines(double[]... lines) {
-    long[] owners = new long[lines.length];
-    Arrays.fill(owners, LINE);
-    return of(lines, owners);
+    return collection(new double[0][][], lines);
+  }
+
+  /**
+   * Polygons and lines together.
+   *
+   * <pre>{@code
+   * new RegionCoverer()
+   *     .covering(Shape.collection(CellUnion.fromTokens("04").outline(), new double[][] {{1, 1, 2, 2}}))
+   *     .contains(CellId.fromPosition(1, 1)) // true
+   * }</pre>
+   *
+   * @param polygons the rings of each polygon, as {@code polygon} takes them
+   * @param lines lines of positions, as {@code lines} takes them
+   * @return the shape
+   * @throws Refusal {@link Refusal.Kind#ARGUMENT} if a latitude is missing; the place is that of the ring or line
+   * @since 1.5
+   */
+  public static Shape collection(double[][][] polygons, double[][] lines) {
+    Stream<double[]> rings = Arrays.stream(polygons).flatMap(Arrays::stream);
+    LongStream owners = LongStream.range(0, polygons.length)
+        .flatMap(number -> Arrays.stream(polygons[(int) number]).mapToLong(ring -> number));
+    return of(Stream.concat(rings, Arrays.stream(lines)).toArray(double[][]::new),
+        LongStream.concat(owners, Arrays.stream(lines).mapToLong(line -> LINE)).toArray());
   }
 
   /**

@@ -44,17 +44,15 @@ public final class UnionFile {
    * @since 1.1
    */
   public static boolean check(byte[] bytes) {
-    return Calls.checked(Calls.askFile(Calls.FILE_CHECK, bytes, null, 0, null), 0) == 1;
+    return Calls.asks(Calls.FILE_CHECK, bytes, null, 0);
   }
 
   private long number(int call, long a) {
-    long[] found = new long[1];
-    Calls.checked(Calls.askFile(call, bytes, null, a, found), 0);
-    return found[0];
+    return Calls.found(call, bytes, a, 0);
   }
 
   private boolean asks(int call, byte[] others, long cell) {
-    return Calls.checked(Calls.askFile(call, bytes, others, cell, null), 0) == 1;
+    return Calls.asks(call, bytes, others, cell);
   }
 
   /**
@@ -200,7 +198,7 @@ public final class UnionFile {
    * @since 1.1
    */
   public long[] ancestors() {
-    return Calls.read(Calls.FILE_ANCESTORS, bytes);
+    return Calls.made(Calls.FILE_ANCESTORS, bytes, null);
   }
 
   /**

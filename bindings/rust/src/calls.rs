@@ -50,6 +50,41 @@ pub mod rooms {
     pub fn from_tokens(n: usize) -> usize { n / 2 + 1 }
 }
 
+/// The calls that make a list, with the room that it is first given: `$define!` takes them.
+macro_rules! makers {
+    ($define:ident) => {
+        $define! {
+            ancestors(ids: &[u64]) -> [u64] in rooms::ancestors(ids.len());
+            complement(ids: &[u64]) -> [u64] in rooms::complement(ids.len());
+            decode(bytes: &[u8]) -> [u64] in rooms::decode(bytes.len());
+            difference(xs: &[u64], ys: &[u64]) -> [u64] in rooms::difference(xs.len(), ys.len());
+            encode(ids: &[u64]) -> [u8] in rooms::encode(ids.len());
+            file_ancestors(bytes: &[u8]) -> [u64] in rooms::file_ancestors(bytes.len());
+            from_tokens(text: &[u8]) -> [u64] in rooms::from_tokens(text.len());
+            inner(bounds: &Rect, level: u32, most: usize) -> [u64] in rooms::inner();
+            inner_in(ids: &[u64], bounds: &Rect, level: u32, most: usize) -> [u64] in rooms::inner_in();
+            inner_of(ids: &[u64], level: u32, most: usize) -> [u64] in rooms::inner_of(ids.len());
+            intersection(xs: &[u64], ys: &[u64]) -> [u64] in rooms::intersection(xs.len(), ys.len());
+            outer(bounds: &Rect, level: u32, most: usize) -> [u64] in rooms::outer();
+            outer_in(ids: &[u64], bounds: &Rect, level: u32, most: usize) -> [u64] in rooms::outer_in();
+            outer_of(ids: &[u64], level: u32, most: usize) -> [u64] in rooms::outer_of(ids.len());
+            polygon_inner(corners: &[Direction], ends: &[usize], outside: u64, margin: u64, level: u32, most: usize) ->
+                [u64] in rooms::polygon_inner();
+            polygon_inner_up_to(corners: &[Direction], ends: &[usize], outside: u64, margin: u64, least: u32, deepest:
+                u32, cells: usize) -> [u64] in rooms::polygon_inner_up_to();
+            polygon_outer(corners: &[Direction], ends: &[usize], outside: u64, margin: u64, level: u32, most: usize) ->
+                [u64] in rooms::polygon_outer();
+            polygon_outer_up_to(corners: &[Direction], ends: &[usize], outside: u64, margin: u64, least: u32, deepest:
+                u32, cells: usize) -> [u64] in rooms::polygon_outer_up_to();
+            range(first: u64, last: u64) -> [u64] in rooms::range();
+            symmetric_difference(xs: &[u64], ys: &[u64]) -> [u64] in rooms::symmetric_difference(xs.len(), ys.len());
+            tokens(ids: &[u64]) -> [u8] in rooms::tokens(ids.len());
+            union(xs: &[u64], ys: &[u64]) -> [u64] in rooms::union(xs.len(), ys.len());
+        }
+    };
+}
+pub(crate) use makers;
+
 /// What a refusal says.
 pub fn text(status: i32) -> &'static str {
     match status {

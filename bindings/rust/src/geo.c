@@ -1,4 +1,5 @@
-/* What src/geo.rs calls of the headers for degrees, whose functions are inline: build.rs compiles it. */
+/* What src/geo.rs and src/around.rs call of the headers for degrees, whose functions are inline: build.rs compiles
+ * it. */
 #include <s2union_cover.h>
 #include <s2union_outline.h>
 
@@ -43,3 +44,26 @@ int32_t s2union_rust_boundary(const uint64_t* ids, size_t n, s2u_geo_rings* ring
 }
 
 void s2union_rust_free_rings(s2u_geo_rings* rings) { s2u_geo_free(rings); }
+
+/* ---- src/around.rs */
+
+int32_t s2union_rust_neighbors(uint64_t cell, uint32_t level, s2u_cover_cells* cells) {
+  return s2u_cover_neighbors(cell, level, cells);
+}
+
+int32_t s2union_rust_edge_neighbors(uint64_t cell, uint64_t* four) { return s2u_geo_edge_neighbors(cell, four); }
+
+int32_t s2union_rust_vertex_neighbors(uint64_t cell, uint32_t level, uint64_t* four, size_t* count) {
+  return s2u_geo_vertex_neighbors(cell, level, four, count);
+}
+
+int32_t s2union_rust_expanded(const uint64_t* ids, size_t n, uint32_t level, s2u_cover_cells* cells) {
+  return s2u_cover_expanded(ids, n, level, cells);
+}
+
+int32_t s2union_rust_bounds(const uint64_t* ids, size_t n, double* sides) {
+  s2u_cover_bounds box;
+  int32_t status = s2u_cover_rect_bound(ids, n, &box);
+  sides[0] = box.west, sides[1] = box.south, sides[2] = box.east, sides[3] = box.north;
+  return status;
+}

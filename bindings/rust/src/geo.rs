@@ -122,8 +122,7 @@ impl<'a> Shape<'a> {
     /// # Ok::<(), Error>(())
     /// ```
     pub fn polygons<P: AsRef<[R]>, R: AsRef<[Position]>>(polygons: &[P]) -> Shape<'a> {
-        let rings = polygons.iter().enumerate();
-        Shape::of(rings.flat_map(|(k, rings)| rings.as_ref().iter().map(move |ring| (ring.as_ref(), k as u64))))
+        Shape::collection::<P, R, &[Position]>(polygons, &[])
     }
 
     /// Lines, each from position to position. A line of one position is a point. Since 1.4.
@@ -138,7 +137,31 @@ impl<'a> Shape<'a> {
     /// # Ok::<(), Error>(())
     /// ```
     pub fn lines<R: AsRef<[Position]>>(lines: &[R]) -> Shape<'a> {
-        Shape::of(lines.iter().map(|line| (line.as_ref(), LINE)))
+        Shape::collection::<&[R], R, R>(&[], lines)
+    }
+
+    /// Polygons and lines together. Since 1.5.
+    ///
+    /// # Examples
+    ///
+    /// ```
+    /// # use s2union::*;
+    /// let square = [[2.0, 48.0], [3.0, 48.0], [3.0, 49.0], [2.0, 49.0], [2.0, 48.0]];
+    /// let both = Shape::collection(&[[square]], &[[[3.0, 49.0], [4.0, 50.0]]]);
+    /// let outer = RegionCoverer::default().covering(&both)?;
+    /// assert!(outer.contains_cell(CellId::from_position([2.5, 48.5])?));
+    /// assert!(outer.contains_cell(CellId::from_position([4.0, 50.0])?));
+    /// # Ok::<(), Error>(())
+    /// ```
+    pub fn collection<P, R, L>(polygons: &[P], lines: &[L]) -> Shape<'a>
+    where
+        P: AsRef<[R]>,
+        R: AsRef<[Position]>,
+        L: AsRef<[Position]>,
+    {
+        let of_polygons = polygons.iter().enumerate();
+        let rings = of_polygons.flat_map(|(k, rings)| rings.as_ref().iter().map(move |ring| (ring.as_ref(), k as u64)));
+        Shape::of(rings.chain(lines.iter().map(|line| (line.as_ref(), LINE))))
     }
 
     /// Points. Since 1.4.
@@ -503,7 +526,7 @@ struct Fault {
 }
 
 #[repr(C)] // s2u_cover_cells
-struct Cells {
+pub(crate) struct Cells {
     ids: *mut u64,
     count: usize,
 }
@@ -515,6 +538,13 @@ impl Default for Cells {
 }
 
 impl Cells {
+    /// The union that a call makes, or the error of its status.
+    pub(crate) fn union_by(call: impl FnOnce(&mut Cells) -> i32) -> Result<CellUnion, Error> {
+        let mut cells = Cells::default();
+        Error::of(call(&mut cells), 0)?;
+        cells.union()
+    }
+
     fn union(&self) -> Result<CellUnion, Error> {
         // SAFETY: C has written as many cells.
         CellUnion::made(copied(unsafe { parts(self.ids, self.count) }))

@@ -25,6 +25,7 @@
 //! numbers is plain C, tested beside S2 and not proved.
 #![warn(missing_docs)]
 
+mod around;
 mod calls;
 mod cell;
 mod cells;

@@ -6,43 +6,18 @@ use crate::calls::{self, rooms, MOST_DEBUG, MOST_TOKEN};
 use crate::error::Error;
 use crate::{Direction, Point, Rect};
 
-/// Calls that make a list, with the room that they are first given: `listed` gives more if it doesn't suffice.
-macro_rules! makers {
+/// Calls that make a list, in some room: `listed` gives more if it doesn't suffice.
+macro_rules! made {
     ($($name:ident($($argument:ident: $kind:ty),*) -> [$made:ty] in $room:expr;)*) => {
         $(pub fn $name($($argument: $kind),*) -> Result<Vec<$made>, Error> {
             listed($room, |out, len| calls::$name($($argument,)* out, len))
         })*
     };
 }
-makers! {
-    union(xs: &[u64], ys: &[u64]) -> [u64] in rooms::union(xs.len(), ys.len());
-    intersection(xs: &[u64], ys: &[u64]) -> [u64] in rooms::intersection(xs.len(), ys.len());
-    difference(xs: &[u64], ys: &[u64]) -> [u64] in rooms::difference(xs.len(), ys.len());
-    symmetric_difference(xs: &[u64], ys: &[u64]) -> [u64] in rooms::symmetric_difference(xs.len(), ys.len());
-    complement(ids: &[u64]) -> [u64] in rooms::complement(ids.len());
-    range(first: u64, last: u64) -> [u64] in rooms::range();
-    ancestors(ids: &[u64]) -> [u64] in rooms::ancestors(ids.len());
-    outer(bounds: &Rect, level: u32, most: usize) -> [u64] in rooms::outer();
-    inner(bounds: &Rect, level: u32, most: usize) -> [u64] in rooms::inner();
-    outer_of(ids: &[u64], level: u32, most: usize) -> [u64] in rooms::outer_of(ids.len());
-    inner_of(ids: &[u64], level: u32, most: usize) -> [u64] in rooms::inner_of(ids.len());
-    outer_in(ids: &[u64], bounds: &Rect, level: u32, most: usize) -> [u64] in rooms::outer_in();
-    inner_in(ids: &[u64], bounds: &Rect, level: u32, most: usize) -> [u64] in rooms::inner_in();
-    polygon_outer(corners: &[Direction], ends: &[usize], outside: u64, margin: u64, level: u32, most: usize) -> [u64]
-        in rooms::polygon_outer();
-    polygon_inner(corners: &[Direction], ends: &[usize], outside: u64, margin: u64, level: u32, most: usize) -> [u64]
-        in rooms::polygon_inner();
-    polygon_outer_up_to(corners: &[Direction], ends: &[usize], outside: u64, margin: u64, least: u32, deepest: u32,
-        cells: usize) -> [u64] in rooms::polygon_outer_up_to();
-    polygon_inner_up_to(corners: &[Direction], ends: &[usize], outside: u64, margin: u64, least: u32, deepest: u32,
-        cells: usize) -> [u64] in rooms::polygon_inner_up_to();
-    encode(ids: &[u64]) -> [u8] in rooms::encode(ids.len());
-    decode(bytes: &[u8]) -> [u64] in rooms::decode(bytes.len());
-    file_ancestors(bytes: &[u8]) -> [u64] in rooms::file_ancestors(bytes.len());
+calls::makers!(made);
+made! {
     token(id: u64) -> [u8] in MOST_TOKEN;
     debug(id: u64) -> [u8] in MOST_DEBUG;
-    tokens(ids: &[u64]) -> [u8] in rooms::tokens(ids.len());
-    from_tokens(text: &[u8]) -> [u64] in rooms::from_tokens(text.len());
 }
 
 /// The cells that are cut, of which there are as many as `denormalised_len` answers: that is the room.

@@ -16,11 +16,12 @@ fn shapes() {
     let mut asked = BTreeSet::new();
     for line in lines.lines() {
         let fields: Vec<&str> = line.split('\t').collect();
-        let given = if ["leaf", "middle", "outline", "boundary"].contains(&fields[0]) { 2 } else { 3 };
+        let of_one = ["leaf", "middle", "outline", "boundary", "edge_neighbors", "bounds"];
+        let given = if of_one.contains(&fields[0]) { 2 } else { 3 };
         assert_eq!(answer(&fields), fields[given..].join("\t"), "{line:.200}");
         asked.insert(fields[0]);
     }
-    assert_eq!(asked.len(), 9);
+    assert_eq!(asked.len(), 14);
 }
 
 fn answer(fields: &[&str]) -> String {
@@ -31,7 +32,7 @@ fn answer(fields: &[&str]) -> String {
             assert_eq!(CellId::from_positions(&[position]), [CellId::from_position(position).ok()]);
             CellId::from_position(position).map_or("!number".to_string(), |leaf| format!("{:x}", leaf.id()))
         }
-        "middle" => in_words(&[union(fields[1]).cells()[0].position()]),
+        "middle" => in_words(&[first_cell(fields).position()]),
         "outline" => {
             let polygons = union(fields[1]).outline().unwrap();
             let rings = polygons.iter().enumerate().flat_map(|(k, rings)| rings.iter().map(move |ring| (k, ring)));
@@ -41,6 +42,16 @@ fn answer(fields: &[&str]) -> String {
             let lines = union(fields[1]).boundary().unwrap();
             lines.iter().map(|line| format!("-:{}", in_words(line))).collect::<Vec<_>>().join(" ")
         }
+        "neighbors" => made(first_cell(fields).neighbors(fields[2].parse().unwrap())),
+        "edge_neighbors" => listed(&first_cell(fields).edge_neighbors()),
+        "vertex_neighbors" => {
+            let found = first_cell(fields).vertex_neighbors(fields[2].parse().unwrap());
+            found.map_or_else(named, |cells| listed(&cells))
+        }
+        "expanded" => made(union(fields[1]).expanded(fields[2].parse().unwrap())),
+        "bounds" => union(fields[1]).bounds().unwrap().map_or("none".to_string(), |sides| {
+            in_words(&[[sides[0], sides[1]], [sides[2], sides[3]]])
+        }),
         "holds" => {
             let rings = Rings::of(fields[1]);
             let (outer, inner) = coverer(fields[2]).unwrap().coverings(&rings.shape()).unwrap();
@@ -95,7 +106,19 @@ fn named(error: Error) -> String {
 }
 
 fn shown(union: &CellUnion) -> String {
-    union.iter().map(|cell| format!("{:x}", cell.id())).collect::<Vec<_>>().join(" ")
+    listed(union.cells())
+}
+
+fn listed(cells: &[CellId]) -> String {
+    cells.iter().map(|cell| format!("{:x}", cell.id())).collect::<Vec<_>>().join(" ")
+}
+
+fn made(union: Result<CellUnion, Error>) -> String {
+    union.map_or_else(named, |union| shown(&union))
+}
+
+fn first_cell(fields: &[&str]) -> CellId {
+    union(fields[1]).cells()[0]
 }
 
 fn union(text: &str) -> CellUnion {
@@ -141,15 +164,15 @@ fn coverer(text: &str) -> Option<RegionCoverer> {
 }
 
 /// Polygons and lines of a question.
+#[derive(Default)]
 struct Rings {
     polygons: Vec<Vec<Vec<Position>>>,
     lines: Vec<Vec<Position>>,
-    wkb: Vec<u8>,
 }
 
 impl Rings {
     fn of(text: &str) -> Rings {
-        let mut made = Rings { polygons: vec![], lines: vec![], wkb: vec![] };
+        let mut made = Rings::default();
         for word in text.split_whitespace() {
             let (polygon, ring) = word.split_once(':').unwrap();
             match polygon.parse::<usize>() {
@@ -158,44 +181,18 @@ impl Rings {
                 Ok(number) => made.polygons[number].push(positions(ring)),
             }
         }
-        made.wkb = made.collection();
         made
     }
 
-    /// Of polygons and lines together by WKB.
     fn shape(&self) -> Shape<'_> {
         match (&self.polygons[..], &self.lines[..]) {
             ([], lines) if lines.iter().all(|line| line.len() == 1) => Shape::points(&lines.concat()),
             ([], lines) => Shape::lines(lines),
             ([rings], []) => Shape::polygon(rings),
             (polygons, []) => Shape::polygons(polygons),
-            _ => Shape::wkb(&self.wkb),
+            (polygons, lines) => Shape::collection(polygons, lines),
         }
     }
-
-    fn collection(&self) -> Vec<u8> {
-        let mut made = head(7, Some(self.polygons.len() + self.lines.len()));
-        for rings in &self.polygons {
-            made.extend(head(3, Some(rings.len())));
-            for ring in rings {
-                made.extend((ring.len() as u32).to_be_bytes());
-                made.extend(ring.iter().flatten().flat_map(|number| number.to_be_bytes()));
-            }
-        }
-        for line in &self.lines {
-            let is_point = line.len() == 1;
-            made.extend(head(if is_point { 1 } else { 2 }, if is_point { None } else { Some(line.len()) }));
-            made.extend(line.iter().flatten().flat_map(|number| number.to_be_bytes()));
-        }
-        made
-    }
-}
-
-fn head(kind: u32, count: Option<usize>) -> Vec<u8> {
-    let mut made = vec![0];
-    made.extend(kind.to_be_bytes());
-    made.extend(count.map_or(vec![], |count| (count as u32).to_be_bytes().to_vec()));
-    made
 }
 
 // ---- what the questions don't ask
