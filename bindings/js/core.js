@@ -342,17 +342,33 @@ class Core {
     return {status, outer, inner};
   }
 
-  /** The rings of the outline of a union: positions, and where each ring and each polygon ends. */
-  outlineOf(ids) {
-    const [words, [made, end]] = this.passed([ids], [40, 0]);
-    const status = this.taking(end, "s2js_outline", ...words, BigInt(made));
+  /** Where a call of a list and numbers that takes memory has put what it made, which is as many bytes. */
+  madeAt(size, name, list, ...more) {
+    const [words, [made, end]] = this.passed([list], [size, 0]);
+    const status = this.taking(end, name, ...words, ...more, BigInt(made));
     if (status < 0) throw new Refusal(status, 0);
+    return made;
+  }
+
+  /** The rings that a call draws of a union: positions, and where each ring and each polygon ends. */
+  drawn(name, ids) {
+    const made = this.madeAt(40, name, ids);
     const [rings, polygons] = [24, 32].map((at) => Number(this.number(made + at)));
     const [of, ofRings, ofPolygons] = [0, 8, 16].map((at) => Number(this.number(made + at)));
     const ends = (at, count) => Array.from(new BigUint64Array(this.calls.memory.buffer, at, count), Number);
     const ringEnds = ends(ofRings, rings);
     const positions = new Float64Array(this.calls.memory.buffer, of, 2 * (ringEnds.at(-1) ?? 0)).slice();
     return {positions, ringEnds, polygonEnds: ends(ofPolygons, polygons)};
+  }
+
+  /** The cells of a level that a call finds around others. */
+  around(name, ids, level) {
+    return this.listsAt(this.madeAt(16, name, ids, within(level, LAST_LEVEL)), BigUint64Array)[0];
+  }
+
+  /** The west, south, east and north of a union; of no cell the south is more than the north. */
+  boundsOf(ids) {
+    return Array.from(new Float64Array(this.calls.memory.buffer, this.madeAt(32, "s2js_bounds", ids), 4));
   }
 
   /** The level of cells at the border that keep within some meters. */
@@ -618,11 +634,6 @@ class Core {
     return this.makeIn(room, "s2u_denormalised", [ids], BigUint64Array, min, modulus);
   }
 
-  /** The cells of the union and all their ancestors, ascending, each once. */
-  ancestors(ids) {
-    return this.make("s2u_ancestors", [ids], BigUint64Array);
-  }
-
   /** The cells of the level that share a leaf with the union, normalized: deeper cells give way to their parents. */
   outer(ids, level) {
     const parents = this.parents(ids, level);
@@ -695,10 +706,6 @@ class Core {
   /** Whether the bytes are the file that `encode` makes; those that are no file are refused. */
   fileCheck(bytes) {
     return isYes(this.ask("s2u_file_check", [bytes]));
-  }
-
-  fileAncestors(bytes) {
-    return this.make("s2u_file_ancestors", [bytes], BigUint64Array);
   }
 
   tokens(ids) {

@@ -1,8 +1,8 @@
 // Points and shapes in degrees for s2union.js, by shapes.js, which the page has too and which stands below. The
 // longitude comes first.
-import {CellUnion, Refusal, internals, square} from "./s2union.js";
+import {CellUnion, Refusal, internals, level as levelOf, square} from "./s2union.js";
 
-const {calls, cellsIn, unionOf} = internals;
+const {calls, cellOf, cellsIn, unionOf} = internals;
 
 // ---- numbers
 
@@ -63,13 +63,22 @@ export const covering = (shape, options) => covered(shape, options, OUTER).outer
 export const interior = (shape, options) => covered(shape, options, INNER).inner;
 export const coverings = (shape, options) => covered(shape, options, BOTH);
 
+function bothBy(name, ...words) {
+  const {outer, inner} = fine(calls(), calls().coveredBy(name, [], ...words, BOTH), null);
+  return {outer: unionOf(outer), inner: unionOf(inner)};
+}
+
 export function circle(longitude, latitude, radius, options) {
   const place = placeOf([longitude, latitude]);
   const meters = numberIn(radius, 0, 9_000_000, "radius");
   const {cells, least, deepest, margin} = optionsOf(options);
-  const words = [...place, meters, BigInt(cells), least, deepest, margin, BOTH];
-  const {outer, inner} = fine(calls(), calls().coveredBy("s2js_circle", [], ...words), null);
-  return {outer: unionOf(outer), inner: unionOf(inner)};
+  return bothBy("s2js_circle", ...place, meters, BigInt(cells), least, deepest, margin);
+}
+
+export function box(west, south, east, north, options) {
+  const corners = [...placeOf([west, south]), ...placeOf([east, north])];
+  const {cells, least, deepest, edges, margin} = optionsOf(options);
+  return bothBy("s2js_box", ...corners, BigInt(cells), least, deepest, edges, margin);
 }
 
 export function fromGeoJSON(geojson, atBorder = AT_BORDERS) {
@@ -84,7 +93,24 @@ export function fromGeoJSON(geojson, atBorder = AT_BORDERS) {
 
 export const outline = (union) => outlineOf(calls(), cellsIn(union));
 
+export const boundary = (union) =>
+  ({type: "MultiLineString", coordinates: ringsBy(calls(), "s2js_boundary", cellsIn(union))[0]});
+
 export const toGeoJSON = (union, properties = {}, {dissolve = false} = {}) =>
   (dissolve ? dissolvedOf : cellsOf)(calls(), properties, cellsIn(union));
+
+// ---- what is around
+
+const around = (name, cell, level) => calls().around(name, BigUint64Array.of(cellOf(cell)), level);
+
+export const neighbors = (cell, level = levelOf(cell)) => unionOf(around("s2js_neighbors", cell, level));
+export const edgeNeighbors = (cell) => around("s2js_edge_neighbors", cell, 0);
+export const vertexNeighbors = (cell, level) => around("s2js_vertex_neighbors", cell, level);
+export const expanded = (union, level) => unionOf(calls().around("s2js_expanded", cellsIn(union), level));
+
+export function bounds(union) {
+  const sides = calls().boundsOf(cellsIn(union));
+  return sides[1] <= sides[3] ? sides : null;
+}
 
 export {ShapeError};

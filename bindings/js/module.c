@@ -148,7 +148,43 @@ int32_t s2js_circle(double longitude, double latitude, double radius, uint64_t c
                           s2js_if(which, S2JS_INNER, &made->inner), &made->fault);
 }
 
+int32_t s2js_box(double west, double south, double east, double north, uint64_t cells, uint32_t least,
+                 uint32_t deepest, uint32_t edges, double margin, uint32_t which, s2js_coverings* made) {
+  s2u_cover_options options = s2js_options(cells, least, deepest, edges, margin);
+  return s2u_cover_box(west, south, east, north, &options, s2js_if(which, S2JS_OUTER, &made->outer),
+                       s2js_if(which, S2JS_INNER, &made->inner), &made->fault);
+}
+
 int32_t s2js_outline(const uint64_t* ids, size_t n, s2u_geo_rings* rings) { return s2u_geo_outline(ids, n, rings); }
+
+int32_t s2js_boundary(const uint64_t* ids, size_t n, s2u_geo_rings* rings) { return s2u_geo_boundary(ids, n, rings); }
+
+/* The cells of a level around the first cell of a list. */
+int32_t s2js_neighbors(const uint64_t* ids, size_t n, uint32_t level, s2u_cover_cells* made) {
+  (void)n;
+  return s2u_cover_neighbors(ids[0], level, made);
+}
+
+static uint64_t* s2js_four(s2u_cover_cells* made) {
+  made->count = 4;
+  return made->ids = (uint64_t*)malloc(4 * sizeof *made->ids);
+}
+
+int32_t s2js_edge_neighbors(const uint64_t* ids, size_t n, uint32_t level, s2u_cover_cells* made) {
+  (void)n, (void)level;
+  return s2u_geo_edge_neighbors(ids[0], s2js_four(made));
+}
+
+int32_t s2js_vertex_neighbors(const uint64_t* ids, size_t n, uint32_t level, s2u_cover_cells* made) {
+  (void)n;
+  return s2u_geo_vertex_neighbors(ids[0], level, s2js_four(made), &made->count);
+}
+
+int32_t s2js_expanded(const uint64_t* ids, size_t n, uint32_t level, s2u_cover_cells* made) {
+  return s2u_cover_expanded(ids, n, level, made);
+}
+
+int32_t s2js_bounds(const uint64_t* ids, size_t n, s2u_cover_bounds* box) { return s2u_cover_rect_bound(ids, n, box); }
 
 /* The deepest level of cells at the border that keep within some meters. */
 uint32_t s2js_level_within(double meters) {

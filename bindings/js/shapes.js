@@ -203,13 +203,18 @@ function cellsOf(core, properties, union) {
   })));
 }
 
-/** The outline of a union: polygons that a map can fill, without the borders between cells. */
-function outlineOf(core, union) {
-  const {positions, ringEnds, polygonEnds} = core.outlineOf(union);
-  const cut = (parts, ends) => ends.map((end, k) => parts.slice(ends[k - 1] ?? 0, end));
+const cut = (parts, ends) => ends.map((end, k) => parts.slice(ends[k - 1] ?? 0, end));
+
+/** The rings that a call draws of a union, and where those of each polygon end. */
+function ringsBy(core, name, union) {
+  const {positions, ringEnds, polygonEnds} = core.drawn(name, union);
   const places = Array.from({length: positions.length / 2}, (_, k) => [positions[2 * k], positions[2 * k + 1]]);
-  return {type: "MultiPolygon", coordinates: cut(cut(places, ringEnds), polygonEnds)};
+  return [cut(places, ringEnds), polygonEnds];
 }
+
+/** The outline of a union: polygons that a map can fill, without the borders between cells. */
+const outlineOf = (core, union) =>
+  ({type: "MultiPolygon", coordinates: cut(...ringsBy(core, "s2js_outline", union))});
 
 /** The same as a collection of one feature. */
 const dissolvedOf = (core, properties, union) =>

@@ -312,7 +312,7 @@ export class CellUnion {
 
   /** Its cells and all their ancestors, ascending: the keys of an index. */
   ancestors() {
-    return calls().ancestors(this.#ids);
+    return calls().make("s2u_ancestors", [this.#ids], BigUint64Array);
   }
 
   /** Its cells cut to the least level that is at least `min`, and `min` plus a multiple of the modulus. */
@@ -401,7 +401,7 @@ export class UnionFile {
   }
 
   ancestors() {
-    return calls().fileAncestors(this.#bytes);
+    return calls().make("s2u_file_ancestors", [this.#bytes], BigUint64Array);
   }
 
   toUnion() {
@@ -410,6 +410,6 @@ export class UnionFile {
 }
 
 /** What geo.js asks. */
-export const internals = {calls, cellsIn, unionOf};
+export const internals = {calls, cellOf, cellsIn, unionOf};
 
 export {Refusal};

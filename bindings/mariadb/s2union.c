@@ -304,16 +304,46 @@ MAKER(s2_complement, "l", S2U_MOST_COMPLEMENT(a->n), s2u_complement(LIST_OF(0), 
 
 /* ---- coverings of shapes in WKB, at most 200 cells and of level 30 if nothing else is said */
 
+/* The file of cells, if their call had no error; they go. */
+static uint8_t* file_with(int32_t status, s2u_cover_cells* cells, size_t* len) {
+  uint8_t* file = status == S2U_OK ? file_of(cells->ids, cells->count, len) : NULL;
+  s2u_cover_free(cells);
+  return file;
+}
+
 static uint8_t* covering_of(const argument* a, unsigned count, int is_outer, size_t* len) {
   const s2u_cover_options options = {count > 1 ? a[1].number : 200, 0, count > 2 ? a[2].number : 30, S2U_COVER_MAP, 0};
   s2u_cover_cells cells;
   s2u_cover_fault fault;
   int32_t status = s2u_cover_wkb(a->bytes, a->size, &options, is_outer ? &cells : NULL, is_outer ? NULL : &cells,
                                  &fault);
-  uint8_t* file = status == S2U_OK ? file_of(cells.ids, cells.count, len) : NULL;
-  s2u_cover_free(&cells);
-  return file;
+  return file_with(status, &cells, len);
 }
 
 KEEPER(s2_covering, "wNN", LONGEST, covering_of(a, args->arg_count, 1, &len))
 KEEPER(s2_interior, "wNN", LONGEST, covering_of(a, args->arg_count, 0, &len))
+
+/* ---- cells around a cell, of its own level if no other is named, and around a union; the box of a union */
+
+static uint8_t* neighbors_of(const argument* a, unsigned count, size_t* len) {
+  s2u_cover_cells cells;
+  uint32_t level = count > 1 ? a[1].number : (uint32_t)s2u_level(a->cell);
+  return file_with(s2u_cover_neighbors(a->cell, level, &cells), &cells, len);
+}
+static uint8_t* expanded_of(const argument* a, size_t* len) {
+  s2u_cover_cells cells;
+  return file_with(s2u_cover_expanded(LIST_OF(0), a[1].number, &cells), &cells, len);
+}
+enum { LONGEST_BOX = 4 * LONGEST_DOUBLE + 8 };
+static char* bounds_of(const argument* a, size_t* len) {
+  s2u_cover_bounds box;
+  if (s2u_cover_rect_bound(LIST_OF(0), &box) != S2U_OK || box.south > box.north) return NULL;
+  char* text = malloc(LONGEST_BOX);
+  if (text)
+    *len = (size_t)snprintf(text, LONGEST_BOX, "[%.17g,%.17g,%.17g,%.17g]", box.west, box.south, box.east, box.north);
+  return text;
+}
+
+KEEPER(s2_neighbors, "cN", LONGEST, neighbors_of(a, args->arg_count, &len))
+KEEPER(s2_expanded, "ln", LONGEST, expanded_of(a, &len))
+KEEPER(s2_bounds, "l", LONGEST_BOX, bounds_of(a, &len))

@@ -112,12 +112,24 @@ const tests = {
       assert.throws(() => geo.circle(...wrong), RangeError, String(wrong));
     }
     assert.throws(() => geo.circle(0, 0), TypeError);
+    assert.throws(() => geo.box(0, 0, 1), TypeError);
+    for (const wrong of [[541, 0, 1, 1], [0, -91, 1, 1], [0, 0, NaN, 1]]) {
+      assert.throws(() => geo.box(...wrong), RangeError, String(wrong));
+    }
+    for (const [cell, level, kind] of [[2n, 3, "NO_CELL"], [2n ** 65n, 3, "NO_CELL"], [1n, 1.5, "ARGUMENT"],
+      [1n, -1, "ARGUMENT"], [fromToken("1"), "1", "ARGUMENT"], [fromToken("1"), 18, "MANY"]]) {
+      assert.throws(() => geo.neighbors(cell, level), (error) => error.kind === kind, `${cell} ${level}`);
+    }
+    assert.throws(() => geo.neighbors(5, 3), TypeError);
+    assert.throws(() => geo.edgeNeighbors(0n), Refusal);
+    assert.throws(() => geo.vertexNeighbors(1n, 30), Refusal);
+    assert.throws(() => geo.expanded(new CellUnion([1n]), 31), Refusal);
     assert.equal(geo.covering(polygon, {maxCells: 0}).size, 1);
   },
   "shapes that a few bytes make are covered soon": () => {
     const long = Array.from({length: 20_000}, (_, k) => [k % 2 ? 540 : -540, (k % 180) - 90]);
     const nested = `${'{"type":"GeometryCollection","geometries":['.repeat(5000)}${"]}".repeat(5000)}`;
-    const begun = performance.now();
+    const begun = process.cpuUsage().user;
     assert.throws(() => geo.covering({type: "LineString", coordinates: long}), ({kind}) => kind === "PIECES");
     assert.ok(geo.covering({type: "LineString", coordinates: long.slice(0, 1000)}).size);
     assert.equal(geo.covering(nested).size, 0);
@@ -125,13 +137,14 @@ const tests = {
     const loop = {type: "GeometryCollection", geometries: []};
     loop.geometries.push(loop, loop);
     assert.throws(() => geo.covering(loop), Error);
-    assert.ok(performance.now() - begun < 60_000);
+    assert.ok(process.cpuUsage().user - begun < 60_000_000);
   },
   "with less and less memory: an error by its name, and all goes on": async () => {
     const own = {...internals.calls()};
     const teeth = Array.from({length: 3000}, (_, k) => [k % 2 ? 0.1 : 0, k / 1e4]);
     const asked = [() => geo.covering({type: "LineString", coordinates: teeth}, {maxCells: 2000}).size,
-      () => geo.outline(geo.covering(polygon, {maxCells: 3000})).coordinates[0][0].length];
+      () => geo.outline(geo.covering(polygon, {maxCells: 3000})).coordinates[0][0].length,
+      () => geo.neighbors(fromToken("1"), 16).size];
     const wanted = asked.map((ask) => ask());
     const stack = own.calls.__stack_pointer.value;
     /** What the first call with enough memory answers; those before it are refused. */

@@ -9,9 +9,9 @@ import {pathToFileURL} from "node:url";
 
 const [folder, shapes] = process.argv.slice(2).map((name) => resolve(name));
 const imported = (name) => import(pathToFileURL(join(folder, name)));
-const {CellUnion, load} = await imported("s2union.js");
+const s2 = await imported("s2union.js");
 const geo = await imported("geo.js");
-await load();
+await s2.load();
 
 /** Kinds of edges, by their numbers. */
 const EDGES = ["map", "geodesic", "left"];
@@ -25,7 +25,9 @@ function doubles(hex) {
 }
 
 const placesOf = (hex) => doubles(hex).reduce((all, it, k) => (k % 2 ? all.at(-1).push(it) : all.push([it]), all), []);
-const cellsOf = (hex) => BigUint64Array.from(hex ? hex.split(" ") : [], (word) => BigInt(`0x${word}`));
+const cellOf = (hex) => BigInt(`0x${hex}`);
+const unionOf = (hex) => s2.CellUnion.fromNormalized(BigUint64Array.from(hex ? hex.split(" ") : [], cellOf));
+const inWords = (cells) => Array.from(cells, (cell) => cell.toString(16)).join(" ");
 
 /** A shape as a collection of GeoJSON. */
 function shapeOf(text) {
@@ -52,7 +54,7 @@ function optionsOf(text) {
 function coveredBy(ask) {
   try {
     const {outer, inner} = ask();
-    return [outer, inner].map((union) => Array.from(union, (cell) => cell.toString(16)).join(" "));
+    return [outer, inner].map(inWords);
   } catch (error) {
     if (error instanceof geo.ShapeError) return [error.kind.toLowerCase(), error.ring, error.position];
     return [error.kind === "MANY" ? "many" : error instanceof RangeError ? "range" : `${error.stack}`];
@@ -78,12 +80,27 @@ function isNear(made, wanted) {
   return made.length === wanted.length && wanted.every((it, k) => isNear(made[k], it));
 }
 
+/** Whether a call draws these rings of a union. */
+function isDrawn(draw, cells, wanted) {
+  const {coordinates} = draw(unionOf(cells));
+  assert.ok(isNear(coordinates, shapeOf(wanted).geometries.map((each) => each.coordinates)));
+}
+
+/** The cells that a call finds, or the name of its error. */
+function foundBy(ask) {
+  try {
+    return inWords(ask());
+  } catch (error) {
+    return `!${error.kind?.toLowerCase() ?? error.stack}`;
+  }
+}
+
 const TESTS = {
   leaf: (place, wanted) => {
     if (wanted.startsWith("!")) assert.throws(() => geo.fromLngLat(...doubles(place)), RangeError);
     else assert.equal(geo.fromLngLat(...doubles(place)).toString(16), wanted);
   },
-  middle: (cell, wanted) => assert.ok(isNear(geo.toLngLat(BigInt(`0x${cell}`)), doubles(wanted))),
+  middle: (cell, wanted) => assert.ok(isNear(geo.toLngLat(cellOf(cell)), doubles(wanted))),
   rings: (shape, options, ...wanted) => {
     const [given, how] = [shapeOf(shape), optionsOf(options)];
     isCovered(() => geo.coverings(given, how), wanted);
@@ -93,23 +110,34 @@ const TESTS = {
   },
   wkb: (hex, options, ...wanted) => isCovered(() => geo.coverings(bytesOf(hex), optionsOf(options)), wanted),
   circle: (numbers, options, ...wanted) => isCovered(() => geo.circle(...doubles(numbers), optionsOf(options)), wanted),
+  box: (numbers, options, ...wanted) => isCovered(() => geo.box(...doubles(numbers), optionsOf(options)), wanted),
   holds: (shape, options, inside, outside) => {
     const {outer, inner} = geo.coverings(shapeOf(shape), optionsOf(options));
     assert.ok(outer.hasEach(geo.fromLngLats(placesOf(inside))).every(Boolean), "a place is lost");
     assert.ok(!inner.hasEach(geo.fromLngLats(placesOf(outside))).some(Boolean), "a place is outside");
   },
-  outline: (cells, wanted) => {
-    const {coordinates} = geo.outline(CellUnion.fromNormalized(cellsOf(cells)));
-    assert.ok(isNear(coordinates, shapeOf(wanted).geometries.map((polygon) => polygon.coordinates)));
+  outline: (cells, wanted) => isDrawn(geo.outline, cells, wanted),
+  boundary: (cells, wanted) => isDrawn(geo.boundary, cells, wanted),
+  neighbors: (cell, level, wanted) => {
+    assert.equal(foundBy(() => geo.neighbors(cellOf(cell), Number(level))), wanted);
+    if (Number(level) === s2.level(cellOf(cell))) assert.equal(foundBy(() => geo.neighbors(cellOf(cell))), wanted);
+  },
+  edge_neighbors: (cell, wanted) => assert.equal(foundBy(() => geo.edgeNeighbors(cellOf(cell))), wanted),
+  vertex_neighbors: (cell, level, wanted) =>
+    assert.equal(foundBy(() => geo.vertexNeighbors(cellOf(cell), Number(level))), wanted),
+  expanded: (cells, level, wanted) => assert.equal(foundBy(() => geo.expanded(unionOf(cells), Number(level))), wanted),
+  bounds: (cells, wanted) => {
+    const found = geo.bounds(unionOf(cells));
+    assert.ok(wanted === "none" ? found === null : isNear(found, doubles(wanted)), found);
   },
 };
-/** What JavaScript has no call for, and a line without positions, which is nothing in GeoJSON. */
-const isLeftOut = (call, shape) => ["box", "boundary"].includes(call) || /(^| )-:( |$)/.test(shape);
+/** A line without positions is nothing in GeoJSON. */
+const isLeftOut = (shape) => /(^| )-:( |$)/.test(shape);
 
 let [passed, failed] = [0, 0];
 for await (const line of createInterface({input: createReadStream(shapes)})) {
   const [call, ...words] = line.split("\t");
-  if (isLeftOut(call, words[0])) continue;
+  if (isLeftOut(words[0])) continue;
   try {
     TESTS[call](...words);
     passed++;

@@ -2,6 +2,7 @@
 beside the function of SQLite. BESIDE and the functions below it have the differences."""
 
 import itertools
+import json
 import re
 import sqlite3
 import subprocess
@@ -65,21 +66,23 @@ TAKES = {
                      "s2_latitude"), (CELL_OF,)),
     **dict.fromkeys(("s2_covering", "s2_interior"), (SHAPE, COUNT, DEPTH)),
     **dict.fromkeys(("s2_parent", "s2_child"), (CELL_OF, NUMBER)),
+    "s2_neighbors": (CELL_OF, DEPTH), "s2_expanded": (UNION, NUMBER), "s2_bounds": (UNION,),
     "s2_common_ancestor": (CELL_OF, CELL_OF), "s2_leaf_at": (DEGREE, DEGREE), "s2_is_cell": (ANY,),
     "s2_is_union": (ANY,),
 }
-LEAST = {"s2_covering": 1, "s2_interior": 1}  # arguments, if some may be left out
+SHAPED = ("s2_covering", "s2_interior")
+LEAST = dict.fromkeys((*SHAPED, "s2_neighbors"), 1)  # arguments, if some may be left out
 # SQLite has one function for a cell and for a region.
 BESIDE = {"s2_contains_cell": "s2_contains", "s2_intersects_cell": "s2_intersects"}
 TEXTS_OF = {"s2_union", "s2_intersection", "s2_difference", "s2_symmetric_difference", "s2_complement", "s2_normalise",
-            "s2_token", "s2_tokens", *LEAST}
-DEGREES_OF = {"s2_longitude", "s2_latitude"}
+            "s2_token", "s2_tokens", "s2_expanded", *LEAST}
+READ_BY = {"s2_longitude": float, "s2_latitude": float, "s2_bounds": json.loads}
 
 
 def as_sqlite_has_it(name, kind, value):
     """What SQLite is given in place of a value. MariaDB doesn't say whether a text comes or bytes, so bytes that don't
     begin as a file are a text, and no bytes at all are only for s2_normalise the text of no cell."""
-    if not isinstance(value, (bytes, str)) or name in LEAST:
+    if not isinstance(value, (bytes, str)) or name in SHAPED:
         return value
     taken = value if isinstance(value, bytes) else value.encode()
     if taken[:1] == b"\1":
@@ -128,8 +131,8 @@ class BesideSqlite(MariadbServer):
         order = ", ".join(f"t{place}.k" for place in range(len(kinds)))
         shown_call = f"hex({call})" if name in TEXTS_OF else call
         said = self.ask(f"USE trial; SELECT {shown_call} FROM {tables} ORDER BY {order}")
-        of_text = float if name in DEGREES_OF else str
-        return [None if line == "NULL" else of_text(line) for line in said.splitlines()]
+        read = READ_BY.get(name, str)
+        return [None if line == "NULL" else read(line) for line in said.splitlines()]
 
     def in_sqlite(self, name, kinds):
         other = BESIDE.get(name, name)
@@ -151,7 +154,7 @@ class BesideSqlite(MariadbServer):
             return None
         if answer is not None and name in TEXTS_OF:
             return (answer if isinstance(answer, bytes) else answer.encode()).hex().upper()
-        return answer if answer is None or name in DEGREES_OF else str(answer)
+        return answer if answer is None else READ_BY.get(name, str)(answer)
 
     def test_each_wrong_type(self):
         """It is an error of the statement, and an error in SQLite, whether it is a constant or in a column, even of no
@@ -229,7 +232,8 @@ class BesideSqlite(MariadbServer):
         for call in (f"length(s2_covering(x'{SQUARE.hex()}', 500))", f"s2_interior(x'{LINE.hex()}', 500)",
                      f"s2_covering(x'{SQUARE[:-1].hex()}')", "length(s2_union(u, w))", "length(s2_complement(u))",
                      "length(s2_tokens(u))", "length(s2_normalise(t))", "s2_contains(u, t)", "s2_contains(w, u)",
-                     "s2_union(u, 'x')", "s2_count(w)", "s2_intersects_cell(t, 1)"):
+                     "s2_union(u, 'x')", "s2_count(w)", "s2_intersects_cell(t, 1)", "s2_bounds(u)",
+                     "s2_neighbors('1', 9)", "s2_neighbors('1', 30)", "s2_expanded(u, 30)"):
             before = self.resident()
             self.ask(f"USE trial; SELECT BENCHMARK(300, {call}) FROM large")
             self.assertLess(self.resident() - before, 30_000, call)

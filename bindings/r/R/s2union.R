@@ -50,6 +50,16 @@ positions_of <- function(ring) {
 number_of <- function(x) if (is.numeric(x) && length(x) == 1) as.double(x) else stop("not a number")
 degrees_of <- function(x) if (is.numeric(x) || all(is.na(x))) as.double(x) else stop("not degrees")
 
+s2u_neighbors <- function(cell, level = NULL) {
+  if (length(cells_of(cell)) != 1) stop("not one cell")
+  new_s2_cell(.Call(C_neighbors, cells_of(cell), if (is.null(level)) NA_real_ else number_of(level)))
+}
+s2u_expanded <- function(x, level) new_s2_cell(.Call(C_expanded, cells_of(x), number_of(level)))
+s2u_bounds <- function(x) {
+  sides <- .Call(C_bounds, cells_of(x))
+  if (sides[2] <= sides[4]) structure(sides, names = c("west", "south", "east", "north"))
+}
+
 bytes_of <- function(bytes) if (is.raw(bytes)) bytes else stop("not a raw vector")
 
 # The vector of cells that an argument is.

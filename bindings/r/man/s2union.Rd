@@ -3,6 +3,7 @@
 \alias{s2u_symmetric_difference} \alias{s2u_contains} \alias{s2u_intersects} \alias{s2u_contains_cells}
 \alias{s2u_intersects_cells} \alias{s2u_tokens} \alias{s2u_from_tokens} \alias{s2u_encode} \alias{s2u_decode}
 \alias{s2u_file_contains_cells} \alias{s2u_leaf} \alias{s2u_covering} \alias{s2u_interior} \alias{s2u_coverings}
+\alias{s2u_neighbors} \alias{s2u_expanded} \alias{s2u_bounds}
 \title{Unions of S2 cells}
 \description{A region is a set of leaf cells, the cells of level 30. It has exactly one list of cells, in which no two
 share a leaf and no four are the children of one cell, and exactly one union file and one text.}
@@ -25,10 +26,15 @@ s2u_leaf(longitude, latitude)
 s2u_covering(shape, ...)
 s2u_interior(shape, ...)
 s2u_coverings(shape, ...)
+s2u_neighbors(cell, level = NULL)
+s2u_expanded(x, level)
+s2u_bounds(x)
 }
 \arguments{
 \item{x, y}{regions: each an \code{s2_cell} vector in any order, or an \code{s2_cell_union} of length 1.}
 \item{cells}{an \code{s2_cell} vector. The answer for \code{NA} is \code{NA}.}
+\item{cell}{an \code{s2_cell} vector of length 1, or a region of one cell.}
+\item{level}{a level, 0 to 30; of neighbors the cell's own or a deeper one, its own if it is \code{NULL}.}
 \item{text}{tokens, with blanks, commas or line ends between them, or in several texts.}
 \item{bytes}{a raw vector: a union file, as \code{s2u_encode} and S2's own \code{S2CellUnion::Encode} write it.}
 \item{longitude, latitude}{degrees, from -540 to 540 and from -90 to 90. The leaf of \code{NA} or \code{NaN} is
@@ -52,16 +58,22 @@ returns one text, and \code{s2u_from_tokens} the cells that a text names, in its
 vector. \code{s2u_leaf} returns the leaf at each place, as S2 has it. \code{s2u_covering} returns a union that contains
 the shape, \code{s2u_interior} one that lies in its polygons, and \code{s2u_coverings} both, as \code{outer} and
 \code{inner}. What is proved of them is that they do so of corners in whole numbers, to which degrees are rounded by 3
-mm at most.}
+mm at most. \code{s2u_neighbors} returns the cells of the level that touch the cell, at an edge or a corner, as a union,
+and \code{s2u_expanded} the region with the cells of the level that touch it; of its cells that are deeper, those of
+the level that have them are taken. \code{s2u_bounds} returns the \code{west}, \code{south}, \code{east} and
+\code{north} of a region in degrees, or \code{NULL} without cells; over the date line the east is less than the west.
+These three are tested beside S2, not proved.}
 \section{Errors}{A wrong value is a condition of class \code{s2union_error}, and of a class with the name of the
 library's status: \code{S2U_NO_CELL} (\code{place} is that of the number, or the byte at which the word begins, from 1
-on), \code{S2U_FILE_SHORT}, \code{S2U_FILE_VERSION}, \code{S2U_FILE_TRAILING}, \code{S2U_FILE_CELL}, or
-\code{S2U_MANY} (a text would have 2^31 bytes or more). Of places and shapes: \code{S2U_COVER_NUMBER} (a longitude or
-a latitude is out of range), \code{S2U_COVER_FEW} (a ring has fewer than four positions), \code{S2U_COVER_OPEN} (its
-last position isn't its first), \code{S2U_COVER_PIECES} (edges are too long for so few positions),
-\code{S2U_COVER_OUTSIDE} (no place is outside), \code{S2U_COVER_OPPOSITE} (two positions of geodesic edges lie
-opposite each other); their \code{ring} and \code{place} count from 1. \code{S2U_COVER_OPTION}: an option is out of
-range. Of WKB, with \code{place} that of the byte: \code{S2U_COVER_WKB} (it is none), \code{S2U_COVER_TYPE} (curves
+on), \code{S2U_FILE_SHORT}, \code{S2U_FILE_VERSION}, \code{S2U_FILE_TRAILING}, \code{S2U_FILE_CELL},
+\code{S2U_ARGUMENT} (a level is out of range), or \code{S2U_MANY} (a text would have 2^31 bytes or more, or there would
+be more than 1,000,000 neighbors, or 4,000,000 cells around a region and nine for each of its own). Of places and
+shapes: \code{S2U_COVER_NUMBER} (a longitude or a latitude is out of range), \code{S2U_COVER_FEW} (a ring has fewer
+than four positions), \code{S2U_COVER_OPEN} (its last position isn't its first), \code{S2U_COVER_PIECES} (edges are
+too long for so few positions), \code{S2U_COVER_OUTSIDE} (no place is outside), \code{S2U_COVER_OPPOSITE} (two
+positions of geodesic edges lie opposite each other); their \code{ring} and \code{place} count from 1.
+\code{S2U_COVER_OPTION}: an option is out of range.
+Of WKB, with \code{place} that of the byte: \code{S2U_COVER_WKB} (it is none), \code{S2U_COVER_TYPE} (curves
 or surfaces), \code{S2U_COVER_SRID} (no degrees), \code{S2U_COVER_DEEP} (collections in more than 32 others). An
 argument of another type is a simple error.}
 \examples{

@@ -25,11 +25,11 @@ static SEXP vector_of(const uint64_t* ids, size_t n) {
 }
 
 #define NAMED(status) [-(status)] = #status
-static const char* const names[] = {NAMED(S2U_MEMORY), NAMED(S2U_NO_CELL), NAMED(S2U_MANY), NAMED(S2U_FILE_SHORT),
-  NAMED(S2U_FILE_VERSION), NAMED(S2U_FILE_TRAILING), NAMED(S2U_FILE_CELL), NAMED(S2U_COVER_NUMBER),
-  NAMED(S2U_COVER_FEW), NAMED(S2U_COVER_OPEN), NAMED(S2U_COVER_PIECES), NAMED(S2U_COVER_OUTSIDE),
-  NAMED(S2U_COVER_OPPOSITE), NAMED(S2U_COVER_OPTION), NAMED(S2U_COVER_WKB), NAMED(S2U_COVER_TYPE),
-  NAMED(S2U_COVER_SRID), NAMED(S2U_COVER_DEEP)};
+static const char* const names[] = {NAMED(S2U_MEMORY), NAMED(S2U_NO_CELL), NAMED(S2U_ARGUMENT), NAMED(S2U_MANY),
+  NAMED(S2U_FILE_SHORT), NAMED(S2U_FILE_VERSION), NAMED(S2U_FILE_TRAILING), NAMED(S2U_FILE_CELL),
+  NAMED(S2U_COVER_NUMBER), NAMED(S2U_COVER_FEW), NAMED(S2U_COVER_OPEN), NAMED(S2U_COVER_PIECES),
+  NAMED(S2U_COVER_OUTSIDE), NAMED(S2U_COVER_OPPOSITE), NAMED(S2U_COVER_OPTION), NAMED(S2U_COVER_WKB),
+  NAMED(S2U_COVER_TYPE), NAMED(S2U_COVER_SRID), NAMED(S2U_COVER_DEEP)};
 /* Ends the .Call by the error of a status, at a place and in a ring, from 1 on, or NA. */
 static void refuse(int32_t status, double place, double ring) {
   const char* name = status > -(int32_t)(sizeof names / sizeof *names) ? names[-status] : NULL;
@@ -233,11 +233,45 @@ static SEXP r_cover_rings(SEXP positions, SEXP ends, SEXP polygons, SEXP numbers
   return given(status, &it, &fault);
 }
 
+/* ---- what is around */
+
+static SEXP vector_in(void* of) {
+  const both* it = (const both*)of;
+  return vector_of(it->outer.ids, it->outer.count);
+}
+static SEXP found(int32_t status, both* it) {
+  if (status == S2U_OK) return R_ExecWithCleanup(vector_in, it, let_go, it);
+  let_go(it);
+  check(status, 0);
+  return R_NilValue;
+}
+static SEXP r_neighbors(SEXP cell, SEXP level) { /* of its own level, if that is NA */
+  uint64_t id;
+  both it = {{NULL, 0}, {NULL, 0}};
+  memcpy(&id, REAL(cell), sizeof id);
+  uint32_t of = ISNA(REAL(level)[0]) ? (uint32_t)s2u_level(id) : count_of(REAL(level)[0]);
+  return found(s2u_cover_neighbors(id, of, &it.outer), &it);
+}
+static SEXP r_expanded(SEXP x, SEXP level) {
+  list whole = region(x);
+  both it = {{NULL, 0}, {NULL, 0}};
+  return found(s2u_cover_expanded(whole.ids, whole.n, count_of(REAL(level)[0]), &it.outer), &it);
+}
+static SEXP r_bounds(SEXP x) { /* west, south, east, north; of no cell the south is more than the north */
+  list whole = region(x);
+  s2u_cover_bounds box;
+  check(s2u_cover_rect_bound(whole.ids, whole.n, &box), 0);
+  SEXP sides = Rf_allocVector(REALSXP, 4);
+  REAL(sides)[0] = box.west, REAL(sides)[1] = box.south, REAL(sides)[2] = box.east, REAL(sides)[3] = box.north;
+  return sides;
+}
+
 #define CALL(name, arguments) {#name, (DL_FUNC)r_##name, arguments}
 static const R_CallMethodDef calls[] = {CALL(normalise, 1), CALL(union, 2), CALL(intersection, 2), CALL(difference, 2),
   CALL(symmetric_difference, 2), CALL(contains, 2), CALL(intersects, 2), CALL(contains_cells, 2),
   CALL(intersects_cells, 2), CALL(tokens, 1), CALL(from_tokens, 1), CALL(encode, 1), CALL(decode, 1),
-  CALL(file_contains_cells, 2), CALL(leaf, 2), CALL(cover_wkb, 3), CALL(cover_rings, 5), {NULL, NULL, 0}};
+  CALL(file_contains_cells, 2), CALL(leaf, 2), CALL(cover_wkb, 3), CALL(cover_rings, 5),
+  CALL(neighbors, 2), CALL(expanded, 2), CALL(bounds, 1), {NULL, NULL, 0}};
 void R_init_s2union(DllInfo* library) {
   R_registerRoutines(library, NULL, calls, NULL, NULL);
   R_useDynamicSymbols(library, FALSE);
