@@ -35,35 +35,6 @@ typedef struct Sought {
   bool exact; /* in that of the first key: a row with a key that is found matches */
 } Sought;
 
-/* The cells of a question, which are ranges, and these with all their ancestors. */
-typedef struct Asked {
-  size_t ranges, keys;
-  uint64_t range[MOST_KEYS], key[MOST_KEYS];
-} Asked;
-
-/* Whether a question's outer covering at this level has few enough keys; if so, these are in a. */
-static bool fits(const uint64_t* cells, size_t n, uint32_t level, bool with_ancestors, Asked* a) {
-  Asked b = {.ranges = 0};
-  CHECK_FOR_INTERRUPTS();
-  int32_t status = s2u_outer_of(cells, n, level, MOST_KEYS, b.range, MOST_KEYS, &b.ranges);
-  if (status == S2U_OK && with_ancestors) status = s2u_ancestors(b.range, b.ranges, b.key, MOST_KEYS, &b.keys);
-  if (status == S2U_MANY || status == S2U_ROOM) return false;
-  must_be_ok(status);
-  *a = b;
-  return true;
-}
-
-/* What a question asks an index for. Answers whether that is the question itself. */
-static bool asked_of(const uint64_t* cells, size_t n, bool with_ancestors, Asked* a) {
-  if (fits(cells, n, 30, with_ancestors, a)) return true;
-  fits(cells, n, 0, with_ancestors, a);
-  for (uint32_t least = 0, exceeds = 30; least + 1 < exceeds;) {
-    uint32_t level = (least + exceeds) / 2;
-    *(fits(cells, n, level, with_ancestors, a) ? &least : &exceeds) = level;
-  }
-  return false;
-}
-
 /* The keys of a question, as an index's function answers them. */
 typedef struct Keys {
   size_t n;
@@ -90,7 +61,7 @@ static void look_in(Keys* k, uint64_t cell) {
 }
 
 /* The keys of a question: the ancestors of its cells, and the ranges of its cells. Both lists are in order. */
-static Keys keys_of(const Asked* a) {
+static Keys keys_of(const Few* a) {
   Keys k = new_keys(Max(Max(a->keys, a->ranges), 1));
   size_t r = 0;
   for (size_t above = 0; above < a->keys; above++) {
@@ -102,7 +73,7 @@ static Keys keys_of(const Asked* a) {
 }
 
 /* The same without ranges: a cell of the question and its ancestors. */
-static Keys keys_above(const Asked* a) {
+static Keys keys_above(const Few* a) {
   Keys k = new_keys(Max(a->keys, 1));
   for (size_t above = 0; above < a->keys; above++) look_up(&k, a->key[above]);
   return k;
@@ -122,8 +93,9 @@ Datum s2union_gin_query(PG_FUNCTION_ARGS) {
   int32* mode = (int32*)PG_GETARG_POINTER(6);
   bool contains = strategy == CONTAINS || strategy == CONTAINS_CELL;
   size_t count = contains ? Min(count_of(u), 1) : count_of(u);
-  Asked a;
-  bool all = asked_of(u->cells, count, strategy != WITHIN, &a) && count == count_of(u);
+  uint64_t range[MOST_KEYS], key[MOST_KEYS];
+  Few a = {.most = MOST_KEYS, .range = range, .key = strategy != WITHIN ? key : NULL};
+  bool all = cover_by_few(u->cells, count, &a) && count == count_of(u);
   Keys k = contains ? keys_above(&a) : keys_of(&a);
   k.sought[0]->exact = all && strategy != WITHIN;
   if (contains && k.n == 0) *mode = GIN_SEARCH_MODE_ALL;

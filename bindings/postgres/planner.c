@@ -5,6 +5,8 @@
 
 #include "access/detoast.h"
 #include "access/htup_details.h"
+#include "catalog/pg_language.h"
+#include "catalog/pg_proc.h"
 #include "catalog/pg_statistic.h"
 #include "catalog/pg_type.h"
 #include "commands/vacuum.h"
@@ -16,11 +18,13 @@
 #include "optimizer/optimizer.h"
 #include "optimizer/pathnode.h"
 #include "parser/parse_func.h"
+#include "utils/builtins.h"
 #include "utils/datum.h"
 #include "utils/fmgroids.h"
 #include "utils/lsyscache.h"
 #include "utils/sampling.h"
 #include "utils/selfuncs.h"
+#include "utils/syscache.h"
 
 #include "value.h"
 
@@ -178,14 +182,32 @@ static int32_t within(const uint64_t* xs, size_t nx, const uint64_t* ys, size_t 
   return s2u_contains(ys, ny, xs, nx);
 }
 
+/* The name in C of the function that one of SQL is; NULL if it isn't in C. Another name in SQL doesn't change it. */
+static char* name_in_c(Oid function) {
+  bool null = true;
+  HeapTuple row = SearchSysCache1(PROCOID, ObjectIdGetDatum(function));
+  if (!HeapTupleIsValid(row)) return NULL;
+  bool is_in_c = ((Form_pg_proc)GETSTRUCT(row))->prolang == ClanguageId;
+  Datum name = is_in_c ? SysCacheGetAttr(PROCOID, row, Anum_pg_proc_prosrc, &null) : (Datum)0;
+  char* copy = null ? NULL : TextDatumGetCString(name);
+  ReleaseSysCache(row);
+  return copy;
+}
+
+static const struct {
+  const char* function;
+  question* ask;
+} asked_by[] = {{"s2union_contains", s2u_contains},          {"s2union_contains_cell", s2u_contains},
+                {"s2union_within", within},                  {"s2union_cell_within", within},
+                {"s2union_intersects", s2u_intersects},      {"s2union_intersects_cell", s2u_intersects},
+                {"s2union_cell_intersects", s2u_intersects}};
+
 /* The question that a function asks, or NULL. */
 static question* question_of(Oid function) {
-  char* name = get_func_name(function);
-  question* ask = NULL;
-  if (name && strcmp(name, "s2_contains") == 0) ask = s2u_contains;
-  if (name && strcmp(name, "s2_within") == 0) ask = within;
-  if (name && strcmp(name, "s2_intersects") == 0) ask = s2u_intersects;
-  return ask;
+  char* name = name_in_c(function);
+  for (size_t k = 0; name && k < lengthof(asked_by); k++)
+    if (strcmp(name, asked_by[k].function) == 0) return asked_by[k].ask;
+  return NULL;
 }
 
 enum { MOST_OF_SAMPLE = 1000 };

@@ -156,21 +156,33 @@ Datum s2union_from_texts(PG_FUNCTION_ARGS) {
 
 /* ---- a covering with few cells, for what must not grow with a value: an index's keys, the planner's sample ---- */
 
+/* Whether the covering at a level has few enough cells, and keys if these are wanted. */
+static bool fits(const uint64_t* cells, size_t n, uint32_t level, Few* few) {
+  CHECK_FOR_INTERRUPTS();
+  int32_t status = s2u_outer_of(cells, n, level, few->most, few->range, few->most, &few->ranges);
+  if (status == S2U_OK && few->key) status = s2u_ancestors(few->range, few->ranges, few->key, few->most, &few->keys);
+  if (status == S2U_MANY || status == S2U_ROOM) return false;
+  must_be_ok(status);
+  return true;
+}
+
+bool cover_by_few(const uint64_t* cells, size_t n, Few* few) {
+  uint32_t least = 0;
+  if (fits(cells, n, 30, few)) return true;
+  for (uint32_t exceeds = 30; least + 1 < exceeds;) {
+    uint32_t level = (least + exceeds) / 2;
+    *(fits(cells, n, level, few) ? &least : &exceeds) = level;
+  }
+  fits(cells, n, least, few);
+  return false;
+}
+
 S2Union* s2union_covering(const S2Union* u, size_t most) {
   if (count_of(u) <= most) return value_with(LIST(u));
   S2Union* covering = new_value(most);
-  size_t n = 0;
-  must_be_ok(s2u_outer_of(LIST(u), 0, most, covering->cells, most, &n));
-  for (uint32_t least = 0, exceeds = 30; least + 1 < exceeds;) {
-    uint32_t level = (least + exceeds) / 2;
-    size_t finer = 0;
-    CHECK_FOR_INTERRUPTS();
-    int32_t status = s2u_outer_of(LIST(u), level, most, covering->cells, most, &finer);
-    if (status != S2U_MANY) must_be_ok(status);
-    *(status == S2U_MANY ? &exceeds : &least) = level;
-    if (status != S2U_MANY) n = finer;
-  }
-  finished(covering, n);
+  Few few = {.most = most, .range = covering->cells};
+  cover_by_few(LIST(u), &few);
+  finished(covering, few.ranges);
   return covering;
 }
 

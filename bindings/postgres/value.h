@@ -100,8 +100,17 @@ void free_asked(FunctionCallInfo fcinfo, const S2Union* u, int k);
 /* The union of the cells that a text names. */
 S2Union* read_text(Datum datum);
 
-/* A union if it has at most this many cells, or else its outer covering at the finest level at which that has no more.
- * The most is 6 or more. */
+/* An outer covering with at most some cells, 6 or more, and, if `key` isn't NULL, at most as many with all ancestors of
+ * these. */
+typedef struct Few {
+  size_t most, ranges, keys;
+  uint64_t *range, *key;
+} Few;
+
+/* The covering of a list at the finest level at which it is so. Answers whether that is the list itself. */
+bool cover_by_few(const uint64_t* cells, size_t n, Few* few);
+
+/* A union if it has at most this many cells, or else that covering. */
 S2Union* s2union_covering(const S2Union* u, size_t most);
 
 /* A union of one cell; NULL if the number is not a cell. */

@@ -5,7 +5,7 @@
 # regions, and tests nothing. The last line is 'N passed, M failed'; the status is 1 if any failed.
 . "$(dirname "$0")/../steps.sh"
 [ "${1:-}" != --full ] || export S2UNION_ROUNDS=10000
-need_modules psycopg,psycopg2 python3-{psycopg,psycopg2}
+need_modules psycopg,psycopg2,shapely python3-{psycopg,psycopg2,shapely}
 . "$top/tests/postgres/server.sh"
 
 # ---- the extension: as it is, over guarded allocations, and with the sanitizers

@@ -1025,12 +1025,36 @@ class Planner(Tests):
         self.assertEqual(self.expected(self.plan("SELECT * FROM nulls WHERE region && '1'")), 1)
         self.assertEqual(self.expected(self.plan("SELECT * FROM one WHERE region && '1'")), 1)
 
+    def test_functions_that_are_renamed_keep_their_estimates_and_their_indexes(self):
+        psql("""
+            SET client_min_messages = error;
+            DROP TABLE IF EXISTS visits;
+            CREATE TABLE visits AS SELECT s2_leaf(0, 9 * k, 7 * k) AS leaf FROM generate_series(1, 3000) AS k;
+            CREATE INDEX ON visits (leaf);
+            ANALYZE visits;
+        """)
+        asked = [("contains", "small", "s2union, s2union", "region, '04'"), ("contains", "small", "s2union, bigint",
+                  "region, s2_leaf(0, 5, 5)"), ("within", "small", "s2union, s2union", "region, '1 3 5'"),
+                 ("within", "visits", "bigint, s2union", "leaf, s2_parent(s2_leaf(0, 9, 7), 24)::s2union"),
+                 ("intersects", "small", "s2union, s2union", "region, '1 3 5'"),
+                 ("intersects", "small", "bigint, s2union", "s2_leaf(0, 5, 5), region")]
+        for name, table, types, arguments in asked:
+            before, after = (f"EXPLAIN SELECT FROM {table} WHERE {call}({arguments});"
+                             for call in (f"s2_{name}", "another_name"))
+            said = psql(f"""
+                BEGIN; {before} SELECT 'and then';
+                ALTER FUNCTION s2_{name}({types}) RENAME TO another_name; {after} ROLLBACK;
+            """)
+            said = [line.replace("another_name", f"s2_{name}") for line in said if re.search("rows=|and then", line)]
+            between = said.index("and then")
+            self.assertEqual(said[:between], said[between + 1:], (name, types))
+            self.assertTrue("Index" in "".join(said) or table == "small", said)
+
     def test_an_operator_of_other_types_that_is_estimated_as_ours_are(self):
-        def plan(kind, constant):
+        def plan(kind, constant, function="LANGUAGE c AS 's2union', 's2union_contains'"):
             return psql(f"""
                 BEGIN; CREATE SCHEMA stranger;
-                CREATE FUNCTION stranger.s2_contains({kind}, {kind}) RETURNS boolean LANGUAGE plpgsql
-                    AS 'BEGIN RETURN true; END';
+                CREATE FUNCTION stranger.s2_contains({kind}, {kind}) RETURNS boolean {function};
                 CREATE OPERATOR @@@ (LEFTARG = {kind}, RIGHTARG = {kind}, FUNCTION = stranger.s2_contains,
                     RESTRICT = s2union_sel, JOIN = s2union_joinsel);
                 EXPLAIN SELECT FROM pg_class WHERE relpages::{kind} @@@ {constant};
@@ -1041,6 +1065,8 @@ class Planner(Tests):
             self.assertIn("Seq Scan on pg_class", plan(kind, constant)[0])
         for word in ("park", "a text that is longer than the head of a value"):
             self.assertRaisesRegex(AssertionError, "not a normalized list of cells", plan, "text", f"'{word}'::text")
+            by_itself = "LANGUAGE plpgsql AS 'BEGIN RETURN true; END'"
+            self.assertIn("Seq Scan on pg_class", plan("text", f"'{word}'::text", by_itself)[0])
 
     def test_a_function_costs_what_it_takes_to_read_its_arguments(self):
         def cost(query):
