@@ -12,7 +12,7 @@ export S2CALC=${S2CALC:-$top/crates/calculator/out/calculator}
 
 . "$top/tests/geo/countries.sh"
 need node nodejs
-need_countries make time sqlite3 libsqlite3-dev gdal-bin python3-rtree python3-qgis qgis-providers \
+need_countries make time sqlite3 libsqlite3-dev gdal-bin python3-rtree python3-qgis qgis-{common,providers} \
   postgresql-15-postgis-3
 . "$top/tests/postgres/server.sh"
 
@@ -43,11 +43,32 @@ if [ "${1:-}" = --costs ]; then
 fi
 pages() { (cd "$top/tests/geo" && timeout 1800 /usr/bin/python3 -m pytest "$@"); }
 step "exact joins in PostgreSQL" pages test_joins.py
+each_way() { # of the benchmark, which compares all pairs
+  local map=/usr/share/qgis/resources/data/world_map.gpkg
+  mkdir "$work/joins" && chmod 755 "$work/joins" && PYTHONPATH=$PYTHONPATH:$top/bench PGDATABASE=postgres \
+    /usr/bin/python3 "$top/bench/joins.py" "$work/joins" "$work/usr/lib/sqlite3" "$map" --check
+}
+step "countries and provinces joined with points by each way" each_way
 first_screen() { # its examples that need PostGIS, which the part `postgres` leaves out
   createdb first && PGOPTIONS="-c client_min_messages=error" /usr/bin/python3 "$top/tests/docs/documented.py" \
     --only postgis "$top/docs/POSTGRES.md" psql -XAqt -d first
 }
 step "docs/POSTGRES.md, what needs PostGIS" first_screen
+node_modules=$work/node/node_modules
+by_node() { # PROGRAM: over Debian's driver, whose own modules Node finds by the variable alone
+  (cd "$work/node" && PGDATABASE=first NODE_PATH=/usr/share/nodejs node "$1")
+}
+node_page() {
+  block JS.md "js pg" >"$work/node/page.mjs" && by_node page.mjs | diff <(block JS.md "text js pg") -
+}
+if [ -d /usr/share/nodejs/pg ]; then
+  mkdir -p "$node_modules" && ln -s /usr/share/nodejs/pg "$node_modules" &&
+    cp -r "$work/page/js" "$node_modules/s2union" && cp "$top/tests/postgres/drivers/drivers.mjs" "$work/node"
+  step "the driver of Node: pg" by_node drivers.mjs
+  step "docs/JS.md, a region in PostgreSQL" node_page
+else
+  echo "       left out: the driver of Node (node-pg)"
+fi
 step "docs/GEO.md" pages test_geo.py
 step "docs/TUTORIAL.md" pages test_tutorial.py
 finish

@@ -356,13 +356,15 @@ SQL
                 self.assertFalse(inner.contains_cells(cells[lies < 0]).any(), (corners, most))
 
     def test_joins_have_the_places_along_borders(self):
-        """By GeoPandas' frames, and by PostGIS: of the same triangles, all places inside, and none outside."""
+        """By GeoPandas' frames and each predicate, and by PostGIS: of the same triangles, all places inside, and none
+        outside."""
         rows, wanted = [], []
         for name, (corners, x, y, lies) in enumerate(triangles(40)):
             ring = borders.ring_of(corners)
             zone = geopandas.GeoDataFrame(geometry=[shape({"type": "Polygon", "coordinates": [ring]})], index=[name])
-            found = zone.s2.sjoin(pandas.DataFrame({"lon": x, "lat": y}))
-            self.assertEqual(found.point.tolist(), numpy.flatnonzero(lies > 0).tolist(), corners)
+            for predicate, least in (("within", 1), ("intersects", 0)):
+                found = zone.s2.sjoin(pandas.DataFrame({"lon": x, "lat": y}), predicate=predicate)
+                self.assertEqual(found.point.tolist(), numpy.flatnonzero(lies >= least).tolist(), corners)
             text = ", ".join(f"{a!r} {b!r}" for a, b in ring)
             rows += [f"{name}\tPOLYGON(({text}))\t{leaf}\t{place}\n"
                      for leaf, place in zip(leaves(x, y).view("int64").tolist(), lies.tolist())]

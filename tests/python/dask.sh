@@ -86,7 +86,8 @@ int s2u_tokens(const void* ids, size_t n, char* text, size_t room, size_t* len) 
     grep S2U_MANY said
 )
 shapes_of_r() ( # the cells of shapes, and the names and places of errors, which tests/model/shapes.py has of Python
-  cd "$work" && /usr/bin/python3 -m model.shapes | grep -P '^(wkb|rings)\t' >shapes && Rscript - <<'R'
+  cd "$work" && /usr/bin/python3 -m model.shapes | grep -P '^(wkb|rings|neighbors|expanded|bounds)\t' >shapes &&
+    Rscript - <<'R'
 library(s2union)
 bytes <- function(hex) {
   digits <- strtoi(strsplit(hex, "")[[1]], 16)
@@ -105,12 +106,28 @@ cells <- function(x) {
 }
 name <- function(error) {
   name <- tolower(sub("S2U_(COVER_)?", "", class(error)[1]))
-  if (name %in% c("many", "pieces", "outside", "option")) return(paste0("!", name))
+  if (name %in% c("argument", "many", "pieces", "outside", "option")) return(paste0("!", name))
   paste0("!", paste(c(name, na.omit(c(error$ring, error$place)) - 1), collapse = " "))
 }
 kinds <- c("map", "geodesic", "left")
 asked <- 0
+region <- function(text) { # of numbers, as tokens that have each digit
+  ids <- strsplit(text, " ")[[1]]
+  s2u_from_tokens(sprintf("%s%s", strrep("0", 16 - nchar(ids)), ids))
+}
+around <- function(call, cell, level) { # the answer to a question of cells, as it stands there
+  if (call != "bounds") return(cells((if (call == "neighbors") s2u_neighbors else s2u_expanded)(cell, level)))
+  sides <- s2u_bounds(cell)
+  if (is.null(sides)) "none" else paste(writeBin(unname(sides), raw(), endian = "big"), collapse = "")
+}
 for (line in strsplit(readLines("shapes"), "\t")) {
+  if (line[1] %in% c("neighbors", "expanded", "bounds")) {
+    said <- tryCatch(around(line[1], region(line[2]), as.numeric(line[3])), s2union_error = name)
+    wanted <- c(line[-seq_len(if (line[1] == "bounds") 2 else 3)], "")[1]
+    if (!identical(said, wanted)) stop(paste(c(line[1:3], "wanted", wanted, "said", said), collapse = "\n"))
+    asked <- asked + 1
+    next
+  }
   shape <- if (line[1] == "wkb") bytes(line[2]) else polygons(line[2])
   words <- strsplit(line[3], " ")[[1]]
   most <- as.numeric(words[1:4])

@@ -17,6 +17,7 @@ import types
 import unittest
 import unittest.mock
 from fractions import Fraction
+from pathlib import Path
 from random import Random
 
 import numpy
@@ -443,6 +444,9 @@ REFUSED = [
     (polygon([[0, 0], [10**400, 1], [1, 0], [0, 0]]), "a position is a longitude and a"),
     ({"type": "Circle", "coordinates": [0, 0]}, "it is no shape: 'Circle'"),
     ({"type": "Point", "coordinates": [0]}, "line 0: a position is a longitude and a latitude"),
+    ('{"type": "MultiPoint", "coordinates": [1, 2]}', "line 0: a position is a longitude and a latitude"),
+    ({"type": "LineString", "coordinates": [0, 1]}, "line 0: a position is a longitude and a latitude"),
+    ({"type": "MultiLineString", "coordinates": [{"x": 1}]}, "line 0: a position is a longitude and a latitude"),
     ({"type": "LineString", "coordinates": [[0, 0], [0, 91]]}, "line 0: position 1 is out of range: a latitude"),
     (polygon(numpy.zeros((4, 1))), "a position is a longitude and a latitude"),
     ({"type": "Polygon"}, "a Polygon has a list of coordinates"), (7, "it is no shape: int"),
@@ -672,6 +676,13 @@ class Maps(unittest.TestCase):
     def test_the_command_line(self):
         self.assertEqual(said("leaves", text="2.3522 48.8566 Paris\n\n0 90 North Pole\n").stdout,
                          "47e66e1d8f8be23b\n5000000000000001\n")
+        with tempfile.TemporaryDirectory() as folder:
+            file = Path(folder, "pond")
+            file.write_bytes(CellUnion.from_tokens("14 1c").to_bytes())
+            for words, wanted in ((("geojson", file), to_geojson(CellUnion.from_tokens("14 1c"), name="pond")),
+                                  (("geojson", "--dissolve", file), to_geojson(CellUnion.from_tokens("14 1c"),
+                                                                               dissolve=True, name="pond"))):
+                self.assertEqual(json.loads(said(*words).stdout), json.loads(json.dumps(wanted)))
         for nothing in ("", "\n \n"):
             done = said("leaves", text=nothing)
             self.assertEqual((done.returncode, done.stdout, done.stderr), (0, "", ""))

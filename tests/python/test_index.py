@@ -19,6 +19,7 @@ from s2union_geo import Index, index, tables
 from s2union_geo.__main__ import main
 
 import docstrings
+from model import borders
 from model.zones import box, plain_pairs, polygon, some_points, some_zones
 
 
@@ -48,6 +49,23 @@ class Joins(unittest.TestCase):
             self.assertEqual([(point, zone) for zone in made.find(x[point], y[point])],
                              sorted(pair for pair in wanted if pair[0] == point))
             self.assertLessEqual(set(made.find(x[point], y[point])), set(made.find(x[point], y[point], exact=False)))
+
+    def test_places_along_borders(self):
+        """By each predicate, beside whole numbers: places inside, on the border and outside of triangles."""
+        for corners in borders.triangles():
+            made = Index([polygon(borders.ring_of(corners))])
+            x, y, lies = map(numpy.array, borders.places_of(corners, 10))
+            for predicate, least in (("within", 1), ("intersects", 0)):
+                found, _ = made.join(x, y, predicate=predicate)
+                self.assertEqual(found.tolist(), numpy.flatnonzero(lies >= least).tolist(), (corners, predicate))
+                self.assertEqual([len(made.find(*place, predicate=predicate)) for place in zip(x[:60], y[:60])],
+                                 (lies[:60] >= least).tolist())
+        around = Index([polygon(box(175, -10, 185, 10))])
+        for at in ([-175, 10], [185, 10], [-185, -10], [535, 0]):
+            self.assertEqual((around.find(*at), around.find(*at, predicate="intersects")), ([], [0]))
+        for work in (around.find, around.join):
+            self.assertRaisesRegex(ValueError, "^a predicate is 'within' or 'intersects', not 'covers'$", work, 1, 1,
+                                   predicate="covers")
 
     def test_a_zone_a_hundred_times(self):
         """All have the same cells, and a point in one is in each."""
@@ -97,8 +115,8 @@ class Joins(unittest.TestCase):
         with unittest.mock.patch.dict(sys.modules, {"shapely": None}):
             made = Index([polygon(box(0, 0, 1, 1))])
             self.assertEqual((made.find(0.5, 0.5), made.find(1.0000001, 0.5, exact=False)), ([0], [0]))
-            with self.assertRaisesRegex(ModuleNotFoundError, "an exact answer needs shapely"):
-                made.find(0.9999999, 0.5)
+            for work in (lambda: made.find(0.9999999, 0.5), lambda: made.join([0.5], [0.5])):
+                self.assertRaisesRegex(ModuleNotFoundError, "an exact answer needs shapely", work)
 
     def test_with_a_later_shapely(self):
         """It has one call for arrays, over polygons that it prepares in place."""
@@ -109,9 +127,11 @@ class Joins(unittest.TestCase):
         self.addCleanup(index._shapely.cache_clear)
         prepared = []
         with unittest.mock.patch.multiple(shapely, create=True, prepare=prepared.append,
-                                          contains_xy=lambda shape, x, y: contains(prep(shape), x, y)):
+                                          contains_xy=lambda shape, x, y: contains(prep(shape), x, y),
+                                          intersects_xy=lambda shape, x, y: contains(prep(shape.buffer(1e-9)), x, y)):
             made = Index([polygon(box(0, 0, 1, 1))], max_cells=1)
-            self.assertEqual(pairs(made.join([0.5, 2], [0.5, 0.5])), [(0, 0)])
+            self.assertEqual(pairs(made.join([0.5, 2, 1], [0.5, 0.5, 1])), [(0, 0)])
+            self.assertEqual(pairs(made.join([0.5, 2, 1], [0.5, 0.5, 1], predicate="intersects")), [(0, 0), (2, 0)])
             self.assertEqual(len(prepared), 1)
 
 
@@ -185,6 +205,21 @@ class Files(unittest.TestCase):
             Index.load(self.path)
         self.assertRaises(OSError, Index.load, self.path + "none")
 
+    def test_objects_of_python_are_not_made(self):
+        """What a file says to call is not called."""
+        made = self.path + ".made"
+
+        class Call:
+            def __reduce__(self):
+                return os.mkdir, (made,)
+
+        Index([polygon(box(0, 0, 1, 1))]).save(self.path)
+        arrays = {**numpy.load(self.path), "sure": numpy.array([Call()], object)}
+        with open(self.path, "wb") as it:
+            numpy.savez(it, **arrays)
+        self.assertRaisesRegex(ValueError, "is no index: ", Index.load, self.path)
+        self.assertFalse(os.path.exists(made))
+
 
 def zones_file(folder, by_line=False):
     features = [{"type": "Feature", "properties": {"zone_id": name, "area": k}, "geometry": polygon(box(*corners))}
@@ -228,6 +263,26 @@ def test_tables_of_each_kind(zones, text, options):
     rows = rows if options and "2" in options else rows[1:]
     assert [(row[0], row[-1]) for row in rows] == [(row[0], row[-1]) for row in ROWS]
     assert all(len(row) == 4 for row in rows)
+
+
+def test_points_on_borders(zones):
+    text = b"lon,lat\n0,4\n5,5\n6,6\n10,6\n"
+    for words, wanted in ([], ["5,5,0", "6,6,0", "6,6,1", "10,6,1"]), \
+            (["--borders"], ["0,4,0", "5,5,0", "5,5,1", "6,6,0", "6,6,1", "10,6,0", "10,6,1"]):
+        assert said("join", "-", zones, *words, text=text) == (0, "\n".join(["lon,lat,zone", *wanted, ""]), "")
+
+
+def test_no_output_without_shapely(zones, tmp_path):
+    """An exact join ends before its first line; coverings alone are asked all the same."""
+    code = ("import sys; sys.modules['shapely'] = None\nfrom s2union_geo.__main__ import main\n"
+            "sys.exit(main(sys.argv[1:]))")
+    points = tmp_path / "points.csv"
+    points.write_text("lon,lat\n6,6\n")
+    for more, out, error in (([], "", "an exact answer needs shapely"),
+                             (["--coverings"], "lon,lat,zone\n6,6,0\n6,6,1\n", "")):
+        done = subprocess.run([sys.executable, "-c", code, "join", str(points), zones, *more], capture_output=True,
+                              text=True)
+        assert done.stdout == out and error in done.stderr and bool(done.returncode) == bool(error)
 
 
 @pytest.mark.parametrize("by_line", [False, True])

@@ -15,16 +15,6 @@ sqlite=(sqlite3 -batch -init /dev/null :memory:) # without its user's settings
 source=$top/bindings/sqlite
 step "no arithmetic on cells" no_arithmetic "$source/s2union.c"
 step "no arithmetic on cells: s2union_host.h" no_arithmetic "$top/bindings/c/s2union_host.h"
-# What is not proved stays short. Of these lines 110 are for listings that make a cell or a tile when it is asked for,
-# texts that are read in pieces, and windows, which the library, whose calls answer all at once, can't have. 5 are for
-# the list of the functions, whose texts tools/calls makes of the page.
-short() { # lines of code
-  local lines
-  lines=$(grep -cvE '^[[:space:]]*(/?\*.*)?$' "$source/s2union.c")
-  echo "$lines lines of code"
-  [ "$lines" -le 494 ]
-}
-step "at most 494 lines of C" short
 
 build() { # FOLDER FLAGS..
   local folder=$work/$1

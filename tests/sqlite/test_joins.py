@@ -102,10 +102,27 @@ class Covers(unittest.TestCase):
                 count += wanted
         self.assertTrue(700 < count < 2700)
 
+    def test_numbers_near_nothing(self):
+        """Whose products are less than the least number."""
+        chance, count = random.Random(3), 0
+        for _ in range(200):
+            ring = [tuple(chance.choice([0.0, 1.0, -3.0, 1e-150, -1e-180, 3e-250, 5e-280]) for _ in range(2))
+                    for _ in range(3)]
+            ring, shape = [*ring, ring[0]], wkb_of(polygon([*ring, ring[0]]))
+            for _ in range(5):
+                x, y = beside(chance, ring)
+                wanted = plain_covers([ring], x, y)
+                self.assertEqual(self.covers(shape, x, y), wanted, (ring, x, y))
+                count += wanted
+        self.assertTrue(300 < count < 900)
+
     def test_turns_of_the_map(self):
+        """Parts of a polygon that lie on each other after a turn cancel."""
         for west, east, inside, outside in ((175, 185, (180, -180, 178, -176, 184, 540), (0, -5)),
                                             (-190, -179, (-180, 180, 171, -185, 535), (169, 0)),
-                                            (0, 360, (-180, 0, 360, -540), ())):
+                                            (0, 360, (-180, 0, 360, -540), ()),
+                                            (-180, 270, (-90, -45, 45, 180), (-91, 181, -179)),
+                                            (-360, 360, (0, 360), (90, 1, -1, -180))):
             ring = [(west, -10), (east, -10), (east, 10), (west, 10)]
             shape = wkb([(float(x), float(y)) for x, y in [*ring, ring[0]]])
             self.assertEqual([self.covers(shape, x, 0) for x in inside], [True] * len(inside))

@@ -1,7 +1,7 @@
 """Points, polygons and maps from the command line.
 
 python3 -m s2union_geo join POINTS ZONES [--name PROPERTY] [--longitude COLUMN] [--latitude COLUMN] [--separator C]
-    [--skip] [--all] [--coverings] [--max-cells N]
+    [--skip] [--all] [--borders] [--coverings] [--max-cells N]
         Each row of a table of points with the name of a zone that contains the point, as CSV. A point in two zones has
         two rows; one in none has no row, or with --all one with an empty name.
         POINTS  CSV, with or without names of columns; GeoJSON; a feature of GeoJSON a line; parquet, if pyarrow is
@@ -13,6 +13,8 @@ python3 -m s2union_geo join POINTS ZONES [--name PROPERTY] [--longitude COLUMN] 
                 and lat, long and lat, or x and y, nor are the first two of a table without names
         --skip  leaves out each row without a point, and each zone whose polygons are refused, and says which on
                 standard error; without it the first one ends the command
+        --borders
+                a point on the border of a zone is in it, as for PostGIS's ST_Covers
         --coverings
                 asks coverings alone, not shapely: points near a border may be in zones too many
 python3 -m s2union_geo index ZONES FILE [--name PROPERTY] [--skip] [--max-cells N]
@@ -23,8 +25,9 @@ python3 -m s2union_geo leaves <POINTS
 python3 -m s2union_geo cover FILE FOLDER MAX_CELLS MAX_LEVEL [--name PROPERTY]
         Coverings of each feature of a GeoJSON file, as FOLDER/NAME.outer and .inner, by the property 'file' or the one
         that is named, of which no two features may have the same.
-python3 -m s2union_geo geojson FILE..
-        Union files as one collection in GeoJSON.
+python3 -m s2union_geo geojson FILE.. [--dissolve]
+        Union files as one collection in GeoJSON: a feature for each cell, or with --dissolve one for each file, without
+        the borders between cells.
 """
 import argparse
 import contextlib
@@ -150,8 +153,9 @@ def cover(file, folder, max_cells, max_level, name):
     print(f"{len(features)} features, {cells[0]} and {cells[1]} cells; left: {len(left) or 'none'}", *left, sep="\n")
 
 
-def show_geojson(files):
-    found = [to_geojson(CellUnion.from_bytes(Path(file).read_bytes()), name=Path(file).name) for file in files]
+def show_geojson(files, dissolve):
+    found = [to_geojson(CellUnion.from_bytes(Path(file).read_bytes()), dissolve=dissolve, name=Path(file).name)
+             for file in files]
     features = [feature for collection in found for feature in collection["features"]]
     json.dump({"type": "FeatureCollection", "features": features}, sys.stdout)
 
@@ -205,11 +209,13 @@ def make_index(zones, file, name, skip, max_cells):
     print(f"{len(made)} zones")
 
 
-def join(points, zones, name, longitude, latitude, separator, skip, max_cells, **others):
+def join(points, zones, name, longitude, latitude, separator, skip, max_cells, all, borders, coverings):
     wrong = Wrong(skip)
     if points == zones == "-":
         raise ValueError("points and zones can't both be standard input")
     made = read_zones(zones, name, max_cells, wrong)
+    asked = {"exact": not coverings, "predicate": "intersects" if borders else "within"}
+    made.join([], [], **asked)  # an error before any output if shapely is missing
     with opened(points) as file:
         out = csv.writer(sys.stdout, lineterminator="\n")
         sys.stdout.reconfigure(errors="surrogateescape")
@@ -218,7 +224,7 @@ def join(points, zones, name, longitude, latitude, separator, skip, max_cells, *
             out.writerow([*columns, name or "zone"])
         done, pairs = 0, 0
         for part in parts:
-            place, zone = zones_of(made, part, **others)
+            place, zone = zones_of(made, part, all, asked)
             out.writerows([*part.rows[k], made.names[number] if number >= 0 else ""]
                           for k, number in zip(place.tolist(), zone.tolist()))
             done, pairs = done + len(part.rows), pairs + int((zone >= 0).sum())
@@ -228,9 +234,9 @@ def join(points, zones, name, longitude, latitude, separator, skip, max_cells, *
         print(f"\r\x1b[K{done} points, {pairs} pairs; left out: {wrong.count or 'none'}", file=sys.stderr)
 
 
-def zones_of(made, part, coverings, all):
+def zones_of(made, part, all, asked):
     """The pairs of a part: places of rows, and numbers of zones; -1 for none, if all rows are wanted."""
-    place, zone = made.join(part.x, part.y, exact=not coverings)
+    place, zone = made.join(part.x, part.y, **asked)
     if all:
         alone = numpy.setdiff1d(numpy.arange(len(part.rows)), place)
         order = numpy.argsort(numpy.concatenate([place, alone]), kind="stable")
@@ -258,7 +264,9 @@ def words_of(words):
     for name in ("file", "folder", "max_cells", "max_level"):
         one.add_argument(name)
     one.add_argument("--name", default="file")
-    commands.add_parser("geojson").add_argument("files", nargs="+")
+    one = commands.add_parser("geojson")
+    one.add_argument("files", nargs="+")
+    one.add_argument("--dissolve", action="store_true")
     for command, named in (("join", ("points", "zones")), ("index", ("zones", "file"))):
         one = commands.add_parser(command)
         for name in named:
@@ -269,8 +277,8 @@ def words_of(words):
         if command == "join":
             for name in ("longitude", "latitude", "separator"):
                 one.add_argument(f"--{name}")
-            one.add_argument("--all", action="store_true")
-            one.add_argument("--coverings", action="store_true")
+            for name in ("all", "borders", "coverings"):
+                one.add_argument(f"--{name}", action="store_true")
     found = vars(top.parse_args(words))
     return COMMANDS[found.pop("command")], found
 

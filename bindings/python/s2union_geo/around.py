@@ -184,8 +184,8 @@ def bounds(union: CellUnion) -> tuple[float, float, float, float] | None:
 
     Notes
     -----
-    S2: ``S2CellUnion::GetRectBound``. It is the narrowest box, but for 1e-13 degrees on each side that rounding may
-    need.
+    S2: ``S2CellUnion::GetRectBound``. The box is at most 1e-13 degrees wider on each side than the narrowest one, since
+    numbers are rounded.
 
     Examples
     --------

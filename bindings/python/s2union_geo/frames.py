@@ -129,13 +129,15 @@ class Frame:
         except ValueError as error:
             raise ValueError(f"row {row!r}: {error}") from None
 
-    def sjoin(self, points: Any, max_cells: int = 50, longitude: str | None = None,
-              latitude: str | None = None) -> pandas.DataFrame:
+    def sjoin(self, points: Any, max_cells: int = 50, longitude: str | None = None, latitude: str | None = None,
+              predicate: str = "within") -> pandas.DataFrame:
         """Each pair of a row of this frame and a row of another whose point lies inside of its polygons.
 
         .. versionadded:: 1.2
         .. versionchanged:: 1.4
             An `Index` that was made before.
+        .. versionchanged:: 1.5
+            ``predicate``.
 
         Parameters
         ----------
@@ -148,17 +150,19 @@ class Frame:
             The column of longitudes, as `leaves` has it.
         latitude : str, optional
             The column of latitudes.
+        predicate : str
+            ``"within"``, or ``"intersects"``: then a point on the border of polygons is in them.
 
         Returns
         -------
         DataFrame
             The columns ``region`` and ``point``, which are of the index of each frame, or the names of an `Index`: the
-            pairs of geopandas' ``points.sjoin(regions, predicate="within")``, and those across the date line.
+            pairs of geopandas' ``points.sjoin(regions, predicate=predicate)``, and those across the date line.
 
         Raises
         ------
         ValueError
-            The errors of `coverings` and `leaves`.
+            The errors of `coverings` and `leaves`, or there is no such predicate.
         TypeError
             A number of cells is no int, or the frame of polygons has no geometry.
         KeyError
@@ -177,7 +181,7 @@ class Frame:
         is_made = isinstance(points, Index)
         made = points if is_made else Index(self._whole(), max_cells=max_cells)
         rows, *places = (self if is_made else points.s2)._points(longitude, latitude)
-        point, zone = made.join(*places)
+        point, zone = made.join(*places, predicate=predicate)
         order = zone.argsort(kind="stable")
         names = pandas.Index(made.names, tupleize_cols=False)
         return pandas.DataFrame({"region": names.take(zone[order]), "point": rows.take(point[order])})

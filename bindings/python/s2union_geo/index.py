@@ -21,6 +21,7 @@ from .sphere import leaves
 __all__ = ["Index"]
 
 KIND = "s2union_geo.Index 1"  # of the files
+PREDICATES = ("within", "intersects")  # of which the second has points on borders too, as in geopandas
 ARRAYS = {"cell": "u", "begin": "i", "zone": "i", "sure": "b", "shape": "u", "ends": "i", "spans": "f", "names": "u"}
 
 
@@ -129,10 +130,12 @@ class Index:
     def __repr__(self) -> str:
         return f"<Index of {len(self)} zones, {len(self._cell)} cells>"
 
-    def find(self, longitude: float, latitude: float, exact: bool = True) -> list[Any]:
+    def find(self, longitude: float, latitude: float, exact: bool = True, predicate: str = "within") -> list[Any]:
         """The names of the zones that contain a point.
 
         .. versionadded:: 1.4
+        .. versionchanged:: 1.5
+           ``predicate``.
 
         Parameters
         ----------
@@ -142,6 +145,8 @@ class Index:
             From -90 to 90 degrees.
         exact : bool
             Whether shapely is asked for a point between both coverings.
+        predicate : str
+            ``"within"``, or ``"intersects"``: then a point on the border of a zone is in it.
 
         Returns
         -------
@@ -151,7 +156,7 @@ class Index:
         Raises
         ------
         ValueError
-            A number is out of range.
+            A number is out of range, or there is no such predicate.
         TypeError
             A value isn't a number.
         ModuleNotFoundError
@@ -163,6 +168,7 @@ class Index:
         >>> Index([square], ["square"]).find(9.9999, 5)
         ['square']
         """
+        _check(predicate)
         found, here = [], numpy.uint64(leaf(longitude, latitude))
         cell = self._first.searchsorted(here, "right") - 1
         while cell >= 0:
@@ -171,13 +177,16 @@ class Index:
             cell = self._above[cell]
         x, y = numpy.array([[longitude], [latitude]], "float64")
         zones = [int(self._zone[k]) for k in found
-                 if self._sure[k] or not exact or self._contains(self._zone[k], x, y)[0]]
+                 if self._sure[k] or not exact or self._contains(self._zone[k], x, y, predicate)[0]]
         return [self.names[zone] for zone in sorted(zones)]
 
-    def join(self, longitude: Any, latitude: Any, exact: bool = True) -> tuple[Any, Any]:
+    def join(self, longitude: Any, latitude: Any, exact: bool = True,
+             predicate: str = "within") -> tuple[Any, Any]:
         """Each pair of a point and a zone that contains it.
 
         .. versionadded:: 1.4
+        .. versionchanged:: 1.5
+           ``predicate``.
 
         Parameters
         ----------
@@ -188,6 +197,9 @@ class Index:
         exact : bool
             Whether shapely decides for points between both coverings. Else they count as inside: no pair is missing,
             and points near a border may be in pairs too many.
+        predicate : str
+            ``"within"``, or ``"intersects"``: then a point on the border of a zone is in it, as for PostGIS's
+            ``ST_Covers``, and with the joins of PostgreSQL and SQLite.
 
         Returns
         -------
@@ -199,7 +211,8 @@ class Index:
         Raises
         ------
         ValueError
-            A number is out of range, or missing: the message has its place. Or the lengths differ.
+            A number is out of range, or missing: the message has its place. Or the lengths differ, or there is no such
+            predicate.
         TypeError
             A value isn't a number.
         ModuleNotFoundError
@@ -207,8 +220,8 @@ class Index:
 
         Notes
         -----
-        A point on the border of a zone is not in it: the pairs are those of geopandas with the predicate ``within``,
-        and those of zones across the date line.
+        The pairs are those of geopandas with the same predicate, and those of zones across the date line. Geopandas
+        itself takes ``intersects`` if it is given none.
 
         Examples
         --------
@@ -216,15 +229,20 @@ class Index:
         >>> points, zones = Index([square]).join([5, 9.999999, 10.000001], [5, 5, 5])
         >>> points.tolist(), zones.tolist()
         ([0, 1], [0, 0])
+        >>> [len(Index([square]).join([10], [5], predicate=it)[0]) for it in ("within", "intersects")]
+        [0, 1]
         """
+        _check(predicate)
         x, y = (numpy.ravel(it) for it in (longitude, latitude))
         if len(x) != len(y):
             raise ValueError(f"{len(x)} longitudes and {len(y)} latitudes")
+        if exact:
+            _shapely()  # an error before any work
         point, zone, sure = self._pairs(leaves(x, y))
         if exact:
             keep = sure.copy()
             for number, places in _groups(zone, numpy.flatnonzero(~sure)):
-                keep[places] = self._contains(number, x[point[places]], y[point[places]])
+                keep[places] = self._contains(number, x[point[places]], y[point[places]], predicate)
             point, zone = point[keep], zone[keep]
         order = numpy.lexsort([zone, point])
         return point[order], zone[order]
@@ -246,9 +264,10 @@ class Index:
             found.append((asked[of], self._zone[entry], self._sure[entry]))
             cell = self._above[cell]
 
-    def _contains(self, zone: Any, x: Any, y: Any) -> Any:
+    def _contains(self, zone: Any, x: Any, y: Any, predicate: str) -> Any:
         """Whether a zone's polygons contain points, which they may have some turns to the east or west."""
-        wkb, prepared, contains = _shapely()
+        wkb, prepared, *asks = _shapely()
+        contains = asks[PREDICATES.index(predicate)]
         if zone not in self._prepared:
             try:
                 self._prepared[zone] = prepared(wkb.loads(self._shapes[zone]))
@@ -421,20 +440,34 @@ def _span_of(shape: Any) -> tuple[float, float]:
     return x.min(), x.max()
 
 
+def _check(predicate: str) -> None:
+    if predicate not in PREDICATES:
+        raise ValueError(f"a predicate is {' or '.join(map(repr, PREDICATES))}, not {predicate!r}")
+
+
 @functools.lru_cache(None)
-def _shapely() -> tuple[Any, Any, Any]:
-    """Of shapely what reads well-known binary, what prepares polygons, and what asks them about arrays."""
+def _shapely() -> tuple[Any, ...]:
+    """Of shapely what reads well-known binary, what prepares polygons, and what asks them about arrays, by each
+    predicate."""
     try:
         from shapely import wkb
         from shapely.prepared import prep
     except ImportError:
-        raise ModuleNotFoundError("an exact answer needs shapely; without it, coverings alone can be asked") from None
+        raise ModuleNotFoundError("an exact answer needs shapely (pip install shapely, or Debian's python3-shapely); "
+                                  "without it, coverings alone can be asked") from None
     try:
-        from shapely import contains_xy, prepare
+        from shapely import contains_xy, intersects_xy, prepare
     except ImportError:  # before shapely 2
+        from shapely.geometry import Point
         from shapely.vectorized import contains
-        return wkb, prep, contains
-    return wkb, lambda shape: (prepare(shape), shape)[1], contains_xy
+
+        def intersects(shape: Any, x: Any, y: Any) -> Any:
+            inside = contains(shape, x, y)
+            for place in numpy.flatnonzero(~inside):  # GEOS is quick to say so of a point, and slow that it touches
+                inside[place] = shape.intersects(Point(x[place], y[place]))
+            return inside
+        return wkb, prep, contains, intersects
+    return wkb, lambda shape: (prepare(shape), shape)[1], contains_xy, intersects_xy
 
 
 def _groups(key: Any, places: Any) -> Iterator[tuple[int, Any]]:

@@ -131,7 +131,7 @@ def _add_geometry(shape: Shape, it: Any, kind: str, polygons: int) -> int:
     if not is_area:
         lines: Iterable[Any] = [[parts]] if depth == 0 else [[at] for at in parts] if kind == "MultiPoint" else [parts]
         for line in parts if depth == 2 else lines:
-            if len(line) > 0 and len(line[0]) > 0:
+            if not _is_empty(line):
                 shape.add(line, LINE, f"line {len(shape.names)}")
         return 0
     for k, rings in enumerate(parts if depth == 3 else [parts]):
@@ -141,6 +141,14 @@ def _add_geometry(shape: Shape, it: Any, kind: str, polygons: int) -> int:
         for n, ring in enumerate(rings):
             shape.add(ring, polygons + k, f"polygon {polygons + k}, ring {n}")
     return len(parts) if depth == 3 else 1
+
+
+def _is_empty(line: Any) -> bool:
+    """Whether a line has no position, or its first no number, as an empty point has. One that isn't a list has."""
+    try:
+        return len(line) == 0 or len(line[0]) == 0
+    except (TypeError, LookupError):
+        return False
 
 
 def _list_of(it: Any, name: str, kind: str) -> list[Any]:
