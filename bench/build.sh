@@ -1,11 +1,12 @@
 #!/usr/bin/env bash
-# Builds a harness of this folder against the proved library and S2: build FILE.cc makes out/FILE. With PEER_ALONE=1
-# it is built against S2 alone. S2 is Debian's package, which keeps its debug checks. With S2_RELEASE=1 the parts that
-# are measured are compiled from Debian's source package without them.
+# Builds a harness of this folder against the proved library and S2: build FILE.cc makes out/FILE. Without the kit the
+# library is the release's; with PEER_ALONE=1 there is S2 alone. S2 is Debian's package, which keeps its debug checks.
+# With S2_RELEASE=1 the parts that are measured are compiled from Debian's source package without them.
 . "$(dirname "$0")/../tools/usage.sh"
 . "$(dirname "$0")/../tests/steps.sh"
 need g++ g++
 need_file /usr/include/s2/s2cell_union.h libs2-dev
+[ -n "${PEER_ALONE:-}" ] || choose_library >&2
 need_packages
 set -e
 cd "$top/bench"
@@ -29,7 +30,7 @@ fi
 if [ -n "${PEER_ALONE:-}" ]; then
   libraries+=(-I../crates/s2union_c/include)
 else
-  logged ../tools/library out/usr
+  logged ../tools/library out/usr "${released[@]}"
   libraries+=(-Iout/usr/include out/usr/lib/libs2union.a)
 fi
 absl=()

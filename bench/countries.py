@@ -93,7 +93,7 @@ class Postgres(Session):
 
     def timed(self, question):
         begun = self.took()
-        return int(self.ask(question)[0]), self.took() - begun
+        return self.ask(question)[-1].strip(), self.took() - begun
 
 
 def in_postgres(folder, rows):

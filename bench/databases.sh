@@ -3,13 +3,16 @@
 # operations, aggregates and questions by an index on the same countries, cities and 200,000 points. A covering has at
 # most CELLS cells, 2000 if it isn't said. BEFORE is where tools/library has put another version of the library: then
 # both extensions are measured over it too, in turn with this tree's, which S2UNION_PREFIX has if it is there already.
-# The server is a copy of Debian's, on a socket of its own. The Debian packages that it needs are installed: 200 MB.
+# bench/run joins measures exact joins of points with provinces instead, by each way, beside PostGIS, SpatiaLite and
+# geopandas. The server is a copy of Debian's, on a socket of its own. The Debian packages that it needs are installed:
+# 200 MB.
 . "$(dirname "$0")/../tools/usage.sh"
 . "$(dirname "$0")/../tests/steps.sh"
-cells=${1:-2000} before=${2:-}
+cells=${1:-2000} before=${2:-} provinces=/usr/share/qgis/resources/data/world_map.gpkg
 
 . "$top/tests/geo/countries.sh"
-need_countries libsqlite3-dev postgresql-15-postgis-3
+[ "$cells" != joins ] || need_file "$provinces" qgis-common
+need_countries libsqlite3-dev postgresql-15-postgis-3 python3-rtree libsqlite3-mod-spatialite
 . "$top/tests/postgres/server.sh"
 
 both() { # FOLDER PREFIX: both extensions over the library there
@@ -32,6 +35,10 @@ step "a cluster on a socket" begun data "max_parallel_workers_per_gather = 0"
 
 export PATH=/usr/bin:$PATH PYTHONDONTWRITEBYTECODE=1 PYTHONWARNINGS=ignore
 export PYTHONPATH=$work/usr/lib/python:$top/docs/examples:$top/tests/geo
+if [ "$cells" = joins ]; then
+  /usr/bin/python3 "$top/bench/joins.py" "$work" "$work/now/sqlite" "$provinces" || failed=1
+  finish
+fi
 step "the countries, covered" countries "$cells"
 [ "$failed" -eq 0 ] || finish
 /usr/bin/python3 "$top/bench/countries.py" "$work" || failed=1

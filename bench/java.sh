@@ -5,8 +5,9 @@
 . "$(dirname "$0")/../tests/steps.sh"
 need javac openjdk-17-jdk-headless
 need gcc gcc libc6-dev
+choose_library
 need_packages
-step "tools/java" "$top/tools/java" "$work/java" --target x86_64
+step "tools/java" "$top/tools/java" "$work/java" --target x86_64 "${released[@]}"
 [ "$failed" -eq 0 ] || finish
 javac -cp "$work/java/s2union.jar" -d "$work/bench" "$top/bench/Calls.java" &&
   java -cp "$work/java/s2union.jar:$work/bench" Calls "$@"
