@@ -1,17 +1,16 @@
 #!/usr/bin/env python3
 """Checks the pages: docs/statement.sums is what tools/statement makes; each definition has a sentence, and stands in
-specs/Working if no public contract needs it; every relative link of every page leads to a file, and to its heading; if
-the link's text is names of the sources, the file has them, as it has those that a page says are in it; each path in
-backticks is there; the files that docs/ARCHITECTURE.md walks through have the functions that it names, and one calls
-another where it says so; each language has what docs/FROM_S2.md says it has; docs/TROUBLESHOOTING.md has each error
-that the sources make, and no others; docs/CONCEPTS.md has the edges and numbers of cells of all levels;
-docs/MARIADB.md lists the functions of install.sql; docs/README.md leads to each page; README.md has fewer than 10,000
-bytes; a page that names the kit names the one of the file KIT; CHANGELOG.md says nothing twice; a contract has a limit
-as a number only where docs/EXTENDING.md says so; each part that a text names after `tests/run` is one; each command of
-tools/ and bench/ prints its usage with --help, and does nothing else; and what is a command, a file whose name has no
-ending and which names its interpreter, is executable, and no other file is. The last line is 'N passed, M failed',
-where N counts the definitions, the links, the paths, the names, the calls, the errors, the levels, the changes, the
-limits, the parts, the commands and the files. A check that has nothing to look at fails.
+specs/Working if no public contract needs it; every relative link of every page leads to a file, and to its heading;
+if the link's text is names of the sources, the file has them, as it has those that a page says are in it; each path
+in backticks is there; the files that docs/ARCHITECTURE.md walks through have the functions that it names; each
+language has what docs/FROM_S2.md says it has; docs/TROUBLESHOOTING.md has each error that the sources make, and no
+others; docs/CONCEPTS.md has the edges and numbers of cells of all levels; docs/MARIADB.md lists the functions of
+install.sql; docs/README.md leads to each page; README.md has fewer than 10,000 bytes; a page that names the kit names
+the one of the file KIT; CHANGELOG.md says nothing twice; each part that a text names after `tests/run` is one; each
+command of tools/ and bench/ prints its usage with --help, and does nothing else; and what is a command, a file whose
+name has no ending and which names its interpreter, is executable, and no other file is. The last line is 'N passed, M
+failed', where N counts the definitions, the links, the paths, the names, the calls, the errors, the levels, the
+changes, the parts, the commands and the files. A check that has nothing to look at fails.
 """
 import functools
 import re
@@ -31,19 +30,13 @@ NAMES = re.compile(r"\[((?:`\w+`(?:, | and )?)+)\]\(([^)#\s]+(?<!lib)\.(?:rt|ant
 CODE = re.compile(r"`([^`\n]+)`")
 PATH = re.compile(r"[\w.*/-]+")
 FILE = re.compile(r"[\w.-]+\.(?:rt|antt|py|sh|md|hpp|h|cc|go|rs|sql)")
-# Names that stand for any file of their kind, and headers of S2; and the page that tools/statement makes.
+# Names that stand for any file of their kind, and headers of S2; and what tools/statement makes.
 EXAMPLES = {"s2union--OLD--NEW.sql", "s2union--NEW.sql", "s2cell_id.h", "s2cell_union.h"}
-MADE = ("docs/STATEMENT.md", "docs/STATEMENT.txt")
+MADE = ("docs/STATEMENT.md", "docs/STATEMENT.txt", "docs/STATEMENT.rt")
 GONE = {"peer", "faults", "examples"}
 STEP = re.compile(r"^\d+\. `(\w+/src)/(\w+\.rt)`: (.*)$", re.M)
-CALL = re.compile(r"`(\w+)`(?: and `(\w+)`)? calls? `(\w+)`")
 PART = re.compile(r"^    Part\(\"([\w-]+)\"", re.M)
 RUNS = re.compile(r"tests/run((?: --tier)?(?: [a-z][\w-]*)+)")
-LIMIT = re.compile(r"^pub(?:\(crate\))? const \w+: \w+ = ([\d_]{3,});", re.M)
-CLAUSE = re.compile(r"^ +(?:ensures|requires|ghost)\b[^{\n]*\{(.*?)\}[;,]?$", re.M | re.S)
-AS_NUMBERS = re.compile(r"([\d]+), in ((?:`[\w/.]+`(?: and )?)+)")
-# Where a contract has the number of a limit, and means another thing: the side of a picture, and the version.
-NO_LIMITS = {("s2draw/src/rectangle.rt", "4096"), ("s2union_c/src/cells.rt", "10000")}
 DEFINES = r"\b(?:fn|struct|trait|record|data|abbrev pub|unfoldable pub) {}\b"
 # The columns of docs/FROM_S2.md: what a name is in them, where it is defined, and how.
 CALLS = {
@@ -193,20 +186,6 @@ def lost_names():
     return count, lost
 
 
-def calls_on_the_walk():
-    """The number of calls that docs/ARCHITECTURE.md names on the way of a line, and those that aren't made."""
-    count, unmade = 0, []
-    for folder, first, text in STEP.findall((ROOT / "docs" / "ARCHITECTURE.md").read_text()):
-        source = (ROOT / "crates" / folder / first).read_text()
-        for one, other, called in CALL.findall(text):
-            for name in filter(None, (one, other)):
-                count += 1
-                body = re.search(rf"\bfn {name}\b.*?(?=\bfn |\Z)", source, re.S)
-                if not body or not re.search(rf"\b{called}\b[^;]*?\(", body[0]):
-                    unmade.append(f"{name} doesn't call {called}")
-    return count, unmade
-
-
 def said_twice():
     """The number of changes in CHANGELOG.md, and those that begin as an earlier one of their version does."""
     count, twice = 0, []
@@ -215,22 +194,6 @@ def said_twice():
         count += len(changes)
         twice += [change for place, change in enumerate(changes) if change in changes[:place]]
     return count, twice
-
-
-def limits_as_numbers():
-    """The number of limits, and the places where a contract has one as a number, but for those that docs/EXTENDING.md
-    names with it, as 'file: number'."""
-    page = (ROOT / "docs" / "EXTENDING.md").read_text().partition("\n## A limit\n")[2].partition("\n## ")[0]
-    limits = {number.replace("_", "") for path in re.findall(r"`(\w+/src/\w+\.rt)` ?[|;]", page)
-              for number in LIMIT.findall((ROOT / "crates" / path).read_text())}
-    allowed = {(path, number) for number, paths in AS_NUMBERS.findall(page) for path in re.findall(r"`(.*?)`", paths)}
-    limits |= {number for _, number in allowed if len(number) > 1}
-    found = set()
-    for source in (ROOT / "crates").glob("s2*/src/**/*.rt"):
-        clauses = "" if source.name in ("laws.rt", "worked.rt") else " ".join(CLAUSE.findall(source.read_text()))
-        numbers = {number.replace("_", "") for number in re.findall(r"(?<![\w.])[\d_]+(?![\w.])", clauses)}
-        found |= {(str(source.relative_to(ROOT / "crates")), number) for number in numbers & limits}
-    return len(limits), sorted(f"{path}: {number}" for path, number in found - allowed - NO_LIMITS)
 
 
 def unexplained():
@@ -349,9 +312,7 @@ CHECKS = {
     "README.md is too long": too_long,
     "the table of levels": wrong_levels,
     "another kit": other_kits,
-    "docs/ARCHITECTURE.md": calls_on_the_walk,
     "CHANGELOG.md says twice": said_twice,
-    "a limit as a number": limits_as_numbers,
     "no part of tests/run": unknown_parts,
     "--help is not answered by its usage": without_usage,
     "executable, or else a command": wrong_modes,

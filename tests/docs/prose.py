@@ -34,7 +34,8 @@ def has(form):
 
 
 HABITS = {
-    "'but for'": Habit(has(r"\b[Bb]ut for\b"), 0),
+    "'but for', 'asked about', 'so many' and 'refused where'": Habit(
+        has(r"\b(?:[Bb]ut for|[Aa]sked about|[Ss]o many|[Rr]efused where)\b"), 0),
     "'is no' and 'is none'": Habit(has(r"(?<![Tt]here )\b(?:is|are) (?:no|none)\b(?! (?:longer|more|less)\b)"), 0),
     "begins with a free what, who, where or that": Habit(has(r"^(?:What|Whoever|Who|Where|That)\b(?!.*\?$)"), 0),
     "begins with a word that points back": Habit(

@@ -1,10 +1,10 @@
 """What rots unseen: lemmas and definitions that nobody cites, names imported for nothing, lemmas that are stated
-twice, word for word, functions with many arms, lines of more than 120 characters, hosts of package registries, words
-that the house avoids, and habits of tests/docs/prose.py. tests/docs/pages.py looks for paths.
+twice, word for word, functions with many arms, lines of more than 120 characters, hosts of package registries, and
+habits of tests/docs/prose.py. tests/docs/pages.py looks for paths.
 
 UNCITED and DOUBLES are the most that may stand, and MANY_ARMS what may: what stood there when this check came, and
-less from time to time. The last line is 'N passed, M failed', where N counts the declarations, the files, the words and
-the pages. A check that has nothing to look at fails.
+less from time to time. The last line is 'N passed, M failed', where N counts the declarations, the files and the
+pages. A check that has nothing to look at fails.
 """
 import collections
 import re
@@ -29,14 +29,13 @@ BOUND = re.compile(r"\blet ([^\s(){}:=]+)|λ ([^.]*)\.|[({]([^\s(){}:]+(?: [^\s(
 HOSTS = re.compile(r"\b(?:(?:static\.)?crates[.]io|pypi[.]org|pythonhosted[.]org|npmjs[.](?:com|org)|"
                    r"proxy[.]golang[.]org|rubygems[.]org|docker[.]io|repo1?[.]maven)\b")
 UNCITED = 0
-DOUBLES = 22
+DOUBLES = 17
 ARMS = 7
 # The functions that have more arms. Split a function in place of adding it here.
 MANY_ARMS = {"s2calc/src/command_line.rt: arg_of", "s2calc/src/edits.rt: edit_register", "s2calc/src/execute.rt: act",
              "s2calc/src/notes.rt: put_reason", "s2calc/src/questions.rt: answer_to", "s2calc/src/refusal.rt: name",
              "s2script/src/misfit.rt: refusal", "s2script/src/misfit_text.rt: put_wanted",
              "s2script/src/refusal.rt: name"}
-AVOIDED = ("asked about", "so many", "refused where")
 # Files whose lines may be long: pages and tables of rows, which are not wrapped, texts of others, and what pins a line.
 UNWRAPPED = re.compile(r"\.(?:md|svg|png|outer|cells|sums)$|^LICENSE$|/(?:stdin|stdout|mutants\.txt)$")
 
@@ -228,14 +227,6 @@ def hosts():
     return len(tracked(ROOT)), [name for name in tracked(ROOT) if HOSTS.search(text_of(name))]
 
 
-def avoided():
-    """The number of words that the house avoids, and those that stand somewhere, with where."""
-    texts = {name: re.sub(r"\s+", " ", text_of(name)) for name in tracked(ROOT)
-             if not name.endswith(("/mutants.txt", "/rot.py"))}
-    return len(AVOIDED), [f"'{word}' in {name}" for word in AVOIDED for name, text in texts.items()
-                          if re.search(rf"\b{word}\b", text, re.I)]
-
-
 def main():
     counts, double = doubles()
     double = double if len(double) > DOUBLES else []
@@ -244,8 +235,7 @@ def main():
     return has_wrong({
         "nobody cites it": (declared, dead), "imported for nothing": unused(), "stated before": (counts, double),
         "more arms than seven: split it": many_arms(), "too long": long_lines(),
-        "names the host of a registry": hosts(),
-        "avoided": avoided(), "hard to read": prose.habits(),
+        "names the host of a registry": hosts(), "hard to read": prose.habits(),
     })
 
 

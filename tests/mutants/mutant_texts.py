@@ -24,6 +24,7 @@ LINE = re.compile(r"^(file|old|new): ?(.*)$", re.M)
 FUNCTION = re.compile(r"^function: (\S+)$", re.M)
 ALWAYS = re.compile(r"^gate: always$", re.M)
 TEST = re.compile(r"^test: (.+)$", re.M)
+WATCHED = "watched"  # a part of tests/run, as a mutant's test
 CRATE = re.compile(r"^crate: (\S+)$", re.M)
 FN = re.compile(r'^ *(?:pub(?:\([a-z]+\))? )?(?:const )?(?:extern "C" )?fn (\w+)')
 TYPE = re.compile(r"^(?:pub(?:\([a-z]+\))? )?(?:struct|enum) (\w+)", re.M)
@@ -220,7 +221,9 @@ def misfit(mutant, folder):
 
 
 def has_test(folder, crate, name):
-    """Whether a test of the program has this name, or if there is a crate, a row of its table."""
+    """Whether a test of the program or WATCHED has this name, or if there is a crate, a row of its table."""
+    if name == WATCHED:
+        return True
     files = [folder / "crates" / crate[1] / "stdin"] if crate else folder.glob("tests/program/*.py")
     form = rf"^## {re.escape(name)}$" if crate else rf"^(?:    )?def {re.escape(name)}\("
     return any(re.search(form, file.read_text(encoding="utf-8"), re.M) for file in files)
