@@ -25,6 +25,7 @@ from mutant_texts import mutants_of  # noqa: E402
 
 LINK = re.compile(r"\]\((?!https?://)([^)#\s]*)(?:#([^)\s]+))?[^)]*\)")
 BLOCK = re.compile(r"^```.*?^```", re.S | re.M)
+RUST = re.compile(r"^```rust\n(.*?)^```", re.S | re.M)
 PLACED = re.compile(r"`(\w+)`(?: and `(\w+)`)? (?:in|of) `([\w./-]+\.(?:rt|antt|py|rs|h|c))`")
 NAMES = re.compile(r"\[((?:`\w+`(?:, | and )?)+)\]\(([^)#\s]+(?<!lib)\.(?:rt|antt))\)")
 CODE = re.compile(r"`([^`\n]+)`")
@@ -303,6 +304,14 @@ def is_command(file):
         return "." not in file.name and it.read(2) == b"#!"
 
 
+def changed_contracts():
+    """The parts of contracts that pages quote, and those that no source has, whatever their spaces are."""
+    sources = " ".join(" ".join((ROOT / name).read_text().split()) for name in tracked(ROOT, "crates/*.rt"))
+    quoted = [(page.name, part) for page in pages() for block in RUST.findall(page.read_text()) if "ensures" in block
+              for part in re.split(r"(?=\bensures\b)", block)]
+    return len(quoted), [f"{name}: {part}" for name, part in quoted if " ".join(part.split()) not in sources]
+
+
 CHECKS = {
     "leads nowhere": broken_links,
     "not defined in the file that is linked or named": lost_names,
@@ -312,6 +321,7 @@ CHECKS = {
     "README.md is too long": too_long,
     "the table of levels": wrong_levels,
     "another kit": other_kits,
+    "a contract that isn't in the sources": changed_contracts,
     "CHANGELOG.md says twice": said_twice,
     "no part of tests/run": unknown_parts,
     "--help is not answered by its usage": without_usage,
