@@ -85,7 +85,7 @@ MISTAKES = [
             swapped("| 5 | 291 km | 6,144 |", "| 5 | 291 km | 6,154 |")),
     Mistake("another kit on a page", pages.other_kits, "docs/PROOF.md", ended_by(f"\n`{'rattle-kit-'}0`\n")),
     Mistake("another logic on a page", pages.other_kits, "docs/INSTALL.md", ended_by("\nThe logic `0`.\n")),
-    Mistake("a contract that no source has", pages.changed_contracts, "README.md",
+    Mistake("a contract that no source has", pages.changed_contracts, "docs/HEADLINE.md",
             ended_by("\n```rust\n    ensures { 0 ≡ 1 }\n```\n")),
     Mistake("a kit that no page names", pages.other_kits, "KIT", ended_by("a-kit-0 logic dac8208d650f15bf\n")),
     Mistake("a change that is said twice", pages.said_twice, "CHANGELOG.md",
