@@ -290,6 +290,9 @@ func TestGeoJSON(t *testing.T) {
 		`{"type":"Point","coordinates":[-1.5,20]}`:                                                        {Points: line[1:]},
 		`{"type":"MultiPoint","coordinates":[[0,0],[-1.5,20]]}`:                                           {Points: line},
 		`{"type":"Point","coordinates":[]}`:                                                               {},
+		`{"type":"Point","coordinates": [ ] }`:                                                            {},
+		`{"type":"MultiPoint","coordinates":[[0,0],[],[-1.5,20],[ ]]}`:                                    {Points: line},
+		`{"type":"FeatureCollection","features":[]}`:                                                      {},
 		`{"type":"Feature","geometry":null}`:                                                              {},
 		`{"type":"Feature","properties":{"coordinates":7},"geometry":{"type":"Point","coordinates":[]}} `: {},
 	} {
@@ -305,6 +308,10 @@ func TestGeoJSON(t *testing.T) {
 		`{"type":"Point","coordinates":[null,1]}`, `{"type":"Point","coordinates":[0,true]}`,
 		`{"type":"Point","coordinates":[1e999,1]}`, `{"type":"Point","coordinates":{"x":1,"y":2}}`,
 		`{"type":"MultiPoint","coordinates":[[0,1],null]}`, `{"type":"GeometryCollection","geometries":[{"type":"x"}]}`,
+		`{"type":"FeatureCollection"}`, `{"type":"FeatureCollection","features":null}`,
+		`{"type":"FeatureCollection","geometries":[]}`, `{"type":"GeometryCollection","features":[]}`,
+		`{"type":"MultiLineString","coordinates":[null]}`, `{"type":"MultiPolygon","coordinates":[[],null]}`,
+		`{"type":"MultiPoint","coordinates":[[[]]]}`, `{"type":"LineString","coordinates":[[],[0,1]]}`,
 		`{"type":"GeometryCollection","geometries":` + strings.Repeat("[", 20000) + strings.Repeat("]", 20000) + `}`,
 	} {
 		shape := square

@@ -11,6 +11,8 @@ import (
 // ErrGeoJSON is the refusal of a text that isn't GeoJSON of polygons, lines and points.
 var ErrGeoJSON = errors.New("s2union: not GeoJSON of polygons, lines and points")
 
+var errMissing = fmt.Errorf("%w: a list of coordinates or parts is missing", ErrGeoJSON)
+
 // object is one of GeoJSON.
 type object struct {
 	Type        string          `json:"type"`
@@ -48,44 +50,53 @@ func (shape *Shape) add(given object) error {
 			return nil
 		}
 		return shape.add(*given.Geometry)
-	case "FeatureCollection", "GeometryCollection":
-		for _, part := range append(given.Features, given.Geometries...) {
-			if err := shape.add(part); err != nil {
-				return err
-			}
-		}
-		return nil
+	case "FeatureCollection":
+		return shape.addParts(given.Features)
+	case "GeometryCollection":
+		return shape.addParts(given.Geometries)
 	default:
 		return shape.addGeometry(given.Type, given.Coordinates)
 	}
 }
 
+// addParts adds what the parts of a collection have, whose list may not be missing.
+func (shape *Shape) addParts(parts []object) error {
+	if parts == nil {
+		return errMissing
+	}
+	for _, part := range parts {
+		if err := shape.add(part); err != nil {
+			return err
+		}
+	}
+	return nil
+}
+
 func (shape *Shape) addGeometry(kind string, coordinates []byte) (err error) {
 	var polygon [][]Position
 	var line []Position
-	var point Position
 	switch kind {
 	case "Polygon":
 		err = listIn(coordinates, &polygon)
 		shape.Polygons = append(shape.Polygons, polygon)
 	case "MultiPolygon":
 		var polygons [][][]Position
-		err = listIn(coordinates, &polygons)
+		err = listsIn(coordinates, &polygons)
 		shape.Polygons = append(shape.Polygons, polygons...)
 	case "LineString":
 		err = listIn(coordinates, &line)
 		shape.addLines(line)
 	case "MultiLineString":
-		err = listIn(coordinates, &polygon)
+		err = listsIn(coordinates, &polygon)
 		shape.addLines(polygon...)
 	case "MultiPoint":
-		err = listIn(coordinates, &line)
-		shape.Points = append(shape.Points, line...)
-	case "Point":
-		if string(coordinates) != "[]" {
-			err = listIn(coordinates, &point)
-			shape.Points = append(shape.Points, point)
+		var points []json.RawMessage
+		err = listIn(coordinates, &points)
+		for k := 0; k < len(points) && err == nil; k++ {
+			err = shape.addPoint(points[k])
 		}
+	case "Point":
+		err = shape.addPoint(coordinates)
 	default:
 		err = fmt.Errorf("%w: the type %.99q", ErrGeoJSON, kind)
 	}
@@ -100,12 +111,34 @@ func (shape *Shape) addLines(lines ...[]Position) {
 	}
 }
 
+// addPoint adds a point. One without a number is empty.
+func (shape *Shape) addPoint(coordinates []byte) error {
+	var point Position
+	if string(bytes.Join(bytes.Fields(coordinates), nil)) == "[]" {
+		return nil
+	}
+	err := listIn(coordinates, &point)
+	shape.Points = append(shape.Points, point)
+	return err
+}
+
 // listIn reads the list of coordinates, which may not be missing.
 func listIn(coordinates []byte, list any) error {
 	if len(coordinates) == 0 || string(coordinates) == "null" {
-		return fmt.Errorf("%w: coordinates are missing", ErrGeoJSON)
+		return errMissing
 	}
 	return json.Unmarshal(coordinates, list)
+}
+
+// listsIn reads a list of lists, none of which may be missing either.
+func listsIn[T any](coordinates []byte, lists *[][]T) error {
+	err := listIn(coordinates, lists)
+	for k := 0; k < len(*lists) && err == nil; k++ {
+		if (*lists)[k] == nil {
+			err = errMissing
+		}
+	}
+	return err
 }
 
 // UnmarshalJSON takes a longitude and a latitude, and passes over what follows them. Since 1.4.
