@@ -113,7 +113,7 @@ function shapeOf(geojson, isLoose = false) {
     MultiPolygon: (it) => parts(it).forEach((rings) => shape.addPolygon(rings)),
   };
   for (let count = 0; waiting.length; count++) {
-    if (count > MOST_POSITIONS) throw new Error(`there are more than ${MOST_POSITIONS} parts`);
+    if (count + waiting.length > MOST_POSITIONS) throw new Error(`there are more than ${MOST_POSITIONS} parts`);
     const it = waiting.pop();
     const type = typeof it?.type === "string" ? it.type : "";
     if (Object.hasOwn(PARTS, type)) {

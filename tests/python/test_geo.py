@@ -255,9 +255,9 @@ class Polygons(unittest.TestCase):
     def test_lines_and_points(self):
         line = [[0, 0], [10, 5], [20, 0]]
         for shape, on in (({"type": "Point", "coordinates": [3, 4]}, [[3, 4]]),
-                          ({"type": "MultiPoint", "coordinates": line}, line),
+                          ({"type": "MultiPoint", "coordinates": [[], *line, []]}, line),
                           ({"type": "LineString", "coordinates": line}, [*line, [4, 2], [16, 2]]),
-                          ({"type": "MultiLineString", "coordinates": [line, [[40, 50], [40, 60]]]},
+                          ({"type": "MultiLineString", "coordinates": [line, [], [[40, 50], [40, 60]]]},
                            [[40, 55], [4, 2]]),
                           ({"type": "GeometryCollection", "geometries": [polygon(SQUARE), {
                               "type": "LineString", "coordinates": [[10, 5], [12, 5]]}]}, [[5, 5], [11, 5]])):
@@ -433,6 +433,8 @@ def around(count, south):
     return [*edges, [-540, edges[-1][1]], [-540, south - (90 - south) / 100], edges[0]]
 
 
+ENDLESS = {"type": "GeometryCollection", "geometries": []}  # and has itself a hundred times
+ENDLESS["geometries"] += [ENDLESS] * 100
 REFUSED = [
     (polygon(SQUARE[:-1]), "polygon 0, ring 0 is open: its last position is not its first"),
     (polygon(SQUARE[:2] + SQUARE[:1]), "polygon 0, ring 0 has fewer than four positions"),
@@ -447,10 +449,17 @@ REFUSED = [
     ('{"type": "MultiPoint", "coordinates": [1, 2]}', "line 0: a position is a longitude and a latitude"),
     ({"type": "LineString", "coordinates": [0, 1]}, "line 0: a position is a longitude and a latitude"),
     ({"type": "MultiLineString", "coordinates": [{"x": 1}]}, "line 0: a position is a longitude and a latitude"),
+    ({"type": "MultiLineString", "coordinates": [{}]}, "line 0: a position is a longitude and a latitude"),
+    ({"type": "MultiPoint", "coordinates": [""]}, "line 0: a position is a longitude and a latitude"),
+    ({"type": "LineString", "coordinates": [[], [0, 1], [2, 3]]}, "line 0: a position is a longitude and a latitude"),
     ({"type": "LineString", "coordinates": [[0, 0], [0, 91]]}, "line 0: position 1 is out of range: a latitude"),
     (polygon(numpy.zeros((4, 1))), "a position is a longitude and a latitude"),
     ({"type": "Polygon"}, "a Polygon has a list of coordinates"), (7, "it is no shape: int"),
+    ({"type": "Point", "coordinates": numpy.float64(3)}, "a Point has a list of coordinates"),
     ({"type": "MultiPolygon", "coordinates": [3]}, "polygon 0 has a list of rings"),
+    ({"type": "MultiPolygon", "coordinates": [[], {}]}, "polygon 1 has a list of rings"),
+    (polygon({}), "polygon 0, ring 0: a position is a longitude and a latitude"),
+    (ENDLESS, "there are more than 4000000 parts"),
     ({"type": []}, "it is no shape: dict"),
     (None, "it is no shape: NoneType"), ("{", "the text is no GeoJSON"),
     ("[" * 100000, "the text is no GeoJSON"),

@@ -13,11 +13,11 @@ from .places import MOST, NO_NUMBERS, number_of, range_of
 
 MOST_BYTES = 2**28  # of a text or a file
 MOST_POSITIONS = 1_000_000  # of all rings together
+MOST_PARTS = 4_000_000  # of collections: one that has itself has no end of them
+NO_LISTS = (str, bytes, dict)  # which have lengths and parts all the same
 PARTS = {"FeatureCollection": "features", "GeometryCollection": "geometries"}
 LINE = 2**64 - 1  # in the place of a polygon's number: a line or a point
-# How deep the positions of each kind stand, and in which part of these a line or a polygon is whole.
-KINDS = {"Point": (0, False), "MultiPoint": (1, False), "LineString": (1, False), "MultiLineString": (2, False),
-         "Polygon": (2, True), "MultiPolygon": (3, True)}
+KINDS = {several + one for several in ("", "Multi") for one in ("Point", "LineString", "Polygon")}
 
 
 class Shape(NamedTuple):
@@ -93,9 +93,12 @@ def wkb_of(shape: Any) -> bytes | None:
 
 def shape_of(given: Any) -> Shape:
     """The rings and lines of GeoJSON, as objects of Python or as a text, or of what has a __geo_interface__."""
-    found, waiting, polygons = Shape(array("d"), array("Q"), []), [given], 0
+    found, waiting, polygons, parts = Shape(array("d"), array("Q"), []), [given], 0, 0
     while waiting:
         look()
+        if parts + len(waiting) > MOST_PARTS:
+            raise ValueError(f"there are more than {MOST_PARTS} parts")
+        parts += 1
         it = waiting.pop()
         it = parsed(it) if isinstance(it, (str, bytes)) else getattr(it, "__geo_interface__", it)
         kind = it.get("type") if isinstance(it, dict) else None
@@ -126,34 +129,33 @@ def polygons_of(given: Any) -> list[list[Any]]:
 
 def _add_geometry(shape: Shape, it: Any, kind: str, polygons: int) -> int:
     """Adds what a geometry has; how many polygons."""
-    depth, is_area = KINDS[kind]
     parts = _list_of(it, "coordinates", kind)
-    if not is_area:
-        lines: Iterable[Any] = [[parts]] if depth == 0 else [[at] for at in parts] if kind == "MultiPoint" else [parts]
-        for line in parts if depth == 2 else lines:
-            if not _is_empty(line):
-                shape.add(line, LINE, f"line {len(shape.names)}")
+    several = parts if kind.startswith("Multi") else [parts]
+    if not kind.endswith("Polygon"):
+        for one in several:
+            if not _is_empty(one):
+                shape.add([one] if kind.endswith("Point") else one, LINE, f"line {len(shape.names)}")
         return 0
-    for k, rings in enumerate(parts if depth == 3 else [parts]):
+    for k, rings in enumerate(several, polygons):
         look()
-        if not isinstance(rings, (list, tuple)) and not hasattr(rings, "__len__"):
-            raise ValueError(f"polygon {polygons + k} has a list of rings")
+        if isinstance(rings, NO_LISTS) or not hasattr(rings, "__len__"):
+            raise ValueError(f"polygon {k} has a list of rings")
         for n, ring in enumerate(rings):
-            shape.add(ring, polygons + k, f"polygon {polygons + k}, ring {n}")
-    return len(parts) if depth == 3 else 1
+            shape.add(ring, k, f"polygon {k}, ring {n}")
+    return len(several)
 
 
-def _is_empty(line: Any) -> bool:
-    """Whether a line has no position, or its first no number, as an empty point has. One that isn't a list has."""
+def _is_empty(one: Any) -> bool:
+    """Whether a line has no position, or a point no number. What isn't a list is not empty."""
     try:
-        return len(line) == 0 or len(line[0]) == 0
-    except (TypeError, LookupError):
+        return not isinstance(one, NO_LISTS) and len(one) == 0
+    except TypeError:
         return False
 
 
 def _list_of(it: Any, name: str, kind: str) -> list[Any]:
     parts = it.get(name)
-    if not isinstance(parts, (list, tuple)) and not hasattr(parts, "tolist"):
+    if not isinstance(parts, (list, tuple)) and not (hasattr(parts, "tolist") and getattr(parts, "ndim", 1)):
         raise ValueError(f"a {kind} has a list of {name}")
     return list(parts)
 
@@ -165,6 +167,8 @@ def _positions_of(line: Any, name: str) -> Iterable[float]:
             if line.ndim != 2 or line.shape[1] < 2 or line.dtype.kind not in "iuf":
                 raise ValueError
             return array("d", line[:, :2].astype("float64").tobytes())
+        if isinstance(line, NO_LISTS):
+            raise ValueError
         line = list(line)
         numbers = list(chain.from_iterable(line))
         if not NO_NUMBERS.isdisjoint(map(type, numbers)):
