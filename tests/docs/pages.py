@@ -285,7 +285,7 @@ def prints_usage(command):
     usage = head.split('"""')[1] if is_python else re.match("(?:#.*\n)*", head)[0].replace("# ", "").replace("#", "")
     try:
         done = subprocess.run([command, "--help"], stdin=subprocess.DEVNULL, capture_output=True, text=True,
-                              check=False, timeout=100)
+                              check=False, timeout=600)
     except (OSError, subprocess.TimeoutExpired):  # it isn't executable, say
         return False
     return done.returncode == 0 and done.stdout.strip() == usage.strip() and command.name in usage

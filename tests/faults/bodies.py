@@ -138,7 +138,7 @@ def said_of(program, mutants):
         words = ["bash", "tests/pytest.sh", "tests/program", "-k", " or ".join(tests)]
         return said_by([sys.executable, "tests/faults/watched.py"] if WATCHED in tests else words, TOP, S2CALC=program)
     rows = [f"$ rows {len(tests)}\n", *(row_of(crate, test) for test in tests)]
-    return said_by(["timeout", "60", program], os.path.dirname(program), "".join(rows))
+    return said_by(["timeout", "600", program], os.path.dirname(program), "".join(rows))
 
 
 def pass_without_a_mutant(program, mutants):

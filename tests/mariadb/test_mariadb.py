@@ -200,7 +200,7 @@ class BesideSqlite(MariadbServer):
     @classmethod
     def error(cls, statement):
         return subprocess.run(cls.client, input=statement, capture_output=True, check=False, text=True,
-                              timeout=60).stderr
+                              timeout=600).stderr
 
     def test_another_number_of_arguments(self):
         for name, takes in TAKES.items():

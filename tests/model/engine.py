@@ -30,14 +30,14 @@ class Engine(unittest.TestCase):
             process = subprocess.Popen(server, stdin=subprocess.DEVNULL, stdout=log, stderr=log)
         cls.addClassCleanup(process.wait)
         cls.addClassCleanup(process.terminate)
-        until = time.monotonic() + 60
+        until = time.monotonic() + 600
         while cls.ask("SELECT 1", check=False) != "1\n":
             assert process.poll() is None and time.monotonic() < until, (WORK / f"{cls.__name__}.log").read_text()
             time.sleep(0.1)
 
     @classmethod
     def ask(cls, script, check=True):
-        return subprocess.run(cls.client, input=script, stdout=subprocess.PIPE, check=check, text=True, timeout=300,
+        return subprocess.run(cls.client, input=script, stdout=subprocess.PIPE, check=check, text=True, timeout=600,
                               stderr=None if check else subprocess.DEVNULL).stdout
 
 

@@ -14,6 +14,7 @@ from model.edges import rows as edge_rows
 from s2union import Union, debug, from_face_ij, from_token, level, parent, size, square, to_signed, token
 from s2union_geo import interior, leaves, to_geojson
 from selenium import webdriver
+from selenium.common.exceptions import WebDriverException
 from selenium.webdriver.common.action_chains import ActionChains
 from selenium.webdriver.common.by import By
 from selenium.webdriver.common.keys import Keys
@@ -39,9 +40,20 @@ def browser(downloads, is_short):
         options.add_argument(word)
     options.add_experimental_option("prefs", {"download.default_directory": str(downloads)})
     options.set_capability("goog:loggingPrefs", {"browser": "ALL"})
-    made = webdriver.Chrome(options=options)
-    made.set_script_timeout(300)
+    made = started(options)
+    made.set_script_timeout(SECONDS)
+    made.set_page_load_timeout(SECONDS)
     return made
+
+
+def started(options, again=2):
+    """Chromium, which its driver gives up on after a minute."""
+    try:
+        return webdriver.Chrome(options=options)
+    except WebDriverException:
+        if not again:
+            raise
+        return started(options, again - 1)
 
 
 def random_union(choice, count, depth):
@@ -213,12 +225,13 @@ class TestPage:
     def saved(self, words, name):
         """What a button of a union's line saves, under this name.
 
-        Chromium lays an empty file of that name before it moves its own, `.crdownload` or hidden, over it.
+        Chromium lays an empty file of that name before it moves its own, `.crdownload` or hidden, over it. Nothing that
+        is saved is empty.
         """
         self.click_of(words)
         file, end = self.downloads / name, time.monotonic() + SECONDS
-        while not file.exists() or any(other.name.endswith(".crdownload") or other.name.startswith(".")
-                                       for other in self.downloads.iterdir()):
+        while not file.exists() or not file.stat().st_size or any(
+                other.name.endswith(".crdownload") or other.name.startswith(".") for other in self.downloads.iterdir()):
             assert time.monotonic() < end, list(self.downloads.iterdir())
             time.sleep(0.05)
         data = file.read_bytes()
@@ -489,9 +502,10 @@ class TestPage:
               choose('a');
               choose('b', 'c', 'd');
               for (const name of 'abcd') {
-                hold[name]?.();
-                await turn();
+                while (!hold[name]) await turn();
+                hold[name]();
               }
+              while (s2page.regions.length < 4) await turn();
               done(s2page.regions.map((region) => region.name));
             })();""")
         assert names == ["a", "b", "c", "d"], names

@@ -197,7 +197,7 @@ def left_by_the_program(script, limit, depth, files, *flags):
             [PROGRAM, "run", "--limit", str(limit), "--depth", str(depth), "--dir", folder, *flags],
             input=script,
             capture_output=True,
-            timeout=120,
+            timeout=600,
         )
         left = {name: bytes_in(os.path.join(folder, name)) for name in os.listdir(folder)}
     return ended.stdout, ended.stderr, ended.returncode, left

@@ -41,11 +41,13 @@ SQL
 step "a table with two indexes" tables
 [ "$failed" -eq 0 ] || finish
 
+BUSY="SELECT count(*) = 3 AND EXISTS(SELECT FROM regions) FROM pg_stat_activity WHERE query = 'CALL fill()'"
 filled() { # sessions that insert until the server falls
-  local session
+  local session end=$((SECONDS + 600))
   : >"$work/filling"
   for session in 1 2 3; do psql -qc "CALL fill()" >/dev/null 2>&1 & done
   while [ -e "$work/filling" ] && psql -qc "VACUUM regions" 2>/dev/null; do sleep 0.3; done &
+  until [ "$(psql -XAqtc "$BUSY")" = t ] || [ "$SECONDS" -ge "$end" ]; do sleep 0.1; done
   sleep "1.$((RANDOM % 10))"
 }
 

@@ -15,6 +15,7 @@ config=$(command -v pg_config)
 server=$(basename "$(dirname "$("$config" --bindir)")") # 15
 copy=$work/copy
 bin=$copy/usr/lib/postgresql/$server/bin
+export PGCTLTIMEOUT=600 # a busy machine may need more than the minute that pg_ctl waits
 as_postgres=()
 [ "$(id -u)" -eq 0 ] && as_postgres=(runuser -u postgres --)
 
@@ -78,11 +79,11 @@ with_sanitizers() { # FOLDER
 }
 
 is_up() {
-  for ((turn = 0; turn < 300; turn++)); do
-    psql -qd postgres -c "SELECT 1" >/dev/null 2>&1 && return
+  local end=$((SECONDS + PGCTLTIMEOUT))
+  until psql -qd postgres -c "SELECT 1" >/dev/null 2>&1; do
+    [ "$SECONDS" -lt "$end" ] || return
     sleep 0.2
   done
-  return 1
 }
 
 clusters=()

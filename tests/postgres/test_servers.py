@@ -181,11 +181,11 @@ class AfterThePage(unittest.TestCase):
             cable("second", "down")
             said, took = timed(lambda: session.ask(ALL))
             self.assertIn("ERROR", said)
-            self.assertLess(took, 10)
+            self.assertLess(took, 60)
             print(f"a session whose server can't be reached answers so after {1000 * took:.0f} ms", flush=True)
             said, took = timed(lambda: once(ALL))
             self.assertIn('could not connect to server "second"', said)
-            self.assertLess(took, 10)
+            self.assertLess(took, 60)
             print(f"a new session answers so after {1000 * took:.0f} ms", flush=True)
             self.assertEqual(session.ask(at(THIRD)), found)
             cable("second", "up")
@@ -201,7 +201,7 @@ class AfterThePage(unittest.TestCase):
         waits.join(3)
         self.assertEqual((waits.is_alive(), int(once(ALL))), (True, count + 1))
         control("replica", "start")
-        waits.join(60)
+        waits.join(600)
         self.assertEqual((answers, int(once(ALL))), ([""], count + 2))
 
     def test_a_server_is_down(self):

@@ -12,14 +12,14 @@ import unittest
 import pytest
 
 from model import calculator as model
-from process import LAUNCHER, PROGRAM, TOP, launched, ran
+from process import LAUNCHER, PROGRAM, SECONDS, TOP, launched, ran
 
 
 def has_gnu_parallel():
     """Whether `parallel` is GNU's. That of moreutils has other options."""
     if not shutil.which("parallel"):
         return False
-    said = subprocess.run(["parallel", "--version"], stdin=subprocess.DEVNULL, capture_output=True, timeout=60)
+    said = subprocess.run(["parallel", "--version"], stdin=subprocess.DEVNULL, capture_output=True, timeout=SECONDS)
     return said.stdout.startswith(b"GNU parallel")
 
 
@@ -48,7 +48,7 @@ class Launcher(unittest.TestCase):
     def test_through_a_symbolic_link_and_from_another_folder(self):
         how = {"cwd": self.room, "env": {**os.environ, "S2CALC_QUIET": "1"}}
         # where nothing is proved, as in the quick tier, it builds the program first
-        done = subprocess.run([self.link, "cell", "1"], capture_output=True, timeout=600, **how)
+        done = subprocess.run([self.link, "cell", "1"], capture_output=True, timeout=SECONDS, **how)
         self.assertEqual((done.returncode, done.stderr), (0, b""))
         self.assertEqual(done.stdout, b"cell 1 0/ level 0 face 0 leaves 0 1152921504606846975\n")
 
@@ -67,7 +67,7 @@ class Launcher(unittest.TestCase):
                 os.makedirs(os.path.join(self.room, "crates", re.match(r"\w+", line)[0]), exist_ok=True)
         for path, text in (("bin/rt", KIT), ("tools/unproved", UNPROVED)):
             self.write(path, text)
-        return {"cwd": self.room, "capture_output": True, "timeout": 60, "text": True}
+        return {"cwd": self.room, "capture_output": True, "timeout": SECONDS, "text": True}
 
     def write(self, path, text):
         path = os.path.join(self.room, path)
@@ -181,7 +181,7 @@ class Launcher(unittest.TestCase):
         calls = [subprocess.Popen(["./s2calc", "run"], cwd=self.room, env=self.environment(), stdin=subprocess.PIPE,
                                   stdout=subprocess.PIPE, stderr=subprocess.PIPE, text=True) for _ in range(2)]
         for call in calls:
-            self.assertEqual(call.communicate("a script", timeout=60)[0], "unproved\na script")
+            self.assertEqual(call.communicate("a script", timeout=SECONDS)[0], "unproved\na script")
         self.assertEqual(self.builds(), 1)
         note = "s2calc: not proved on this machine: tools/prove\n"
         for more, notes in ({}, note), ({"S2CALC_QUIET": "1"}, ""):
@@ -205,20 +205,20 @@ class Launcher(unittest.TestCase):
             reader, writer = os.pipe()  # which stays open: nothing may wait for its end
             with open(reader), open(writer):
                 done = subprocess.run(["./s2calc", *words], cwd=self.room, stdin=reader, capture_output=True,
-                                      env=self.environment(has_kit=False), timeout=60, text=True)
+                                      env=self.environment(has_kit=False), timeout=SECONDS, text=True)
             self.assertEqual((done.returncode, done.stdout, kit in done.stderr), (2, "", True), words)
 
     @unittest.skipUnless(shutil.which("rt"), "Rattle's kit is not there")
     def test_the_kit_has_the_logic_that_is_named(self):
         """Whatever its name is: the logic is what proves."""
-        said = subprocess.run(["rt", "version"], capture_output=True, text=True, check=True, timeout=60).stdout
+        said = subprocess.run(["rt", "version"], capture_output=True, text=True, check=True, timeout=SECONDS).stdout
         self.assertEqual({line.split()[1:] == said.split()[1:] for line in text_of("KIT").splitlines()}, {True}, said)
 
 
 def said_by_tool(tool, words, room):
     """What a tool that writes into a folder says in one, in which it then has left nothing."""
     done = subprocess.run([os.path.join(TOP, "tools", tool), *words], cwd=room, capture_output=True, text=True,
-                          env={"PATH": "/usr/bin:/bin"}, timeout=60)
+                          env={"PATH": "/usr/bin:/bin"}, timeout=SECONDS)
     assert os.listdir(room) == []
     return done
 
@@ -316,7 +316,7 @@ class Documents(unittest.TestCase):
             with tempfile.TemporaryDirectory() as folder:
                 os.symlink(LAUNCHER, os.path.join(folder, "s2calc"))
                 done = subprocess.run(command, shell=True, cwd=folder, env={"S2CALC_PROGRAM": PROGRAM}, text=True,
-                                      stdout=subprocess.PIPE, check=True, timeout=60)
+                                      stdout=subprocess.PIPE, check=True, timeout=SECONDS)
                 self.assertEqual(done.stdout, text)
         self.assertEqual(len(shown), 1)
 
@@ -361,7 +361,8 @@ class Documents(unittest.TestCase):
             os.symlink(PROGRAM, os.path.join(folder, "s2calc"))
             with open(os.path.join(folder, "regions"), "wb") as it:
                 it.write(regions)
-            subprocess.run(f"{command[1]} --block 10k {command[2]}", shell=True, cwd=folder, check=True, timeout=60)
+            subprocess.run(f"{command[1]} --block 10k {command[2]}", shell=True, cwd=folder, check=True,
+                           timeout=SECONDS)
             with open(os.path.join(folder, "answers"), "rb") as it:
                 self.assertEqual(it.read(), answers)
 

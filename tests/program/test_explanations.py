@@ -9,7 +9,7 @@ import unittest
 import pytest
 
 from model.calculator import LONGEST_LINE
-from process import FACE, PROGRAM, ran, ran_in_pieces
+from process import FACE, PROGRAM, SECONDS, ran, ran_in_pieces
 from test_sessions import change, session
 
 
@@ -23,7 +23,7 @@ def explained(script, **how):
     """The status, the answers and what standard error got, which is a pipe unless another is given."""
     how.setdefault("stderr", subprocess.PIPE)
     words = [PROGRAM, "run", "--explain"]
-    done = subprocess.run(words, input=script, stdout=subprocess.PIPE, timeout=60, **how)
+    done = subprocess.run(words, input=script, stdout=subprocess.PIPE, timeout=SECONDS, **how)
     return done.returncode, done.stdout, done.stderr
 
 
@@ -139,5 +139,5 @@ class Explanations(unittest.TestCase):
     def test_the_name_of_a_failed_stream_comes_after_the_notes(self):
         with open("/dev/full", "wb") as full:
             words = [PROGRAM, "run", "--explain"]
-            done = subprocess.run(words, input=b"cell zz\n", stdout=full, stderr=subprocess.PIPE, timeout=60)
+            done = subprocess.run(words, input=b"cell zz\n", stdout=full, stderr=subprocess.PIPE, timeout=SECONDS)
         self.assertEqual((done.returncode, done.stderr), (2, FIRST + b"s2calc: output\n"))

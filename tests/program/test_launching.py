@@ -15,7 +15,7 @@ import unittest
 import pytest
 
 from model import calculator as model
-from process import LAUNCHER, PROGRAM, TOP, first_line, launched, ran
+from process import LAUNCHER, PROGRAM, SECONDS, TOP, first_line, launched, ran
 import prompt  # which process finds
 
 SCRIPT = b"add a 04 0c\nshow a\ncuont a\n\nadd a zz\nsave a parks\nload b parks\ncount b"
@@ -30,7 +30,7 @@ def both(*words, **how):
     """The status, standard output and standard error of the program and of the launcher."""
     for command, environment in ([PROGRAM], os.environ), ([LAUNCHER], ENVIRONMENT):
         with tempfile.TemporaryDirectory() as room:
-            done = subprocess.run([*command, *words], cwd=room, env=environment, timeout=60, check=False,
+            done = subprocess.run([*command, *words], cwd=room, env=environment, timeout=SECONDS, check=False,
                                   **{"capture_output": True, **how})
             yield done.returncode, done.stdout, done.stderr
 
@@ -82,7 +82,7 @@ def test_a_pipe_that_nobody_reads(line, tmp_path):
         os.close(reader)
         with open(writer, "wb") as pipe, open(tmp_path / "script", "rb") as script:
             done = subprocess.run([LAUNCHER, *words], cwd=tmp_path, env=ENVIRONMENT, stdin=script, stdout=pipe,
-                                  stderr=subprocess.PIPE, restore_signals=not is_ignored, timeout=60, check=False)
+                                  stderr=subprocess.PIPE, restore_signals=not is_ignored, timeout=SECONDS, check=False)
         assert (done.returncode, done.stderr) == (128 + signal.SIGPIPE, b"")
 
 
@@ -154,7 +154,7 @@ def test_two_programs_at_most(line, to_file, tmp_path):
     (tmp_path / "script").write_bytes(b"cell 1\n")
     with open(tmp_path / "answer", "wb") as file:
         subprocess.run(["strace", "-ff", "-qq", "-e", "trace=execve", "-o", tmp_path / "trace", LAUNCHER,
-                        *line.split()], cwd=tmp_path, env=ENVIRONMENT, timeout=60, check=False,
+                        *line.split()], cwd=tmp_path, env=ENVIRONMENT, timeout=SECONDS, check=False,
                        stdin=subprocess.DEVNULL, stdout=file if to_file else subprocess.PIPE)
     calls = "".join(path.read_text() for path in tmp_path.glob("trace.*"))
     assert sorted(re.findall(r'^execve\("([^"]*)".* = 0$', calls, re.M)) == sorted([LAUNCHER, PROGRAM])
@@ -174,7 +174,7 @@ class TheProgram(unittest.TestCase):
                 self.assertEqual(ours.recv(100), b"cells 0 leaves 0\n")
                 self.assertTrue(os.path.samefile(f"/proc/{process.pid}/exe", os.path.realpath(PROGRAM)))
                 process.stdin.close()
-                self.assertEqual(process.wait(60), 0)
+                self.assertEqual(process.wait(SECONDS), 0)
 
     def test_as_it_is_installed(self):
         """A link in a folder of the PATH leads to the launcher, beside which the program is."""
@@ -186,7 +186,7 @@ class TheProgram(unittest.TestCase):
             environment = {"PATH": f"{room}/bin:/usr/bin:/bin"}
             for words, text in (["run"], SCRIPT), (["cells"], b"5180949494577750587"), (["help", "count"], b""):
                 done = subprocess.run(["s2calc", *words], input=text, cwd=room, env=environment, capture_output=True,
-                                      check=False, timeout=60)
+                                      check=False, timeout=SECONDS)
                 with tempfile.TemporaryDirectory() as other:
                     self.assertEqual((done.returncode, done.stdout, done.stderr),
                                      launched(*words, input=text, cwd=other))
@@ -318,7 +318,7 @@ class Scripts(unittest.TestCase):
     def test_a_picture_that_can_not_be_written(self):
         with open("/dev/full", "wb") as full:
             done = subprocess.run([LAUNCHER, "draw", "land.outer"], cwd=PICTURES, env=ENVIRONMENT, stdout=full,
-                                  stderr=subprocess.PIPE, check=False, timeout=60)
+                                  stderr=subprocess.PIPE, check=False, timeout=SECONDS)
         self.assertEqual((done.returncode, done.stderr), (2, b"s2calc: output\n"))
 
     def test_statuses_of_draw(self):
@@ -516,5 +516,5 @@ class Identifiers(unittest.TestCase):
                 self.assertEqual(launched("cells", cell, cwd=room), (2, b"", said.encode()))
         with open("/dev/full", "wb") as full:
             done = subprocess.run([LAUNCHER, "cells"], input=b"1", stdout=full, stderr=subprocess.PIPE, check=False,
-                                  timeout=60)
+                                  timeout=SECONDS)
         self.assertEqual((done.returncode, first_line(done.stderr)), (2, b"s2calc: output"))

@@ -16,7 +16,7 @@ from process import LAUNCHER, PROGRAM, TOP, ran  # noqa: E402
 
 PROMPT = "s2calc> "
 UP, LEFT, BACKSPACE, INTERRUPT, END, STOP = "\x1b[A", "\x1b[D", "\x7f", "\x03", "\x04", "\x1a"
-SECONDS = 120  # on a machine with much else to do
+SECONDS = 600  # on a machine with much else to do
 
 
 def session_of_the_page():

@@ -21,6 +21,7 @@ need_countries
 need_library
 export PYTHONPATH=$work/usr/lib/python:$top/tests:$top/tests/geo:$top/docs/examples PYTHONDONTWRITEBYTECODE=1
 export WORLD=$work/world/countries WORK=$work
+export DASK_DISTRIBUTED__COMM__TIMEOUTS__CONNECT=600s # on a machine with much else to do
 
 page() {
   block DASK.md text >"$work/wanted" && [ -s "$work/wanted" ] &&

@@ -374,7 +374,7 @@ class Around(unittest.TestCase):
                         pass
 
         def is_seen(call, given):
-            before, deadline = ticks[0], time.monotonic() + 20
+            before, deadline = ticks[0], time.monotonic() + 300
             while ticks[0] == before and not released and time.monotonic() < deadline:
                 views = [memoryview(it) if isinstance(it, memoryview) else it for it in given]
                 read[:] = [it for it in views if isinstance(it, memoryview)]

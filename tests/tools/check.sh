@@ -46,7 +46,7 @@ without_kit() ( # in that copy, which has no archive and no program: what needs 
   export PATH=$work/installers:/usr/bin:/bin XDG_CACHE_HOME=$work/cache SOURCE_DATE_EPOCH=0
   for command in ".ci/run" "tests/run --tier full" "tests/run docs mutants" "tools/package $work/none" \
     "tools/portable $work/none"; do
-    ! timeout 60 "$work/copy/"$command >"$work/refused" 2>&1 && grep -q "Rattle's kit is missing" "$work/refused" &&
+    ! timeout 600 "$work/copy/"$command >"$work/refused" 2>&1 && grep -q "Rattle's kit is missing" "$work/refused" &&
       [ "$(tail -1 "$work/refused")" = "0 passed, 1 failed" ] || { echo "$command" && cat "$work/refused" && return 1; }
   done
   [ ! -e "$work/installed" ] || { cat "$work/installed" && return 1; }
