@@ -1425,12 +1425,17 @@ static inline int32_t s2u_cover_wkb(const uint8_t* bytes, size_t size, const s2u
 /* ---- boxes, circles and corridors */
 
 /* A box of the map. One that ends to the west of where it begins goes over the date line, and one wider than 360
- * degrees has all longitudes. */
+ * degrees has all longitudes. S2U_ARGUMENT if it ends to the south of where it begins, as the box of no cell does. */
 static inline int32_t s2u_cover_box(double west, double south, double east, double north,
                                         const s2u_cover_options* options, s2u_cover_cells* outer,
                                         s2u_cover_cells* inner, s2u_cover_fault* fault) {
   const double most = S2U_GEO_MOST_LONGITUDE, from[2] = {west, 0}, to[2] = {east, 0};
   double begin = west, end = east;
+  s2u_cover_cells none = {NULL, 0};
+  if (outer) *outer = none;
+  if (inner) *inner = none;
+  memset(fault, 0, sizeof *fault);
+  if (north >= -90 && north < south && south <= 90) return S2U_ARGUMENT;
   if (s2u_cover_is_place(from) && s2u_cover_is_place(to)) {
     if (end < begin) end += 360 * ceil((begin - end) / 360);
     if (end > begin + 360) begin = -180, end = 180;

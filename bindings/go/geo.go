@@ -141,7 +141,7 @@ type Circle struct {
 }
 
 // Box is the places between two meridians and two parallels. One that ends west of where it begins crosses the date
-// line.
+// line. One that ends south of where it begins, as the RectBound of no cell does, has no covering: ErrArgument.
 type Box struct {
 	West, South, East, North float64
 }

@@ -83,8 +83,8 @@ export function circle(longitude: number, latitude: number, radius: number,
                        options?: Omit<CoveringOptions, "edges">): Coverings;
 /**
  * Both coverings of the places between two meridians and two parallels. A box that ends west of where it begins crosses
- * the date line. S2: S2LatLngRect. Since 1.5.
- * @throws RangeError, TypeError, Refusal -2, -6
+ * the date line; one that ends south of where it begins is refused. S2: S2LatLngRect. Since 1.5.
+ * @throws RangeError, TypeError, Refusal -2, -5, -6
  */
 export function box(west: number, south: number, east: number, north: number, options?: CoveringOptions): Coverings;
 

@@ -222,6 +222,8 @@ static void boxes(void) {
     OUTSIDE(it, some[k][2], 6);
     drop(&it);
     CHECK(s2u_cover_box(some[k][0], -5, 541, 5, &options, &it.outer, NULL, &it.fault) == S2U_COVER_NUMBER);
+    CHECK(s2u_cover_box(some[k][0], 5, some[k][1], -5, &options, &it.outer, &it.inner, &it.fault) == S2U_ARGUMENT);
+    CHECK(!it.outer.ids && !it.inner.ids && it.outer.count + it.inner.count == 0);
   }
 }
 

@@ -57,7 +57,8 @@ function coveredBy(ask) {
     return [outer, inner].map(inWords);
   } catch (error) {
     if (error instanceof geo.ShapeError) return [error.kind.toLowerCase(), error.ring, error.position];
-    return [error.kind === "MANY" ? "many" : error instanceof RangeError ? "range" : `${error.stack}`];
+    if (["ARGUMENT", "MANY"].includes(error.kind)) return [error.kind.toLowerCase()];
+    return [error instanceof RangeError ? "range" : `${error.stack}`];
   }
 }
 

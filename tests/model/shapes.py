@@ -278,6 +278,9 @@ def refusals():
     for radius in (-1.0, 9000001.0, math.nan, math.inf):
         say("circle", doubles(0, 0, radius), in_words(options()), "!option")
     say("box", doubles(0, 0, 1, math.nan), in_words(options()), "!number 0 2")
+    say("box", doubles(0, 91, 1, 0), in_words(options()), "!number 0 0")
+    for west, south, east, north in ((2, 49, 3, 48), (180, 90, -180, -90)):
+        say("box", doubles(west, south, east, north), in_words(options()), "!argument")
     for x, y in ((541, 0), (0, 90.1), (math.nan, 0), (0, -math.inf)):
         say("leaf", doubles(x, y), "!number")
 

@@ -158,6 +158,7 @@ public final class Shape {
 
   /**
    * The places between two meridians and two parallels. A box that ends west of where it begins crosses the date line.
+   * One that ends south of where it begins has no covering: {@link Refusal.Kind#ARGUMENT}.
    * S2: {@code S2LatLngRect}.
    *
    * <pre>{@code

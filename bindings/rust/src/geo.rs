@@ -195,7 +195,7 @@ impl<'a> Shape<'a> {
     }
 
     /// The places between two meridians and two parallels: S2's `S2LatLngRect`. One that ends west of where it begins
-    /// crosses the date line. Since 1.4.
+    /// crosses the date line; one that ends south of where it begins has no covering: [`Error::Argument`]. Since 1.4.
     ///
     /// # Examples
     ///
