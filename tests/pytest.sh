@@ -10,4 +10,4 @@ need nm binutils
 need xz xz-utils
 need strace strace
 need_packages
-cd "$top" && exec timeout 3600 "$python" -m pytest "$@" # a test may wait for an answer that never comes
+cd "$top" && exec timeout 7200 "$python" -m pytest "$@" # a test may wait for an answer that never comes

@@ -43,7 +43,7 @@ program() { # NAME LIBRARY FLAGS..: builds a test and runs it
   local name=$1 library=$2
   shift 2
   gcc -std=c11 -D_DEFAULT_SOURCE -O2 "${strict[@]}" "$@" -I"$include" "$tests/$name.c" "$library" -lpthread -lm \
-    -o "$work/$name" && timeout 1800 "$work/$name"
+    -o "$work/$name" && timeout 7200 "$work/$name"
 }
 step "an example of each call" program examples "$static"
 step "traps" program traps "$static"

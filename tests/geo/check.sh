@@ -41,7 +41,7 @@ if [ "${1:-}" = --costs ]; then
   mkdir "$work/costs" && /usr/bin/python3 "$top/tests/geo/costs.py" "$work/costs" "${@:2}"
   finish
 fi
-pages() { (cd "$top/tests/geo" && timeout 1800 /usr/bin/python3 -m pytest "$@"); }
+pages() { (cd "$top/tests/geo" && timeout 7200 /usr/bin/python3 -m pytest "$@"); }
 step "exact joins in PostgreSQL" pages test_joins.py
 each_way() { # of the benchmark, which compares all pairs
   local map=/usr/share/qgis/resources/data/world_map.gpkg

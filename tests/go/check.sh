@@ -12,7 +12,7 @@ step "shapes in degrees" shapes
 export GOPATH=$work/go GOCACHE=$work/go-cache GOFLAGS=-mod=mod GOPROXY=off GOTOOLCHAIN=local
 path=$(sed -n 's/^module //p' "$top/bindings/go/go.mod")
 for_go() (
-  cd "$top/bindings/go" && [ -z "$(gofmt -l .)" ] && go vet . && timeout 1800 go test -count=1 .
+  cd "$top/bindings/go" && [ -z "$(gofmt -l .)" ] && go vet . && timeout 7200 go test -count=1 .
 )
 by_go() ( # the page's program, in a module of its own
   mkdir -p "$work/by-go" && cd "$work/by-go" && program_of GO.md go main.go && [ -z "$(gofmt -l .)" ] &&

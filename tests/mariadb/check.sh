@@ -19,7 +19,7 @@ step "build, for SQLite" built sqlite
 [ "$failed" -eq 0 ] || finish
 beside_sqlite() {
   cd "$top/tests/mariadb" && export PYTHONPATH=$top/tests:$work/usr/lib/python PYTHONDONTWRITEBYTECODE=1 WORK=$work
-  timeout 900 /usr/bin/python3 -m pytest test_mariadb.py
+  timeout 3600 /usr/bin/python3 -m pytest test_mariadb.py
 }
 step "each function in MariaDB, beside the same in SQLite" beside_sqlite
 finish

@@ -14,7 +14,7 @@ need_linker
 
 in_browser() { # the library's module for Python answers beside the page
   PYTHONPATH=$work/usr/lib/python PYTHONDONTWRITEBYTECODE=1 \
-    timeout 1200 /usr/bin/python3 -m pytest -s "$top/tests/page" "$@"
+    timeout 7200 /usr/bin/python3 -m pytest -s "$top/tests/page" "$@"
 }
 
 need_packages

@@ -109,7 +109,7 @@ tests() { # TEST..: those of test_postgres.py, or of TESTS, or with the name of 
   (
     cd "$top/tests/postgres" && export PYTHONPATH=$top/tests:${PYTHONPATH:-} PYTHONDONTWRITEBYTECODE=1
     export EXTENSIONS=$copy/usr/share/postgresql/$server/extension
-    timeout "${SECONDS_OF_TESTS:-1800}" /usr/bin/python3 -m pytest -s -x "${names[@]}"
+    timeout "${SECONDS_OF_TESTS:-7200}" /usr/bin/python3 -m pytest -s -x "${names[@]}"
   )
 }
 

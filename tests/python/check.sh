@@ -31,7 +31,7 @@ step "what its module wants of the system" of_module
 python() {
   (
     cd "$top/tests/python" && export PYTHONPATH=$work/usr/lib/python:$top/tests PYTHONDONTWRITEBYTECODE=1
-    timeout 1800 /usr/bin/python3 -X dev "$@"
+    timeout 7200 /usr/bin/python3 -X dev "$@"
   )
 }
 step "against the model, and the module" python -m pytest test_library.py
@@ -51,7 +51,7 @@ sanitized() ( # the module in C with the sanitizers, and what C itself gives for
   cd "$top/tests/python" && export PYTHONPATH=$work/sanitized:$top/tests PYTHONDONTWRITEBYTECODE=1
   export PYTHONMALLOC=malloc ASAN_OPTIONS=detect_leaks=0
   LD_PRELOAD="$(gcc -print-file-name=libasan.so) $(gcc -print-file-name=libubsan.so)" \
-    S2UNION_LIBRARY=$work/usr/lib/libs2union.so.1 timeout 1800 /usr/bin/python3 -m pytest test_calls.py test_edges.py
+    S2UNION_LIBRARY=$work/usr/lib/libs2union.so.1 timeout 7200 /usr/bin/python3 -m pytest test_calls.py test_edges.py
 )
 step "the same, and the edges, under the sanitizers" sanitized
 step "laws of sets, by hypothesis" python -m pytest test_laws.py

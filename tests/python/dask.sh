@@ -25,10 +25,10 @@ export DASK_DISTRIBUTED__COMM__TIMEOUTS__CONNECT=600s # on a machine with much e
 
 page() {
   block DASK.md text >"$work/wanted" && [ -s "$work/wanted" ] &&
-    (cd "$work" && timeout 300 /usr/bin/python3 dask_page.py) >"$work/said" && diff "$work/wanted" "$work/said"
+    (cd "$work" && timeout 3600 /usr/bin/python3 dask_page.py) >"$work/said" && diff "$work/wanted" "$work/said"
 }
 tests() { # FILE::CLASS
-  (cd "$work" && timeout 900 /usr/bin/python3 -m pytest -s "$top/tests/python/$1")
+  (cd "$work" && timeout 3600 /usr/bin/python3 -m pytest -s "$top/tests/python/$1")
 }
 blocks() {
   block DASK.md python >"$work/dask_page.py" && block ENGINES.md python >"$work/engines.py" &&

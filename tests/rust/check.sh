@@ -16,7 +16,7 @@ step "questions and edges" questions
 step "shapes in degrees" shapes
 for_rust() ( # in a copy, since cargo writes beside the sources
   cp -r "$top/bindings/rust" "$work/for-rust" && cd "$work/for-rust" &&
-    RUSTFLAGS=-Dwarnings CARGO_TARGET_DIR=$work/target timeout 1800 cargo test -q --offline
+    RUSTFLAGS=-Dwarnings CARGO_TARGET_DIR=$work/target timeout 7200 cargo test -q --offline
 )
 by_rust() (
   mkdir -p "$work/by-rust/src" && cd "$work/by-rust" && program_of RUST.md rust src/main.rs &&
@@ -25,7 +25,7 @@ by_rust() (
     CARGO_TARGET_DIR=$work/target cargo build -q --offline && says RUST.md rust "$work/target/debug/program"
 )
 with_serde() ( # by Debian's sources of serde, in place of a registry
-  cd "$work/for-rust/serde" && RUSTFLAGS=-Dwarnings CARGO_TARGET_DIR=$work/target timeout 1800 cargo \
+  cd "$work/for-rust/serde" && RUSTFLAGS=-Dwarnings CARGO_TARGET_DIR=$work/target timeout 7200 cargo \
     --config 'source.crates-io.replace-with="debian"' \
     --config 'source.debian.directory="/usr/share/cargo/registry"' test -q --offline
 )

@@ -37,7 +37,7 @@ tests() { # FOLDER TEST..
   shift
   (
     cd "$top/tests/sqlite" && export PYTHONPATH=$top/tests PYTHONDONTWRITEBYTECODE=1
-    S2UNION_SQLITE=$work/$folder/mod_s2union.so S2UNION_ROUNDS=${S2UNION_ROUNDS:-$rounds} timeout 1800 \
+    S2UNION_SQLITE=$work/$folder/mod_s2union.so S2UNION_ROUNDS=${S2UNION_ROUNDS:-$rounds} timeout 7200 \
       /usr/bin/python3 -m pytest "$@"
   )
 }
