@@ -4,7 +4,9 @@
 #include "postgres.h"
 
 #include "access/detoast.h"
+#include "access/genam.h"
 #include "access/htup_details.h"
+#include "access/table.h"
 #include "catalog/pg_language.h"
 #include "catalog/pg_proc.h"
 #include "catalog/pg_statistic.h"
@@ -17,7 +19,6 @@
 #include "nodes/supportnodes.h"
 #include "optimizer/optimizer.h"
 #include "optimizer/pathnode.h"
-#include "parser/parse_func.h"
 #include "utils/builtins.h"
 #include "utils/datum.h"
 #include "utils/fmgroids.h"
@@ -374,12 +375,38 @@ static Oid operator_of(Oid family, Oid function, int indexed) {
   return InvalidOid;
 }
 
+static bool is_in_c(Oid function, const char* name) {
+  char* own = name_in_c(function);
+  return own && strcmp(own, name) == 0;
+}
+
+/* The function in a schema of one argument, by its name in C; InvalidOid if there is none. Its name in SQL is the same,
+ * unless somebody has changed it. */
+static Oid function_in_c(Oid schema, const char* name, Oid type) {
+  Oid found = GetSysCacheOid3(PROCNAMEARGSNSP, Anum_pg_proc_oid, CStringGetDatum(name),
+                              PointerGetDatum(buildoidvector(&type, 1)), ObjectIdGetDatum(schema));
+  if (is_in_c(found, name)) return found;
+  ScanKeyData key;
+  ScanKeyInit(&key, Anum_pg_proc_pronamespace, BTEqualStrategyNumber, F_OIDEQ, ObjectIdGetDatum(schema));
+  Relation functions = table_open(ProcedureRelationId, AccessShareLock);
+  SysScanDesc scan = systable_beginscan(functions, InvalidOid, false, NULL, 1, &key);
+  HeapTuple row = NULL;
+  found = InvalidOid;
+  while (!OidIsValid(found) && HeapTupleIsValid(row = systable_getnext(scan))) {
+    Form_pg_proc it = (Form_pg_proc)GETSTRUCT(row);
+    if (it->pronargs == 1 && it->proargtypes.values[0] == type && is_in_c(it->oid, name)) found = it->oid;
+  }
+  systable_endscan(scan);
+  table_close(functions, AccessShareLock);
+  return found;
+}
+
 /* A comparison of an indexed leaf with the edge of a union, or NULL if the index can't compare so. */
-static Expr* compared_with_edge(SupportRequestIndexCondition* request, Expr* leaf, Expr* u, int strategy, char* edge) {
+static Expr* compared_with_edge(SupportRequestIndexCondition* request, Expr* leaf, Expr* u, int strategy,
+                                const char* edge) {
   Oid operator = get_opfamily_member(request->opfamily, INT8OID, INT8OID, strategy), type = exprType((Node*)u);
   Oid compares = strategy == BTLessEqualStrategyNumber ? F_INT8LE : F_INT8GE;
-  char* schema = get_namespace_name(get_func_namespace(request->funcid));
-  Oid function = schema ? LookupFuncName(list_make2(makeString(schema), makeString(edge)), 1, &type, true) : InvalidOid;
+  Oid function = function_in_c(get_func_namespace(request->funcid), edge, type);
   if (!OidIsValid(operator) || get_opcode(operator) != compares || !OidIsValid(function)) return NULL;
   Expr* at = (Expr*)makeFuncExpr(function, INT8OID, list_make1(u), InvalidOid, InvalidOid, COERCE_EXPLICIT_CALL);
   at = (Expr*)eval_const_expressions(request->root, (Node*)at);

@@ -1050,6 +1050,26 @@ class Planner(Tests):
             self.assertEqual(said[:between], said[between + 1:], (name, types))
             self.assertTrue("Index" in "".join(said) or table == "small", said)
 
+    def test_the_edges_of_a_union_are_found_by_their_names_in_c(self):
+        """Also if another function has their name in SQL."""
+        asked = "EXPLAIN SELECT FROM visits WHERE s2_within(leaf, s2_parent(s2_leaf(0, 9, 7), 24)::s2union);"
+        psql("""
+            SET client_min_messages = error;
+            DROP TABLE IF EXISTS visits;
+            CREATE TABLE visits AS SELECT s2_leaf(0, 9 * k, 7 * k) AS leaf FROM generate_series(1, 3000) AS k;
+            CREATE INDEX ON visits (leaf);
+            ANALYZE visits;
+        """)
+        for edge in ("s2union_least", "s2union_greatest"):
+            plans = "\n".join(psql(f"""
+                BEGIN; {asked} SELECT 'and then';
+                ALTER FUNCTION {edge}(s2union) RENAME TO another_name; {asked} SELECT 'and then';
+                CREATE FUNCTION {edge}(s2union) RETURNS bigint IMMUTABLE LANGUAGE sql AS 'SELECT 0::bigint';
+                {asked} ROLLBACK;
+            """)).split("\nand then\n")
+            self.assertIn("Index Cond", plans[0])
+            self.assertEqual(plans[1:], plans[:1] * 2)
+
     def test_an_operator_of_other_types_that_is_estimated_as_ours_are(self):
         def plan(kind, constant, function="LANGUAGE c AS 's2union', 's2union_contains'"):
             return psql(f"""
