@@ -79,6 +79,13 @@ class Keys(unittest.TestCase):
         with open(f"/proc/{process}/stat", encoding="ascii") as it:
             return it.read().rpartition(")")[2].split()[0]
 
+    def has_ended(self, process):
+        """Whether it is gone, or nobody has asked for its status yet."""
+        try:
+            return self.state(process) == "Z"
+        except (FileNotFoundError, ProcessLookupError):
+            return True
+
     def status(self, session, keys=END):
         session.send(keys)
         self.shown(session, pexpect.EOF)
@@ -520,8 +527,6 @@ class Keys(unittest.TestCase):
         self.shown(session, "add a 04")
         child, until = self.child(session.pid), time.monotonic() + SECONDS
         session.close(True)
-        while os.path.exists(f"/proc/{child}"):
-            if self.state(child) == "Z":
-                break
+        while not self.has_ended(child):
             self.assertLess(time.monotonic(), until)
             time.sleep(0.05)
