@@ -39,7 +39,9 @@ class Joins(unittest.TestCase):
         too_many = []
         for most in (0, 8, 50, 200):
             made = Index(zones, max_cells=most)
-            self.assertEqual(pairs(made.join(x, y)), sorted(wanted))
+            for many in (1000, 20, 1):  # points of a zone, after which its interior covering is asked
+                with unittest.mock.patch.object(index, "MANY", many):
+                    self.assertEqual(pairs(made.join(x, y)), sorted(wanted))
             covered = set(pairs(made.join(x, y, exact=False)))
             self.assertTrue(wanted <= covered)
             too_many.append(len(covered - wanted))
@@ -94,6 +96,22 @@ class Joins(unittest.TestCase):
                                       (["x"], ["bad"], "zone 'bad': "), ([polygon(square[1:])], None, "zone 0: p")):
             with self.assertRaisesRegex(ValueError, wanted):
                 Index(shapes, names)
+
+    def test_zones_in_wkb(self):
+        """As objects of shapely, and as bytes in either order, which may have the system of coordinates in degrees."""
+        import shapely.geometry
+        from shapely import geos
+        chance = random.Random(7)
+        zones = [zone for zone in some_zones(chance) if zone["type"] == "Polygon"]
+        x, y = some_points(chance, 300)
+        wanted = sorted(plain_pairs(zones, x, y))
+        self.assertGreater(len(wanted), 100)
+        shapes = [shapely.geometry.shape(zone) for zone in zones]
+        in_degrees = [geos.WKBWriter(geos.lgeos, include_srid=True, big_endian=True).write(shape) for shape in shapes]
+        for given in (shapes, [shape.wkb for shape in shapes], in_degrees):
+            self.assertEqual(pairs(Index(given).join(x, y)), wanted)
+        with self.assertRaisesRegex(ValueError, "^zone 0: the bytes are no WKB$"):
+            Index([shapes[0].wkb[:-1]])
 
     def test_zones_that_are_left(self):
         made = Index([polygon(box(0, 0, 1, 1)), polygon(box(0, 0, 9, 9)[1:]), polygon(box(0, 0, 2, 2))], leave=True)

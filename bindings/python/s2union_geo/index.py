@@ -11,25 +11,27 @@ import zipfile
 from typing import Any, Iterator
 
 import numpy
-from s2union import range_maxes, range_mins
+from s2union import CellUnion, range_maxes, range_mins
 
-from .coverer import coverings
+from .coverer import covering, interior
 from .places import MOST, leaf
-from .reading import parsed, polygons_of
+from .reading import parsed, polygons_of, wkb_of
 from .sphere import leaves
 
 __all__ = ["Index"]
 
 KIND = "s2union_geo.Index 1"  # of the files
 PREDICATES = ("within", "intersects")  # of which the second has points on borders too, as in geopandas
+MANY = 1000  # points of one zone: shapely takes as long for them as its interior covering takes to make
 ARRAYS = {"cell": "u", "begin": "i", "zone": "i", "sure": "b", "shape": "u", "ends": "i", "spans": "f", "names": "u"}
 
 
 class Index:
-    """Which zones contain a point: both coverings of each zone, in one sorted list of cells, and the zones' polygons.
+    """Which zones contain a point: coverings of all zones, in one sorted list of cells, and the zones' polygons.
 
-    A point in an interior covering is in the zone, and one outside of the covering is not. Between the two, shapely
-    decides by the polygon.
+    A point outside of a zone's covering isn't in the zone, and one in its interior covering is. Between the two, shapely
+    decides by the polygon. Interior coverings take most of the time, so each is made when it pays: by the first `find`
+    in the zone's covering, by joins that have asked shapely about 1,000 points of the zone, or by `save`.
 
     .. versionadded:: 1.4
 
@@ -84,33 +86,26 @@ class Index:
                  leave: bool = False) -> None:
         shapes, self.names = _named(shapes, names)
         self.left: list[tuple[int, str]] = []
-        self._shapes, self._spans = [_wkb_of(None)] * len(shapes), numpy.zeros((len(shapes), 2))
-        coverings(_NOTHING, max_cells, max_level)  # an error if they are out of range
+        nothing, none = _covered(_NOTHING, max_cells, max_level)  # an error if they are out of range
+        self._shapes, self._spans = [none] * len(shapes), numpy.zeros((len(shapes), 2))
         made = []
         for zone, shape in enumerate(shapes):
             try:
-                outer, inner = coverings(shape if shape is not None else _NOTHING, max_cells, max_level)
-                self._shapes[zone], self._spans[zone] = _wkb_of(shape), _span_of(shape)
+                outer, wkb = (nothing, none) if shape is None else _covered(shape, max_cells, max_level)
             except ValueError as error:
                 if not leave:
                     raise ValueError(f"zone {self.names[zone]!r}: {error}") from None
                 self.left.append((zone, str(error)))
                 continue
-            made += [(zone, False, outer - inner), (zone, True, inner)]
-        counts = [len(union) for _, _, union in made]
-        cell = numpy.concatenate([numpy.zeros(0, "uint64"), *(numpy.asarray(union, "uint64") for _, _, union in made)])
-        zone, sure = (numpy.repeat(numpy.array([it[k] for it in made], kind), counts)
-                      for k, kind in ((0, "int64"), (1, "bool")))
-        order = numpy.lexsort([zone, ~range_maxes(cell), range_mins(cell)])  # a cell comes before those in it
-        cell, zone, sure = cell[order], zone[order], sure[order]
-        is_first = numpy.append(True, cell[1:] != cell[:-1])[:len(cell)]
-        begin = numpy.append(numpy.flatnonzero(is_first), len(cell))
-        self._arrange(cell[is_first], begin, zone, sure)
+            self._shapes[zone], self._spans[zone] = wkb, _span_of(wkb)
+            made.append((zone, False, outer))
+        self._arrange(*_sorted(made), (max_cells, max_level))
 
-    def _arrange(self, cell: Any, begin: Any, zone: Any, sure: Any) -> None:
+    def _arrange(self, cell: Any, begin: Any, zone: Any, sure: Any, most: tuple[int, int] | None) -> None:
         """Takes the cells, each once and each before those in it. Of each the places from `begin` on have the zones,
-        and whether the zone contains all of the cell."""
-        self._cell, self._begin, self._zone, self._sure = cell, begin, zone, sure
+        and whether the zone contains all of the cell. `most` says how interior coverings are made: not at all, if the
+        cells have them."""
+        self._cell, self._begin, self._zone, self._sure, self._most = cell, begin, zone, sure, most
         self._first, self._last = range_mins(cell), range_maxes(cell)
         number = numpy.arange(len(cell))
         depth = number - numpy.sort(self._last).searchsorted(self._first)  # without the cells that ended before it
@@ -119,6 +114,14 @@ class Index:
             above, here = number[depth == deep - 1], number[depth == deep]
             self._above[here] = above[above.searchsorted(here) - 1]
         self._prepared: dict[Any, Any] = {}
+        self._interiors: dict[int, CellUnion] = {}
+        self._asked = numpy.zeros(len(self.names), "int64")  # how many points of each zone
+
+    def _interior(self, zone: int) -> CellUnion:
+        """The interior covering of a zone; nothing, if the cells have it."""
+        if zone not in self._interiors:
+            self._interiors[zone] = interior(self._shapes[zone], *self._most) if self._most else CellUnion()
+        return self._interiors[zone]
 
     def __len__(self) -> int:
         """How many zones there are.
@@ -176,9 +179,9 @@ class Index:
                 found += range(self._begin[cell], self._begin[cell + 1])
             cell = self._above[cell]
         x, y = numpy.array([[longitude], [latitude]], "float64")
-        zones = [int(self._zone[k]) for k in found
-                 if self._sure[k] or not exact or self._contains(self._zone[k], x, y, predicate)[0]]
-        return [self.names[zone] for zone in sorted(zones)]
+        sure = {int(self._zone[k]): self._sure[k] for k in found}
+        return [self.names[zone] for zone in sorted(sure) if sure[zone] or not exact
+                or here in self._interior(zone) or self._contains(zone, x, y, predicate)[0]]
 
     def join(self, longitude: Any, latitude: Any, exact: bool = True,
              predicate: str = "within") -> tuple[Any, Any]:
@@ -238,11 +241,13 @@ class Index:
             raise ValueError(f"{len(x)} longitudes and {len(y)} latitudes")
         if exact:
             _shapely()  # an error before any work
-        point, zone, sure = self._pairs(leaves(x, y))
+        leaf_of = leaves(x, y)
+        point, zone, sure = self._pairs(leaf_of)
         if exact:
             keep = sure.copy()
             for number, places in _groups(zone, numpy.flatnonzero(~sure)):
-                keep[places] = self._contains(number, x[point[places]], y[point[places]], predicate)
+                here = point[places]
+                keep[places] = self._decide(number, leaf_of[here], x[here], y[here], predicate)
             point, zone = point[keep], zone[keep]
         order = numpy.lexsort([zone, point])
         return point[order], zone[order]
@@ -264,7 +269,17 @@ class Index:
             found.append((asked[of], self._zone[entry], self._sure[entry]))
             cell = self._above[cell]
 
-    def _contains(self, zone: Any, x: Any, y: Any, predicate: str) -> Any:
+    def _decide(self, zone: int, places: Any, x: Any, y: Any, predicate: str) -> Any:
+        """Whether a zone contains points in its covering, of which `places` are the leaves."""
+        self._asked[zone] += len(places)
+        inside = (self._interior(zone).contains_cells(places) if self._asked[zone] >= MANY
+                  else numpy.zeros(len(places), "bool"))
+        left = numpy.flatnonzero(~inside)
+        if left.size:
+            inside[left] = self._contains(zone, x[left], y[left], predicate)
+        return inside
+
+    def _contains(self, zone: int, x: Any, y: Any, predicate: str) -> Any:
         """Whether a zone's polygons contain points, which they may have some turns to the east or west."""
         wkb, prepared, *asks = _shapely()
         contains = asks[PREDICATES.index(predicate)]
@@ -312,8 +327,9 @@ class Index:
         ['square']
         """
         text = json.dumps([KIND, *self.names], default=_number_of).encode()
-        arrays = {"cell": self._cell, "begin": self._begin.astype("int64"), "zone": self._zone.astype("int32"),
-                  "sure": self._sure, "spans": self._spans.ravel(),
+        cell, begin, zone, sure = self._with_interiors()
+        arrays = {"cell": cell, "begin": begin.astype("int64"), "zone": zone.astype("int32"),
+                  "sure": sure, "spans": self._spans.ravel(),
                   "shape": numpy.frombuffer(b"".join(self._shapes), "uint8"),
                   "ends": numpy.cumsum([len(shape) for shape in self._shapes], dtype="int64"),
                   "names": numpy.frombuffer(text, "uint8")}
@@ -326,6 +342,16 @@ class Index:
             if os.path.exists(written):
                 os.remove(written)
             raise
+
+    def _with_interiors(self) -> tuple[Any, Any, Any, Any]:
+        """The cells of both coverings, as `_arrange` takes them."""
+        if self._most is None:
+            return self._cell, self._begin, self._zone, self._sure
+        made, cell = [], numpy.repeat(self._cell, numpy.diff(self._begin))
+        for zone, places in _groups(self._zone, numpy.arange(len(self._zone))):
+            inner = self._interior(zone)
+            made += [(zone, False, CellUnion(cell[places]) - inner), (zone, True, inner)]
+        return _sorted(made)
 
     @classmethod
     def load(cls, path: str | os.PathLike[str]) -> Index:
@@ -382,11 +408,23 @@ class Index:
         text = shape.tobytes()
         self._spans = spans.reshape(-1, 2)
         self._shapes = [text[a:b] for a, b in zip([0, *ends.tolist()], ends.tolist())]
-        self._arrange(cell, begin.astype("int64"), zone.astype("int64"), sure)
+        self._arrange(cell, begin.astype("int64"), zone.astype("int64"), sure, None)
         return self
 
 
 _NOTHING = {"type": "MultiPolygon", "coordinates": []}
+
+
+def _sorted(made: list[tuple[int, bool, CellUnion]]) -> tuple[Any, Any, Any, Any]:
+    """The cells of zones, as `_arrange` takes them, of unions of which the zone contains all, or not."""
+    counts = [len(union) for _, _, union in made]
+    cell = numpy.concatenate([numpy.zeros(0, "uint64"), *(numpy.asarray(union, "uint64") for _, _, union in made)])
+    zone, sure = (numpy.repeat(numpy.array([it[k] for it in made], kind), counts)
+                  for k, kind in ((0, "int64"), (1, "bool")))
+    order = numpy.lexsort([zone, ~range_maxes(cell), range_mins(cell)])  # a cell comes before those in it
+    cell, zone, sure = cell[order], zone[order], sure[order]
+    is_first = numpy.append(True, cell[1:] != cell[:-1])[:len(cell)]
+    return cell[is_first], numpy.append(numpy.flatnonzero(is_first), len(cell)), zone, sure
 
 
 def _named(shapes: Any, names: Any) -> tuple[list[Any], list[Any]]:
@@ -418,11 +456,20 @@ def _property(feature: Any, name: str, place: int) -> Any:
     return properties[name]
 
 
+def _covered(shape: Any, max_cells: int, max_level: int) -> tuple[CellUnion, bytes]:
+    """The covering of a shape, and its polygons in well-known binary, little-endian."""
+    if getattr(shape, "geom_type", None) not in ("Polygon", "MultiPolygon"):
+        return covering(shape, max_cells, max_level), _wkb_of(shape)
+    wkb = bytes(shape.wkb)
+    try:
+        return covering(wkb, max_cells, max_level), wkb
+    except ValueError:  # the shape's own error has names of polygons and rings
+        return covering(shape, max_cells, max_level), wkb
+
+
 def _wkb_of(shape: Any) -> bytes:
-    """The polygons of a shape in well-known binary, little-endian."""
-    if getattr(shape, "geom_type", None) in ("Polygon", "MultiPolygon"):
-        return bytes(shape.wkb)
-    parts = polygons_of(_NOTHING if shape is None else shape)
+    is_wkb = isinstance(shape, bytes) and wkb_of(shape)
+    parts = polygons_of(_shapely()[0].loads(shape) if is_wkb else shape)
     found = [struct.pack("<BII", 1, 6, len(parts))]
     for rings in parts:
         found.append(struct.pack("<BII", 1, 3, len(rings)))
@@ -431,13 +478,19 @@ def _wkb_of(shape: Any) -> bytes:
     return b"".join(found)
 
 
-def _span_of(shape: Any) -> tuple[float, float]:
-    """The least and the greatest longitude of polygons; 0 of none."""
-    if hasattr(shape, "bounds"):
-        return (0, 0) if shape.is_empty else shape.bounds[::2]
-    parts = polygons_of(_NOTHING if shape is None else shape)
-    x = numpy.concatenate([[0.0] * (not parts), *(ring[:, 0] for rings in parts for ring in rings)])
-    return x.min(), x.max()
+def _span_of(wkb: bytes) -> tuple[float, float]:
+    """The least and the greatest longitude of polygons in such binary; 0 of none."""
+    at, waiting, longitudes = 0, 1, []
+    while waiting:
+        kind, count = struct.unpack_from("<II", wkb, at + 1)
+        at += 9
+        waiting += count - 1 if kind & 7 == 6 else -1
+        numbers = 2 + (kind >> 31) + (kind >> 30 & 1)  # of a position, which may have a height and a measure
+        for _ in range(0 if kind & 7 == 6 else count):
+            corners, = struct.unpack_from("<I", wkb, at)
+            longitudes.append(numpy.frombuffer(wkb, "<f8", numbers * corners, at + 4)[::numbers])
+            at += 4 + 8 * numbers * corners
+    return (min(it.min() for it in longitudes), max(it.max() for it in longitudes)) if longitudes else (0, 0)
 
 
 def _check(predicate: str) -> None:
