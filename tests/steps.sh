@@ -43,9 +43,16 @@ update_lists() { # WORD..: `WORD.. apt-get update`, once no other one runs: it h
   echo "$said" && return 1
 }
 
+as_root=()
+[ "$(id -u)" -eq 0 ] || as_root=(sudo -n)
+
+unpacked() { # FOLDER PACKAGE..: the files of Debian packages, which aren't installed
+  local folder=$1 file
+  (cd "$folder" && { apt-get download "${@:2}" || { update_lists "${as_root[@]}" && apt-get download "${@:2}"; }; }) &&
+    for file in "$folder"/*.deb; do dpkg -x "$file" "$folder" || return; done
+}
+
 install_packages() { # one run after the other
-  local as_root=()
-  [ "$(id -u)" -eq 0 ] || as_root=(sudo -n)
   (
     flock 9 && update_lists "${as_root[@]}" &&
       "${as_root[@]}" apt-get -o DPkg::Lock::Timeout=600 install -y --no-install-recommends "$@"

@@ -54,21 +54,21 @@ first_screen() { # its examples that need PostGIS, which the part `postgres` lea
     --only postgis "$top/docs/POSTGRES.md" psql -XAqt -d first
 }
 step "docs/POSTGRES.md, what needs PostGIS" first_screen
-node_modules=$work/node/node_modules
-by_node() { # PROGRAM: over Debian's driver, whose own modules Node finds by the variable alone
-  (cd "$work/node" && PGDATABASE=first NODE_PATH=/usr/share/nodejs node "$1")
+modules=$work/node/debian/usr/share/nodejs
+driver_of_node() { # Debian's, unpacked: as a package it would want Debian's Node too
+  mkdir -p "$work/node/debian" "$work/node/node_modules" && unpacked "$work/node/debian" node-pg node-split2 &&
+    ln -s "$modules/pg" "$work/node/node_modules" && cp -r "$work/page/js" "$work/node/node_modules/s2union" &&
+    cp "$top/tests/postgres/drivers/drivers.mjs" "$work/node"
+}
+by_node() { # PROGRAM: the driver's own modules Node finds by the variable alone
+  (cd "$work/node" && PGDATABASE=first NODE_PATH=$modules node "$1")
 }
 node_page() {
   block JS.md "js pg" >"$work/node/page.mjs" && by_node page.mjs | diff <(block JS.md "text js pg") -
 }
-if [ -d /usr/share/nodejs/pg ]; then
-  mkdir -p "$node_modules" && ln -s /usr/share/nodejs/pg "$node_modules" &&
-    cp -r "$work/page/js" "$node_modules/s2union" && cp "$top/tests/postgres/drivers/drivers.mjs" "$work/node"
-  step "the driver of Node: pg" by_node drivers.mjs
-  step "docs/JS.md, a region in PostgreSQL" node_page
-else
-  echo "       left out: the driver of Node (node-pg)"
-fi
+step "Debian's driver of Node" driver_of_node
+step "the driver of Node: pg" by_node drivers.mjs
+step "docs/JS.md, a region in PostgreSQL" node_page
 step "docs/GEO.md" pages test_geo.py
 step "docs/TUTORIAL.md" pages test_tutorial.py
 finish

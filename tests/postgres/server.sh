@@ -108,7 +108,6 @@ tests() { # TEST..: those of test_postgres.py, or of TESTS, or with the name of 
   done
   (
     cd "$top/tests/postgres" && export PYTHONPATH=$top/tests:${PYTHONPATH:-} PYTHONDONTWRITEBYTECODE=1
-    export EXTENSIONS=$copy/usr/share/postgresql/$server/extension
     timeout "${SECONDS_OF_TESTS:-7200}" /usr/bin/python3 -m pytest -s -x "${names[@]}"
   )
 }
@@ -124,3 +123,4 @@ end() {
 }
 trap end EXIT
 export PGHOST=$work/data PGUSER=postgres PGDATABASE=postgres PATH=$bin:$PATH
+export EXTENSIONS=$copy/usr/share/postgresql/$server/extension
