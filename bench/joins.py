@@ -2,7 +2,7 @@
 bench/databases.sh and tests/geo.
 
 MODULES has the extensions for SQLite, and MAP, which QGIS has, 4,556 provinces and all countries of Natural Earth. Of
-100,000 points one half is uniform on the sphere, and one half near corners of provinces. A number is processor time of
+100,000 points one half is uniform on the sphere, and one half near corners of the zones. A number is processor time of
 one process, the least of three rounds, or of one if it takes more than a few seconds; the ways take turns. Each way has
 to find the same pairs, all of them. With --check the countries and a tenth of the provinces are asked once, with fewer
 points, of which a part are corners, which are in, as for ST_Covers; the last line is then 'N passed, M failed'.
@@ -37,6 +37,7 @@ class Job(NamedTuple):
     y: Any
     rounds: int
     predicate: str  # of Python: without points on borders both have the same pairs
+    spatialite: bool  # which reads a whole polygon for each point in its box: of countries that takes minutes
 
 
 class Way(NamedTuple):
@@ -178,7 +179,7 @@ def in_sqlite(job):
             f"""SELECT p.id, t.id FROM (SELECT *, s2_leaf_at(longitude, latitude) AS leaf FROM points) AS p
                 JOIN tiles AS t ON tile = s2_parent(leaf, {LEVEL}) AND s2_contains(part, leaf)
                 AND (clip IS NULL OR s2_contains(sure, leaf) OR s2_covers(clip, longitude, latitude))"""))]
-    if job.rounds == 1:  # SpatiaLite reads a whole polygon for each point in its box, which takes minutes of countries
+    if not job.spatialite:
         return compared(job, f"SQLite {sqlite3.sqlite_version}", ways)
     database.load_extension("mod_spatialite")
     tree = """BEGIN; SELECT InitSpatialMetaDataFull(0); CREATE TABLE areas(id INTEGER PRIMARY KEY);
@@ -195,25 +196,35 @@ def in_sqlite(job):
 
 
 def in_python(job):
-    points = geopandas.GeoDataFrame(geometry=geopandas.points_from_xy(job.x, job.y), crs=job.zones.crs)
     path, kept = str(job.folder / "provinces.index"), {}
 
     def makes():
         kept["index"], took = clocked(lambda: Index(job.zones))
-        kept["index"].save(path)
         return took
 
     def joined(index):
         return lambda: clocked(lambda: index().join(job.x, job.y, predicate=job.predicate))
 
-    def theirs():
-        found = geopandas.sjoin(points, job.zones, predicate=job.predicate)
-        return found.index, found.index_right
+    def frames():  # of which geopandas keeps the index that a join makes
+        return [geopandas.GeoDataFrame(geometry=shapes, crs=4326)
+                for shapes in (geopandas.points_from_xy(job.x, job.y), list(job.zones.geometry))]
+
+    def theirs(both):
+        def found():
+            found = geopandas.sjoin(*both, predicate=job.predicate)
+            return found.index, found.index_right
+        return clocked(found)
+
+    def indexed():
+        kept["frames"] = frames()
+        return clocked(lambda: [frame.sindex for frame in kept["frames"]])[1]
     return compared(job, "Python, beside geopandas " + geopandas.__version__, [
         Way("Index.join", makes, joined(lambda: kept["index"])),
-        Way("Index.load, and join", None, joined(lambda: Index.load(path))),
+        Way("Index.load, and join", lambda: clocked(lambda: kept["index"].save(path))[1],
+            joined(lambda: Index.load(path))),
         Way("Index, and join", None, joined(lambda: Index(job.zones))),
-        Way("geopandas.sjoin", None, lambda: clocked(theirs)),
+        Way("geopandas.sjoin, both frames indexed", indexed, lambda: theirs(kept["frames"])),
+        Way("geopandas.sjoin", None, lambda: theirs(frames())),
     ], lambda found: zip(*(column.tolist() for column in found)))
 
 
@@ -277,14 +288,16 @@ def joined(job):
 def main(folder, modules, file, *words):
     folder, modules = Path(folder), Path(modules)
     if words != ("--check",):
-        zones = zones_of(file, "states_provinces")
-        joined(Job(folder, modules, zones, *some_points(corners_of(zones), 50000, 50000, 0), 3, "within"))
+        for layer in "states_provinces", "countries":
+            zones = zones_of(file, layer)
+            points = some_points(corners_of(zones), 50000, 50000, 0)
+            joined(Job(folder, modules, zones, *points, 3, "within", layer == "states_provinces"))
         return
     passed = 0
     for layer, every in ("countries", 1), ("states_provinces", 10):
         zones = zones_of(file, layer, every)
         points = some_points(corners_of(zones), 3000, 3000, 1000)
-        passed += joined(Job(folder, modules, zones, *points, 1, "intersects"))
+        passed += joined(Job(folder, modules, zones, *points, 1, "intersects", False))
     print(f"{passed} passed, 0 failed")
 
 
