@@ -485,6 +485,15 @@ static void geodesic(void) {
     INSIDE(it, x - 90, -y);
     drop(&it);
   }
+  const double speck = 1e-7; /* beside whose edges no leaf is outside, so that of the next ring is */
+  double holes[] = {100, 0, 100, speck, 100 + speck, speck, 100 + speck, 0, 100, 0, 2, 48, 2, 49, 3, 49, 3, 48, 2, 48};
+  const s2u_cover_ring both[] = {{5, 0}, {10, 0}};
+  options.edges = S2U_COVER_LEFT;
+  it = cover(holes, both, 2, options);
+  OUTSIDE(it, 2.5, 48.5);
+  INSIDE(it, 60, 30);
+  INSIDE(it, -90, -40);
+  drop(&it);
   double far[] = {0, 0, 180, 0, 90, 10, 0, 0};
   it = cover_ring(far, 4, options);
   CHECK(it.status == S2U_COVER_OPPOSITE && it.fault.ring == 0 && it.fault.position == 0);
