@@ -137,6 +137,7 @@ class Covers(unittest.TestCase):
                                     (point, 7, 7, True), (point, 7, 8, False), (point, 367, 7, True),
                                     (both_of_them, 2, 1, True), (both_of_them, 7, 7, True),
                                     (both_of_them, 2.5, 48.5, True), (both_of_them, 2.5, 47.5, False),
+                                    (both_of_them, 1, 0.2, False),
                                     (b"\1" + struct.pack("<II", 7, 0), 0, 0, False)):
             self.assertEqual(self.covers(shape, x, y), wanted)
             tiles = self.db.execute("SELECT s2_leaf_at(?, ?)", [x, y]).fetchone()
