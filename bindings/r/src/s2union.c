@@ -1,5 +1,10 @@
 /* The library by .Call. An s2_cell of R is a double that holds the 64 bits of a cell, so the memory of a vector of them
  * is the library's list. */
+#if defined(__clang__) /* no multiplication is joined with an addition, so each machine has the same cells */
+#pragma STDC FP_CONTRACT OFF
+#elif defined(__GNUC__)
+#pragma GCC optimize("fp-contract=off")
+#endif
 #define R_NO_REMAP
 #include <limits.h>
 #include <string.h>
