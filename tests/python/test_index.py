@@ -270,6 +270,8 @@ TABLES = [
     ("id|here|there\n1|3|2\n2|6|6\n3|20|20\n7|9|9.99999\n", ["--longitude", "there", "--latitude", "here"]),
     ("1 2 3\n2 6 6\n\n3 20 20\n7  9.99999   9\n", ["--longitude", "2", "--latitude", "3"]),
     ("1/2/3\n2/6/6\n3/20/20\n7/9.99999/9\n", ["--longitude", "2", "--latitude", "3", "--separator", "/"]),
+    ("i\u2028d\x85\x0c\x1e,lon,lat\n1,2,3\n2,6,6\n3,20,20\n7,9.99999,9\n", []),
+    ('"i\nd",lon,lat\n1,2,3\n2,6,6\n3,20,20\n7,9.99999,9\n', ["--separator", ","]),
 ]
 
 
@@ -305,16 +307,16 @@ def test_no_output_without_shapely(zones, tmp_path):
 
 @pytest.mark.parametrize("by_line", [False, True])
 def test_features_as_points_and_zones(tmp_path, by_line):
+    places = ("o\u2028ne", [2, 3]), ("t\"w,o", [6, 6.5, 0]), ("three", [20, 20])
     features = [{"type": "Feature", "properties": {"id": name, "n": k, "more": None if k else [1]},
-                 "geometry": {"type": "Point", "coordinates": place}}
-                for k, (name, place) in enumerate((("one", [2, 3]), ("t\"w,o", [6, 6.5, 0]), ("three", [20, 20])))]
-    text = ("\n".join(map(json.dumps, features)) if by_line else
+                 "geometry": {"type": "Point", "coordinates": place}} for k, (name, place) in enumerate(places)]
+    text = ("\n".join(json.dumps(feature, ensure_ascii=False) for feature in features) if by_line else
             json.dumps({"type": "FeatureCollection", "features": features}, indent=2))
     zones = zones_file(tmp_path, by_line)
     status, out, error = said("join", "-", zones, "--name", "zone_id", "--all", text=text.encode())
     assert (status, error) == (0, "")
     assert list(csv.reader(io.StringIO(out))) == [
-        ["longitude", "latitude", "id", "n", "more", "zone_id"], ["2", "3", "one", "0", "[1]", "a"],
+        ["longitude", "latitude", "id", "n", "more", "zone_id"], ["2", "3", "o\u2028ne", "0", "[1]", "a"],
         ["6", "6.5", "t\"w,o", "1", "", "a"], ["6", "6.5", "t\"w,o", "1", "", "b"], ["20", "20", "three", "2", "", ""]]
 
 
@@ -335,6 +337,8 @@ WRONG = [
     ("id,lon,lat\n1,2,3\n5,\"3\n3\"\n", "line 4 has 2 columns, and the first has 3"),
     ('{"type": "FeatureCollection", "features": [{"type": "Feature", "properties": {"lon": 5}, "geometry": '
      '{"type": "Point", "coordinates": [2, 3]}}, {"type": "Feature", "geometry": null}]}', "feature 1 has no point"),
+    ('\x1e{"type": "Feature", "geometry": null}\n'
+     '\x1e{"type": "Feature", "geometry": {"type": "Point", "coordinates": [2, 3]}}\n', "line 1 has no point"),
 ]
 
 

@@ -63,6 +63,11 @@ def _line(text: Any) -> str:
         blank += line
 
 
+def _lines(first: str, text: Any) -> Iterator[str]:
+    """The lines of a text from its first on. They end where those of a file do, so a field may have U+2028, say."""
+    return chain(io.StringIO(first, newline=""), iter(lambda: text.readline(LONGEST), ""))
+
+
 def features_of(first: str, text: Any) -> Iterator[tuple[str, Any]]:
     """The features of GeoJSON, of a collection or one a line, each with where it stands. `text` has what comes after
     the first line."""
@@ -71,7 +76,7 @@ def features_of(first: str, text: Any) -> Iterator[tuple[str, Any]]:
     except (ValueError, RecursionError):
         alone = None  # the first line of a longer object
     if isinstance(alone, dict) and alone.get("type") == "Feature":
-        return _features_by_line(chain(first.splitlines(True), iter(lambda: text.readline(LONGEST), "")))
+        return _features_by_line(_lines(first, text))
     whole = alone if isinstance(alone, dict) else parsed(first + text.read(MOST_BYTES + 1))
     features = whole.get("features") if isinstance(whole, dict) else None
     if not isinstance(features, list):
@@ -92,8 +97,7 @@ def _features_by_line(lines: Any) -> Iterator[tuple[str, Any]]:
 def _of_csv(first: str, text: Any, options: Options, wrong: Callable[[str], None]) -> Any:
     separator = options.separator or max(SEPARATORS, key=first.count)
     separator = separator if separator in first or options.separator else " "
-    reader = csv.reader(chain(first.splitlines(True), iter(lambda: text.readline(LONGEST), "")), delimiter=separator,
-                        skipinitialspace=separator == " ")
+    reader = csv.reader(_lines(first, text), delimiter=separator, skipinitialspace=separator == " ")
     head = next((row for row in reader if row), None)
     if head is None:
         return [], iter(())
