@@ -153,8 +153,19 @@ class TestPage:
 
     def click(self, name):
         """Clicks a button, and waits until no GeoJSON is covered."""
-        self.driver.find_element(By.ID, name).click()
+        self.clicked(self.driver.find_element(By.ID, name))
         self.wait()
+
+    def clicked(self, button):
+        """Clicks a button, and waits until the page has done what that asks for at once. The driver may be back before,
+        and what was said last is still said then."""
+        self.run("""globalThis.heard = arguments[0].disabled;
+            document.addEventListener('click', () => { globalThis.heard = true; }, {once: true});""", button)
+        button.click()
+        end = time.monotonic() + SECONDS
+        while not self.run("return globalThis.heard"):
+            assert time.monotonic() < end, self.status()
+            time.sleep(0.02)
 
     def wait(self):
         """Waits until the page says something, and covers nothing."""
@@ -220,7 +231,7 @@ class TestPage:
 
     def click_of(self, words):
         """Clicks a button of a union's line, by its text and the name of the union."""
-        self.driver.find_element(By.CSS_SELECTOR, f'#legend button[aria-label="{words}"]').click()
+        self.clicked(self.driver.find_element(By.CSS_SELECTOR, f'#legend button[aria-label="{words}"]'))
 
     def saved(self, words, name):
         """What a button of a union's line saves, under this name.
