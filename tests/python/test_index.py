@@ -69,6 +69,25 @@ class Joins(unittest.TestCase):
             self.assertRaisesRegex(ValueError, "^a predicate is 'within' or 'intersects', not 'covers'$", work, 1, 1,
                                    predicate="covers")
 
+    def test_zones_wider_than_the_map(self):
+        """What a polygon has on an even number of turns is outside; each polygon counts by itself."""
+        chance = random.Random(360)
+        x = numpy.array([chance.uniform(-180, 180) for _ in range(1500)])
+        y = numpy.array([chance.uniform(-11, 11) for _ in range(1500)])
+        for ends in ([(-200, 200)], [(-270, 300)], [(-500, 100)], [(-540, 540)], [(-200, -170), (160, 220)]):
+            shape = {"type": "MultiPolygon", "coordinates": [[box(west, -10, east, 10)] for west, east in ends]}
+            wanted = numpy.zeros(len(x), bool)
+            for west, east in ends:
+                wanted |= sum((west < x + 360 * turn) & (x + 360 * turn < east) for turn in (-1, 0, 1)) % 2 == 1
+            wanted &= abs(y) < 10
+            for most in (0, 8, 200):
+                made = Index([shape], max_cells=most)
+                for predicate in ("within", "intersects"):
+                    self.assertEqual(made.join(x, y, predicate=predicate)[0].tolist(),
+                                     numpy.flatnonzero(wanted).tolist(), (ends, most))
+        made = Index([polygon(box(-200, -10, 200, 10))])
+        self.assertEqual([len(made.join([160, -160], [5, 10], predicate=it)[0]) for it in index.PREDICATES], [0, 2])
+
     def test_a_zone_a_hundred_times(self):
         """All have the same cells, and a point in one is in each."""
         made = Index([polygon(box(0, 0, 1, 1))] * 100, max_cells=8)

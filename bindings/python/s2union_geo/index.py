@@ -113,7 +113,7 @@ class Index:
         for deep in range(1, depth.max(initial=0) + 1):
             above, here = number[depth == deep - 1], number[depth == deep]
             self._above[here] = above[above.searchsorted(here) - 1]
-        self._prepared: dict[Any, Any] = {}
+        self._prepared: dict[int, list[Any]] = {}
         self._interiors: dict[int, CellUnion] = {}
         self._asked = numpy.zeros(len(self.names), "int64")  # how many points of each zone
 
@@ -224,7 +224,8 @@ class Index:
         Notes
         -----
         The pairs are those of geopandas with the same predicate, and those of zones across the date line. Geopandas
-        itself takes ``intersects`` if it is given none.
+        itself takes ``intersects`` if it is given none. Where a polygon wider than 360 degrees lies on itself after a
+        turn, places that it has an even number of times are outside, as they are of its `covering`.
 
         Examples
         --------
@@ -281,20 +282,45 @@ class Index:
 
     def _contains(self, zone: int, x: Any, y: Any, predicate: str) -> Any:
         """Whether a zone's polygons contain points, which they may have some turns to the east or west."""
-        wkb, prepared, *asks = _shapely()
-        contains = asks[PREDICATES.index(predicate)]
-        if zone not in self._prepared:
-            try:
-                self._prepared[zone] = prepared(wkb.loads(self._shapes[zone]))
-            except Exception as error:  # shapely's own differ between its versions
-                raise ValueError(f"zone {self.names[zone]!r} has no polygons that shapely reads: {error}") from None
-        inside = contains(self._prepared[zone], x, y)
+        contains = _shapely()[2 + PREDICATES.index(predicate)]
         west, east = self._spans[zone]
-        for turn in range(math.ceil((west - x.max()) / 360), math.floor((east - x.min()) / 360) + 1):
+        turns = range(math.ceil((west - x.max()) / 360), math.floor((east - x.min()) / 360) + 1)
+        if east - west > 360:
+            return self._contains_by_turns(zone, x, y, predicate, turns)
+        shape, = self._parts(zone)
+        inside = contains(shape, x, y)
+        for turn in turns:
             if turn:
                 left = numpy.flatnonzero(~inside)
-                inside[left] = contains(self._prepared[zone], x[left] + 360 * turn, y[left])
+                inside[left] = contains(shape, x[left] + 360 * turn, y[left])
         return inside
+
+    def _contains_by_turns(self, zone: int, x: Any, y: Any, predicate: str, turns: range) -> Any:
+        """The same of a zone that is wider than 360 degrees: what a polygon has on an even number of turns is outside,
+        as it is of its coverings."""
+        contains, intersects = _shapely()[2:]
+        found = numpy.zeros(len(x), "bool")
+        for polygon in self._parts(zone):
+            inside, touched = numpy.zeros((2, len(x)), "bool")
+            for turn in turns:
+                is_in = contains(polygon, x + 360 * turn, y)
+                inside ^= is_in
+                touched |= intersects(polygon, x + 360 * turn, y) & ~is_in
+            found |= inside & ~touched if predicate == "within" else inside | touched
+        return found
+
+    def _parts(self, zone: int) -> list[Any]:
+        """The polygons of a zone for shapely: all as one, or each if they are wider than 360 degrees together."""
+        if zone not in self._prepared:
+            wkb, prepared, *_ = _shapely()
+            try:
+                shape = wkb.loads(self._shapes[zone])
+                west, east = self._spans[zone]
+                parts = getattr(shape, "geoms", [shape]) if east - west > 360 else [shape]
+                self._prepared[zone] = [prepared(part) for part in parts]
+            except Exception as error:  # shapely's own differ between its versions
+                raise ValueError(f"zone {self.names[zone]!r} has no polygons that shapely reads: {error}") from None
+        return self._prepared[zone]
 
     def save(self, path: str | os.PathLike[str]) -> None:
         """Write the index into one file, of some 10 bytes a cell and 16 a corner of a polygon.
