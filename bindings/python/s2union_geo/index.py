@@ -29,9 +29,9 @@ ARRAYS = {"cell": "u", "begin": "i", "zone": "i", "sure": "b", "shape": "u", "en
 class Index:
     """Which zones contain a point: coverings of all zones, in one sorted list of cells, and the zones' polygons.
 
-    A point outside of a zone's covering isn't in the zone, and one in its interior covering is. Between the two, shapely
-    decides by the polygon. Interior coverings take most of the time, so each is made when it pays: by the first `find`
-    in the zone's covering, by joins that have asked shapely about 1,000 points of the zone, or by `save`.
+    A point outside of a zone's covering isn't in the zone, and one in its interior covering is. Between the two,
+    shapely decides by the polygon. Interior coverings take most of the time, so each is made when it pays: by the first
+    `find` in the zone's covering, by joins that have asked shapely about 1,000 points of the zone, or by `save`.
 
     .. versionadded:: 1.4
 
