@@ -373,7 +373,8 @@ class Index:
         """The cells of both coverings, as `_arrange` takes them."""
         if self._most is None:
             return self._cell, self._begin, self._zone, self._sure
-        made, cell = [], numpy.repeat(self._cell, numpy.diff(self._begin))
+        made: list[tuple[int, bool, CellUnion]] = []
+        cell = numpy.repeat(self._cell, numpy.diff(self._begin))
         for zone, places in _groups(self._zone, numpy.arange(len(self._zone))):
             inner = self._interior(zone)
             made += [(zone, False, CellUnion(cell[places]) - inner), (zone, True, inner)]
@@ -506,7 +507,8 @@ def _wkb_of(shape: Any) -> bytes:
 
 def _span_of(wkb: bytes) -> tuple[float, float]:
     """The least and the greatest longitude of polygons in such binary; 0 of none."""
-    at, waiting, longitudes = 0, 1, []
+    longitudes: list[Any] = []
+    at, waiting = 0, 1
     while waiting:
         kind, count = struct.unpack_from("<II", wkb, at + 1)
         at += 9
