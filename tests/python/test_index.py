@@ -117,8 +117,10 @@ class Joins(unittest.TestCase):
                 Index(shapes, names)
 
     def test_zones_in_wkb(self):
-        """As objects of shapely, and as bytes in either order, which may have the system of coordinates in degrees."""
+        """As objects of shapely, whose corners may have heights, and as bytes in either order, which may have the system
+        of coordinates in degrees."""
         import shapely.geometry
+        import shapely.ops
         from shapely import geos
         chance = random.Random(7)
         zones = [zone for zone in some_zones(chance) if zone["type"] == "Polygon"]
@@ -127,7 +129,8 @@ class Joins(unittest.TestCase):
         self.assertGreater(len(wanted), 100)
         shapes = [shapely.geometry.shape(zone) for zone in zones]
         in_degrees = [geos.WKBWriter(geos.lgeos, include_srid=True, big_endian=True).write(shape) for shape in shapes]
-        for given in (shapes, [shape.wkb for shape in shapes], in_degrees):
+        high = [shapely.ops.transform(lambda x, y: (x, y, y), shape) for shape in shapes]
+        for given in (shapes, high, [shape.wkb for shape in high], in_degrees):
             self.assertEqual(pairs(Index(given).join(x, y)), wanted)
         with self.assertRaisesRegex(ValueError, "^zone 0: the bytes are no WKB$"):
             Index([shapes[0].wkb[:-1]])
