@@ -10,6 +10,8 @@
 namespace limit {
 
 const size_t BLOCK = 64;
+const u64 FACES_END = 0xC000000000000000;
+const u64 MARKERS = 0x1555555555555555;
 
 inline u64 least(u64 id) { return id - lowest_bit(id) + 1; }
 inline u64 most(u64 id) { return id + lowest_bit(id) - 1; }
@@ -25,36 +27,41 @@ inline bool is_family(u64 a, u64 b, u64 c, u64 d) {
 inline bool are_cells(const u64* ids, size_t n) {
   u64 bad = 0;
   for (size_t k = 0; k < n; k++)
-    bad |= static_cast<u64>(ids[k] >> 61 >= 6) | static_cast<u64>((lowest_bit(ids[k]) & 0x1555555555555555) == 0);
+    bad |= static_cast<u64>(ids[k] >= FACES_END) | static_cast<u64>((lowest_bit(ids[k]) & MARKERS) == 0);
   return bad == 0;
 }
 
-// Whether `n` cells surely go on a union, the three before them included. False is no answer.
-inline bool go_on(const u64* ids, size_t n) {
+// Whether the numbers of a block are cells that surely go on a union, the three before them included. False is no
+// answer. The last child of a cell is the exclusive-or of the other three, and differs from the first in two bits.
+inline bool go_on(const u64* ids) {
   u64 bad = 0;
-  for (size_t k = 0; k < n; k++) {
+  for (size_t k = 0; k < BLOCK; k++) {
     const u64* id = ids + k;
-    bad |= static_cast<u64>(least(id[0]) <= most(id[-1])) | static_cast<u64>((id[-3] ^ id[-2] ^ id[-1]) == id[0]);
+    u64 bit = lowest_bit(id[0]);
+    bad |= static_cast<u64>(id[0] - bit < id[-1] + lowest_bit(id[-1])) | static_cast<u64>(id[0] >= FACES_END) |
+           static_cast<u64>((bit & MARKERS) == 0) |
+           (static_cast<u64>((id[-3] ^ id[-2] ^ id[-1]) == id[0]) & static_cast<u64>((id[-3] ^ id[0]) == 6 * bit));
   }
   return bad == 0;
 }
 
-// How many of the first numbers are a union: one pass with all in registers, which gives `take` each place and number.
-// A number above the last face is only looked for at the end, since all ascend: then the answer is 0.
-template <typename Take>
-inline size_t union_at_front(const u64* ids, size_t n, Take take) {
-  u64 a = 0, b = 0, c = 0, last = 0;
-  for (size_t k = 0; k < n; k++) {
-    u64 id = ids[k], bit = lowest_bit(id);
-    if ((id - bit < last) | ((bit & 0x1555555555555555) == 0)) return k;
-    if ((a ^ b ^ c) == id && is_family(a, b, c, id)) return k;
-    take(k, id);
-    last = id + bit - 1, a = b, b = c, c = id;
+// How many of the first numbers are a union: by blocks, and what isn't sure one by one.
+inline size_t union_at_front(const u64* ids, size_t n) {
+  u64 a = 0, b = 0, c = 0;
+  for (size_t k = 0; k < n;) {
+    if (k >= 3 && n - k >= BLOCK && go_on(ids + k)) {
+      k += BLOCK;
+      a = ids[k - 3], b = ids[k - 2], c = ids[k - 1];
+      continue;
+    }
+    for (size_t end = std::min(n, k + BLOCK); k < end; k++) {
+      u64 id = ids[k], bit = lowest_bit(id);
+      if (id - bit < c + lowest_bit(c) || id >= FACES_END || (bit & MARKERS) == 0 || is_family(a, b, c, id)) return k;
+      a = b, b = c, c = id;
+    }
   }
-  return n > 0 && c >> 61 >= 6 ? 0 : n;
+  return n;
 }
-
-inline size_t union_at_front(const u64* ids, size_t n) { return union_at_front(ids, n, [](size_t, u64) {}); }
 
 inline bool is_union(const u64* ids, size_t n) { return union_at_front(ids, n) == n; }
 
@@ -78,7 +85,7 @@ inline size_t normalise(u64* ids, size_t n) {
   for (size_t i = done, len; i < n; i += len) {
     len = std::min(i < 3 ? 1 : BLOCK, n - i);
     bool same = i >= 3 && top - ids >= 3 && memcmp(top - 3, ids + i - 3, 24) == 0;
-    if (same && go_on(ids + i, len)) {
+    if (same && len == BLOCK && go_on(ids + i)) {
       if (top != ids + i) memmove(top, ids + i, 8 * len);
       top += len;
     } else {
@@ -316,9 +323,8 @@ inline size_t decode(const uint8_t* bytes, size_t size, u64* out) {
   u64 n;
   memcpy(&n, bytes + 1, 8);
   if (bytes[0] != 1 || n != (size - 9) / 8) return 0;
-  const u64* ids = reinterpret_cast<const u64*>(bytes + 9);  // which x86-64 reads as they lie
-  if (union_at_front(ids, n, [&](size_t k, u64 id) { out[k] = id; }) == n) return n;
   memcpy(out, bytes + 9, 8 * n);
+  if (is_union(out, n)) return n;
   if (!are_cells(out, n)) return 0;
   std::sort(out, out + n);
   return normalise(out, n);
