@@ -44,10 +44,7 @@ pub(crate) fn edit_register(
             give(editor, register, in_memory(kept))
         }
         RegisterEdit::Clear => assign(editor, register, nothing(alloc)),
-        RegisterEdit::Copy(other) => {
-            let copy = copy_of(editor.register(other));
-            give(editor, register, in_memory(copy))
-        }
+        RegisterEdit::Copy(other) => copy(editor, register, other),
         RegisterEdit::Union(other) => {
             let union = editor.register(register).union(editor.register(other));
             give(editor, register, in_memory(union))
@@ -130,6 +127,17 @@ fn assign_as_it_is(editor: &mut Editor, register: Register, union: CellUnion) ->
         Gets S register editor.old (reply_of result editor.new) editor.new }
 {
     answer_of(editor.assign(register, union))
+}
+
+/// Gives a register the list of another one.
+fn copy(editor: &mut Editor, register: Register, other: Register) -> Answer
+    ensures { Gets (leaves_of editor.old.now other) register editor.old (reply_of result editor.new) editor.new }
+{
+    let _ = editor.register(other).cells();
+    match editor.copy(register, other) {
+        Ok(numbers) => answer_of(Ok(numbers)),
+        Err(_) => Answer::Refused(Refusal::Memory),
+    }
 }
 
 /// The answer to an edit that the editor carried out, or refused.
@@ -274,14 +282,6 @@ fn nothing(alloc: Global) -> CellUnion
     let union = CellUnion::empty(alloc);
     let _ = union.cells();
     union
-}
-
-/// A copy of the union.
-fn copy_of(union: &CellUnion) -> Result<CellUnion, AllocError>
-    ensures { IfOk result (λ u. IsNormalForm (has_leaf union.now.cells) u.cells) }
-{
-    let _ = union.cells();
-    union.try_clone()
 }
 
 /// The outer covering of a rectangle.

@@ -1,6 +1,5 @@
 //! Changes of a register.
 ghost use Rattle.std.specs.Prelude.{◌≡◌, ◌≤◌, [], length, IfOk, IsOk, ◌↔◌, IsTrue};
-ghost use Rattle.std.specs.Vec.{vec_len};
 ghost use Rattle.s2file.specs.Session.{diff_of, IsDiff, IsMove};
 ghost use Rattle.s2edit.specs.Diff.{FitsList};
 
@@ -52,11 +51,10 @@ impl Change {
     ) -> Result<Change, AllocError>
         ensures { IfOk result (λ c. c ≡ change_between register old.now.cells new.now.cells) }
     {
-        let put = Vec::from_slice(alloc, new.cells())?;
-        Change::written_over(alloc, register, old, new, put)
+        Change::written_over(alloc, register, old, new, Vec::new(alloc))
     }
 
-    /// The same, where `put` is written over a list that is at least as long as `new`.
+    /// The same, where `put` may be written over a list, if that is long enough.
     fn written_over(
         alloc: Global,
         register: Register,
@@ -64,7 +62,6 @@ impl Change {
         new: &CellUnion,
         put: Vec<CellId>,
     ) -> Result<Change, AllocError>
-        requires { length new.now.cells ≤ vec_len put }
         ensures { IfOk result (λ c. c ≡ change_between register old.now.cells new.now.cells) }
     {
         let (out, put) = unshared_cells(alloc, old.cells(), new.cells(), put)?;

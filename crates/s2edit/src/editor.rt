@@ -259,7 +259,7 @@ fn empty_registers(alloc: Global, limit: usize) -> Result<Vec<CellUnion>, AllocE
 }
 
 /// Whether the two lists are the same.
-fn are_same(cells: &[CellId], others: &[CellId]) -> bool
+pub(crate) fn are_same(cells: &[CellId], others: &[CellId]) -> bool
     ensures { MatchBool result (cells.now ≡ others.now) (cells.now ≢ others.now) }
 {
     cells == others
@@ -333,7 +333,7 @@ fn ends_above(cells: &[CellId], high: CellId) -> bool {
 }
 
 /// Exchanges a register's list with the spare list.
-fn exchange(registers: &mut Vec<CellUnion>, spare: &mut CellUnion, register: Register)
+pub(crate) fn exchange(registers: &mut Vec<CellUnion>, spare: &mut CellUnion, register: Register)
     requires in_range { register < vec_len registers.old }
     ensures registers { registers.new.items ≡ slice_set registers.old.items register spare.old }
     ensures spare { slice_get registers.old.items register ≡ Some spare.new }

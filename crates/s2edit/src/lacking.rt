@@ -11,7 +11,7 @@ use std::alloc::{AllocError, Global};
 const LEAP_RATIO: usize = 16;
 
 /// The cells of `old` that `new` lacks, and those of `new` that `old` lacks. The two lists have exactly the room that
-/// they need. The second is written over a list at least as long as `new`.
+/// they need. The second may be written over a list that is given, if that is long enough.
 ///
 /// Skips what both lists begin with and what both end with. If one list is much longer, a walk leaps over its cells,
 /// and is logarithmic in how many lie between two of the other.
@@ -23,7 +23,6 @@ pub(crate) fn unshared_cells(
 ) -> Result<(Vec<CellId>, Vec<CellId>), AllocError>
     requires old_ascends { IsStrictlyIncreasing old.now }
     requires new_ascends { IsStrictlyIncreasing new.now }
-    requires long { length new.now ≤ vec_len put }
     ensures out { IfOk result (λ lists. lists.0.items ≡ cells_without old.now new.now) }
     ensures put { IfOk result (λ lists. lists.1.items ≡ cells_without new.now old.now) }
 {
@@ -85,15 +84,16 @@ fn unshared_by_a_walk(
 ) -> Result<(Vec<CellId>, Vec<CellId>), AllocError>
     requires old_ascends { IsStrictlyIncreasing old.now }
     requires new_ascends { IsStrictlyIncreasing new.now }
-    requires long { length new.now ≤ vec_len put }
     ensures out { IfOk result (λ lists. lists.0.items ≡ cells_without old.now new.now) }
     ensures put { IfOk result (λ lists. lists.1.items ≡ cells_without new.now old.now) }
 {
     if differ_much(old, new) {
-        unshared_by_leaps(alloc, old, new)
-    } else {
-        unshared_by_steps(alloc, old, new, put)
+        return unshared_by_leaps(alloc, old, new);
     }
+    if put.len() < new.len() {
+        return unshared_by_steps(alloc, old, new, Vec::from_slice(alloc, new)?);
+    }
+    unshared_by_steps(alloc, old, new, put)
 }
 
 /// The same by steps. Each cell is written, over a copy of `old` and over `put`, and the place for the next one goes on

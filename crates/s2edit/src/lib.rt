@@ -7,6 +7,7 @@
 #![tactic(auto)]
 
 mod change;
+mod copying;
 mod editor;
 mod edits;
 mod lacking;

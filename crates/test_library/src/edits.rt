@@ -14,6 +14,7 @@ pub fn answer(
 ) -> Result<bool, AllocError> {
     let added = match name {
         "assign" | "add" | "remove" => add_edited(alloc, editor, name, words, found),
+        "copy" => add_copied(alloc, editor, words, found),
         "undo" => add_moved(alloc, found, editor.undo()),
         "redo" => add_moved(alloc, found, editor.redo()),
         "register" => add_register(editor, words, found),
@@ -57,6 +58,21 @@ fn add_edited(
         Err(EditFault::TooMany) => add_line(found, "too many"),
         Err(EditFault::Memory) => add_line(found, "memory"),
     }
+}
+
+/// Adds how a copy between registers ended, `LETTER LETTER`.
+fn add_copied(
+    alloc: Global,
+    editor: &mut Editor,
+    letters: &str,
+    found: &mut Vec<u8>,
+) -> Result<(), AllocError> {
+    let (to, from) = letters.split_once(" ").unwrap_or((letters, ""));
+    let (Some(register), Some(other)) = (register_of(to), register_of(from)) else {
+        return add_line(found, "no register");
+    };
+    let numbers = editor.copy(register, other)?;
+    add_moved(alloc, found, Some(numbers))
 }
 
 /// Adds how many cells were taken out and put in.

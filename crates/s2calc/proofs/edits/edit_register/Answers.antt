@@ -24,19 +24,6 @@ returns-in-Keep c =
     (c.in_memory.ensures.makes (intersection_of (has_leaf u) (has_leaf cells)) h.limit
     c.intersection_with_cells-kept.ensures)))
 
-pub returns-in-Copy : goal.returns-in-Copy
-returns-in-Copy c =
-    let h = c.args.editor.now in
-    let s = c.in-Copy.other in
-    let u : List ℕ = c.register-in-Copy.result.now.cells in
-    let reply = reply_of c.give-in-Copy.result c.give-in-Copy.new.editor in
-    let new = c.give-in-Copy.new.editor in
-    rw c.in-Copy.is
-    (subst (λ (k : List ℕ). Gets (has_leaf k) c.args.register h reply new)
-    (sym (get_or_from_slice_get h.now s u [] c.register-in-Copy.ensures.list))
-    (c.give-in-Copy.ensures (has_leaf u)
-    (c.in_memory-in-Copy.ensures.makes (has_leaf u) h.limit c.copy_of-copy.ensures)))
-
 pub returns-in-Union : goal.returns-in-Union
 returns-in-Union c =
     let h = c.args.editor.now in
