@@ -9,19 +9,11 @@ import s2union.Refusal;
  * What Java answers about one cell or two by itself, beside the calls of the library for lists and unions of them: java
  * Cells. The last line is 'N passed, M failed'.
  */
-final class Cells {
-  private static int passed;
-  private static int failed;
-
+final class Cells extends Checks {
   private Cells() {}
 
   private static void same(Object found, Object wanted, String what) {
-    if (found.equals(wanted)) {
-      passed++;
-    } else {
-      failed++;
-      System.out.println("FAILED: " + what + ": " + found + ", not " + wanted);
-    }
+    check(found.equals(wanted), what + ": " + found + ", not " + wanted);
   }
 
   /** An answer, or the kind of the refusal. */
@@ -94,7 +86,6 @@ final class Cells {
         two(near, id);
       }
     }
-    System.out.println(passed + " passed, " + failed + " failed");
-    if (failed > 0) System.exit(1);
+    end();
   }
 }

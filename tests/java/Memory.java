@@ -10,14 +10,12 @@ import s2union.CellUnion;
  * and loaded before the C library, and with a library of the package that copies lists of more than SHORT elements. The
  * last line is 'N passed, M failed'.
  */
-final class Memory {
+final class Memory extends Checks {
   private static final int SHORT = 3;
   /** The questions that end soon, to which an array of any length is passed where it lies. */
   private static final Set<String> END_SOON = Set.of("CellUnion.contains", "CellUnion.intersects",
       "CellUnion.cellIdsAt", "CellUnion.compareTo", "UnionFile.contains", "UnionFile.intersects", "UnionFile.size",
       "UnionFile.cellId");
-  private static int passed;
-  private static int failed;
 
   private Memory() {}
 
@@ -26,15 +24,6 @@ final class Memory {
 
   /** How many blocks of memory this thread has. */
   private static native long taken();
-
-  private static void check(boolean holds, String what) {
-    if (holds) {
-      passed++;
-    } else {
-      failed++;
-      System.out.println("FAILED: " + what);
-    }
-  }
 
   /** Asks once more, with one call for memory refused: the answer is the same, or there is no memory. */
   private static boolean isRefused(EachCall call, long turn, Object wanted) {
@@ -76,7 +65,6 @@ final class Memory {
       for (EachCall call : calls) askedInTurn(call, count > SHORT);
       check(calls.size() > 60, "the calls are found");
     }
-    System.out.println(passed + " passed, " + failed + " failed");
-    System.exit(failed == 0 ? 0 : 1);
+    end();
   }
 }

@@ -16,21 +16,10 @@ import s2union.UnionFile;
  * What the package for Java refuses, and what stays as it is: java Refusals VERSION. The last line is 'N passed, M
  * failed'.
  */
-final class Refusals {
+final class Refusals extends Checks {
   private static final long FACE = 0x1000000000000000L;
-  private static int passed;
-  private static int failed;
 
   private Refusals() {}
-
-  private static synchronized void check(boolean holds, String what) {
-    if (holds) {
-      passed++;
-    } else {
-      failed++;
-      System.out.println("FAILED: " + what);
-    }
-  }
 
   private static void refused(int status, long place, String words, Runnable action) {
     try {
@@ -91,7 +80,7 @@ final class Refusals {
       for (int place = 0; place < types.length; place++) {
         if (types[place] != long.class && types[place] != long[].class) continue;
         asked++;
-        int before = failed;
+        int before = failed();
         for (long wrong : new long[] {0, 2, -1, 12 * FACE}) {
           boolean isList = types[place] == long[].class;
           EachCall about = call.with(place, isList ? new long[] {1, wrong} : (Object) wrong);
@@ -103,7 +92,7 @@ final class Refusals {
             noCell(isList ? 1 : 0, about::answer);
           }
         }
-        if (failed > before) System.out.println("  of " + call + ", argument " + place);
+        if (failed() > before) System.out.println("  of " + call + ", argument " + place);
       }
     }
     check(asked > 35, "the calls about cells are found: " + asked);
@@ -237,7 +226,6 @@ final class Refusals {
       regions(union);
     }
     longLists();
-    System.out.println(passed + " passed, " + failed + " failed");
-    System.exit(failed == 0 ? 0 : 1);
+    end();
   }
 }

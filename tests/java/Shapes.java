@@ -23,21 +23,10 @@ import s2union.Shape;
  * Asks the package for Java the questions of tests/model/shapes.py about shapes in degrees, and what these don't ask:
  * java Shapes FILE. The last line is 'N passed, M failed'.
  */
-final class Shapes {
+final class Shapes extends Checks {
   private static final double[] SQUARE = {2, 48, 3, 48, 3, 49, 2, 49, 2, 48};
-  private static int passed;
-  private static int failed;
 
   private Shapes() {}
-
-  private static void check(boolean holds, String what) {
-    if (holds) {
-      passed++;
-    } else {
-      failed++;
-      System.out.println("FAILED: " + what);
-    }
-  }
 
   /** An answer, or the name of what is refused, with its place if it has one. */
   private static String answered(Supplier<String> question) {
@@ -279,7 +268,6 @@ final class Shapes {
     refusals();
     usual();
     many();
-    System.out.println(passed + " passed, " + failed + " failed");
-    System.exit(failed == 0 ? 0 : 1);
+    end();
   }
 }

@@ -23,7 +23,7 @@ import s2union.UnionFile;
  * Asks the package for Java the questions of tests/model/vectors.py: java Vectors FILE. The last line is 'N passed, M
  * failed'.
  */
-final class Vectors {
+final class Vectors extends Checks {
   private static final Map<String, Function<Given, String>> QUESTIONS = new HashMap<>();
 
   private Vectors() {}
@@ -258,23 +258,15 @@ final class Vectors {
     unions();
     coverings();
     Set<String> never = new HashSet<>(QUESTIONS.keySet());
-    int passed = 0;
-    int failed = 0;
     for (String line : Files.readAllLines(Path.of(words[0]))) {
       String[] fields = line.split("\t", -1);
       String wanted = fields[fields.length - 1];
       Function<Given, String> question = QUESTIONS.getOrDefault(fields[0], g -> byName(fields[0], g));
       String found = answer(question, Arrays.copyOfRange(fields, 1, fields.length - 1), wanted);
       never.remove(fields[0]);
-      if (found.equals(wanted)) {
-        passed++;
-      } else if (failed++ < 20) {
-        System.out.println(line + ": " + found);
-      }
+      check(found.equals(wanted), line + ": " + found);
     }
-    if (!never.isEmpty()) System.out.println("never asked: " + never);
-    failed += never.size();
-    System.out.println(passed + " passed, " + failed + " failed");
-    System.exit(failed == 0 ? 0 : 1);
+    check(never.isEmpty(), "never asked: " + never);
+    end();
   }
 }
