@@ -136,7 +136,7 @@ def of_commands(table, page):
 
 
 LIMITS = {"LONGEST_LINE": "s2script/src/limits.rt", "MOST_FILE": "s2file/src/union_file.rt",
-          "SESSION_CHANGES": "s2file/src/lib.rt", "MOST_LISTED": "s2calc/src/limits.rt",
+          "SESSION_CHANGES": "s2edit/src/lib.rt", "MOST_LISTED": "s2calc/src/limits.rt",
           "MOST_REGISTER": "s2edit/src/lib.rt", "MOST_STATES": "s2edit/src/lib.rt",
           "MOST_COVERING": "s2cover/src/lib.rt"}
 

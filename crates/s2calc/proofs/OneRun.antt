@@ -14,9 +14,10 @@ use Rattle.s2cell.proofs.Squares.{one_leaf, one_square}
 use Rattle.s2list.specs.Union.{IsNormalForm}
 use Rattle.s2list.proofs.Normal.{one_normal_form, normal_form_same}
 use Rattle.s2edit.specs.History.{History, Assigned, numbers, undone, redone, sets}
-use Rattle.s2edit.specs.Session.{Text, Stored, IsKept, Restored}
+use Rattle.s2session.specs.Session.{Text, Stored}
+use Rattle.s2edit.specs.Session.{IsKept, Restored}
 use Rattle.s2edit.proofs.OneEnd.{is_there}
-use Rattle.s2edit.proofs.Spelling.{text_is_stored}
+use Rattle.s2session.proofs.Spelling.{text_is_stored}
 use Rattle.s2shelf.specs.Shelf.{Files, Allows, PutsFile}
 use Rattle.s2file.specs.File.{Bytes, file_text}
 use Rattle.s2script.specs.declared.command.Question.{Question}

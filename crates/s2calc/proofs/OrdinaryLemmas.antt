@@ -4,13 +4,14 @@ use Rattle.std.proofs.Common.{replicate, slice_set, refl, sym, ap, ◌∙◌, su
 use Rattle.std.proofs.lemmas.List.{length-take}
 use Rattle.s2list.specs.Union.{IsLocal}
 use Rattle.s2list.proofs.Normal.{local_from_normal}
-use Rattle.s2file.specs.declared.TheConstants.{SESSION_CELLS}
+use Rattle.s2edit.specs.declared.TheConstants.{SESSION_CELLS}
 use Rattle.s2file.specs.declared.union_file.TheConstants.{MOST_FILE}
 use Rattle.s2edit.specs.Chain.{IsLocalWithin}
 use Rattle.s2edit.specs.History.{History, changed, undone, undone_to, redone, redone_to, untouched, AllLists}
 use Rattle.s2edit.specs.History.{AllTables, EachList}
 use Rattle.s2edit.specs.Leads.{list_at}
-use Rattle.s2edit.specs.Session.{Stored, Restored}
+use Rattle.s2session.specs.Session.{Stored}
+use Rattle.s2edit.specs.Session.{Restored}
 use Rattle.s2edit.proofs.OneEnd.{is_there}
 use Rattle.s2script.specs.declared.register.TheConstants.{REGISTERS}
 use Rattle.s2script.specs.Line.{line_of}

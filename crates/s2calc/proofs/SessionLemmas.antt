@@ -8,15 +8,16 @@ use Rattle.s2shelf.specs.Shelf.{Files, Allows, Finds, Opens, Closes, Fails}
 use Rattle.s2shelf.specs.declared.opened_file.OpenedFile.{OpenedFile}
 use Rattle.s2shelf.specs.declared.shelf.ShelfFault.TheVariants.{Device}
 use Rattle.s2shelf.proofs.Opened.{ReadsOf, found_whole, found_some}
-use Rattle.s2file.specs.declared.session.Session.{Session as FileSession}
-use Rattle.s2file.specs.Session.{IsContent, Spells, content_of}
+use Rattle.s2edit.specs.declared.content.Session.{Session as FileSession}
+use Rattle.s2edit.specs.Content.{IsContent, content_of}
+use Rattle.s2session.specs.Session.{Spells, Stored}
 use Rattle.s2session.specs.declared.fault.ReadFault.{ReadFault}
 use Rattle.s2session.specs.declared.fault.ReadFault.TheVariants.{Form, Device as NotRead, Memory as NotHeld}
 use Rattle.s2session.specs.Reading.{RefusesToRead}
 use Rattle.s2edit.specs.History.{History}
-use Rattle.s2edit.specs.Session.{Stored, Restored}
+use Rattle.s2edit.specs.Session.{Restored}
 use Rattle.s2edit.specs.declared.session.RestoreFault.TheVariants.{Fit, Memory as NoRoom}
-use Rattle.s2edit.proofs.Spelling.{one_history, fits_editor, one_fault}
+use Rattle.s2session.proofs.Spelling.{one_history, fits_editor, one_fault}
 use Rattle.s2calc.specs.declared.refusal.Refusal.{Refusal}
 use Rattle.s2calc.specs.declared.refusal.Refusal.TheVariants.{File as FileFailed, Memory, Session}
 use Rattle.s2calc.specs.Working.Sessions.{ReadAs}

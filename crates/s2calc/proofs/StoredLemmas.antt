@@ -8,8 +8,9 @@ use Rattle.s2list.proofs.Normal.{one_normal_form, normal_form_same, normal_from_
 use Rattle.s2edit.specs.Chain.{IsLocalWithin}
 use Rattle.s2edit.specs.History.{History, Assigned}
 use Rattle.s2edit.specs.Leads.{list_at}
-use Rattle.s2edit.specs.Session.{Text, Stored, Restored}
-use Rattle.s2edit.proofs.Spelling.{text_is_stored}
+use Rattle.s2session.specs.Session.{Text, Stored}
+use Rattle.s2edit.specs.Session.{Restored}
+use Rattle.s2session.proofs.Spelling.{text_is_stored}
 use Rattle.s2file.specs.declared.union_file.TheConstants.{MOST_FILE}
 use Rattle.s2file.specs.File.{Bytes, File, file_text}
 use Rattle.s2file.proofs.Files.{same_leaves}

@@ -2,11 +2,12 @@
 use Rattle.std.proofs.Common.{◌≡◌, ℕ, List, [], ◌∷◌, reverse, inl, inr, refl, sym, ap, ◌∙◌}
 use Rattle.std.proofs.lemmas.Bool.{cases_eq}
 use Rattle.std.proofs.lemmas.List.{get_or-set_other, reverse-reverse}
-use Rattle.s2file.specs.Session.{Diff, Content, session_text}
+use Rattle.s2edit.specs.Diff.{Diff, change_between}
+use Rattle.s2edit.specs.Content.{Content}
+use Rattle.s2session.specs.Session.{session_text, Text}
 use Rattle.s2edit.specs.History.{History}
-use Rattle.s2edit.specs.Diff.{change_between}
 use Rattle.s2edit.specs.Leads.{list_at, Leads}
-use Rattle.s2edit.specs.Session.{LeadBack, LeadAhead, Records, Text}
+use Rattle.s2edit.specs.Session.{LeadBack, LeadAhead, Records}
 
 -- the register in which two tables differ is one
 one_register : (d e : Diff) (t u : List (List ℕ)) → Leads d t u → Leads e t u → d.register ≡ e.register

@@ -1,7 +1,8 @@
 -- What can result from the bytes of a file that `restore` is to take as the state.
 use Rattle.std.specs.Prelude.{◌≡◌, ℕ, ◌⊎◌, List, Some, Err}
 use Rattle.s2edit.specs.History.{History}
-use Rattle.s2edit.specs.Session.{Stored, RefusesToRestore}
+use Rattle.s2session.specs.Session.{Stored}
+use Rattle.s2edit.specs.Session.{RefusesToRestore}
 use Rattle.s2edit.specs.declared.session.RestoreFault.{RestoreFault}
 use Rattle.s2edit.specs.declared.session.RestoreFault.TheVariants.{Fit, TooDeep as Deep, TooMany as Many}
 use Rattle.s2edit.specs.declared.session.RestoreFault.TheVariants.{Memory as NoRoom}

@@ -11,7 +11,8 @@ use Rattle.s2calc.specs.declared.refusal.Refusal.{Refusal}
 use Rattle.s2calc.specs.declared.refusal.Refusal.TheVariants.{Words, File as FileFailed, Memory}
 use Rattle.s2script.specs.Line.{line_of}
 use Rattle.s2edit.specs.History.{undone, redone, sets}
-use Rattle.s2edit.specs.Session.{Text, Stored, Restored}
+use Rattle.s2session.specs.Session.{Text, Stored}
+use Rattle.s2edit.specs.Session.{Restored}
 use Rattle.s2calc.specs.World.{World}
 use Rattle.s2calc.specs.Replies.{Reply, Silent, Says, Refuses}
 use Rattle.s2calc.specs.Texts.{done_line}

@@ -1,9 +1,10 @@
 //! The registers and both sides of their history as a file.
 ghost use Rattle.std.specs.Prelude.{◌≡◌, List, ℕ, Some, Err, IfOk, OnErr, MatchResult};
 ghost use Rattle.s2shelf.specs.Shelf.{Finds, Opens};
-ghost use Rattle.s2file.specs.Session.{content_of, IsContent, Spells};
+ghost use Rattle.s2edit.specs.Content.{content_of, IsContent};
+ghost use Rattle.s2session.specs.Session.{Spells, Text, Stored};
 ghost use Rattle.s2edit.specs.History.{History};
-ghost use Rattle.s2edit.specs.Session.{Text, Stored, Restored};
+ghost use Rattle.s2edit.specs.Session.{Restored};
 ghost use Rattle.s2calc.specs.Working.Answer.{reply_of};
 ghost use Rattle.s2calc.specs.Working.Sessions.{ReadAs};
 ghost use Rattle.s2calc.specs.Fetch.{Fetches};
@@ -14,8 +15,7 @@ ghost use Rattle.s2calc.specs.World.{world};
 use crate::answer::Answer;
 use crate::files::store;
 use crate::refusal::Refusal;
-use s2edit::{Editor, RestoreFault};
-use s2file::Session;
+use s2edit::{Editor, RestoreFault, Session};
 use s2script::Name;
 use s2session::{ReadFault, encode_parts, read_session};
 use s2shelf::{OpenedFile, Shelf, ShelfFault};

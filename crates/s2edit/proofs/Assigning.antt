@@ -5,13 +5,12 @@ use Rattle.std.proofs.lemmas.List.{length-take, take-map}
 use Rattle.s2list.specs.Union.{Union, IsLocal}
 use Rattle.s2union.specs.Apply.{cells_without, applied, Fits}
 use Rattle.s2union.proofs.Applied.{applied-between, Fits-between}
-use Rattle.s2file.specs.Session.{Diff}
+use Rattle.s2edit.specs.Diff.{Diff, FitsList, inverse, change_between}
 use Rattle.s2edit.specs.History.{History, Assigned, changed, cells_lost, numbers}
-use Rattle.s2edit.specs.Diff.{FitsList, inverse, change_between}
 use Rattle.s2edit.specs.Leads.{list_at}
 use Rattle.s2edit.specs.Working.Chain.{list_after, table_after, tables_after, FitsTable, FitAlong, lists_of}
-use Rattle.s2edit.specs.Chain.{IsLocalWithin}
 use Rattle.s2edit.specs.Working.Chain.{AllWithin, AllRoomy, history}
+use Rattle.s2edit.specs.Chain.{IsLocalWithin}
 use Rattle.s2edit.proofs.Tables.{tables_after-take, FitAlong-take, AllWithin-at, within_after, tables_back, along_back}
 use Rattle.s2edit.proofs.Tables.{lists_of-set, AllRoomy-set, AllRoomy-get}
 use Rattle.s2edit.proofs.DiffLemmas.{only_change}

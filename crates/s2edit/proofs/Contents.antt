@@ -9,9 +9,10 @@ use Rattle.s2cell.specs.Cell.{IsCell}
 use Rattle.s2list.specs.Union.{IsLocal}
 use Rattle.s2union.specs.Apply.{has, cells_without, applied}
 use Rattle.s2union.proofs.Applied.{applied-between}
-use Rattle.s2file.specs.declared.session.Move.{Move}
-use Rattle.s2file.specs.Session.{Diff, Content, diff_of, IsMove, IsContent, IsRegisterList, AreCells, IsDiff}
-use Rattle.s2file.specs.declared.TheConstants.{SESSION_CELLS}
+use Rattle.s2edit.specs.declared.content.Move.{Move}
+use Rattle.s2edit.specs.Diff.{Diff, IsDiff}
+use Rattle.s2edit.specs.Content.{Content, diff_of, IsMove, IsContent, IsRegisterList, AreCells}
+use Rattle.s2edit.specs.declared.TheConstants.{SESSION_CELLS}
 use Rattle.s2script.specs.declared.register.TheConstants.{REGISTERS}
 use Rattle.s2edit.proofs.Sizes.{fewer_without}
 use Rattle.s2edit.specs.History.{History, AllTables}

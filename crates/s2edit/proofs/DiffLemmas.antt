@@ -7,8 +7,7 @@ use Rattle.s2list.specs.Union.{IsLocal}
 use Rattle.s2union.specs.Apply.{has, cells_without, applied, Fits}
 use Rattle.s2union.proofs.CellLists.{has-cells_without, has-applied}
 use Rattle.s2union.proofs.Applied.{Fits-between, only_out, only_put}
-use Rattle.s2file.specs.Session.{Diff, IsDiff}
-use Rattle.s2edit.specs.Diff.{FitsList, apply, change_between}
+use Rattle.s2edit.specs.Diff.{Diff, IsDiff, FitsList, apply, change_between}
 
 pub IsDiff-between : (us vs : List ℕ) → IsLocal us → IsLocal vs → IsDiff (cells_without us vs) (cells_without vs us)
 IsDiff-between us vs a b = record {

@@ -6,7 +6,8 @@ use Rattle.std.proofs.lemmas.Bool.{true≢false}
 use Rattle.s2list.specs.Union.{Union, IsLocal}
 use Rattle.s2union.specs.Apply.{has, cells_without, applied, Fits}
 use Rattle.s2union.proofs.Applied.{only_out, only_put}
-use Rattle.s2file.specs.Session.{Diff, IsMove}
+use Rattle.s2edit.specs.Diff.{Diff}
+use Rattle.s2edit.specs.Content.{IsMove}
 use Rattle.s2edit.specs.History.{AllLists}
 use Rattle.s2edit.specs.Leads.{list_at}
 use Rattle.s2edit.specs.Working.Chain.{AllRoomy}

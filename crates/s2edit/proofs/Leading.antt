@@ -6,17 +6,16 @@ use Rattle.std.proofs.lemmas.Bool.{true≢false}
 use Rattle.std.proofs.lemmas.List.{length-map}
 use Rattle.std.proofs.lemmas.Option.{slice_get_past}
 use Rattle.s2list.specs.Union.{IsLocal}
+use Rattle.s2list.specs.Union.{Union}
 use Rattle.s2union.specs.Apply.{cells_without}
 use Rattle.s2union.proofs.Applied.{only_out, only_put}
-use Rattle.s2list.specs.Union.{Union}
-use Rattle.s2file.proofs.Places.{none_past}
-use Rattle.s2file.specs.Session.{Diff}
+use Rattle.s2edit.proofs.Places.{none_past}
+use Rattle.s2edit.specs.Diff.{Diff, inverse}
 use Rattle.s2edit.specs.History.{History, AllLists, AllTables, EachList}
-use Rattle.s2edit.specs.Diff.{inverse}
 use Rattle.s2edit.specs.Leads.{list_at, table_at, Leads}
 use Rattle.s2edit.specs.Working.Chain.{list_after, table_after, tables_after, FitsTable, FitAlong, lists_of}
-use Rattle.s2edit.specs.Chain.{IsLocalWithin}
 use Rattle.s2edit.specs.Working.Chain.{AllWithin, history}
+use Rattle.s2edit.specs.Chain.{IsLocalWithin}
 use Rattle.s2edit.specs.Working.Editor.{history_of}
 use Rattle.s2edit.specs.declared.editor.Editor.TheInside.{Inside}
 use Rattle.s2edit.proofs.Tables.{AllWithin-at, list_at-table_after, table_back, fits_back, within_after}

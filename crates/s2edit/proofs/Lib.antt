@@ -1,3 +1,4 @@
+pub mod Places
 pub mod Tables
 pub mod Numbers
 pub mod Moves
@@ -17,7 +18,6 @@ pub mod Sizes
 pub mod Following
 pub mod Restoring
 pub mod Saving
-pub mod Spelling
 pub mod PartLemmas
 pub mod Registers
 pub mod Turns

@@ -6,10 +6,9 @@ use Rattle.std.proofs.lemmas.List.{length-map}
 use Rattle.std.proofs.lemmas.Option.{get_or_from_slice_get, slice_get-get_or}
 use Rattle.s2list.specs.Union.{Union, has_leaf, IsLocal, IsNormalForm}
 use Rattle.s2list.proofs.Normal.{one_normal_form}
-use Rattle.s2file.specs.Session.{Diff}
+use Rattle.s2edit.specs.Diff.{Diff, FitsList, apply}
 use Rattle.s2script.specs.declared.register.TheConstants.{REGISTERS}
 use Rattle.s2edit.specs.History.{History, Assigned, sets}
-use Rattle.s2edit.specs.Diff.{FitsList, apply}
 use Rattle.s2edit.specs.Leads.{list_at}
 use Rattle.s2edit.specs.Chain.{IsLocalWithin}
 use Rattle.s2edit.specs.Named.{Becomes}

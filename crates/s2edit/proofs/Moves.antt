@@ -4,9 +4,8 @@ use Rattle.std.proofs.Common.{Some, sym, ap, ◌∙◌, subst, arith}
 use Rattle.std.proofs.lemmas.List.{take_all, length-map, length-set}
 use Rattle.s2list.specs.Union.{Union}
 use Rattle.s2union.specs.Apply.{applied}
-use Rattle.s2file.specs.Session.{Diff}
+use Rattle.s2edit.specs.Diff.{Diff, inverse}
 use Rattle.s2edit.specs.History.{undone, undone_to, redone, redone_to, cells_lost, numbers}
-use Rattle.s2edit.specs.Diff.{inverse}
 use Rattle.s2edit.specs.Leads.{list_at}
 use Rattle.s2edit.specs.Working.Chain.{list_after, table_after, tables_after, FitsTable, FitAlong, lists_of, AllWithin}
 use Rattle.s2edit.specs.Working.Chain.{AllRoomy, history}

@@ -7,7 +7,7 @@ use Rattle.s2list.specs.Union.{IsLocal}
 use Rattle.s2union.specs.Apply.{has, cells_without}
 use Rattle.s2union.proofs.Applied.{only_out, only_put}
 use Rattle.s2edit.specs.History.{cells_lost, numbers}
-use Rattle.s2file.specs.Session.{Diff}
+use Rattle.s2edit.specs.Diff.{Diff}
 use Rattle.s2edit.specs.Leads.{list_at}
 use Rattle.s2edit.specs.Working.Chain.{list_after, table_after, FitsTable, AllWithin}
 use Rattle.s2edit.proofs.Tables.{AllWithin-at}

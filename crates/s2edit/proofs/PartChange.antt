@@ -9,8 +9,7 @@ use Rattle.s2list.specs.Union.{has_leaf, IsLocal}
 use Rattle.s2list.proofs.Normal.{leaf_from, leaf_to, normal_from_leaves}
 use Rattle.s2union.specs.Apply.{has, cells_without, applied, Fits}
 use Rattle.s2union.proofs.CellLists.{has-cells_without, has-applied}
-use Rattle.s2file.specs.Session.{Diff}
-use Rattle.s2edit.specs.Diff.{change_between}
+use Rattle.s2edit.specs.Diff.{Diff, change_between}
 use Rattle.s2edit.specs.Working.Named.{Gives}
 use Rattle.s2edit.specs.Working.Part.{IsPartNear}
 use Rattle.s2edit.proofs.PartLemmas.{by_bool, has_member, member_had, one_cell}

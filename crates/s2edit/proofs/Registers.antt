@@ -6,11 +6,11 @@ use Rattle.std.specs.List.{AllByRecursion}
 use Rattle.std.proofs.lemmas.Grind.{common_steps}
 use Rattle.std.proofs.lemmas.List.{get_or-set_other, length-set, map-set}
 use Rattle.s2union.specs.Apply.{Fits}
-use Rattle.s2file.specs.declared.session.Move.{Move}
-use Rattle.s2file.specs.Session.{Diff, IsMove, diff_of}
-use Rattle.s2file.specs.declared.TheConstants.{SESSION_CELLS}
+use Rattle.s2edit.specs.declared.content.Move.{Move}
+use Rattle.s2edit.specs.Diff.{Diff, inverse, apply, FitsList}
+use Rattle.s2edit.specs.Content.{IsMove, diff_of}
+use Rattle.s2edit.specs.declared.TheConstants.{SESSION_CELLS}
 use Rattle.s2script.specs.declared.register.TheConstants.{REGISTERS}
-use Rattle.s2edit.specs.Diff.{inverse, apply, FitsList}
 use Rattle.s2edit.specs.Leads.{list_at}
 use Rattle.s2edit.specs.Working.Chain.{list_after, table_after, FitsTable, FitAlong, AllWithin}
 use Rattle.s2edit.specs.Working.InTurn.{FitInTurn, of_register}

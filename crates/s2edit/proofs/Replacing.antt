@@ -18,7 +18,7 @@ use Rattle.s2list.proofs.PackedLocal.{place}
 use Rattle.s2union.specs.Apply.{has, applied, Fits}
 use Rattle.s2union.proofs.Applied.{local_ascends}
 use Rattle.s2union.proofs.CellLists.{AllAbove, IsAscending, same_cells, has-applied, ascends_from}
-use Rattle.s2file.specs.Session.{Diff}
+use Rattle.s2edit.specs.Diff.{Diff}
 use Rattle.s2edit.specs.Working.Named.{Gives}
 use Rattle.s2edit.specs.Working.Splice.{IsPlaceOf}
 use Rattle.s2edit.proofs.PartLemmas.{by_bool, has_member, member_had, is_cell}

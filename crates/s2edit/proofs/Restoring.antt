@@ -5,11 +5,11 @@ use Rattle.std.proofs.lemmas.List.{length-map, length-set, length-reverse}
 use Rattle.std.specs.List.{AllByRecursion}
 use Rattle.s2list.specs.Union.{Union}
 use Rattle.std.proofs.lemmas.Bool.{false≢true, true≢false}
-use Rattle.s2file.specs.Session.{Diff, Content, diff_of, IsContent, IsMove, IsRegisterList}
-use Rattle.s2file.specs.declared.session.Move.{Move}
-use Rattle.s2file.specs.declared.TheConstants.{SESSION_CELLS}
+use Rattle.s2edit.specs.Diff.{Diff, inverse}
+use Rattle.s2edit.specs.Content.{Content, diff_of, IsContent, IsMove, IsRegisterList}
+use Rattle.s2edit.specs.declared.content.Move.{Move}
+use Rattle.s2edit.specs.declared.TheConstants.{SESSION_CELLS}
 use Rattle.s2edit.specs.History.{History, AllLists, AllTables}
-use Rattle.s2edit.specs.Diff.{inverse}
 use Rattle.s2edit.specs.Leads.{list_at}
 use Rattle.s2edit.specs.Working.Chain.{list_after, table_after, tables_after, FitAlong, lists_of, AllWithin, history}
 use Rattle.s2edit.specs.Session.{Records, Restored, IsTooDeep, IsTooMany, RefusesToRestore}

@@ -1,9 +1,7 @@
 -- What an editor's session tells.
 use Rattle.std.proofs.Common.{◌≡◌, ℕ, ◌+◌, ◌≤◌, List, [], ◌∷◌, ◌++◌, length, map, reverse, take}
-use Rattle.std.proofs.Common.{slice_get, Some, None, append_assoc, Result, Ok, Err, Vec, Global, sym, ap, ◌∙◌}
+use Rattle.std.proofs.Common.{slice_get, Some, None, append_assoc, sym, ap, ◌∙◌}
 use Rattle.std.proofs.Common.{◌-◌, ◌<◌, nat_lt, if◌then◌else◌, inl, inr, subst, arith}
-use Rattle.std.specs.Prelude.{IfOk}
-use Rattle.std.specs.declared.alloc.AllocError.{AllocError}
 use Rattle.std.proofs.lemmas.Bool.{lt-ltb, le-ltb}
 use Rattle.std.proofs.lemmas.List.{length-map, length-reverse, length_push, map-append, append-nil, take_all}
 use Rattle.std.proofs.lemmas.List.{get_or-reverse, reverse-reverse}
@@ -11,15 +9,14 @@ use Rattle.std.proofs.lemmas.Option.{slice_get_cases, slice_get-get_or}
 use Rattle.std.specs.List.{AllByRecursion}
 use Rattle.circular_buffer.specs.Buffer.{Buffer, buffer}
 use Rattle.s2list.specs.Union.{Union}
-use Rattle.s2file.specs.Session.{Diff, Content, diff_of, IsMove, session_text}
-use Rattle.s2file.specs.declared.session.Move.{Move}
-use Rattle.s2file.specs.declared.TheConstants.{SESSION_CELLS, SESSION_CHANGES}
-use Rattle.s2file.proofs.Places.{take_one, none_past}
+use Rattle.s2edit.specs.Diff.{Diff, inverse}
+use Rattle.s2edit.specs.Content.{Content, diff_of, IsMove}
+use Rattle.s2edit.specs.declared.content.Move.{Move}
+use Rattle.s2edit.specs.declared.TheConstants.{SESSION_CELLS, SESSION_CHANGES}
+use Rattle.s2edit.proofs.Places.{take_one, none_past}
 use Rattle.s2script.specs.declared.register.TheConstants.{REGISTERS}
-use Rattle.s2edit.specs.Diff.{inverse}
 use Rattle.s2edit.specs.Working.Chain.{table_after, tables_after, FitAlong, lists_of, AllWithin, history}
-use Rattle.s2edit.specs.History.{History}
-use Rattle.s2edit.specs.Session.{Records, Text}
+use Rattle.s2edit.specs.Session.{Records}
 use Rattle.s2edit.proofs.Telling.{CanFollow, history_told, tells_it}
 
 more_within : (limit n : ℕ) (t : List (List ℕ)) → limit ≤ n → AllWithin limit t → AllWithin n t
@@ -91,13 +88,6 @@ module _ (limit depth : ℕ) (us : List Union) (past future : List Diff) (s : Co
         length-reverse past,
         ap length f,
       )))
-
--- the text of a session that tells the history
-pub text_told : (r : Result (Vec ℕ Global) AllocError) (s : Content) (h : History (List ℕ)) → Records s h →
-    IfOk r (λ bytes. bytes.items ≡ session_text s)
-    → IfOk r (λ bytes. Text h bytes.items)
-text_told (Ok bytes) s h t is = record { content = s; tells = t; is = is }
-text_told (Err e) s h t is = tt
 
 -- one more copy of a change
 pub copied_one : (ms : List Move) (m : Move) (ds : List Diff) (d : Diff) (n : ℕ) →

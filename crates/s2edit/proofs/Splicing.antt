@@ -23,8 +23,7 @@ use Rattle.s2union.specs.Apply.{has, cells_without, applied, Fits}
 use Rattle.s2union.proofs.Applied.{local_ascends}
 use Rattle.s2union.proofs.CellLists.{IsAscending, same_cells, has-cells_without, has-applied, IsAscending-applied}
 use Rattle.s2union.proofs.CellLists.{IsAscending-cells_without, ascends_from}
-use Rattle.s2file.specs.Session.{IsDiff}
-use Rattle.s2edit.specs.Diff.{change_between}
+use Rattle.s2edit.specs.Diff.{IsDiff, change_between}
 use Rattle.s2edit.specs.Working.Named.{Gives}
 use Rattle.s2edit.specs.Working.Splice.{Siblings, Completes, above}
 use Rattle.s2edit.proofs.PartChange.{gives}

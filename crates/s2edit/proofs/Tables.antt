@@ -7,12 +7,11 @@ use Rattle.std.proofs.lemmas.Option.{slice_get_read, get_or_from_slice_get}
 use Rattle.s2list.specs.Union.{Union}
 use Rattle.s2union.specs.Apply.{applied, Fits}
 use Rattle.s2union.proofs.Applied.{applied-inverse, Fits-inverse}
-use Rattle.s2file.specs.Session.{Diff}
-use Rattle.s2edit.specs.Diff.{inverse}
+use Rattle.s2edit.specs.Diff.{Diff, inverse}
 use Rattle.s2edit.specs.Leads.{list_at}
 use Rattle.s2edit.specs.Working.Chain.{list_after, table_after, tables_after, FitsTable, FitAlong, lists_of}
-use Rattle.s2edit.specs.Chain.{IsLocalWithin}
 use Rattle.s2edit.specs.Working.Chain.{AllWithin, AllRoomy}
+use Rattle.s2edit.specs.Chain.{IsLocalWithin}
 
 pub length-tables_after : (t : List (List ℕ)) (ds : List Diff) → length (tables_after t ds) ≡ length ds
 length-tables_after t [] = refl

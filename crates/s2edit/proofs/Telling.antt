@@ -2,11 +2,11 @@
 use Rattle.std.proofs.Common.{◌≡◌, ℕ, ◌+◌, ◌≤◌, List, [], ◌∷◌, length, map, reverse, refl, sym, ap, ◌∙◌}
 use Rattle.std.proofs.Common.{subst, arith}
 use Rattle.std.proofs.lemmas.List.{length-set, length-map, length-reverse}
-use Rattle.s2file.specs.Session.{Diff, Content}
-use Rattle.s2file.specs.declared.TheConstants.{SESSION_CELLS, SESSION_CHANGES}
+use Rattle.s2edit.specs.Diff.{Diff, inverse}
+use Rattle.s2edit.specs.Content.{Content}
+use Rattle.s2edit.specs.declared.TheConstants.{SESSION_CELLS, SESSION_CHANGES}
 use Rattle.s2script.specs.declared.register.TheConstants.{REGISTERS}
 use Rattle.s2edit.specs.History.{History, AllTables}
-use Rattle.s2edit.specs.Diff.{inverse}
 use Rattle.s2edit.specs.Leads.{list_at, Leads}
 use Rattle.s2edit.specs.Working.Chain.{table_after, tables_after, FitsTable, FitAlong, AllWithin}
 use Rattle.s2edit.specs.Chain.{IsLocalWithin}

@@ -4,9 +4,9 @@ use Rattle.std.proofs.Common.{take, drop, get_or, refl, sym, ap, ◌∙◌, subs
 use Rattle.std.proofs.lemmas.List.{map-append, take-append-drop, drop-drop, drop_all, at_drop_all}
 use Rattle.std.specs.List.{AllByRecursion}
 use Rattle.s2union.specs.Apply.{has, cells_without, applied, Fits}
-use Rattle.s2file.specs.Session.{Diff, IsMove, diff_of}
-use Rattle.s2file.specs.declared.session.Move.{Move}
-use Rattle.s2edit.specs.Diff.{apply}
+use Rattle.s2edit.specs.Diff.{Diff, apply}
+use Rattle.s2edit.specs.Content.{IsMove, diff_of}
+use Rattle.s2edit.specs.declared.content.Move.{Move}
 use Rattle.s2edit.specs.Working.InTurn.{FitInTurn, list_after_all, of_register}
 use Rattle.s2edit.specs.Working.Part.{AllWatched, IsDiffWatched, IsPart, IsPartFor}
 use Rattle.s2edit.proofs.Following.{drop_next}

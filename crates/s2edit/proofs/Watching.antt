@@ -17,8 +17,9 @@ use Rattle.s2list.specs.Union.{has_leaf, IsLocal, IsWithin, LiesIn}
 use Rattle.s2list.proofs.Checking.{packed_from_local}
 use Rattle.s2list.proofs.PackedLocal.{place}
 use Rattle.s2union.specs.Apply.{has}
-use Rattle.s2file.specs.declared.session.Move.{Move}
-use Rattle.s2file.specs.Session.{Diff, diff_of}
+use Rattle.s2edit.specs.declared.content.Move.{Move}
+use Rattle.s2edit.specs.Diff.{Diff}
+use Rattle.s2edit.specs.Content.{diff_of}
 use Rattle.s2edit.specs.Working.InTurn.{of_register}
 use Rattle.s2edit.specs.Working.Part.{around, Grows, IsWatched, HoldsNamed, AllWatched}
 use Rattle.s2edit.proofs.Following.{drop_next}

@@ -2,8 +2,7 @@
 use Rattle.std.specs.Prelude.{◌≡◌, ◌||◌, ◌&&◌, not, ℕ, List}
 use Rattle.s2list.specs.Union.{IsLocal}
 use Rattle.s2union.specs.Apply.{has}
-use Rattle.s2file.specs.Session.{Diff, IsDiff}
-use Rattle.s2edit.specs.Diff.{apply, FitsList, inverse, change_between}
+use Rattle.s2edit.specs.Diff.{Diff, IsDiff, apply, FitsList, inverse, change_between}
 
 -- The list that a change makes has the cells that are put in, and those of the old list that are not taken out. If a
 -- change fits a local list, its inverse fits the new list and gives the old one back. The change between two local

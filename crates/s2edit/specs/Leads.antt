@@ -1,7 +1,6 @@
 -- What a kept change says about the two tables that it lies between.
 use Rattle.std.specs.Prelude.{◌≡◌, ◌≢◌, ℕ, ◌<◌, List, [], length, slice_set, slice_index_or}
-use Rattle.s2file.specs.Session.{Diff}
-use Rattle.s2edit.specs.Diff.{change_between}
+use Rattle.s2edit.specs.Diff.{Diff, change_between}
 
 -- the list of a register in a table
 abbrev pub list_at : List (List ℕ) → ℕ → List ℕ

@@ -1,10 +1,10 @@
 pub mod History
 pub mod Diff
+pub mod Content
 pub mod Leads
 pub mod Chain
 pub mod Laws
 pub mod Edits
 pub mod Named
 pub mod Session
-pub mod SessionLaws
 pub mod Working

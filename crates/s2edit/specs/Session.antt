@@ -1,9 +1,10 @@
--- What a session says about a history, and the bytes that stand for one.
-use Rattle.std.specs.Prelude.{◌≡◌, ℕ, ◌+◌, ◌<◌, ◌≤◌, Bool, List, [], ◌∷◌, length, reverse}
-use Rattle.s2file.specs.Session.{Diff, Content, session_text, Spells}
-use Rattle.s2file.specs.declared.TheConstants.{SESSION_CELLS, SESSION_CHANGES}
+-- What a session says about a history, and what becomes of an editor that takes it over.
+use Rattle.std.specs.Prelude.{◌≡◌, ℕ, ◌+◌, ◌<◌, ◌≤◌, List, [], ◌∷◌, length, reverse}
+use Rattle.s2edit.specs.Content.{Content}
+use Rattle.s2edit.specs.Diff.{Diff}
+use Rattle.s2edit.specs.declared.TheConstants.{SESSION_CELLS, SESSION_CHANGES}
 use Rattle.s2script.specs.declared.register.TheConstants.{REGISTERS}
-use Rattle.s2edit.specs.History.{History, EachList, sets}
+use Rattle.s2edit.specs.History.{History, EachList}
 use Rattle.s2edit.specs.Leads.{Leads}
 use Rattle.s2edit.specs.Chain.{IsLocalWithin}
 use Rattle.s2edit.specs.declared.session.RestoreFault.{RestoreFault}
@@ -33,24 +34,6 @@ pub record Records (s : Content) (h : History (List ℕ)) : Type 0 where
   pub future : LeadAhead s.future h.now h.future
   pub lists : EachList (IsLocalWithin SESSION_CELLS) h
   pub few : length h.past + length h.future ≤ SESSION_CHANGES
-
--- the bytes are the session file of the history
-pub record Text (h : History (List ℕ)) (bytes : List ℕ) : Type 0 where
-  pub content : Content
-  pub tells : Records content h
-  pub is : bytes ≡ session_text content
-
--- the bytes spell a session, as a session file or a union file, that tells the history
-pub record Stored (bytes : List ℕ) (h : History (List ℕ)) : Type 0 where
-  pub content : Content
-  pub spells : Spells bytes content
-  pub tells : Records content h
-
--- the bytes spell a session that tells this history of tables of leaf sets
-pub record StoredSets (bytes : List ℕ) (h : History (ℕ → Bool)) : Type 0 where
-  pub lists : History (List ℕ)
-  pub stored : Stored bytes lists
-  pub are : h ≡ sets lists
 
 -- The lists of the history keep to its limit, and the number of its states to its depth, as those of an editor do.
 pub record IsKept (h : History (List ℕ)) : Type 0 where

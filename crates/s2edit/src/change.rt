@@ -1,12 +1,12 @@
 //! Changes of a register.
 ghost use Rattle.std.specs.Prelude.{◌≡◌, ◌≤◌, [], length, IfOk, IsOk, ◌↔◌, IsTrue};
-ghost use Rattle.s2file.specs.Session.{diff_of, IsDiff, IsMove};
-ghost use Rattle.s2edit.specs.Diff.{FitsList};
+ghost use Rattle.s2edit.specs.Content.{diff_of, IsMove};
+ghost use Rattle.s2edit.specs.Diff.{IsDiff, FitsList};
 
 use crate::Register;
+use crate::content::Move;
 use crate::lacking::unshared_cells;
 use s2cell::CellId;
-use s2file::Move;
 use s2union::CellUnion;
 use std::alloc::{AllocError, Global};
 use std::marker::Model;
@@ -24,7 +24,7 @@ pub struct Change {
 }
 
 impl Model for Change {
-    ghost use Rattle.s2file.specs.Session.{Diff};
+    ghost use Rattle.s2edit.specs.Diff.{Diff};
 
     ghost Value = { Diff };
 

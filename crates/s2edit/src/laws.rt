@@ -1,7 +1,6 @@
-//! Laws that follow from the definitions of changes, of lists of edits and of sessions.
+//! Laws that follow from the definitions of changes and of lists of edits.
 ghost use Rattle.s2edit.specs.Edits.{LawOfRuns};
 ghost use Rattle.s2edit.specs.Laws.{LawOfChanges};
-ghost use Rattle.s2edit.specs.SessionLaws.{LawOfSessions};
 
 /// The law of changes: a change can be reversed, and between two lists there is exactly one change.
 pub fn law_of_changes()
@@ -11,9 +10,4 @@ pub fn law_of_changes()
 /// If memory never runs out, what a list of edits does is one function of the list and of the state of the editor.
 pub fn law_of_runs()
     ensures { LawOfRuns }
-{}
-
-/// The laws of sessions: bytes stand for at most one history, and a history that is written comes back.
-pub fn law_of_sessions()
-    ensures { LawOfSessions }
 {}

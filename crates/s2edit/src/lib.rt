@@ -7,6 +7,7 @@
 #![tactic(auto)]
 
 mod change;
+mod content;
 mod copying;
 mod editor;
 mod edits;
@@ -20,14 +21,24 @@ mod sides;
 mod splice;
 
 pub use change::Change;
+pub use content::{Move, Session};
 pub use editor::{EditFault, Editor};
 pub use edits::{Edit, EditOutcome, EditTally, run_edits};
 pub use s2script::{REGISTERS, Register};
 pub use session::RestoreFault;
-pub use sides::{Future, Past, Sides};
+pub use sides::{BorrowedMove, Changes, Future, Past, Sides};
 
 /// The most cells that a register may ever have: the greatest limit of an editor.
 pub const MOST_REGISTER: usize = 1_000_000;
 
 /// The most states that may ever be kept: the greatest depth of an editor.
 pub const MOST_STATES: usize = 10_000;
+
+/// How many registers a session file has.
+pub const SESSION_REGISTERS: usize = 26;
+
+/// The most cells that a list of a session file has.
+pub const SESSION_CELLS: usize = 1_000_000;
+
+/// The most changes that a session file has, past and future together.
+pub const SESSION_CHANGES: usize = 10_000;

@@ -12,7 +12,7 @@
 //! How long the lists get on the way is counted, not measured (lengths.rt).
 ghost use Rattle.std.specs.Prelude.{◌≡◌, length, map, MatchResult};
 ghost use Rattle.std.specs.List.{AllByRecursion};
-ghost use Rattle.s2file.specs.Session.{diff_of, IsMove};
+ghost use Rattle.s2edit.specs.Content.{diff_of, IsMove};
 ghost use Rattle.s2edit.specs.Working.Chain.{lists_of, AllWithin, FitAlong};
 ghost use Rattle.s2edit.specs.Working.Following.{FailsToFollow, MakesChanges};
 
@@ -20,11 +20,11 @@ mod fitting;
 mod lengths;
 mod parts;
 
-use crate::REGISTERS;
+use crate::content::Move;
 use crate::session::RestoreFault;
+use crate::{REGISTERS, SESSION_CELLS};
 use fitting::follow;
 use lengths::longest;
-use s2file::{Move, SESSION_CELLS};
 use s2union::CellUnion;
 use std::alloc::Global;
 

@@ -3,7 +3,7 @@ ghost use Rattle.std.specs.Prelude.{◌≡◌, ◌≤◌, ◌↔◌, ◌&&◌, l
 ghost use Rattle.std.specs.List.{AllByRecursion};
 ghost use Rattle.std.specs.Vec.{vec_len};
 ghost use Rattle.circular_buffer.specs.Buffer.{buffer};
-ghost use Rattle.s2file.specs.Session.{content_of, content_of_parts, diff_of, IsContent, IsMove};
+ghost use Rattle.s2edit.specs.Content.{content_of, content_of_parts, diff_of, IsContent, IsMove};
 ghost use Rattle.s2edit.specs.History.{AllLists};
 ghost use Rattle.s2edit.specs.Diff.{inverse};
 ghost use Rattle.s2edit.specs.Working.Chain.{lists_of};
@@ -12,11 +12,11 @@ ghost use Rattle.s2edit.specs.Working.Following.{HaveRoom, KeepRoom};
 ghost use Rattle.s2edit.specs.declared.session.RestoreFault.TheVariants.{Memory};
 
 use crate::change::Change;
+use crate::content::{Move, Session};
 use crate::editor::Editor;
 use crate::restore::fit;
-use crate::sides::{Future, Past, Sides};
+use crate::sides::{BorrowedMove, Changes, Future, Past, Sides};
 use circular_buffer::HeapCircularBuffer;
-use s2file::{BorrowedMove, Changes, Move, Session};
 use s2union::CellUnion;
 use std::alloc::{AllocError, Global};
 use std::mem;

@@ -11,7 +11,7 @@ ghost use Rattle.s2list.specs.Union.{has_leaf, IsLocal};
 ghost use Rattle.s2list.specs.Packed.{IsPlace};
 ghost use Rattle.s2list.specs.Sets.{union_of, difference_of};
 ghost use Rattle.s2union.specs.Apply.{has};
-ghost use Rattle.s2file.specs.Session.{IsDiff};
+ghost use Rattle.s2edit.specs.Diff.{IsDiff};
 ghost use Rattle.s2edit.specs.Working.Named.{Gives};
 ghost use Rattle.s2edit.specs.Working.Splice.{IsRun, IsPlaceOf, Completes, Siblings, above, child_start};
 

@@ -1,4 +1,2 @@
 pub mod File
 pub mod Numbers
-pub mod Session
-pub mod Working

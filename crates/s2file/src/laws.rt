@@ -1,10 +1,9 @@
 //! Laws that follow from the definitions of files, and the way back from bytes to a union.
 ghost use Rattle.std.specs.Prelude.{◌≡◌, ◌≢◌, ◌<◌, ◌≤◌, ℕ, Bool, List, [], ◌∷◌, ◌++◌, length, take};
-ghost use Rattle.std.specs.Prelude.{drop, replicate, MatchResult};
+ghost use Rattle.std.specs.Prelude.{replicate, MatchResult};
 ghost use Rattle.s2list.specs.Union.{has_leaf};
 ghost use Rattle.s2file.specs.declared.union_file.TheConstants.{MOST_FILE, MOST_SIZE};
 ghost use Rattle.s2file.specs.File.{Bytes, File, HasFault, HasFrameFault, IsFramed, file_text};
-ghost use Rattle.s2file.specs.Session.{Content, Spells, session_text, content_of_list, one_change};
 
 use crate::fault::FileFault;
 use crate::union_file::{decode, encode};
@@ -32,23 +31,6 @@ pub fn beginning_decides()
     ensures file { (bytes : List ℕ) (n : ℕ) (S : ℕ → Bool) → MOST_SIZE < n → File (take n bytes) S → File bytes S }
     ensures fault { (bytes : List ℕ) (n : ℕ) (fault : FileFault) → MOST_SIZE < n → fault ≢ FileFault.Memory →
         HasFault (take n bytes) fault → HasFault bytes fault }
-{}
-
-/// Bytes spell at most one session.
-pub fn one_session()
-    ensures { (bytes : List ℕ) (s t : Content) → Spells bytes s → Spells bytes t → s ≡ t }
-{}
-
-/// The files of an untouched editor, of 226 bytes, and of one after `1` went into register a, of 259.
-pub fn known_sessions()
-    ensures untouched { length (session_text (content_of_list [])) ≡ 226 }
-    ensures one_change { length (session_text one_change) ≡ 259 }
-    ensures one_change_begins { take 26 (session_text one_change) ≡ 0x73 ∷ 1 ∷ 1 ∷ 0 ∷ 0 ∷ 0 ∷ 0 ∷ 0 ∷ 0 ∷ 0 ∷ 0
-        ∷ 0 ∷ 0 ∷ 0 ∷ 0 ∷ 0 ∷ 0 ∷ 0x10 ∷ 0 ∷ 0 ∷ 0 ∷ 0 ∷ 0 ∷ 0 ∷ 0 ∷ 0 ∷ [] }
-    ensures one_change_ends { drop 218 (session_text one_change) ≡ 1 ∷ 0 ∷ 0 ∷ 0 ∷ 0 ∷ 0 ∷ 0 ∷ 0 ∷ 0 ∷ 0 ∷ 0 ∷ 0
-        ∷ 0 ∷ 0 ∷ 0 ∷ 0 ∷ 0 ∷ 1 ∷ 0 ∷ 0 ∷ 0 ∷ 0 ∷ 0 ∷ 0
-        ∷ 0 ∷ 0 ∷ 0 ∷ 0 ∷ 0 ∷ 0 ∷ 0 ∷ 0 ∷ 0x10 ∷ 0 ∷ 0 ∷ 0 ∷ 0 ∷ 0
-        ∷ 0 ∷ 0 ∷ 0 ∷ [] }
 {}
 
 /// Equal sets of leaves have equal bytes.

@@ -5,7 +5,7 @@ use Rattle.std.proofs.lemmas.Bool.{or_cases, or_left, or_right, false≢true}
 use Rattle.std.specs.List.Sorted.{IsStrictlyIncreasing}
 use Rattle.s2union.specs.Apply.{has}
 use Rattle.s2union.proofs.CellLists.{IsAscending, has-below, AllAbove-trans, ascends_from}
-use Rattle.s2file.specs.Session.{AreApart}
+use Rattle.s2edit.specs.Diff.{AreApart}
 
 IsAscending-drop : (xs : List ℕ) (k : ℕ) → IsAscending xs → IsAscending (drop k xs)
 IsAscending-drop xs zero a = a

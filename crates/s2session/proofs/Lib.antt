@@ -1,3 +1,6 @@
+mod Fronts
+mod Spelled
+pub mod Spelling
 mod SessionReading
 mod SessionRows
 mod Apart

@@ -12,11 +12,12 @@ use Rattle.s2cell.specs.Cell.{IsCell}
 use Rattle.s2list.specs.Union.{IsLocal}
 use Rattle.s2list.specs.Numbers.{first_number, number_text}
 use Rattle.s2list.proofs.Numbers.{length-number_text, first_number-append, length-number_texts}
-use Rattle.s2file.specs.declared.TheConstants.{SESSION_CELLS}
-use Rattle.s2file.specs.Session.{list_text, AreCells, IsRegisterList}
-use Rattle.s2file.specs.Working.SessionParts.{Begins, BeginsNone, IsNumber}
-use Rattle.s2file.specs.Working.SessionParts.{identifiers_text, AreCounted, SpellsMore, SpellsWrong}
-use Rattle.s2file.proofs.Fronts.{one_number, one_list, register_cells, list_count}
+use Rattle.s2edit.specs.declared.TheConstants.{SESSION_CELLS}
+use Rattle.s2session.specs.Session.{list_text}
+use Rattle.s2edit.specs.Content.{AreCells, IsRegisterList}
+use Rattle.s2session.specs.Working.SessionParts.{Begins, BeginsNone, IsNumber, identifiers_text, AreCounted, SpellsMore}
+use Rattle.s2session.specs.Working.SessionParts.{SpellsWrong}
+use Rattle.s2session.proofs.Fronts.{one_number, one_list, register_cells, list_count}
 use Rattle.s2session.specs.declared.fault.ReadFault.{ReadFault}
 use Rattle.s2session.specs.declared.fault.ReadFault.TheVariants.{Form, Device, Memory}
 use Rattle.s2session.specs.Working.Taking.{Refuses}

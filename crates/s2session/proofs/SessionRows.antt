@@ -3,13 +3,14 @@ use Rattle.std.proofs.Common.{◌≡◌, ◌≢◌, ℕ, ◌+◌, ◌<◌, List,
 use Rattle.std.proofs.Common.{append_assoc, arith}
 use Rattle.std.specs.List.{AllByRecursion}
 use Rattle.s2list.specs.Numbers.{number_text}
-use Rattle.s2file.specs.Session.{Diff, Content, list_text, move_text, moves_text, parts_text}
-use Rattle.s2file.specs.Session.{AreCells, IsRegisterList, IsMove, IsContent, IsSessionFile}
-use Rattle.s2file.specs.Working.SessionParts.{Begins, BeginsNone, IsNumber, AreMoves, AreRegisters, IsRow}
-use Rattle.s2file.specs.Working.SessionParts.{registers_text, row_text}
-use Rattle.s2file.specs.declared.TheConstants.{SESSION_REGISTERS, SESSION_CHANGES}
-use Rattle.s2file.proofs.Fronts.{one_number, one_list, one_move, one_moves, one_registers, one_register}
-use Rattle.s2file.proofs.Fronts.{no_more, same_move, after_byte, move_front, moves_count, Parts, parts_of, one_session}
+use Rattle.s2edit.specs.Diff.{Diff}
+use Rattle.s2edit.specs.Content.{Content, AreCells, IsRegisterList, IsMove, IsContent}
+use Rattle.s2session.specs.Session.{list_text, move_text, moves_text, parts_text, IsSessionFile}
+use Rattle.s2session.specs.Working.SessionParts.{Begins, BeginsNone, IsNumber, AreMoves, AreRegisters, IsRow}
+use Rattle.s2session.specs.Working.SessionParts.{registers_text, row_text}
+use Rattle.s2edit.specs.declared.TheConstants.{SESSION_REGISTERS, SESSION_CHANGES}
+use Rattle.s2session.proofs.Fronts.{one_number, one_list, one_move, one_moves, one_registers, one_register, no_more}
+use Rattle.s2session.proofs.Fronts.{same_move, after_byte, move_front, moves_count, Parts, parts_of, one_session}
 
 -- a change
 module _ (bytes lists : List ℕ) (r : ℕ) (e : bytes ≡ r ∷ lists) where

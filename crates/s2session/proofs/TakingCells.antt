@@ -10,11 +10,12 @@ use Rattle.s2list.specs.Numbers.{first_number, number_text}
 use Rattle.s2list.proofs.Numbers.{first_number-number_text, first_number-longer, first_number-append}
 use Rattle.s2list.proofs.Numbers.{length-number_texts}
 use Rattle.s2shelf.specs.OpenedFile.{Claim}
-use Rattle.s2file.specs.Session.{list_text, AreCells}
-use Rattle.s2file.specs.Working.SessionParts.{Begins, BeginsNone, IsNumber, AreCounted}
-use Rattle.s2file.specs.Working.SessionParts.{IsByte, byte_text, identifiers_text, SpellsMore, SpellsWrong}
-use Rattle.s2file.specs.declared.TheConstants.{SESSION_CELLS}
-use Rattle.s2file.proofs.Fronts.{one_cell, no_more, list_count}
+use Rattle.s2session.specs.Session.{list_text}
+use Rattle.s2edit.specs.Content.{AreCells}
+use Rattle.s2session.specs.Working.SessionParts.{Begins, BeginsNone, IsNumber, AreCounted, IsByte, byte_text}
+use Rattle.s2session.specs.Working.SessionParts.{identifiers_text, SpellsMore, SpellsWrong}
+use Rattle.s2edit.specs.declared.TheConstants.{SESSION_CELLS}
+use Rattle.s2session.proofs.Fronts.{one_cell, no_more, list_count}
 use Rattle.s2session.specs.Reading.{WasLeft}
 use Rattle.s2session.specs.Working.Source.{Ahead, Passes, held}
 use Rattle.s2session.specs.declared.source.Buffer.{Buffer}

@@ -6,11 +6,13 @@ use Rattle.std.specs.List.{AllByRecursion}
 use Rattle.s2list.specs.Union.{IsLocal}
 use Rattle.s2list.specs.Numbers.{number_text}
 use Rattle.s2shelf.specs.OpenedFile.{Claim}
-use Rattle.s2file.specs.Session.{Diff, list_text, move_text, moves_text, AreCells, IsRegisterList, IsMove}
-use Rattle.s2file.specs.Working.SessionParts.{IsByte, IsNumber, AreMoves}
-use Rattle.s2file.specs.Working.SessionParts.{AreRegisters, IsRow, byte_text, registers_text, row_text}
-use Rattle.s2file.specs.declared.TheConstants.{SESSION_REGISTERS, SESSION_CHANGES}
-use Rattle.s2file.proofs.Fronts.{register_cells, move_front, moves_count}
+use Rattle.s2edit.specs.Diff.{Diff}
+use Rattle.s2session.specs.Session.{list_text, move_text, moves_text}
+use Rattle.s2edit.specs.Content.{AreCells, IsRegisterList, IsMove}
+use Rattle.s2session.specs.Working.SessionParts.{IsByte, IsNumber, AreMoves, AreRegisters, IsRow, byte_text}
+use Rattle.s2session.specs.Working.SessionParts.{registers_text, row_text}
+use Rattle.s2edit.specs.declared.TheConstants.{SESSION_REGISTERS, SESSION_CHANGES}
+use Rattle.s2session.proofs.Fronts.{register_cells, move_front, moves_count}
 use Rattle.s2session.specs.Working.Source.{Passes}
 use Rattle.s2session.specs.Working.Taking.{Takes, Lacks}
 use Rattle.s2session.specs.declared.fault.ReadFault.{ReadFault}

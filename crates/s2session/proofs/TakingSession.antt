@@ -9,15 +9,16 @@ use Rattle.std.specs.Prelude.{MatchResult}
 use Rattle.s2shelf.specs.OpenedFile.{Claim, MayCome, Left, has_ended, below}
 use Rattle.s2shelf.specs.declared.opened_file.OpenedFile.{OpenedFile}
 use Rattle.s2shelf.proofs.Opened.{some_content}
-use Rattle.s2file.specs.Session.{Diff, Content, content_of, moves_text, parts_text}
-use Rattle.s2file.specs.Session.{IsContent, IsSessionFile, IsUnionFile, Spells}
-use Rattle.s2file.specs.Working.SessionParts.{AreMoves, AreRegisters, registers_text, IsByte, byte_text}
-use Rattle.s2file.specs.declared.TheConstants.{SESSION_CHANGES}
+use Rattle.s2edit.specs.Diff.{Diff}
+use Rattle.s2edit.specs.Content.{Content, content_of, IsContent}
+use Rattle.s2session.specs.Session.{moves_text, parts_text, IsSessionFile, IsUnionFile, Spells}
+use Rattle.s2session.specs.Working.SessionParts.{AreMoves, AreRegisters, registers_text, IsByte, byte_text}
+use Rattle.s2edit.specs.declared.TheConstants.{SESSION_CHANGES}
 use Rattle.s2file.specs.declared.union_file.TheConstants.{MOST_SIZE}
-use Rattle.s2file.specs.declared.session.Session.{Session}
+use Rattle.s2edit.specs.declared.content.Session.{Session}
 use Rattle.s2file.proofs.Beginnings.{longest}
-use Rattle.s2file.proofs.Fronts.{after_byte}
-use Rattle.s2file.proofs.Spelled.{first_of_file, union_content}
+use Rattle.s2session.proofs.Fronts.{after_byte}
+use Rattle.s2session.proofs.Spelled.{first_of_file, union_content}
 use Rattle.s2session.specs.Working.Source.{Ahead, Passes, held}
 use Rattle.s2session.specs.Working.Taking.{Refuses, Takes, Lacks}
 use Rattle.s2session.specs.Working.Reading.{Judges}

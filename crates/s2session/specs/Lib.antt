@@ -1,2 +1,4 @@
+pub mod Session
+pub mod Laws
 pub mod Reading
 pub mod Working

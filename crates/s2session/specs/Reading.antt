@@ -1,7 +1,8 @@
 -- What the reading of a session answers.
 use Rattle.std.specs.Prelude.{ℕ, List}
 use Rattle.s2shelf.specs.OpenedFile.{Claim}
-use Rattle.s2file.specs.Session.{Content, Spells}
+use Rattle.s2edit.specs.Content.{Content}
+use Rattle.s2session.specs.Session.{Spells}
 use Rattle.s2session.specs.declared.fault.ReadFault.{ReadFault}
 use Rattle.s2session.specs.declared.fault.ReadFault.TheVariants.{Form, Device, Memory}
 

@@ -3,9 +3,10 @@ ghost use Rattle.std.specs.Prelude.{◌≡◌, ◌≢◌, ℕ, List, [], ◌∷�
 ghost use Rattle.std.specs.Prelude.{true, MatchResult, IfOk, IsErrOf, OnOk};
 ghost use Rattle.s2list.specs.Union.{Union};
 ghost use Rattle.s2shelf.specs.OpenedFile.{Left, has_ended, has_failed};
-ghost use Rattle.s2file.specs.Session.{Content, content_of, content_of_parts, content_of_list, list_text, move_text};
-ghost use Rattle.s2file.specs.Session.{moves_text, session_text, IsContent, IsSessionFile, IsUnionFile, Spells};
-ghost use Rattle.s2file.specs.Working.SessionParts.{registers_text};
+ghost use Rattle.s2edit.specs.Content.{Content, content_of, content_of_parts, IsContent};
+ghost use Rattle.s2session.specs.Session.{content_of_list, list_text, move_text, moves_text, session_text};
+ghost use Rattle.s2session.specs.Session.{IsSessionFile, IsUnionFile, Spells};
+ghost use Rattle.s2session.specs.Working.SessionParts.{registers_text};
 ghost use Rattle.s2session.specs.Working.Taking.{Refuses};
 ghost use Rattle.s2session.specs.Working.Source.{Ahead, Passes};
 ghost use Rattle.s2session.specs.Working.Reading.{Judges};
@@ -15,10 +16,8 @@ use crate::fault::{ReadFault, SessionFault};
 use crate::parts::{byte_at, moves_at, registers_at};
 use crate::source::Buffer;
 use s2cell::CellId;
-use s2file::{
-    BorrowedMove, Changes, FileFault, MOST_SIZE, SESSION_CHANGES, SESSION_REGISTERS, Session,
-    VERSION, decode,
-};
+use s2edit::{BorrowedMove, Changes, SESSION_CHANGES, SESSION_REGISTERS, Session};
+use s2file::{FileFault, MOST_SIZE, VERSION, decode};
 use s2list::{NUMBER_SIZE, put_number};
 use s2shelf::OpenedFile;
 use s2union::CellUnion;

@@ -1,7 +1,6 @@
 //! Sessions: the calls of `s2session` on session files, and those of `s2edit` that make and take sessions.
 use crate::texts::{add_bytes, add_change, add_tokens};
-use s2edit::{Editor, RestoreFault};
-use s2file::{Move, Session};
+use s2edit::{Editor, Move, RestoreFault, Session};
 use s2session::{SessionFault, decode_session, encode_parts, encode_session};
 use std::alloc::{AllocError, Global};
 use test_table::{add_line, bytes_of};

@@ -1,6 +1,6 @@
 -- What only private contracts need, beside Sessions.antt, which has what public contracts need.
 use Rattle.std.specs.Prelude.{◌≡◌, Result, Ok, Err}
-use Rattle.s2file.specs.declared.session.Session.{Session}
+use Rattle.s2edit.specs.declared.content.Session.{Session}
 use Rattle.s2session.specs.declared.fault.ReadFault.{ReadFault}
 use Rattle.s2session.specs.declared.fault.ReadFault.TheVariants.{Form, Device, Memory}
 use Rattle.s2calc.specs.declared.refusal.Refusal.{Refusal}

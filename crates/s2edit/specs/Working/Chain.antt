@@ -1,9 +1,8 @@
 -- What only private contracts need, beside Chain.antt, which has what public contracts need.
 use Rattle.std.specs.Prelude.{◌≢◌, ℕ, ◌<◌, ◌≤◌, List, [], ◌∷◌, length, map, slice_set}
 use Rattle.s2list.specs.Union.{Union}
-use Rattle.s2file.specs.Session.{Diff}
+use Rattle.s2edit.specs.Diff.{Diff, apply, FitsList, inverse}
 use Rattle.s2edit.specs.History.{History, AllLists}
-use Rattle.s2edit.specs.Diff.{apply, FitsList, inverse}
 use Rattle.s2edit.specs.Leads.{list_at}
 use Rattle.s2edit.specs.Chain.{IsLocalWithin}
 

@@ -1,5 +1,5 @@
 -- What the fields of a change stand for.
-use Rattle.s2file.specs.Session.{Diff, IsDiff}
+use Rattle.s2edit.specs.Diff.{Diff, IsDiff}
 use Rattle.s2edit.specs.declared.change.Change.TheInside.{Inside}
 
 -- the change that the fields of a change stand for

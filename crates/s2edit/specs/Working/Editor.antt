@@ -1,12 +1,11 @@
 -- What the fields of an editor stand for.
 use Rattle.std.specs.Prelude.{◌≡◌, ℕ, ◌+◌, ◌≤◌, List, length, map}
-use Rattle.s2file.specs.declared.TheConstants.{SESSION_CHANGES}
+use Rattle.s2edit.specs.declared.TheConstants.{SESSION_CHANGES, MOST_REGISTER}
 use Rattle.s2script.specs.declared.register.TheConstants.{REGISTERS}
 use Rattle.s2edit.specs.History.{History}
 use Rattle.s2edit.specs.Diff.{inverse}
 use Rattle.s2edit.specs.Working.Chain.{history, lists_of, AllWithin, AllRoomy, FitAlong}
 use Rattle.s2edit.specs.declared.editor.Editor.TheInside.{Inside}
-use Rattle.s2edit.specs.declared.TheConstants.{MOST_REGISTER}
 
 -- the history that a contract sees
 abbrev pub history_of : Inside → History (List ℕ)

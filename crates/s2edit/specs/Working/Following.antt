@@ -1,8 +1,8 @@
 -- Registers that are followed along changes.
 use Rattle.std.specs.Prelude.{◌≡◌, ℕ, ◌≤◌, Bool, true, List, [], ◌∷◌, length}
 use Rattle.s2list.specs.Union.{Union}
-use Rattle.s2file.specs.declared.TheConstants.{SESSION_CELLS}
-use Rattle.s2file.specs.Session.{Diff}
+use Rattle.s2edit.specs.declared.TheConstants.{SESSION_CELLS}
+use Rattle.s2edit.specs.Diff.{Diff}
 use Rattle.s2edit.specs.Working.Chain.{FitAlong}
 use Rattle.s2edit.specs.declared.session.RestoreFault.{RestoreFault}
 use Rattle.s2edit.specs.declared.session.RestoreFault.TheVariants.{Fit, TooDeep, TooMany, Memory}

@@ -1,7 +1,6 @@
 -- The changes of one list in turn.
 use Rattle.std.specs.Prelude.{ℕ, ◌==◌, if◌then◌else◌, List, [], ◌∷◌}
-use Rattle.s2file.specs.Session.{Diff}
-use Rattle.s2edit.specs.Diff.{apply, FitsList}
+use Rattle.s2edit.specs.Diff.{Diff, apply, FitsList}
 
 -- the changes can be made in the list, one after another
 abbrev pub FitInTurn : List ℕ → List Diff → Type 0

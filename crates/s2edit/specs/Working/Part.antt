@@ -5,7 +5,7 @@ use Rattle.std.specs.List.{AllByRecursion}
 use Rattle.s2cell.specs.Cell.{IsCell, level_of, covers, parent_of, child_of}
 use Rattle.s2list.specs.Union.{IsLocal, IsWithin, LiesIn}
 use Rattle.s2union.specs.Apply.{has}
-use Rattle.s2file.specs.Session.{Diff}
+use Rattle.s2edit.specs.Diff.{Diff}
 
 -- the parent of a cell, or the cell itself if it is a face
 abbrev pub around : ℕ → ℕ

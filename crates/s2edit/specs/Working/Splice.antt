@@ -4,8 +4,7 @@ use Rattle.s2cell.specs.Cell.{IsCell, level_of, first_leaf, size_of, parent_of, 
 use Rattle.s2list.specs.Packed.{IsPlace}
 use Rattle.s2list.specs.Union.{has_leaf}
 use Rattle.s2union.specs.Apply.{has}
-use Rattle.s2file.specs.Session.{Diff}
-use Rattle.s2edit.specs.Diff.{apply}
+use Rattle.s2edit.specs.Diff.{Diff, apply}
 use Rattle.s2edit.specs.declared.splice.Run.{Run}
 
 -- RUN

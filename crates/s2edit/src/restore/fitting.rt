@@ -2,15 +2,15 @@
 ghost use Rattle.std.specs.Prelude.{◌≡◌, ◌≤◌, [], ◌∷◌, length, map, OnOk, MatchResult};
 ghost use Rattle.std.specs.List.{AllByRecursion};
 ghost use Rattle.s2union.specs.Apply.{applied, Fits};
-ghost use Rattle.s2file.specs.Session.{diff_of, IsMove};
+ghost use Rattle.s2edit.specs.Content.{diff_of, IsMove};
 ghost use Rattle.s2edit.specs.Working.InTurn.{of_register, list_after_all, FitInTurn};
 ghost use Rattle.s2edit.specs.Working.Following.{FailsToFollow};
 
+use crate::content::Move;
 use crate::lacking::unshared_cells;
 use crate::restore::parts::part_of;
 use crate::session::RestoreFault;
 use s2cell::CellId;
-use s2file::Move;
 use s2union::CellUnion;
 use std::alloc::{AllocError, Global};
 use std::mem;

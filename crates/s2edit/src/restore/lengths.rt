@@ -2,12 +2,12 @@
 ghost use Rattle.std.specs.Prelude.{◌≡◌, ◌<◌, length, map, slice_set, IfOk};
 ghost use Rattle.std.specs.Prelude.{◌+◌, ◌-◌, ◌^◌, min, slice_index_or};
 ghost use Rattle.std.specs.List.{AllByRecursion};
-ghost use Rattle.s2file.specs.Session.{diff_of, IsMove};
+ghost use Rattle.s2edit.specs.Content.{diff_of, IsMove};
 ghost use Rattle.s2edit.specs.Working.Chain.{lists_of};
 ghost use Rattle.s2edit.specs.Working.Part.{longest};
 
+use crate::content::Move;
 use crate::{REGISTERS, Register};
-use s2file::Move;
 use s2union::CellUnion;
 use std::alloc::{AllocError, Global};
 

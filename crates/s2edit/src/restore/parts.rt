@@ -3,13 +3,13 @@ ghost use Rattle.std.specs.Prelude.{◌≡◌, map, IfOk, OnOk};
 ghost use Rattle.std.specs.List.{AllByRecursion};
 ghost use Rattle.s2list.specs.Union.{IsWithin};
 ghost use Rattle.s2union.specs.Apply.{has};
-ghost use Rattle.s2file.specs.Session.{diff_of};
+ghost use Rattle.s2edit.specs.Content.{diff_of};
 ghost use Rattle.s2edit.specs.Working.InTurn.{of_register};
 ghost use Rattle.s2edit.specs.Working.Part.{IsPartFor, HoldsNamed};
 
+use crate::content::Move;
 use crate::near::part_near;
 use s2cell::CellId;
-use s2file::Move;
 use s2union::CellUnion;
 use std::alloc::{AllocError, Global};
 

@@ -2,8 +2,8 @@
 use Rattle.std.specs.Prelude.{ℕ, List, MatchResult}
 use Rattle.std.specs.declared.result.Result.{Result}
 use Rattle.s2shelf.specs.OpenedFile.{Claim}
-use Rattle.s2file.specs.Session.{Content, content_of, IsContent}
-use Rattle.s2file.specs.declared.session.Session.{Session}
+use Rattle.s2edit.specs.Content.{Content, content_of, IsContent}
+use Rattle.s2edit.specs.declared.content.Session.{Session}
 use Rattle.s2session.specs.Reading.{WasLeft}
 use Rattle.s2session.specs.Working.Taking.{Refuses}
 use Rattle.s2session.specs.declared.fault.ReadFault.{ReadFault}

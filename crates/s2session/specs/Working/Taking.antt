@@ -2,7 +2,7 @@
 use Rattle.std.specs.Prelude.{ℕ, List, MatchResult}
 use Rattle.std.specs.declared.result.Result.{Result}
 use Rattle.s2shelf.specs.OpenedFile.{Claim}
-use Rattle.s2file.specs.Working.SessionParts.{BeginsNone}
+use Rattle.s2session.specs.Working.SessionParts.{BeginsNone}
 use Rattle.s2session.specs.Reading.{WasLeft}
 use Rattle.s2session.specs.Working.Source.{Passes}
 use Rattle.s2session.specs.declared.fault.ReadFault.{ReadFault}

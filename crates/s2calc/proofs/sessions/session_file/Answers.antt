@@ -1,4 +1,4 @@
-use Rattle.s2edit.proofs.Saving.{text_told}
+use Rattle.s2session.proofs.Spelling.{text_told}
 use Rattle.s2calc.proofs.sessions.session_file.Goals as goal
 
 pub returns : goal.returns

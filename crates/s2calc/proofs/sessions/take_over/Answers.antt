@@ -1,5 +1,5 @@
-use Rattle.s2file.specs.Session.{content_of}
-use Rattle.s2edit.proofs.Spelling.{refuses_bytes}
+use Rattle.s2edit.specs.Content.{content_of}
+use Rattle.s2session.proofs.Spelling.{refuses_bytes}
 use Rattle.s2calc.proofs.sessions.take_over.Goals as goal
 
 pub returns-in-Err-clause-answer : goal.returns-in-Err-clause-answer

@@ -5,8 +5,8 @@ use Rattle.std.proofs.lemmas.Bool.{cases_lt, leb-true, le-leb}
 use Rattle.std.proofs.lemmas.List.{length-map}
 use Rattle.std.proofs.lemmas.Result.{err_from_is_err_and}
 use Rattle.s2list.specs.Union.{Union}
-use Rattle.s2file.specs.Session.{diff_of}
-use Rattle.s2file.specs.declared.TheConstants.{SESSION_CELLS}
+use Rattle.s2edit.specs.Content.{diff_of}
+use Rattle.s2edit.specs.declared.TheConstants.{SESSION_CELLS}
 use Rattle.s2edit.specs.Working.Chain.{lists_of, FitAlong}
 use Rattle.s2edit.specs.Leads.{list_at}
 use Rattle.s2edit.specs.Working.InTurn.{of_register, FitInTurn}

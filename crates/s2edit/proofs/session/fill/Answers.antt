@@ -1,5 +1,5 @@
 use Rattle.std.proofs.Common.{map, arith}
-use Rattle.s2file.specs.Session.{diff_of}
+use Rattle.s2edit.specs.Content.{diff_of}
 use Rattle.s2edit.proofs.Saving.{good_front, fill_start, fill_step, fill_end}
 use Rattle.s2edit.proofs.session.fill.Goals as goal
 

@@ -1,5 +1,5 @@
 use Rattle.std.proofs.Common.{length, map}
-use Rattle.s2file.specs.Session.{diff_of}
+use Rattle.s2edit.specs.Content.{diff_of}
 use Rattle.s2edit.proofs.Saving.{Filled}
 use Rattle.s2edit.proofs.session.fill.Given as goal
 

@@ -2,8 +2,8 @@ use Rattle.std.proofs.Common.{◌≡◌, ◌<◌, ◌≤◌, ◌++◌, List, len
 use Rattle.std.proofs.Common.{◌∙◌, append-nil, arith}
 use Rattle.std.proofs.lemmas.List.{take_all, take_at, drop_all}
 use Rattle.std.proofs.lemmas.List.Edits.{map_over_more}
-use Rattle.s2file.specs.Session.{diff_of}
-use Rattle.s2file.specs.declared.session.Move.{Move}
+use Rattle.s2edit.specs.Content.{diff_of}
+use Rattle.s2edit.specs.declared.content.Move.{Move}
 use Rattle.s2edit.proofs.Registers.{turned_round, all_turned}
 use Rattle.s2edit.proofs.session.invert.Goals as goal
 

@@ -1,8 +1,8 @@
 use Rattle.std.proofs.Common.{◌≡◌, ◌+◌, ◌-◌, ◌<◌, List, length, map, take, sym, ap, ◌∙◌, subst, arith}
 use Rattle.std.proofs.lemmas.List.{length_push}
 use Rattle.std.proofs.lemmas.Option.{slice_get_within}
-use Rattle.s2file.specs.Session.{diff_of}
-use Rattle.s2file.specs.declared.session.Move.{Move}
+use Rattle.s2edit.specs.Content.{diff_of}
+use Rattle.s2edit.specs.declared.content.Move.{Move}
 use Rattle.s2edit.proofs.Saving.{copied_one, copied_all}
 use Rattle.s2edit.proofs.session.moves_of.Goals as goal
 

@@ -1,5 +1,5 @@
 use Rattle.std.proofs.Common.{◌≡◌, ◌-◌, length, map, take}
-use Rattle.s2file.specs.Session.{diff_of}
+use Rattle.s2edit.specs.Content.{diff_of}
 use Rattle.s2edit.proofs.session.moves_of.Given as goal
 
 abbrev pub invariant-loop-change : goal.invariant-loop-change

@@ -3,7 +3,7 @@ use Rattle.std.proofs.Common.{get_or, ap, sym, subst, ◌∙◌}
 use Rattle.s2cell.specs.Cell.{IsInside}
 use Rattle.s2list.specs.Union.{has_leaf, IsLocal}
 use Rattle.s2list.specs.Sets.{union_of}
-use Rattle.s2file.specs.Session.{IsDiff}
+use Rattle.s2edit.specs.Diff.{IsDiff}
 use Rattle.s2edit.specs.Working.Named.{Gives}
 use Rattle.s2edit.specs.Working.Splice.{Completes}
 use Rattle.s2edit.proofs.Replacing.{kept_place, added_place, found_gives, found_place}

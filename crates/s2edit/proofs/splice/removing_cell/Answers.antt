@@ -3,7 +3,7 @@ use Rattle.std.proofs.Common.{take, drop, get_or, refl, sym, subst}
 use Rattle.s2cell.specs.Cell.{IsInside}
 use Rattle.s2list.specs.Union.{has_leaf, IsLocal}
 use Rattle.s2list.specs.Sets.{difference_of}
-use Rattle.s2file.specs.Session.{IsDiff}
+use Rattle.s2edit.specs.Diff.{IsDiff}
 use Rattle.s2edit.specs.Working.Named.{Gives}
 use Rattle.s2edit.proofs.Replacing.{cut_place, removed_place, found_gives, found_place}
 use Rattle.s2edit.proofs.Splicing.{cut_out, cut_lists, removed, removed_lists, run_order, ok_then, ok_both, leaves_at}

@@ -1,5 +1,5 @@
 use Rattle.std.proofs.Common.{◌≤◌, ◌+◌, ◌-◌, length, drop}
-use Rattle.s2file.specs.Session.{AreApart}
+use Rattle.s2edit.specs.Diff.{AreApart}
 use Rattle.s2session.proofs.parts.are_apart.Given as goal
 
 abbrev pub invariant-loop-i : goal.invariant-loop-i

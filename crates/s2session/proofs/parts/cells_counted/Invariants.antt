@@ -1,7 +1,7 @@
 use Rattle.std.proofs.Common.{◌-◌, ◌≤◌, All, length}
 use Rattle.s2cell.specs.Cell.{IsCell}
 use Rattle.s2shelf.specs.OpenedFile.{Left}
-use Rattle.s2file.specs.Working.SessionParts.{identifiers_text}
+use Rattle.s2session.specs.Working.SessionParts.{identifiers_text}
 use Rattle.s2session.specs.Working.Source.{Ahead}
 use Rattle.s2session.specs.Working.Taking.{Takes}
 use Rattle.s2session.proofs.parts.cells_counted.Given as goal

@@ -2,8 +2,8 @@ use Rattle.std.proofs.Common.{◌≡◌, length, map}
 use Rattle.std.specs.List.{AllByRecursion}
 use Rattle.s2list.specs.Union.{Union}
 use Rattle.s2shelf.specs.OpenedFile.{Left}
-use Rattle.s2file.specs.Session.{IsRegisterList}
-use Rattle.s2file.specs.Working.SessionParts.{registers_text}
+use Rattle.s2edit.specs.Content.{IsRegisterList}
+use Rattle.s2session.specs.Working.SessionParts.{registers_text}
 use Rattle.s2session.specs.Working.Taking.{Takes}
 use Rattle.s2session.specs.Working.Source.{Ahead}
 use Rattle.s2session.proofs.parts.registers_at.Given as goal

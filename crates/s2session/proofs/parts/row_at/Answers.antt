@@ -1,7 +1,8 @@
 use Rattle.std.proofs.Common.{List, map, arith}
 use Rattle.std.proofs.lemmas.List.{length-map}
 use Rattle.std.proofs.lemmas.Result.{err_from_is_err_and}
-use Rattle.s2file.specs.Session.{Diff, diff_of}
+use Rattle.s2edit.specs.Diff.{Diff}
+use Rattle.s2edit.specs.Content.{diff_of}
 use Rattle.s2session.proofs.Taking.{joined, of_front}
 use Rattle.s2session.proofs.TakingRows.{row_refused}
 use Rattle.s2session.proofs.parts.row_at.Goals as goal

@@ -1,8 +1,8 @@
 use Rattle.std.proofs.Common.{◌≡◌, length, map}
 use Rattle.std.specs.List.{AllByRecursion}
 use Rattle.s2shelf.specs.OpenedFile.{Left}
-use Rattle.s2file.specs.Session.{diff_of, IsMove}
-use Rattle.s2file.specs.Working.SessionParts.{row_text}
+use Rattle.s2edit.specs.Content.{diff_of, IsMove}
+use Rattle.s2session.specs.Working.SessionParts.{row_text}
 use Rattle.s2session.specs.Working.Taking.{Takes}
 use Rattle.s2session.specs.Working.Source.{Ahead}
 use Rattle.s2session.proofs.parts.row_at.Given as goal

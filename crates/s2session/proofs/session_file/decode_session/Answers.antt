@@ -1,6 +1,7 @@
 use Rattle.std.proofs.Common.{refl, subst}
-use Rattle.s2file.specs.Session.{content_of, Spells}
-use Rattle.s2file.proofs.Spelled.{one_spelled}
+use Rattle.s2edit.specs.Content.{content_of}
+use Rattle.s2session.specs.Session.{Spells}
+use Rattle.s2session.proofs.Spelled.{one_spelled}
 use Rattle.s2session.specs.Reading.{RefusesToRead}
 use Rattle.s2session.specs.declared.fault.ReadFault.{ReadFault}
 use Rattle.s2session.proofs.TakingSession.{was_known}

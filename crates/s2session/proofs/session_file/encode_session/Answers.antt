@@ -1,7 +1,8 @@
 use Rattle.std.proofs.Common.{◌≡◌, map, refl, subst}
 use Rattle.std.specs.Prelude.{IfOk}
-use Rattle.s2file.specs.Session.{Content, content_of, content_of_parts, diff_of, session_text}
-use Rattle.s2file.proofs.Spelled.{text_spells}
+use Rattle.s2edit.specs.Content.{Content, content_of, content_of_parts, diff_of}
+use Rattle.s2session.specs.Session.{session_text}
+use Rattle.s2session.proofs.Spelled.{text_spells}
 use Rattle.s2session.proofs.session_file.encode_session.Goals as goal
 
 pub returns-clause-text : goal.returns-clause-text

@@ -1,9 +1,27 @@
-use Rattle.std.proofs.Common.{length, sym, arith}
+use Rattle.std.proofs.Common.{◌≡◌, ℕ, ◌+◌, List, ◌++◌, length, take, flat_map, slice_get, Some, None, append_assoc}
+use Rattle.std.proofs.Common.{sym, ap, ◌∙◌, arith}
+use Rattle.std.proofs.lemmas.List.{flat_map_more, take_all}
 use Rattle.std.proofs.lemmas.Option.{slice_get_within}
 use Rattle.s2list.specs.Numbers.{number_text}
-use Rattle.s2file.specs.Session.{move_text}
-use Rattle.s2file.proofs.Places.{one_more, no_more_left}
+use Rattle.s2session.specs.Session.{move_text}
+use Rattle.s2edit.proofs.Places.{take_one, none_past}
 use Rattle.s2session.proofs.session_file.put_changes.Goals as goal
+
+module _ {X : Type 0} (text : X → List ℕ) (xs : List X) (k : ℕ) (old head bytes : List ℕ)
+    (so_far : bytes ≡ old ++ (head ++ flat_map text (take k xs))) where
+  -- the texts of the first items and that of the next one
+  one_more : (x : X) (more : List ℕ) → Some x ≡ slice_get xs k → more ≡ bytes ++ text x →
+      more ≡ old ++ (head ++ flat_map text (take (k + 1) xs))
+  one_more x more at e =
+      e ∙ ap (λ (l : List ℕ). l ++ text x) (so_far ∙ sym (append_assoc old head (flat_map text (take k xs))))
+      ∙ flat_map_more text (old ++ head) (take k xs) x
+      ∙ ap (λ (ys : List X). (old ++ head) ++ flat_map text ys) (sym (take_one xs k x (sym at)))
+      ∙ append_assoc old head (flat_map text (take (k + 1) xs))
+
+  -- the texts of all items, once there is no next one
+  no_more_left : None ≡ slice_get xs k → bytes ≡ old ++ (head ++ flat_map text xs)
+  no_more_left at =
+      so_far ∙ ap (λ (ys : List X). old ++ (head ++ flat_map text ys)) (take_all k xs (none_past xs k (sym at)))
 
 pub overflow_add-k : goal.overflow_add-k
 overflow_add-k g c =

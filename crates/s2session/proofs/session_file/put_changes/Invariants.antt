@@ -1,6 +1,6 @@
 use Rattle.std.proofs.Common.{◌≡◌, ◌-◌, ◌++◌, length, take, flat_map}
 use Rattle.s2list.specs.Numbers.{number_text}
-use Rattle.s2file.specs.Session.{move_text}
+use Rattle.s2session.specs.Session.{move_text}
 use Rattle.s2session.proofs.session_file.put_changes.Given as goal
 
 abbrev pub invariant-loop-change : goal.invariant-loop-change

@@ -1,6 +1,6 @@
 use Rattle.std.proofs.Common.{◌≡◌, ◌++◌, map, take, flat_map}
 use Rattle.s2list.specs.Union.{Union}
-use Rattle.s2file.specs.Session.{list_text}
+use Rattle.s2session.specs.Session.{list_text}
 use Rattle.s2session.proofs.session_file.put_registers.Given as goal
 
 abbrev pub invariant-loop-union : goal.invariant-loop-union

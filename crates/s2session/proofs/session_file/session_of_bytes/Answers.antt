@@ -1,6 +1,7 @@
 use Rattle.std.proofs.Common.{◌≢◌}
 use Rattle.s2list.specs.Union.{has_leaf}
-use Rattle.s2file.specs.Session.{Content, IsUnionFile}
+use Rattle.s2edit.specs.Content.{Content}
+use Rattle.s2session.specs.Session.{IsUnionFile}
 use Rattle.s2file.specs.declared.fault.FileFault.TheVariants.{Memory}
 use Rattle.s2session.proofs.SessionReading.{refuses}
 use Rattle.s2session.proofs.session_file.session_of_bytes.Goals as goal

@@ -3,7 +3,7 @@ use Rattle.std.proofs.lemmas.Bool.{MatchBool-at_true, MatchBool-at_false}
 use Rattle.std.proofs.lemmas.List.{length-map, length-append}
 use Rattle.std.proofs.lemmas.Result.{err_from_is_err_and}
 use Rattle.s2shelf.proofs.Given.{none_left}
-use Rattle.s2file.specs.Session.{diff_of, content_of, IsContent}
+use Rattle.s2edit.specs.Content.{diff_of, content_of, IsContent}
 use Rattle.s2session.specs.Working.Source.{held}
 use Rattle.s2session.proofs.Taking.{failed, joined, held_front}
 use Rattle.s2session.proofs.TakingSession.{NoFile, no_head, no_registers, no_past, no_future, more_than_parts}

@@ -3,9 +3,8 @@ use Rattle.std.proofs.lemmas.List.{length-map}
 use Rattle.circular_buffer.specs.Buffer.{Buffer}
 use Rattle.s2list.specs.Union.{Union}
 use Rattle.std.proofs.lemmas.Option.{get_or_from_slice_get, slice_get-get_or}
-use Rattle.s2file.specs.Session.{Diff}
+use Rattle.s2edit.specs.Diff.{Diff, change_between}
 use Rattle.s2edit.specs.History.{History, changed, Assigned}
-use Rattle.s2edit.specs.Diff.{change_between}
 use Rattle.s2edit.specs.Leads.{list_at}
 use Rattle.s2edit.specs.Working.Chain.{lists_of, history}
 use Rattle.s2edit.specs.Chain.{IsLocalWithin}

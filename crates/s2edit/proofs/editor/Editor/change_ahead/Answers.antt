@@ -1,6 +1,6 @@
 use Rattle.std.proofs.Common.{◌+◌, ℕ, List, ◌∷◌, length, subst}
 use Rattle.s2edit.specs.History.{History}
-use Rattle.s2file.specs.Session.{Diff}
+use Rattle.s2edit.specs.Diff.{Diff}
 use Rattle.s2edit.specs.Leads.{table_at, Leads}
 use Rattle.s2edit.specs.Working.Chain.{lists_of}
 use Rattle.s2edit.proofs.Leading.{side_counts, ahead_leads, kept_none, kept_some}

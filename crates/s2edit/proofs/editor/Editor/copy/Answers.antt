@@ -4,10 +4,9 @@ use Rattle.std.proofs.lemmas.List.{length-map}
 use Rattle.std.proofs.lemmas.Option.{slice_get-get_or}
 use Rattle.circular_buffer.specs.Buffer.{Buffer}
 use Rattle.s2list.specs.Union.{Union, has_leaf, IsLocal}
-use Rattle.s2file.specs.Session.{Diff}
 use Rattle.s2script.specs.declared.register.TheConstants.{REGISTERS}
 use Rattle.s2edit.specs.History.{History, changed, sets, Assigned}
-use Rattle.s2edit.specs.Diff.{change_between}
+use Rattle.s2edit.specs.Diff.{Diff, change_between}
 use Rattle.s2edit.specs.Leads.{list_at}
 use Rattle.s2edit.specs.Chain.{IsLocalWithin}
 use Rattle.s2edit.specs.Working.Chain.{lists_of, history}

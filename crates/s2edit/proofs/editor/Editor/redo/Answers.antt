@@ -1,7 +1,7 @@
 use Rattle.std.proofs.Common.{ℕ, List, ◌∷◌, Some, take, ap, sym, ◌∙◌, arith}
 use Rattle.circular_buffer.specs.Buffer.{Buffer}
 use Rattle.s2edit.specs.History.{History, redone, sets}
-use Rattle.s2file.specs.Session.{Diff}
+use Rattle.s2edit.specs.Diff.{Diff}
 use Rattle.s2edit.specs.Working.Change.{diff_inside}
 use Rattle.s2edit.specs.Working.Chain.{lists_of}
 use Rattle.s2edit.proofs.Moves.{first_fits, room_for}

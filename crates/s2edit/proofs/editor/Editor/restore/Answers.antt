@@ -5,10 +5,10 @@ use Rattle.std.proofs.lemmas.Result.{err_from_is_err_and}
 use Rattle.circular_buffer.specs.Buffer.{Buffer}
 use Rattle.std.specs.List.{AllByRecursion}
 use Rattle.s2list.specs.Union.{Union}
-use Rattle.s2file.specs.Session.{Diff, Content, diff_of, content_of, IsMove}
-use Rattle.s2file.specs.declared.TheConstants.{SESSION_CELLS}
+use Rattle.s2edit.specs.Diff.{Diff, inverse}
+use Rattle.s2edit.specs.Content.{Content, diff_of, content_of, IsMove}
+use Rattle.s2edit.specs.declared.TheConstants.{SESSION_CELLS}
 use Rattle.s2edit.specs.History.{History, AllLists}
-use Rattle.s2edit.specs.Diff.{inverse}
 use Rattle.s2edit.specs.Working.Chain.{lists_of, AllWithin, FitAlong, history}
 use Rattle.s2edit.specs.Session.{Records, Restored, IsTooDeep, IsTooMany}
 use Rattle.s2edit.specs.Working.Following.{FailsToFollow, MakesChanges}

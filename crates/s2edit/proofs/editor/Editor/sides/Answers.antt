@@ -1,5 +1,5 @@
 use Rattle.std.proofs.Common.{reverse, refl, ap, subst}
-use Rattle.s2file.specs.Session.{Content, content_of_parts}
+use Rattle.s2edit.specs.Content.{Content, content_of_parts}
 use Rattle.s2edit.specs.Working.Chain.{lists_of}
 use Rattle.s2edit.specs.Session.{Records}
 use Rattle.s2edit.proofs.Saving.{session_tells}

@@ -1,6 +1,7 @@
 use Rattle.std.proofs.Common.{ℕ, List, map, sym, ap, ◌∙◌, subst}
 use Rattle.std.proofs.lemmas.Result.{err_from_is_err_and}
-use Rattle.s2file.specs.Session.{Diff, diff_of}
+use Rattle.s2edit.specs.Diff.{Diff}
+use Rattle.s2edit.specs.Content.{diff_of}
 use Rattle.s2edit.specs.Working.InTurn.{of_register, list_after_all, FitInTurn}
 use Rattle.s2edit.proofs.Following.{fails}
 use Rattle.s2edit.proofs.Turns.{part_needs, part_gives, part_fits, part_makes}

@@ -1,6 +1,6 @@
 use Rattle.std.proofs.Common.{◌∷◌, [], map, refl, arith}
 use Rattle.std.proofs.lemmas.Result.{err_from_is_err_and}
-use Rattle.s2file.specs.Session.{diff_of}
+use Rattle.s2edit.specs.Content.{diff_of}
 use Rattle.s2edit.specs.Working.InTurn.{of_register, FitInTurn}
 use Rattle.s2edit.proofs.Following.{fails}
 use Rattle.s2edit.proofs.Turns.{one_move, one_goes, one_needs, all_gone, all_fit}

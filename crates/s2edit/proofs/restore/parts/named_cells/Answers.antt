@@ -2,8 +2,8 @@ use Rattle.std.proofs.Common.{List, map, sym, subst, arith}
 use Rattle.std.proofs.lemmas.List.{drop_all}
 use Rattle.std.specs.List.{AllByRecursion}
 use Rattle.s2union.specs.Apply.{has}
-use Rattle.s2file.specs.declared.session.Move.{Move}
-use Rattle.s2file.specs.Session.{diff_of}
+use Rattle.s2edit.specs.declared.content.Move.{Move}
+use Rattle.s2edit.specs.Content.{diff_of}
 use Rattle.s2edit.specs.Working.InTurn.{of_register}
 use Rattle.s2edit.specs.Working.Part.{HoldsNamed}
 use Rattle.s2edit.proofs.Watching.{holds_more, next_held}

@@ -2,7 +2,7 @@ use Rattle.std.proofs.Common.{ℕ, Bool, map, drop}
 use Rattle.std.specs.List.{AllByRecursion}
 use Rattle.s2list.specs.Union.{IsWithin}
 use Rattle.s2union.specs.Apply.{has}
-use Rattle.s2file.specs.Session.{diff_of}
+use Rattle.s2edit.specs.Content.{diff_of}
 use Rattle.s2edit.specs.Working.InTurn.{of_register}
 use Rattle.s2edit.specs.Working.Part.{HoldsNamed}
 use Rattle.s2edit.proofs.restore.parts.named_cells.Given as goal

@@ -1,5 +1,5 @@
 use Rattle.std.proofs.Common.{map}
-use Rattle.s2file.specs.Session.{diff_of}
+use Rattle.s2edit.specs.Content.{diff_of}
 use Rattle.s2edit.specs.Working.InTurn.{of_register}
 use Rattle.s2edit.proofs.Watching.{all_watched, still_had}
 use Rattle.s2edit.proofs.restore.parts.part_of.Goals as goal

@@ -1,6 +1,6 @@
 use Rattle.std.proofs.Common.{refl}
 use Rattle.s2list.specs.Numbers.{number_text}
-use Rattle.s2file.proofs.laws.known_sessions.Goals as goal
+use Rattle.s2session.proofs.laws.known_sessions.Goals as goal
 
 pub returns-clause-untouched : goal.returns-clause-untouched
 unfolding number_text

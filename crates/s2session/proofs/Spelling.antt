@@ -1,10 +1,13 @@
 -- Bytes and the histories that they stand for.
 use Rattle.std.proofs.Common.{◌≡◌, ◌≢◌, ℕ, ◌+◌, ◌≤◌, Bool, List, length, inl, refl, sym, ap, ◌∙◌, subst, arith}
-use Rattle.s2file.specs.Session.{Content, Spells}
-use Rattle.s2file.proofs.Spelled.{one_spelled}
+use Rattle.std.proofs.Common.{Result, Ok, Err, Vec, Global}
+use Rattle.std.specs.Prelude.{IfOk}
+use Rattle.std.specs.declared.alloc.AllocError.{AllocError}
+use Rattle.s2edit.specs.Content.{Content}
+use Rattle.s2session.specs.Session.{session_text, Spells, Text, Stored, StoredSets}
+use Rattle.s2session.proofs.Spelled.{one_spelled}
 use Rattle.s2edit.specs.History.{History, EachList, sets}
-use Rattle.s2edit.specs.Session.{Records, Text, Stored, StoredSets, IsKept, Restored, IsTooDeep, IsTooMany}
-use Rattle.s2edit.specs.Session.{RefusesToRestore}
+use Rattle.s2edit.specs.Session.{Records, IsKept, Restored, IsTooDeep, IsTooMany, RefusesToRestore}
 use Rattle.s2edit.specs.declared.session.RestoreFault.{RestoreFault}
 use Rattle.s2edit.specs.declared.session.RestoreFault.TheVariants.{Fit, TooDeep, TooMany, Memory}
 use Rattle.s2edit.proofs.Telling.{one_told}
@@ -12,6 +15,13 @@ use Rattle.s2edit.proofs.Contents.{told_content}
 
 pub spelled_text : (bytes : List ℕ) (h : History (List ℕ)) (t : Text h bytes) → Spells bytes t.content
 spelled_text bytes h t = inl (record { content = told_content t.content h t.tells; text = t.is })
+
+-- the text of a session that tells the history
+pub text_told : (r : Result (Vec ℕ Global) AllocError) (s : Content) (h : History (List ℕ)) → Records s h →
+    IfOk r (λ bytes. bytes.items ≡ session_text s)
+    → IfOk r (λ bytes. Text h bytes.items)
+text_told (Ok bytes) s h t is = record { content = s; tells = t; is = is }
+text_told (Err e) s h t is = tt
 
 pub text_is_stored : (bytes : List ℕ) (h : History (List ℕ)) → Text h bytes → Stored bytes h
 text_is_stored bytes h t = record { content = t.content; spells = spelled_text bytes h t; tells = t.tells }

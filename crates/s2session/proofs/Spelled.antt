@@ -7,11 +7,11 @@ use Rattle.std.specs.List.{AllByRecursion}
 use Rattle.s2list.specs.Union.{has_leaf, IsLocal}
 use Rattle.s2list.proofs.Normal.{same_from_leaves}
 use Rattle.s2list.proofs.Shortest.{shortest}
-use Rattle.s2file.specs.Session.{Content, content_of_list, session_text, IsRegisterList}
-use Rattle.s2file.specs.Session.{IsContent, IsSessionFile, IsUnionFile, Spells}
+use Rattle.s2edit.specs.Content.{Content, IsRegisterList, IsContent}
+use Rattle.s2session.specs.Session.{content_of_list, session_text, IsSessionFile, IsUnionFile, Spells}
 use Rattle.s2file.specs.File.{file_ids}
 use Rattle.s2file.proofs.Files.{length-file_ids, same_leaves}
-use Rattle.s2file.proofs.Fronts.{parts_of, one_session}
+use Rattle.s2session.proofs.Fronts.{parts_of, one_session}
 
 -- a session file spells one session
 file_same : {bytes : List ℕ} {s t : Content} → IsSessionFile bytes s → IsSessionFile bytes t → s ≡ t

@@ -1,4 +1,4 @@
-//! What a session file holds, as values.
+//! What a session says, as values.
 use s2cell::CellId;
 use s2union::CellUnion;
 

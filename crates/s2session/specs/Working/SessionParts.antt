@@ -3,8 +3,10 @@ use Rattle.std.specs.Prelude.{◌≡◌, ℕ, ◌≤◌, ◌<◌, ◌^◌, List,
 use Rattle.std.specs.List.{AllByRecursion}
 use Rattle.s2cell.specs.Cell.{IsCell}
 use Rattle.s2list.specs.Numbers.{first_number, number_text}
-use Rattle.s2file.specs.Session.{Diff, list_text, move_text, IsRegisterList, IsMove}
-use Rattle.s2file.specs.declared.TheConstants.{SESSION_REGISTERS, SESSION_CHANGES}
+use Rattle.s2edit.specs.Diff.{Diff}
+use Rattle.s2session.specs.Session.{list_text, move_text}
+use Rattle.s2edit.specs.Content.{IsRegisterList, IsMove}
+use Rattle.s2edit.specs.declared.TheConstants.{SESSION_REGISTERS, SESSION_CHANGES}
 
 -- the bytes are the text of `value`, for which `Ok` holds, followed by `rest`
 pub record Begins {A : Type 0} (text : A → List ℕ) (Ok : A → Type 0) (bytes : List ℕ) (value : A) (rest : List ℕ) :

@@ -1,8 +1,9 @@
 -- The laws of sessions.
 use Rattle.std.specs.Prelude.{◌≡◌, ℕ, Bool, List}
-use Rattle.s2file.specs.Session.{Content, Spells}
+use Rattle.s2edit.specs.Content.{Content}
+use Rattle.s2session.specs.Session.{Spells, Text, Stored, StoredSets}
 use Rattle.s2edit.specs.History.{History}
-use Rattle.s2edit.specs.Session.{Records, Text, Stored, StoredSets, IsKept, Restored, RefusesToRestore}
+use Rattle.s2edit.specs.Session.{Records, IsKept, Restored, RefusesToRestore}
 use Rattle.s2edit.specs.declared.session.RestoreFault.{RestoreFault}
 use Rattle.s2edit.specs.declared.session.RestoreFault.TheVariants.{Memory}
 

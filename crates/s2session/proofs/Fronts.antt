@@ -8,9 +8,10 @@ use Rattle.s2cell.specs.Cell.{IsCell}
 use Rattle.s2cell.proofs.Calls.{fits_u64}
 use Rattle.s2list.specs.Numbers.{first_number, number_text}
 use Rattle.s2list.proofs.Numbers.{first_number-number_text, length-number_text}
-use Rattle.s2file.specs.Session.{Diff, Content, list_text, move_text, moves_text, parts_text, IsRegisterList}
-use Rattle.s2file.specs.Session.{AreCells, IsMove, IsContent}
-use Rattle.s2file.specs.Working.SessionParts.{Begins, IsNumber, AreMoves, AreRegisters, registers_text}
+use Rattle.s2edit.specs.Diff.{Diff}
+use Rattle.s2edit.specs.Content.{Content, IsRegisterList, AreCells, IsMove, IsContent}
+use Rattle.s2session.specs.Session.{list_text, move_text, moves_text, parts_text}
+use Rattle.s2session.specs.Working.SessionParts.{Begins, IsNumber, AreMoves, AreRegisters, registers_text}
 
 -- two values at the front of the same bytes are one, and the same bytes follow
 abbrev pub IsOneWay : {A : Type 0} → (A → List ℕ) → (A → Type 0) → Type 0
