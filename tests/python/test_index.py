@@ -117,8 +117,8 @@ class Joins(unittest.TestCase):
                 Index(shapes, names)
 
     def test_zones_in_wkb(self):
-        """As objects of shapely, whose corners may have heights, and as bytes in either order, which may have the system
-        of coordinates in degrees."""
+        """As objects of shapely, whose corners may have heights, and as bytes in either order, which may have the
+        system of coordinates in degrees."""
         import shapely.geometry
         import shapely.ops
         from shapely import geos

@@ -127,7 +127,7 @@ fn open_file<S: Shelf>(shelf: &mut S, name: &str) -> Result<OpenedFile<S::File>,
 }
 
 /// Takes over the session that the bytes encode, or says why it can't.
-#[tactic(auto, using(s2edit::proofs::Spelling::restores_bytes))]
+#[tactic(auto, using(s2session::proofs::Spelling::restores_bytes))]
 fn take_over(editor: &mut Editor, session: Session) -> Result<(), Refusal>
     requires { IsContent (content_of session) }
     ensures answer { (bytes : List ℕ) → Spells bytes (content_of session) → MatchResult result
