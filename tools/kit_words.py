@@ -71,6 +71,8 @@ WORDS = {
     "is_digit": ("is_digit c radix", "whether `c` is a digit or a letter of a value below the radix, in either case"),
     "AllDigits": ("AllDigits radix cs", "each byte is such a digit"),
     "digits_value": ("digits_value radix cs", "the number that they write"),
+    "IsNumeral": ("IsNumeral radix cs", "`cs` has such digits alone, and one at least"),
+    "without_leading_plus": ("without_leading_plus cs", "`cs` without a `+` at its beginning"),
     "little_bytes": ("little_bytes n m", "the lowest n bytes of m, the lowest first"),
     "strip_last": ("strip_last b xs", "`xs` without its last byte, if that is `b`"),
     "escape_ascii": ("escape_ascii c", "the byte as it is if it can be printed; else, and of quotes and a backslash, "

@@ -29,3 +29,6 @@ pub mod StoredLemmas
 pub mod TakeInLemmas
 pub mod TextLemmas
 pub mod UndoLemmas
+pub mod WordRows
+pub mod WordWalks
+pub mod WordsAlone

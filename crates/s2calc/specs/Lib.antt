@@ -22,6 +22,7 @@ pub mod LawsScripts
 pub mod LawsFound
 pub mod LawsStored
 pub mod Program
+pub mod CommandLine
 pub mod Check
 pub mod Draw
 pub mod Overlay

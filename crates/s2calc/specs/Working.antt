@@ -11,5 +11,6 @@ pub mod Seen
 pub mod Stands
 pub mod Desk
 pub mod Program
+pub mod CommandLine
 pub mod Check
 pub mod Sessions

@@ -1,15 +1,17 @@
 //! The command line.
-ghost use Rattle.std.specs.Prelude.{◌≤◌, ◌↔◌, IsTrue, IfOk, IfSome};
+ghost use Rattle.std.specs.Prelude.{IfOk, IfSome, map, string_bytes};
 ghost use Rattle.clap.specs.Values.{kind_of};
+ghost use Rattle.s2calc.specs.CommandLine.{AsksForCell, AsksForCheck, AsksForRun};
 ghost use Rattle.s2calc.specs.Program.{IsInRange};
 ghost use Rattle.s2calc.specs.Working.Program.{IsStopOf};
 
+use crate::arguments::{cell, depth, explain, file, folder, limit, prompt, stop};
 use crate::help::{ABOUT, AFTER, PICTURE};
+use crate::jobs::{cell_job, check_job, draw_job, run_job};
+use crate::plain_line::plain_job;
 use crate::task::{Job, Stop};
-use clap::builder::ValueParser;
 use clap::error::ErrorKind;
-use clap::{Arg, ArgAction, ArgGroup, ArgMatches, Command, Error, value_parser};
-use s2edit::{MOST_REGISTER, MOST_STATES};
+use clap::{Arg, ArgAction, ArgGroup, ArgMatches, Command, Error};
 use s2script::HELP;
 use std::alloc::{AllocError, Global};
 
@@ -17,6 +19,20 @@ use std::alloc::{AllocError, Global};
 ///
 /// `Stop::Memory` may come in place of any answer.
 pub fn job(alloc: Global, words: Vec<String>) -> Result<Job, Stop>
+    ensures range { IfOk result IsInRange }
+    ensures run { AsksForRun (map string_bytes words.items) result }
+    ensures cell { AsksForCell (map string_bytes words.items) result }
+    ensures check { AsksForCheck (map string_bytes words.items) result }
+{
+    match plain_job(alloc, words.as_slice()) {
+        Ok(Some(job)) => Ok(job),
+        Ok(None) => any_job(alloc, words),
+        Err(_) => Err(Stop::Memory),
+    }
+}
+
+/// What words of any form ask for.
+fn any_job(alloc: Global, words: Vec<String>) -> Result<Job, Stop>
     ensures { IfOk result IsInRange }
 {
     match parse(alloc, words) {
@@ -59,96 +75,15 @@ fn job_of(alloc: Global, matches: &ArgMatches<'_>) -> Result<Option<Job>, AllocE
         return run_job(alloc, run);
     }
     if let Some(cell) = matches.subcommand_matches("cell") {
-        return Ok(Some(Job::Cell {
-            word: text(alloc, cell, "CELL")?,
-        }));
+        return cell_job(alloc, cell);
     }
     if let Some(check) = matches.subcommand_matches("check") {
-        return Ok(Some(Job::Check {
-            dir: text(alloc, check, "dir")?,
-            name: text(alloc, check, "FILE")?,
-        }));
+        return check_job(alloc, check);
     }
     if let Some(draw) = matches.subcommand_matches("draw") {
         return draw_job(alloc, draw);
     }
     Ok(None)
-}
-
-/// The run that is asked for.
-fn run_job(alloc: Global, run: &ArgMatches<'_>) -> Result<Option<Job>, AllocError>
-    ensures { IfOk result (λ job. IfSome job IsInRange) }
-{
-    let limit = run.get_one::<usize>("limit").unwrap_or(0);
-    let depth = run.get_one::<usize>("depth").unwrap_or(0);
-    if !is_within(limit, MOST_REGISTER) || !is_within(depth, MOST_STATES) {
-        return Ok(None);
-    }
-    Ok(Some(Job::Run {
-        limit,
-        depth,
-        dir: text(alloc, run, "dir")?,
-        explain: run.get_flag("explain") || run.get_flag("prompt"),
-        prompt: run.get_flag("prompt"),
-        stop: run.get_flag("stop"),
-    }))
-}
-
-fn is_within(n: usize, most: usize) -> bool
-    ensures { IsTrue result ↔ ((1 ≤ n) × (n ≤ most)) }
-{
-    n >= 1 && n <= most
-}
-
-/// The picture that is asked for.
-fn draw_job(alloc: Global, draw: &ArgMatches<'_>) -> Result<Option<Job>, AllocError>
-    ensures { IfOk result (λ job. IfSome job IsInRange) }
-{
-    let curve = draw.get_flag("curve");
-    match draw.get_strs("cells") {
-        Some(words) => Ok(Some(Job::DrawCells {
-            words: texts(alloc, words)?,
-            curve,
-        })),
-        None => file_job(alloc, draw, curve),
-    }
-}
-
-/// The picture of one file, or of several.
-fn file_job(alloc: Global, draw: &ArgMatches<'_>, curve: bool) -> Result<Option<Job>, AllocError>
-    ensures { IfOk result (λ job. IfSome job IsInRange) }
-{
-    let dir = text(alloc, draw, "dir")?;
-    match draw.get_strs("FILE") {
-        Some(names) if draw.get_flag("fit") => Ok(Some(Job::Fit {
-            dir,
-            names: texts(alloc, names)?,
-        })),
-        Some(names) if names.len() > 1 => Ok(Some(Job::Overlay {
-            dir,
-            names: texts(alloc, names)?,
-            curve,
-        })),
-        _ => Ok(Some(Job::Draw {
-            dir,
-            name: text(alloc, draw, "FILE")?,
-            curve,
-        })),
-    }
-}
-
-/// Copies of the words.
-fn texts(alloc: Global, words: &[&str]) -> Result<Vec<String>, AllocError> {
-    let mut texts = Vec::with_capacity(alloc, words.len())?;
-    for word in words {
-        texts.push(String::from_str(alloc, word)?)?;
-    }
-    Ok(texts)
-}
-
-/// The word of an argument that is required or has a default.
-fn text(alloc: Global, matches: &ArgMatches<'_>, id: &str) -> Result<String, AllocError> {
-    String::from_str(alloc, matches.get_str(id).unwrap_or(""))
 }
 
 /// The program with its commands.
@@ -235,31 +170,15 @@ fn with_arguments<'a>(
 
 fn arg_of<'a>(alloc: Global, named: ArgumentName) -> Result<Arg<'a>, AllocError> {
     match named {
-        ArgumentName::Limit => Ok(number(
-            alloc,
-            "limit",
-            MOST_REGISTER as i64,
-            "10000",
-            "The most cells of a register, 1 to 1000000",
-        )),
-        ArgumentName::Depth => Ok(number(
-            alloc,
-            "depth",
-            MOST_STATES as i64,
-            "100",
-            "The most states that undo can go back, 1 to 10000",
-        )),
+        ArgumentName::Limit => Ok(limit(alloc)),
+        ArgumentName::Depth => Ok(depth(alloc)),
         ArgumentName::Dir => Ok(dir(alloc)),
         ArgumentName::DirOfFiles => dir(alloc).conflicts_with("cells"),
         ArgumentName::Explain => Ok(explain(alloc)),
         ArgumentName::Prompt => Ok(prompt(alloc)),
         ArgumentName::Stop => Ok(stop(alloc)),
-        ArgumentName::Cell => Ok(word(
-            alloc,
-            "CELL",
-            "The token (64c) or the debug text (3/021) of a cell",
-        )),
-        ArgumentName::File => Ok(word(alloc, "FILE", "The name of a file in the folder")),
+        ArgumentName::Cell => Ok(cell(alloc).allow_hyphen_values(true)),
+        ArgumentName::File => Ok(file(alloc).allow_hyphen_values(true)),
         ArgumentName::Cells => Ok(cells(alloc)),
         ArgumentName::Curve => Ok(curve(alloc)),
         ArgumentName::Fit => fit(alloc),
@@ -361,62 +280,7 @@ fn fit<'a>(alloc: Global) -> Result<Arg<'a>, AllocError> {
         .conflicts_with("curve")
 }
 
-/// A number from 1 on.
-fn number<'a>(alloc: Global, name: &'a str, most: i64, usual: &'a str, help: &'a str) -> Arg<'a> {
-    Arg::new(alloc, name)
-        .long(name)
-        .value_name("N")
-        .help(help)
-        .action(ArgAction::Set)
-        .value_parser(value_parser!(usize).range(1..=most))
-        .default_value(usual)
-}
-
-/// The path of the folder of files. An empty path is refused, since it would name the root folder.
+/// The path of the folder of files, whatever it begins with.
 fn dir<'a>(alloc: Global) -> Arg<'a> {
-    Arg::new(alloc, "dir")
-        .long("dir")
-        .value_name("PATH")
-        .help("The folder of the files")
-        .action(ArgAction::Set)
-        .value_parser(ValueParser::NonEmptyString)
-        .allow_hyphen_values(true)
-        .default_value(".")
-}
-
-/// The flag that asks why lines are refused.
-fn explain<'a>(alloc: Global) -> Arg<'a> {
-    Arg::new(alloc, "explain")
-        .long("explain")
-        .help("Says on standard error why lines are refused")
-        .action(ArgAction::SetTrue)
-}
-
-/// The flag that asks for a prompt.
-fn prompt<'a>(alloc: Global) -> Arg<'a> {
-    Arg::new(alloc, "prompt")
-        .long("prompt")
-        .help(
-            "Shows a prompt on standard error, and explains; 'rlwrap s2calc run --prompt' edits lines",
-        )
-        .action(ArgAction::SetTrue)
-}
-
-/// The flag that asks for an end at the first error.
-fn stop<'a>(alloc: Global) -> Arg<'a> {
-    Arg::new(alloc, "stop")
-        .long("stop")
-        .help(
-            "Stops at the first line with an error; without it a script goes on, and save replaces a file",
-        )
-        .action(ArgAction::SetTrue)
-}
-
-/// A required word, whatever it begins with.
-fn word<'a>(alloc: Global, name: &'a str, help: &'a str) -> Arg<'a> {
-    Arg::new(alloc, name)
-        .help(help)
-        .required(true)
-        .action(ArgAction::Set)
-        .allow_hyphen_values(true)
+    folder(alloc).allow_hyphen_values(true)
 }

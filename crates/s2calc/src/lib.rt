@@ -9,12 +9,13 @@
 //! the writer is flushed, `observer` who sees in which order a run reads and carries out lines. `limits` are the
 //! limits, `laws` laws about the definitions.
 //!
-//! For the program: `command_line`, `help` and `task` (what it is asked for), `program`, `check`, `draw`, `overlay` and
-//! `fit` (its other answers).
+//! For the program: `command_line`, `plain_line`, `arguments`, `jobs`, `help` and `task` (what it is asked for),
+//! `program`, `check`, `draw`, `overlay` and `fit` (its other answers).
 #![tactic(auto)]
 
 mod answer;
 mod answer_buffer;
+mod arguments;
 mod check;
 mod command_line;
 mod desk;
@@ -28,6 +29,7 @@ mod files;
 mod fit;
 mod flushing;
 mod help;
+mod jobs;
 mod kept;
 pub mod laws;
 mod limits;
@@ -36,6 +38,7 @@ mod notes;
 mod observer;
 mod output;
 mod overlay;
+mod plain_line;
 mod program;
 mod progress;
 mod questions;
