@@ -1,10 +1,12 @@
 """The index of s2union_geo beside a plain loop over all edges of all polygons, its file, and what is refused; `join`
 and `index` of the command line."""
 
+import contextlib
 import csv
 import io
 import json
 import os
+import pty
 import random
 import subprocess
 import sys
@@ -371,6 +373,21 @@ def test_rows_that_are_wrong(zones, text, wanted):
     assert (status, error) == (1, f"s2union_geo: {wanted}; --skip leaves it out\n")
     status, out, error = said("join", "-", zones, "--skip", text=text.encode())
     assert (status, error, out.count("\n")) == (0, f"s2union_geo: left out: {wanted}\n", 2)
+
+
+def test_what_a_terminal_shows(zones):
+    """At the end, how many rows there were, and how many were left out."""
+    ours, its = pty.openpty()
+    done = subprocess.run([sys.executable, "-m", "s2union_geo", "join", "-", zones, "--skip"],
+                          input=b"x,y\n6,6\n1,99\n1,1\n", stdout=subprocess.PIPE, stderr=its)
+    os.close(its)
+    shown = b""
+    with contextlib.suppress(OSError):  # at the end of a terminal
+        while more := os.read(ours, 4096):
+            shown += more
+    os.close(ours)
+    assert (done.returncode, done.stdout.count(b"\n")) == (0, 4)
+    assert shown.endswith(b"2 points, 3 pairs; left out: 1\r\n")
 
 
 def test_more_rows_than_are_read_at_once(zones, monkeypatch, capsys, tmp_path):
