@@ -1,6 +1,7 @@
 -- How clap reads the words of `cell` and `check`, and what a parse gives of words that a command takes.
 use Rattle.std.proofs.Common.{◌≡◌, ◌∙◌, ◌==◌, ℕ, Bool, true, false, not, refl, sym, ap, ap₂, subst, List, [], ◌∷◌}
-use Rattle.std.proofs.Common.{Option, Some, None, codes}
+use Rattle.std.proofs.Common.{Option, Some, None, codes, ◌-◌, String, arith, drop, length, map, string_bytes, take}
+use Rattle.std.proofs.lemmas.List.{take_all}
 use Rattle.std.specs.Option.{IsSomeAnd}
 use Rattle.clap.specs.Walk.{Text, first_of, rows_of}
 use Rattle.clap.specs.Simple.{App, HasMatchesOf, is_simple, matches_of}
@@ -72,3 +73,11 @@ module _ (command made : App) (line given : List Text) (same : made ≡ command)
   none_found answer answers is =
       subst (λ (o : Option ArgMatches). IsSomeAnd o (HasMatchesOf made given)) is
       (answers (ap₂ takes same same_line ∙ is_taken))
+
+-- the words after the first
+pub rest_words : {Z : Type 0} (words : List (String Z)) (first : Text) (rest : List Text)
+    → map string_bytes words ≡ first ∷ rest
+    → map string_bytes (take (length words - 1) (drop 1 words)) ≡ rest
+rest_words [] first rest e = ap (drop 1) e
+rest_words (word ∷ words) first rest e =
+    ap (map string_bytes) (take_all (length (word ∷ words) - 1) words (omega arith)) ∙ ap (drop 1) e
