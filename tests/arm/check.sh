@@ -13,9 +13,10 @@ need gcc gcc libc6-dev
 need musl-gcc musl-tools
 need go golang-go
 need_file /usr/include/sqlite3ext.h libsqlite3-dev
+need_file /usr/lib/python3/dist-packages/pytest python3-pytest
 need_packages
 need_library
-need_arm python3 python3-numpy libsqlite3-0
+need_arm python3 python3-numpy python3-pytest libsqlite3-0
 python_on_arm() {
   local numpy=/usr/lib/aarch64-linux-gnu
   PYTHONDONTWRITEBYTECODE=1 S2UNION_LIBRARY=$arm/lib/libs2union.so.1 timeout 7200 qemu-aarch64-static -L "$system" \
@@ -73,10 +74,11 @@ step "the shared library: pages, symbols, stack" wants "$arm/lib/libs2union.so.1
 
 # ---- Python, SQLite, Go
 
-in_python() ( # FOLDER TEST..
-  cd "$top/tests/python" && PYTHONPATH=$arm/lib/python:$top/tests python_on_arm "$tests/unittests.py" "$@"
+by_qemu=(-m pytest -p no:cacheprovider -p left_out)
+in_python() (
+  cd "$top/tests/python" && PYTHONPATH=$arm/lib/python:$top/tests:$tests python_on_arm "${by_qemu[@]}" test_library.py
 )
-step "Python: against the model, and the module" in_python "$top/tests/python" test_library
+step "Python: against the model, and the module" in_python
 page() { (cd "$top/tests/python" && PYTHONPATH=$arm/lib/python python_on_arm -m doctest "$top/docs/$1"); }
 step "Python: docs/PYTHON.md" page PYTHON.md
 
@@ -86,8 +88,8 @@ extension() { # FOLDER FLAGS..
 }
 in_sqlite() { # FOLDER TEST..
   (
-    cd "$top/tests/sqlite" && export PYTHONPATH=$top/tests S2UNION_ROUNDS=${S2UNION_ROUNDS:-1500}
-    S2UNION_SQLITE=$work/$1/mod_s2union.so python_on_arm "$tests/unittests.py" "$top/tests/sqlite" "${@:2}"
+    cd "$top/tests/sqlite" && export PYTHONPATH=$top/tests:$tests S2UNION_ROUNDS=${S2UNION_ROUNDS:-1500}
+    S2UNION_SQLITE=$work/$1/mod_s2union.so python_on_arm "${by_qemu[@]}" "${@:2}"
   )
 }
 counting() {
@@ -96,9 +98,10 @@ counting() {
 }
 step "SQLite: build" extension sqlite
 step "SQLite: build, counting steps" counting
-step "SQLite: against the model, and what is refused" in_sqlite sqlite test_sqlite.AgainstTheModel \
-  test_sqlite.WhatIsRefused
-step "SQLite: a union that is asked for each row is looked at once" in_sqlite counted test_sqlite.Steps
+step "SQLite: against the model, and what is refused" in_sqlite sqlite \
+  test_sqlite.py::AgainstTheModel test_sqlite.py::WhatIsRefused
+step "SQLite: a union that is asked for each row is looked at once" in_sqlite counted \
+  test_sqlite.py::Steps
 
 in_go() (
   export PYTHONDONTWRITEBYTECODE=1
@@ -115,7 +118,8 @@ step "Go: against the model, what is refused, and the examples" in_go
 
 step "s2calc for ARM" "$top/tools/archive" --program --target aarch64
 calculator=$top/crates/calculator/out/aarch64/calculator
-printf '#!/bin/sh\nexec qemu-aarch64-static -L /usr/aarch64-linux-gnu %q "$@"\n' "$calculator" >"$work/s2calc"
+printf '#!/bin/sh\nexec %q -L /usr/aarch64-linux-gnu %q "$@"\n' "$(command -v qemu-aarch64-static)" "$calculator" \
+  >"$work/s2calc"
 chmod 755 "$work/s2calc"
 export S2CALC=$work/s2calc
 rows() {
@@ -123,8 +127,7 @@ rows() {
 }
 step "s2calc: its own row" rows
 as_a_process() {
-  PYTHONDONTWRITEBYTECODE=1 PYTHONPATH=$top/tests /usr/bin/python3 "$tests/unittests.py" \
-    "$top/tests/program"
+  PYTHONDONTWRITEBYTECODE=1 PYTHONPATH=$top/tests:$tests /usr/bin/python3 "${by_qemu[@]}" "$top/tests/program"
 }
 step "s2calc: as a process" as_a_process
 step "s2calc: $scripts random scripts, and a plain model" /usr/bin/python3 "$top/tests/peer/scripts.py" "$scripts"

@@ -12,7 +12,7 @@ need aarch64-linux-gnu-g++ g++-aarch64-linux-gnu
 need qemu-aarch64-static qemu-user-static
 need mmdebstrap mmdebstrap
 
-unpacked() { # PACKAGE..
+unpacked_for_arm() { # PACKAGE..
   local sources
   mapfile -t sources < <(bash "$top/tools/packaging/sources.sh")
   mmdebstrap --quiet --variant=extract --architectures=arm64 --include="$(IFS=, && echo "$*")" "${sources[0]}" \
@@ -20,7 +20,7 @@ unpacked() { # PACKAGE..
 }
 need_arm() { # PACKAGE..: of Debian for ARM
   step "tools/library for ARM" "$top/tools/library" "$arm" --target aarch64
-  step "Debian's packages for ARM, unpacked: $*" unpacked "$@"
+  step "Debian's packages for ARM, unpacked: $*" unpacked_for_arm "$@"
   [ "$failed" -eq 0 ] || finish
 }
 on_arm() { timeout 7200 qemu-aarch64-static -L /usr/aarch64-linux-gnu -E LD_LIBRARY_PATH="$arm/lib" "$@"; }

@@ -19,7 +19,7 @@ extern "C" s2u_block s2u_heap_grow(void* at, size_t, size_t size, size_t align) 
 extern "C" void s2u_heap_give_back(void* at) { free(at); }
 
 #if S2UNION_THROWS
-/// The memory of std's lists and strings, which can run out too.
+/// The memory of std's lists and strings, which can run out too. gcc warns of a pair of which it inlines one alone.
 static bool std_has_memory = true;
 void* operator new(size_t size) {
   void* at = std_has_memory ? malloc(size ? size : 1) : nullptr;
@@ -27,8 +27,8 @@ void* operator new(size_t size) {
   return at;
 }
 void* operator new(size_t size, const std::nothrow_t&) noexcept { return std_has_memory ? malloc(size) : nullptr; }
-void operator delete(void* at) noexcept { free(at); }
-void operator delete(void* at, size_t) noexcept { free(at); }
+[[gnu::noinline]] void operator delete(void* at) noexcept { free(at); }
+[[gnu::noinline]] void operator delete(void* at, size_t) noexcept { free(at); }
 #endif
 
 /// A class whose numbers are too short for cells: no union is made of them.
