@@ -13,6 +13,7 @@ import pexpect
 TESTS = os.path.dirname(os.path.dirname(os.path.realpath(__file__)))
 sys.path.append(os.path.join(TESTS, "program"))
 from process import LAUNCHER, PROGRAM, TOP, ran  # noqa: E402
+import prompt  # noqa: E402: which process finds
 
 PROMPT = "s2calc> "
 UP, LEFT, BACKSPACE, INTERRUPT, END, STOP = "\x1b[A", "\x1b[D", "\x7f", "\x03", "\x04", "\x1a"
@@ -211,6 +212,18 @@ class Keys(unittest.TestCase):
             self.assertEqual(self.shown(session).strip("^C"), "\n(Ctrl-D or 'quit' leaves)\n")
         self.assertEqual(self.answered(session, "count a"), "cells 2 leaves 576460752303423488\n")
         self.assertEqual(self.status(session), 0)
+
+    def test_two_interrupts_at_once(self):
+        """A second Ctrl-C that comes before the first is caught drops nothing, and the prompt is shown again."""
+        keyboard = object.__new__(prompt.Keyboard)
+        keyboard.readline, keyboard.is_typing, keyboard.is_covered = None, True, False
+        with self.assertRaises(KeyboardInterrupt):
+            keyboard.interrupted()
+        try:
+            keyboard.interrupted()
+        except KeyboardInterrupt:
+            self.fail("raised a second time")
+        self.assertTrue(keyboard.is_covered)
 
     def test_beside_others(self):
         """The same keys: a line is edited, Ctrl-C at an empty one keeps the session, Up brings a line back."""
