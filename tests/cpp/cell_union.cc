@@ -21,12 +21,14 @@ extern "C" void s2u_heap_give_back(void* at) { free(at); }
 #if S2UNION_THROWS
 /// The memory of std's lists and strings, which can run out too. gcc warns of a pair of which it inlines one alone.
 static bool std_has_memory = true;
-void* operator new(size_t size) {
+[[gnu::noinline]] void* operator new(size_t size) {
   void* at = std_has_memory ? malloc(size ? size : 1) : nullptr;
   if (at == nullptr) throw std::bad_alloc();
   return at;
 }
-void* operator new(size_t size, const std::nothrow_t&) noexcept { return std_has_memory ? malloc(size) : nullptr; }
+[[gnu::noinline]] void* operator new(size_t size, const std::nothrow_t&) noexcept {
+  return std_has_memory ? malloc(size) : nullptr;
+}
 [[gnu::noinline]] void operator delete(void* at) noexcept { free(at); }
 [[gnu::noinline]] void operator delete(void* at, size_t) noexcept { free(at); }
 #endif
