@@ -866,6 +866,15 @@ class Indexes(Tests):
         self.assertLess(read, pages / 10)
 
 
+VISITS = """
+    SET client_min_messages = error;
+    DROP TABLE IF EXISTS visits;
+    CREATE TABLE visits AS SELECT s2_leaf(0, 9 * k, 7 * k) AS leaf FROM generate_series(1, 3000) AS k;
+    CREATE INDEX ON visits (leaf);
+    ANALYZE visits;
+"""
+
+
 class Planner(Tests):
     """Which plan is chosen, with nothing disabled."""
 
@@ -1026,13 +1035,7 @@ class Planner(Tests):
         self.assertEqual(self.expected(self.plan("SELECT * FROM one WHERE region && '1'")), 1)
 
     def test_functions_that_are_renamed_keep_their_estimates_and_their_indexes(self):
-        psql("""
-            SET client_min_messages = error;
-            DROP TABLE IF EXISTS visits;
-            CREATE TABLE visits AS SELECT s2_leaf(0, 9 * k, 7 * k) AS leaf FROM generate_series(1, 3000) AS k;
-            CREATE INDEX ON visits (leaf);
-            ANALYZE visits;
-        """)
+        psql(VISITS)
         asked = [("contains", "small", "s2union, s2union", "region, '04'"), ("contains", "small", "s2union, bigint",
                   "region, s2_leaf(0, 5, 5)"), ("within", "small", "s2union, s2union", "region, '1 3 5'"),
                  ("within", "visits", "bigint, s2union", "leaf, s2_parent(s2_leaf(0, 9, 7), 24)::s2union"),
@@ -1053,13 +1056,7 @@ class Planner(Tests):
     def test_the_edges_of_a_union_are_found_by_their_names_in_c(self):
         """Also if another function has their name in SQL."""
         asked = "EXPLAIN SELECT FROM visits WHERE s2_within(leaf, s2_parent(s2_leaf(0, 9, 7), 24)::s2union);"
-        psql("""
-            SET client_min_messages = error;
-            DROP TABLE IF EXISTS visits;
-            CREATE TABLE visits AS SELECT s2_leaf(0, 9 * k, 7 * k) AS leaf FROM generate_series(1, 3000) AS k;
-            CREATE INDEX ON visits (leaf);
-            ANALYZE visits;
-        """)
+        psql(VISITS)
         for edge in ("s2union_least", "s2union_greatest"):
             plans = "\n".join(psql(f"""
                 BEGIN; {asked} SELECT 'and then';

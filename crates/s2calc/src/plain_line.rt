@@ -1,5 +1,5 @@
 //! Command lines that clap is proved to read: the command is known by the first word, and each has a parser of its own,
-//! which takes no value that begins with a hyphen. What it doesn't take is left to the parser of all commands.
+//! which takes no value that begins with a hyphen. Words that it doesn't take are left to the parser of all commands.
 ghost use Rattle.std.specs.Prelude.{◌≡◌, IfOk, IfSome, IsSomeAnd, true, map, string_bytes};
 ghost use Rattle.clap.specs.Words.{HasMatchesOf, app_of, takes};
 ghost use Rattle.s2calc.specs.Program.{IsInRange};
