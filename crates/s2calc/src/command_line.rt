@@ -31,7 +31,7 @@ pub fn job(alloc: Global, words: Vec<String>) -> Result<Job, Stop>
     }
 }
 
-/// What words of any form ask for.
+/// The job that words of any form ask for.
 fn any_job(alloc: Global, words: Vec<String>) -> Result<Job, Stop>
     ensures { IfOk result IsInRange }
 {

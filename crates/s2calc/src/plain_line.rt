@@ -64,7 +64,7 @@ fn plain_check(alloc: Global, words: &[String]) -> Result<Option<Job>, AllocErro
     }
 }
 
-/// What clap reads in the words, if the command takes them.
+/// The values that clap reads in the words, if the command takes them.
 fn taken<'a>(
     command: Command<'a>,
     words: &'a [String],

@@ -1,4 +1,4 @@
-//! What a session says, as values.
+//! The content of a session, as values.
 use s2cell::CellId;
 use s2union::CellUnion;
 
