@@ -1,14 +1,12 @@
 package s2union_test
 
 import (
-	"bufio"
 	"encoding/binary"
 	"encoding/hex"
 	"encoding/json"
 	"errors"
 	"fmt"
 	"math"
-	"os"
 	"reflect"
 	"strconv"
 	"strings"
@@ -26,28 +24,16 @@ type (
 // TestShapes asks the questions of tests/model/shapes.py, in the file that S2UNION_SHAPES names, and compares the
 // answers.
 func TestShapes(t *testing.T) {
-	path := os.Getenv("S2UNION_SHAPES")
-	if path == "" {
-		t.Skip("S2UNION_SHAPES is not set")
-	}
-	file, err := os.Open(path)
-	if err != nil {
-		t.Fatal(err)
-	}
-	defer file.Close()
 	asked := map[string]int{}
-	lines := bufio.NewScanner(file)
-	lines.Buffer(nil, 1<<24)
-	for lines.Scan() {
-		fields := strings.Split(lines.Text(), "\t")
+	for _, fields := range questionsIn(t, "S2UNION_SHAPES") {
 		found, wanted := answersOf(fields)
 		if found != wanted {
-			t.Errorf("%.200q is %.200q, not %.200q", lines.Text(), found, wanted)
+			t.Errorf("%.200q is %.200q, not %.200q", fields, found, wanted)
 		}
 		asked[fields[0]]++
 	}
-	if lines.Err() != nil || len(asked) != 14 {
-		t.Fatal(lines.Err(), asked)
+	if len(asked) != 14 {
+		t.Fatal(asked)
 	}
 }
 

@@ -1,7 +1,6 @@
 package s2union_test
 
 import (
-	"bufio"
 	"bytes"
 	"encoding/hex"
 	"errors"
@@ -21,22 +20,28 @@ type (
 	CellUnion = s2union.CellUnion
 )
 
-// TestVectors asks the questions of tests/model/vectors.py and edges.py, in the file that S2UNION_VECTORS names, and
-// compares the answers.
-func TestVectors(t *testing.T) {
-	path := os.Getenv("S2UNION_VECTORS")
+// questionsIn are the lines of the file that a variable names, each with its fields. Without it the test is skipped.
+func questionsIn(t *testing.T, variable string) [][]string {
+	path := os.Getenv(variable)
 	if path == "" {
-		t.Skip("S2UNION_VECTORS is not set")
+		t.Skip(variable + " is not set")
 	}
-	file, err := os.Open(path)
+	text, err := os.ReadFile(path)
 	if err != nil {
 		t.Fatal(err)
 	}
-	defer file.Close()
+	var questions [][]string
+	for _, line := range strings.Split(strings.TrimSuffix(string(text), "\n"), "\n") {
+		questions = append(questions, strings.Split(line, "\t"))
+	}
+	return questions
+}
+
+// TestVectors asks the questions of tests/model/vectors.py and edges.py, in the file that S2UNION_VECTORS names, and
+// compares the answers.
+func TestVectors(t *testing.T) {
 	asked := map[string]bool{}
-	lines := bufio.NewScanner(file)
-	for lines.Scan() {
-		fields := strings.Split(lines.Text(), "\t")
+	for _, fields := range questionsIn(t, "S2UNION_VECTORS") {
 		call, last := fields[0], len(fields)-1
 		question, known := questions[call]
 		if !known {
@@ -46,9 +51,6 @@ func TestVectors(t *testing.T) {
 		if found := ask(question, fields[1:last]); found != fields[last] {
 			t.Errorf("%s %q is %q, not %q", call, fields[1:last], found, fields[last])
 		}
-	}
-	if lines.Err() != nil {
-		t.Fatal(lines.Err())
 	}
 	if len(asked) != len(questions) {
 		t.Errorf("%d calls were asked, of %d", len(asked), len(questions))
