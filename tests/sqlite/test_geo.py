@@ -58,6 +58,7 @@ LONGITUDE, LATITUDE = "s2: a longitude is a number from -540 to 540: ", "s2: a l
     ("s2_neighbors('1', 18)", (), "s2: too many cells: 18"),
     ("s2_neighbors(1, 31)", (), "s2: a level is from 0 to 30: 31"), ("s2_neighbors(1.5)", (), "s2: not a cell: 1.5"),
     ("s2_neighbors(x'01', 9)", (), "s2: not a cell: a BLOB of length 1"),
+    ("s2_neighbors(2, 9)", (), "s2: not a cell: 2"),
     ("s2_expanded('1', 'x')", (), "s2: a level is from 0 to 30: 'x'"),
     ("s2_expanded('1', -1)", (), "s2: a level is from 0 to 30: -1"),
     ("s2_expanded('1 x', 3)", (), "s2: not a cell: '1 x'"),
