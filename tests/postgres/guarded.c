@@ -6,10 +6,12 @@
  *   - takes as the most bytes of a value or a text those that s2_limit(n) names,
  *   - counts where a call may be cancelled: s2_chances(),
  *   - counts the bytes that are compared with others: s2_compared(),
- *   - shows what a GIN index asks for and is answered: s2_keys(asked, strategy), s2_keys_found(strategy, found, exact).
+ *   - shows what a GIN index asks for and is answered: s2_keys(asked, strategy), s2_keys_found(strategy, found, exact),
+ *   - makes a pointer to a value: s2_pointer_to(x).
  * The build has rewritten each 'Datum NAME(PG_FUNCTION_ARGS)' of these files to GUARDED(NAME). */
 #include "postgres.h"
 
+#include "access/detoast.h"
 #include "access/gin.h"
 #include "access/gist.h"
 #include "access/htup_details.h"
@@ -219,4 +221,17 @@ Datum s2_keys_found(PG_FUNCTION_ARGS) {
   Datum answer = DirectFunctionCall7(s2union_gin_consistent, PointerGetDatum(values), PG_GETARG_DATUM(0), (Datum)0,
                                      Int32GetDatum(n), PointerGetDatum(&sought), (Datum)0, (Datum)0);
   PG_RETURN_TEXT_P(cstring_to_text_with_len(&letters[(int)DatumGetGinTernaryValue(answer)], 1));
+}
+
+/* s2_pointer_to(x): a pointer to a small value in memory, which is at one place for all calls. */
+PG_FUNCTION_INFO_V1(s2_pointer_to);
+Datum s2_pointer_to(PG_FUNCTION_ARGS) {
+  static uint64 place[1024];
+  const varatt_indirect to = {(struct varlena*)place};
+  const struct varlena* x = PG_DETOAST_DATUM(PG_GETARG_DATUM(0));
+  struct varlena* pointer = palloc(INDIRECT_POINTER_SIZE);
+  memcpy(place, x, Min(VARSIZE(x), sizeof place));
+  SET_VARTAG_EXTERNAL(pointer, VARTAG_INDIRECT);
+  memcpy(VARDATA_EXTERNAL(pointer), &to, sizeof to);
+  PG_RETURN_POINTER(pointer);
 }

@@ -212,6 +212,16 @@ class Memory(Tests):
         many = self.peak(f"SELECT count(*) FROM lone WHERE {' OR '.join([sides] * 8)}", "3")
         self.assertLess(many - few, 400)
 
+    def test_rows_of_tiles_take_the_memory_of_one(self):
+        """Of 16,384 tiles, each with room for 2 kB: what is made for a row goes before the next."""
+        leaves = " | ".join(f"s2_leaf(0, {k}, {k})::s2union" for k in (5, 300000000, 600000000, 900000000))
+        said = psql(f"""
+            {PEAK} SELECT s2_count(region) > 256, count(*), sum(s2_leaves(part)) = s2_leaves(region)
+                FROM (SELECT '1' - ({leaves}) AS region OFFSET 0) r, s2_tiles(region, 7) GROUP BY region; {PEAK}
+        """)
+        self.assertEqual(said[1], "t|16384|t")
+        self.assertLess(int(said[2]) - int(said[0]), 30)
+
 
 class Cancels(Tests):
     """While an index of large values is made, and while ANALYZE reads them."""

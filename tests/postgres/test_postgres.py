@@ -796,6 +796,23 @@ class Indexes(Tests):
                 plan = "\n".join(psql(f"{setting} EXPLAIN SELECT * FROM leaves WHERE {question}"))
                 self.assertNotIn("leaf >=", plan)
 
+    def test_leaves_by_an_index_of_another_order(self):
+        """Its operators of the same numbers are others, so it isn't asked."""
+        asked = "SELECT count(*) FROM visits WHERE leaf <@ s2_parent(s2_leaf(0, 9000, 7000), 20)::s2union;"
+        said = psql(f"""
+            {VISITS} {asked}
+            BEGIN;
+            CREATE FUNCTION turned(bigint, bigint) RETURNS int IMMUTABLE LANGUAGE sql AS 'SELECT btint8cmp($2, $1)';
+            CREATE OPERATOR CLASS turned FOR TYPE bigint USING btree AS OPERATOR 1 >, OPERATOR 2 >=, OPERATOR 3 =,
+                OPERATOR 4 <=, OPERATOR 5 <, FUNCTION 1 turned(bigint, bigint);
+            DROP INDEX visits_leaf_idx;
+            CREATE INDEX ON visits (leaf turned);
+            SET LOCAL enable_seqscan = off;
+            {asked}
+            ROLLBACK;
+        """)
+        self.assertEqual(said, ["113", "113"])
+
     def test_questions_of_many_cells(self):
         """With so little memory that the index answers some pages as a whole, and with rows that wait in its list."""
         rows = """
@@ -1384,9 +1401,14 @@ def wkb_of(*rings):
 
 def polygons_in(wkb):
     """The rings of each polygon of a MultiPolygon in WKB."""
-    at, polygons = 9, []
-    for _ in range(struct.unpack_from("<BII", wkb)[2]):
-        rings, at = struct.unpack_from("<BII", wkb, at)[2], at + 9
+    def parts_of(kind, at):
+        *head, parts = struct.unpack_from("<BII", wkb, at)
+        assert head == [1, kind]
+        return parts, at + 9
+
+    (count, at), polygons = parts_of(6, 0), []
+    for _ in range(count):
+        rings, at = parts_of(3, at)
         polygons.append([])
         for _ in range(rings):
             count, at = struct.unpack_from("<I", wkb, at)[0], at + 4
@@ -1461,6 +1483,9 @@ class Shapes(Tests):
 
         self.assertEqual(list(map(len, polygons("s2_squares", "1 5 89c25"))), [1] * 9)
         self.assertEqual([len(ring) for ring, in polygons("s2_squares", "5")], [6] * 4)
+        for face, quarters in (("1", "04 0c 14 1c"), ("3", "24 2c 34 3c"), ("5", "44 4c 54 5c")):
+            squares = [square for cell in quarters.split() for square in polygons("s2_squares", cell)]
+            self.assertEqual(sorted(polygons("s2_squares", face)), sorted(squares))
         self.assertEqual([len(ring) for ring, in polygons("s2_squares", "89c25")], [5])
         self.assertEqual([len(it) for it in polygons("s2_outline", "1 3 5 7 9 b")], [1])
         self.assertEqual([len(it) for it in polygons("s2_outline", "04 0c 14")], [1])
@@ -1513,6 +1538,7 @@ class Guarded(Tests):
             CREATE OR REPLACE FUNCTION s2_limit(bigint) RETURNS void LANGUAGE C AS '$libdir/s2union';
             CREATE OR REPLACE FUNCTION s2_chances() RETURNS bigint LANGUAGE C AS '$libdir/s2union';
             CREATE OR REPLACE FUNCTION s2_compared() RETURNS bigint LANGUAGE C AS '$libdir/s2union';
+            CREATE OR REPLACE FUNCTION s2_pointer_to(s2union) RETURNS s2union LANGUAGE C AS '$libdir/s2union';
             CREATE OR REPLACE FUNCTION s2_keys(s2union, integer) RETURNS text LANGUAGE C AS '$libdir/s2union';
             CREATE OR REPLACE FUNCTION s2_keys(bigint, integer) RETURNS text LANGUAGE C AS '$libdir/s2union';
             CREATE OR REPLACE FUNCTION s2_keys_found(integer, text, boolean) RETURNS text LANGUAGE C
@@ -1680,6 +1706,11 @@ class Guarded(Tests):
         self.assertTrue(57 * size < alike < 60 * 2 * size, alike)
         self.assertLess(apart, size)
         self.assertTrue(59 * size <= same < 60 * size, same) # the base too is compared, by its name
+
+    def test_a_pointer_is_no_name_of_a_value(self):
+        """In each row it is the same, and what it points to another value."""
+        asked = "s2_intersects(s2_pointer_to(s2_leaf(0, k, 0)::s2union), s2_leaf(0, k, 0))"
+        self.assertEqual(psql(f"SELECT count(*) FROM generate_series(1, 9) AS k WHERE {asked}"), ["9"])
 
     def test_limits_of_a_value(self):
         """Ten cells, or 87 bytes of text: 1 GB is more than a test should take."""
