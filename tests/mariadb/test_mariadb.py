@@ -224,6 +224,14 @@ class BesideSqlite(MariadbServer):
         said = self.ask(f"USE trial; CREATE TABLE kept AS SELECT s2_token(1), hex(s2_normalise('1')), "
                         f"s2_tokens(x'{two}'); SELECT * FROM kept")
         self.assertEqual(said, f"{1:016x}\t{file([FACE]).hex().upper()}\t{words([1, 9])}\n")
+        given = {UNION: "'47e66c 89c24'", CELL_OF: "'89c25'", SHAPE: f"x'{SQUARE.hex()}'", NUMBER: "9"}
+        names = sorted(TEXTS_OF | {"s2_bounds"})
+        calls = [f"{name}({', '.join(given[each] for each in TAKES[name][: LEAST.get(name)])})" for name in names]
+        columns = ", ".join(f"{call} AS {name}" for name, call in zip(names, calls))
+        said = self.ask(f"USE trial; CREATE TABLE all_kept AS SELECT {columns}; "
+                        f"SELECT hex(concat({', '.join(names)})) FROM all_kept")
+        self.assertEqual(said, self.ask(f"SELECT hex(concat({', '.join(calls)}))"))
+        self.assertNotIn("NULL", said)
 
     def test_memory_goes_back_after_each_row(self):
         many = list(range(1, 160001, 8))
