@@ -281,6 +281,14 @@ func TestGeoJSON(t *testing.T) {
 		`{"type":"FeatureCollection","features":[]}`:                                                      {},
 		`{"type":"Feature","geometry":null}`:                                                              {},
 		`{"type":"Feature","properties":{"coordinates":7},"geometry":{"type":"Point","coordinates":[]}} `: {},
+		// Of two members with one name the last counts, and no other name for another.
+		`{"type":7,"type":"Point","coordinates":[],"coordinates":[-1.5,20],"COORDINATES":[]}`:              {Points: line[1:]},
+		`{"type":"Feature","geometry":{"coordinates":[9,9]},"geometry":{"type":"Point","coordinates":[]}}`: {},
+		`{"type":"Feature","geometry":[[{}],7],"geometry":null}`:                                           {},
+		`{"type":"FeatureCollection","features":[{"type":"Feature","geometry":{"type":"Point","coordinates":[9,9]}}],
+			"features":[{"type":"Feature"}]}`: {},
+		`{"type":"Point","coordinates":[-1.5,20],"geometry":1e999,"geometries":[[]],"features":{"type":[{}]}}`: {
+			Points: line[1:]},
 	} {
 		var shape Shape
 		err := json.Unmarshal([]byte(text), &shape)
@@ -298,6 +306,13 @@ func TestGeoJSON(t *testing.T) {
 		`{"type":"FeatureCollection","geometries":[]}`, `{"type":"GeometryCollection","features":[]}`,
 		`{"type":"MultiLineString","coordinates":[null]}`, `{"type":"MultiPolygon","coordinates":[[],null]}`,
 		`{"type":"MultiPoint","coordinates":[[[]]]}`, `{"type":"LineString","coordinates":[[],[0,1]]}`,
+		`{"Type":"Point","coordinates":[0,1]}`, `{"type":"Point","Coordinates":[0,1]}`,
+		`{"type":"Point","coordinateſ":[0,1]}`, `{"type":"FeatureCollection","FEATURES":[]}`,
+		`{"type":"Point","type":null,"coordinates":[0,1]}`, `{"type":"Feature","geometry":[]}`,
+		`{"type":"Feature","geometry":{"type":"Point","coordinates":[0,1]},"geometry":{"type":"Point"}}`,
+		`{"type":"Feature","geometry":true}`, `{"type":"FeatureCollection","features":[1]}`,
+		`{"type":"FeatureCollection","features":[null]}`,
+		`{"type":"FeatureCollection","features":{}}`, `{"type":"FeatureCollection","features":[],"features":0}`,
 		`{"type":"GeometryCollection","geometries":` + strings.Repeat("[", 20000) + strings.Repeat("]", 20000) + `}`,
 	} {
 		shape := square
@@ -313,6 +328,7 @@ func TestGeoJSON(t *testing.T) {
 		check(t, json.Unmarshal(text, &again) == nil && reflect.DeepEqual(shape, again), string(text))
 	}
 	check(t, json.Unmarshal([]byte("null"), &square) == nil && square.Polygons != nil, "null")
+	check(t, square.UnmarshalJSON([]byte(" null\n")) == nil && square.Polygons != nil, "null and blanks")
 	_, err := json.Marshal(Shape{Points: []Position{{math.NaN(), 0}}})
 	check(t, err != nil, "no number")
 }

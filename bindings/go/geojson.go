@@ -13,25 +13,27 @@ var ErrGeoJSON = errors.New("s2union: not GeoJSON of polygons, lines and points"
 
 var errMissing = fmt.Errorf("%w: a list of coordinates or parts is missing", ErrGeoJSON)
 
-// object is one of GeoJSON.
+// object is what GeoJSON asks of a value. One that is no object has no kind. encoding/json would take other names for
+// these, and of two members with one name make one.
 type object struct {
-	Type        string          `json:"type"`
-	Coordinates json.RawMessage `json:"coordinates,omitempty"`
-	Geometry    *object         `json:"geometry,omitempty"`
-	Geometries  []object        `json:"geometries,omitempty"`
-	Features    []object        `json:"features,omitempty"`
+	kind                 string
+	coordinates          json.RawMessage
+	geometry             *object
+	geometries, features []*object
 }
 
 // UnmarshalJSON takes GeoJSON: a geometry, a feature, or a collection of them. If there is an error, which wraps
 // ErrGeoJSON, the shape stays as it was. Since 1.4.
 func (shape *Shape) UnmarshalJSON(text []byte) error {
-	var given object
 	var read Shape
-	if string(text) == "null" {
-		return nil
-	}
-	err := json.Unmarshal(text, &given)
+	err := json.Unmarshal(text, new(json.RawMessage))
 	if err == nil {
+		decoder := json.NewDecoder(bytes.NewReader(text))
+		decoder.UseNumber() // of any size
+		given := objectIn(decoder)
+		if given == nil {
+			return nil
+		}
 		err = read.add(given)
 	}
 	if err == nil {
@@ -42,34 +44,104 @@ func (shape *Shape) UnmarshalJSON(text []byte) error {
 	return err
 }
 
+// objectIn reads the next value of a text that is JSON, where no step fails: nil for null. Of two members with one name
+// the last counts.
+func objectIn(text *json.Decoder) *object {
+	var given object
+	first, _ := text.Token()
+	if first == nil {
+		return nil
+	}
+	if first != json.Delim('{') {
+		passOver(text, first)
+		return &given
+	}
+	for text.More() {
+		switch name, _ := text.Token(); name {
+		case "type":
+			given.kind = stringIn(text)
+		case "coordinates":
+			given.coordinates = nil
+			_ = text.Decode(&given.coordinates)
+		case "geometry":
+			given.geometry = objectIn(text)
+		case "geometries":
+			given.geometries = objectsIn(text)
+		case "features":
+			given.features = objectsIn(text)
+		default:
+			_ = text.Decode(new(json.RawMessage))
+		}
+	}
+	_, _ = text.Token()
+	return &given
+}
+
+// objectsIn reads the next value: nil if it is no list.
+func objectsIn(text *json.Decoder) (list []*object) {
+	first, _ := text.Token()
+	if first != json.Delim('[') {
+		passOver(text, first)
+		return nil
+	}
+	for list = []*object{}; text.More(); {
+		list = append(list, objectIn(text))
+	}
+	_, _ = text.Token()
+	return list
+}
+
+func stringIn(text *json.Decoder) (found string) {
+	first, _ := text.Token()
+	passOver(text, first)
+	found, _ = first.(string)
+	return found
+}
+
+// passOver reads what is left of a list or an object whose first token was read.
+func passOver(text *json.Decoder, first json.Token) {
+	if first != json.Delim('[') && first != json.Delim('{') {
+		return
+	}
+	for text.More() {
+		if first == json.Delim('{') {
+			_, _ = text.Token()
+		}
+		_ = text.Decode(new(json.RawMessage))
+	}
+	_, _ = text.Token()
+}
+
 // add adds what an object has.
-func (shape *Shape) add(given object) error {
-	switch given.Type {
+func (shape *Shape) add(given *object) error {
+	switch given.kind {
 	case "Feature":
-		if given.Geometry == nil {
+		if given.geometry == nil {
 			return nil
 		}
-		return shape.add(*given.Geometry)
+		return shape.add(given.geometry)
 	case "FeatureCollection":
-		return shape.addParts(given.Features)
+		return shape.addParts(given.features)
 	case "GeometryCollection":
-		return shape.addParts(given.Geometries)
+		return shape.addParts(given.geometries)
 	default:
-		return shape.addGeometry(given.Type, given.Coordinates)
+		return shape.addGeometry(given.kind, given.coordinates)
 	}
 }
 
-// addParts adds what the parts of a collection have, whose list may not be missing.
-func (shape *Shape) addParts(parts []object) error {
+// addParts adds what the parts of a collection have, whose list may not be missing, and none of them.
+func (shape *Shape) addParts(parts []*object) (err error) {
 	if parts == nil {
 		return errMissing
 	}
-	for _, part := range parts {
-		if err := shape.add(part); err != nil {
-			return err
+	for k := 0; k < len(parts) && err == nil; k++ {
+		if parts[k] == nil {
+			err = errMissing
+		} else {
+			err = shape.add(parts[k])
 		}
 	}
-	return nil
+	return err
 }
 
 func (shape *Shape) addGeometry(kind string, coordinates []byte) (err error) {
