@@ -463,6 +463,8 @@ REFUSED = [
     ({"type": []}, "it is no shape: dict"),
     (None, "it is no shape: NoneType"), ("{", "the text is no GeoJSON"),
     ("[" * 100000, "the text is no GeoJSON"),
+    ({"type": "GeometryCollection", "geometries": ['{"type": "Point", "coordinates": [1, 2]}']}, "it is no shape: str"),
+    ('{"type": "Feature", "geometry": "{\\"type\\": \\"MultiPoint\\", \\"coordinates\\": []}"}', "it is no shape: str"),
 ]
 
 

@@ -93,14 +93,15 @@ def wkb_of(shape: Any) -> bytes | None:
 
 def shape_of(given: Any) -> Shape:
     """The rings and lines of GeoJSON, as objects of Python or as a text, or of what has a __geo_interface__."""
-    found, waiting, polygons, parts = Shape(array("d"), array("Q"), []), [given], 0, 0
+    found, polygons, parts = Shape(array("d"), array("Q"), []), 0, 0
+    waiting = [parsed(given) if isinstance(given, (str, bytes)) else given]
     while waiting:
         look()
         if parts + len(waiting) > MOST_PARTS:
             raise ValueError(f"there are more than {MOST_PARTS} parts")
         parts += 1
         it = waiting.pop()
-        it = parsed(it) if isinstance(it, (str, bytes)) else getattr(it, "__geo_interface__", it)
+        it = getattr(it, "__geo_interface__", it)
         kind = it.get("type") if isinstance(it, dict) else None
         if not isinstance(kind, str):
             raise ValueError(f"it is no shape: {type(it).__name__}")
