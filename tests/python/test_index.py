@@ -437,6 +437,12 @@ def test_columns_that_are_not_known(zones):
         "s2union_geo: there is no column '3'\n")
 
 
+@pytest.mark.parametrize("text", ["{long},lon,lat\n", "{long} 1 2\n", "id,lon,lat\n{long},1,2\n"])
+def test_fields_that_are_too_long(zones, text):
+    status, _, error = said("join", "-", zones, text=text.format(long="x" * 2**18).encode())
+    assert (status, error) == (1, "s2union_geo: it is no CSV: field larger than field limit (131072)\n")
+
+
 def test_zones_that_are_refused(tmp_path):
     path = tmp_path / "zones"
     good, bad = ({"type": "Feature", "geometry": polygon(ring), "properties": {"name": name}}

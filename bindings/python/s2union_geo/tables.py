@@ -97,27 +97,30 @@ def _features_by_line(lines: Any) -> Iterator[tuple[str, Any]]:
 def _of_csv(first: str, text: Any, options: Options, wrong: Callable[[str], None]) -> Any:
     separator = options.separator or max(SEPARATORS, key=first.count)
     separator = separator if separator in first or options.separator else " "
-    reader = csv.reader(_lines(first, text), delimiter=separator, skipinitialspace=separator == " ")
-    head = next((row for row in reader if row), None)
-    if head is None:
+    rows = _rows(csv.reader(_lines(first, text), delimiter=separator, skipinitialspace=separator == " "))
+    begin = next(rows, None)
+    if begin is None:
         return [], iter(())
+    head = begin[1]
     is_head = not _is_point(head, options)
     columns = _columns(head, options) if is_head else _numbers(options, len(head))
-    rows = ((f"line {reader.line_num}", row) for row in reader if row)
-    if not is_head:
-        rows = chain([(f"line {reader.line_num}", head)], rows)  # type: ignore[assignment]
-    return head if is_head else [], _parts(_whole(rows, len(head), wrong), columns, wrong)
+    whole = _whole(rows if is_head else chain([begin], rows), len(head), wrong)
+    return head if is_head else [], _parts(whole, columns, wrong)
+
+
+def _rows(reader: Any) -> Iterator[tuple[str, list[str]]]:
+    """The rows that aren't blank, each with where it stands."""
+    try:
+        for row in reader:
+            if row:
+                yield f"line {reader.line_num}", row
+    except csv.Error as error:
+        raise ValueError(f"it is no CSV: {error}") from None
 
 
 def _whole(rows: Any, count: int, wrong: Callable[[str], None]) -> Iterator[tuple[str, list[str]]]:
     """The rows that have this many columns."""
-    while True:
-        try:
-            where, row = next(rows)
-        except StopIteration:
-            return
-        except csv.Error as error:
-            raise ValueError(f"it is no CSV: {error}") from None
+    for where, row in rows:
         if len(row) == count:
             yield where, row
         else:
