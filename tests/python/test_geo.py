@@ -688,9 +688,13 @@ class Maps(unittest.TestCase):
         self.assertEqual(said("leaves", text="2.3522 48.8566 Paris\n\n0 90 North Pole\n").stdout,
                          "47e66e1d8f8be23b\n5000000000000001\n")
         with tempfile.TemporaryDirectory() as folder:
-            file = Path(folder, "pond")
+            file, other = Path(folder, "pond"), Path(folder, "lake")
             file.write_bytes(CellUnion.from_tokens("14 1c").to_bytes())
+            other.write_bytes(CellUnion.from_tokens("04").to_bytes())
+            both = [to_geojson(CellUnion.from_tokens(text), name=name)["features"]
+                    for name, text in (("lake", "04"), ("pond", "14 1c"))]
             for words, wanted in ((("geojson", file), to_geojson(CellUnion.from_tokens("14 1c"), name="pond")),
+                                  (("geojson", other, file), {"type": "FeatureCollection", "features": sum(both, [])}),
                                   (("geojson", "--dissolve", file), to_geojson(CellUnion.from_tokens("14 1c"),
                                                                                dissolve=True, name="pond"))):
                 self.assertEqual(json.loads(said(*words).stdout), json.loads(json.dumps(wanted)))

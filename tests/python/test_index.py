@@ -194,7 +194,10 @@ class Files(unittest.TestCase):
             self.assertEqual((found.names, pairs(found.join(x, y)), os.listdir(os.path.dirname(self.path))),
                              (made.names, pairs(made.join(x, y)), ["zones"]))
         self.assertRaises(TypeError, Index([None], [object()]).save, self.path)
-        self.assertEqual(Index.load(self.path).names, found.names)  # the file is as it was
+        with unittest.mock.patch.object(numpy, "savez", side_effect=OSError):  # no space is left
+            self.assertRaises(OSError, made.save, self.path)
+        self.assertEqual((Index.load(self.path).names, os.listdir(os.path.dirname(self.path))),
+                         (found.names, ["zones"]))  # the file is as it was, and no part of another is beside it
 
     def test_damaged(self):
         """Cut anywhere, or with one byte changed, it is no index, or it is one, and a join ends well."""
@@ -413,7 +416,8 @@ def test_more_rows_than_are_read_at_once(zones, monkeypatch, capsys, tmp_path):
     (["join", "-", "/dev/null"], "/dev/null: the text is no GeoJSON"),
     (["join", "-", "none"], "[Errno 2] No such file or directory: 'none'"),
     (["join", "-", "{zones}", "--separator", "ab"], "\"delimiter\" must be a 1-character string"),
-    (["cover", "x"], "the following arguments are required: folder, max_cells, max_level")])
+    (["cover", "x"], "the following arguments are required: folder, max_cells, max_level"),
+    (["geojson"], "the following arguments are required: files")])
 def test_words_that_are_wrong(zones, words, wanted):
     words = [word.format(zones=zones) for word in words]
     status, out, error = said(*words, text=b"here,there\n1,2\n")
