@@ -23,6 +23,10 @@ for (k in 1:300) {
     identical(s2u_file_contains_cells(s2u_encode(a), b), s2u_contains_cells(x, b)),
     identical(s2u_intersects_cells(x, b), vapply(seq_along(b), function(k) s2u_intersects(a, b[k]), NA)),
     identical(s2u_decode(s2u_encode(a)), s2u_normalise(x)),
+    identical(list(s2u_tokens(a), s2u_encode(a), s2u_bounds(a), s2u_expanded(a, 3), s2u_contains_cells(a, b)),
+              list(s2u_tokens(x), s2u_encode(x), s2u_bounds(x), s2u_expanded(x, 3), s2u_contains_cells(x, b))),
+    identical(s2u_tokens(x), paste(as.character(unclass(x)[[1]]), collapse = " ")),
+    identical(s2u_intersects_cells(a, b), s2u_intersects_cells(x, b)),
     identical(s2u_normalise(s2u_from_tokens(s2u_tokens(a))), s2u_normalise(x)))
 }
 refused <- function(call, status, place = NA_real_) {
