@@ -264,7 +264,9 @@ func TestUnionsHaveMemoryOfTheirSize(t *testing.T) {
 	}
 	text := must(s2union.NewCellUnion(ids...)).String()
 	many := must(s2union.CellUnionFromTokens(text))
-	ids, text = nil, ""
+	cells := must(s2union.CellIDsFromTokens(text))
+	check(t, len(cells) == count && cap(cells) < count*3/2, "a list of cells")
+	ids, text, cells = nil, "", nil
 	check(t, same.Len() == 1 && one.Equal(same) && many.Len() == count, "the unions")
 	check(t, heap()-before < 8*count*3/2, "their memory")
 	runtime.KeepAlive([]CellUnion{same, one, many})
