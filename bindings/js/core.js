@@ -243,9 +243,9 @@ class Core {
     return lists.map((list) => this.asked(list));
   }
 
-  /** What a call of lists and numbers answers. */
-  ask(name, lists, ...more) {
-    return this.calls[name](...this.passed(lists, [])[0], ...more);
+  /** What a call of lists answers. */
+  ask(name, lists) {
+    return this.calls[name](...this.passed(lists, [])[0]);
   }
 
   /** The same of a list that stays, and a cell: yes or no. */
@@ -255,9 +255,9 @@ class Core {
     return isYes(call(at, length, cell));
   }
 
-  /** The list that a call makes of lists and numbers, in the room of the table for lists of these lengths. */
-  make(name, lists, Kind, ...more) {
-    return this.makeIn(ROOMS[name](...lists.map((list) => list.length)), name, lists, Kind, ...more);
+  /** The list that a call makes of lists, in the room of the table for lists of these lengths. */
+  make(name, lists, Kind) {
+    return this.makeIn(ROOMS[name](...lists.map((list) => list.length)), name, lists, Kind);
   }
 
   /** The same of unions. One that is much longer than what may come out stays, since its copy would take longest. */
@@ -267,7 +267,7 @@ class Core {
     return this.makeIn(room, name, unions, BigUint64Array);
   }
 
-  /** The same in some room; it is called once more if that was too little. */
+  /** The same in some room, of numbers too; it is called once more if that was too little. */
   makeIn(room, name, lists, Kind, ...more) {
     for (;;) {
       const [words, [out, len]] = this.passed(lists, [room * Kind.BYTES_PER_ELEMENT, 8]);
