@@ -169,6 +169,8 @@ SAID = [
     (lambda: Union([FACE]).contains_cells([FACE, 0]), "not a cell at place 1: 0x0"),
     (lambda: Union([FACE]).denormalised(3, 0), "a modulus is out of range: 0"),
     (lambda: Union([FACE]).denormalised(3, 4), "a modulus is out of range: 4"),
+    (lambda: calls.coverings_of_circle(0, 0, 1, [9, 0, 30, 0, 0.0], 3), "options is a tuple, not list"),
+    (lambda: calls.coverings_of_circle(0, 0, 1, (9, 0, 30, 0), 3), "5 arguments are wanted, not 4"),
 ]
 
 
