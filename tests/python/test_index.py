@@ -136,6 +136,8 @@ class Joins(unittest.TestCase):
             self.assertEqual(pairs(Index(given).join(x, y)), wanted)
         with self.assertRaisesRegex(ValueError, "^zone 0: the bytes are no WKB$"):
             Index([shapes[0].wkb[:-1]])
+        with self.assertRaisesRegex(ValueError, "^zone 0: polygon 0, ring 0: position 2 is out of range: "):
+            Index([shapely.geometry.Polygon([(0, 89), (1, 89), (1, 91)])])
 
     def test_zones_that_are_left(self):
         made = Index([polygon(box(0, 0, 1, 1)), polygon(box(0, 0, 9, 9)[1:]), polygon(box(0, 0, 2, 2))], leave=True)
