@@ -244,6 +244,7 @@ class Files(unittest.TestCase):
         changed("zone", lambda it: it - 1)
         changed("ends", lambda it: it[::-1].copy())
         changed("spans", lambda it: it * numpy.nan)
+        changed("spans", lambda it: it + 541)
         changed("names", lambda it: numpy.frombuffer(b"[]", "uint8"))
         changed("names", lambda it: numpy.frombuffer(b'["other", 0, 1]', "uint8"))
         with open(self.path, "wb") as it:
