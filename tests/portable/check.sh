@@ -28,6 +28,7 @@ need qemu-aarch64-static qemu-user-static
 need mmdebstrap mmdebstrap
 need javac openjdk-17-jdk-headless
 need_modules build,setuptools,wheel python3-{build,setuptools,wheel}
+need_modules pip python3-pip
 need_headers
 need_packages
 need_library
@@ -184,6 +185,16 @@ by_python() ( # Debian's, since it asks nothing of a C library but what each has
 step "the wheel for musl on x86-64" for_musl x86_64 X86-64
 step "the wheel for musl on ARM" for_musl aarch64 AArch64
 step "docs/PYTHON.md by the wheel for musl" by_python
+picked() { # each wheel of the release on its system, by the line of docs/INSTALL.md
+  local line wheel platform
+  line=$(grep -o '`pip install --no-index [^`]*`' "$top/docs/INSTALL.md" | tr -d '`') && [ -n "$line" ] || return 1
+  for wheel in "$top"/dist/{,aarch64/}*.whl; do
+    platform=${wheel##*-abi3-} && rm -rf "$work/picked" &&
+      (cd "$top" && /usr/bin/python3 -m pip download -q -d "$work/picked" --only-binary :all: \
+        --platform "${platform%.whl}" ${line#pip install}) && ls "$work/picked" | diff - <(basename "$wheel") || return 1
+  done
+}
+step "pip picks the wheel of each system" picked
 for_macos() { # PLATFORM FORM OLDEST: names of Python are looked up, all others are libSystem's
   wheel "$1" && file=${modules[0]} && [ "$(llvm-nm -gjU "$file")" = _PyInit__library ] &&
     llvm-objdump --macho --private-header "$file" | grep "$2 .* DYLIB " &&

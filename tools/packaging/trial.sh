@@ -236,12 +236,12 @@ packages=(s2calc libs2union1 libs2union-dev python3-s2union golang-s2union-dev l
 step "remove all packages" apt-get purge -y "${packages[@]}"
 step "nothing is left of them" nothing_of_ours
 step "the tarball's program" says "$first" row "$work/all/bin/s2calc"
-# Where the tarball's own pages and library are.
-of_tarball() {
-  local docs=$work/doc
+# With the tarball's own pages, and with its library by the line of docs/INSTALL.md.
+of_tarball() (
+  docs=$work/doc
   mkdir -p "$docs" && ln -sfn "$work/all/docs" "$docs/libs2union-dev" &&
-    PKG_CONFIG_PATH=$work/all/lib/pkgconfig LD_LIBRARY_PATH=$work/all/lib "$@"
-}
+    line=$(grep -m 1 '^    export PKG_CONFIG_PATH=' /trial/INSTALL.md) && eval "${line//PREFIX/$work/all}" && "$@"
+)
 step "C and C++ by its files for pkg-config" of_tarball by_pkg_config "$work/of-tarball" shared
 step "and static" of_tarball by_pkg_config "$work/of-tarball-static" static
 step "docs/GO.md by its sources" of_tarball in_go "$work/go-of-tarball" "$work/all/docs/GO.md" "$work/all/share/gocode"
