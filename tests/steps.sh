@@ -105,8 +105,8 @@ need_linker() { # what tools/library links with
 # Which library is asked: where it was not proved and no kit is, the release's. Then tools/library and tools/java are
 # given what $released has.
 released=()
-choose_library() {
-  ! command -v rt >/dev/null && ! "$top/tools/archive" --is-kept || return 0
+choose_library() { # [--target PROCESSOR]
+  ! command -v rt >/dev/null && ! "$top/tools/archive" --is-kept "$@" || return 0
   released=(--released)
   need xz xz-utils
   echo "       without Rattle's kit: the library of the release $(released_version) is asked, without what changed" \

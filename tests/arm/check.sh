@@ -116,8 +116,11 @@ step "Go: against the model, what is refused, and the examples" in_go
 
 # ---- the program
 
-step "s2calc for ARM" "$top/tools/archive" --program --target aarch64
-calculator=$top/crates/calculator/out/aarch64/calculator
+calculator=$top/dist/aarch64/s2calc # the release's
+if [ ${#released[@]} -eq 0 ]; then
+  calculator=$top/crates/calculator/out/aarch64/calculator
+  step "s2calc for ARM" "$top/tools/archive" --program --target aarch64
+fi
 printf '#!/bin/sh\nexec %q -L /usr/aarch64-linux-gnu %q "$@"\n' "$(command -v qemu-aarch64-static)" "$calculator" \
   >"$work/s2calc"
 chmod 755 "$work/s2calc"

@@ -19,7 +19,9 @@ unpacked_for_arm() { # PACKAGE..
     "$system" "${sources[@]:1}"
 }
 need_arm() { # PACKAGE..: of Debian for ARM
-  step "tools/library for ARM" "$top/tools/library" "$arm" --target aarch64
+  [ ${#released[@]} -gt 0 ] || choose_library --target aarch64
+  need_packages
+  step "tools/library for ARM${released:+ --released}" "$top/tools/library" "$arm" --target aarch64 "${released[@]}"
   step "Debian's packages for ARM, unpacked: $*" unpacked_for_arm "$@"
   [ "$failed" -eq 0 ] || finish
 }
