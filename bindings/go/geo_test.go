@@ -282,7 +282,8 @@ func TestGeoJSON(t *testing.T) {
 		`{"type":"Feature","geometry":null}`:                                                              {},
 		`{"type":"Feature","properties":{"coordinates":7},"geometry":{"type":"Point","coordinates":[]}} `: {},
 		// Of two members with one name the last counts, and no other name for another.
-		`{"type":7,"type":"Point","coordinates":[],"coordinates":[-1.5,20],"COORDINATES":[]}`:              {Points: line[1:]},
+		`{"type":7,"type":"Point","coordinates":[],"coordinates":[-1.5,20],"COORDINATES":[]}`: {
+			Points: line[1:]},
 		`{"type":"Feature","geometry":{"coordinates":[9,9]},"geometry":{"type":"Point","coordinates":[]}}`: {},
 		`{"type":"Feature","geometry":[[{}],7],"geometry":null}`:                                           {},
 		`{"type":"FeatureCollection","features":[{"type":"Feature","geometry":{"type":"Point","coordinates":[9,9]}}],

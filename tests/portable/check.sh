@@ -191,7 +191,8 @@ picked() { # each wheel of the release on its system, by the line of docs/INSTAL
   for wheel in "$top"/dist/{,aarch64/}*.whl; do
     platform=${wheel##*-abi3-} && rm -rf "$work/picked" &&
       (cd "$top" && /usr/bin/python3 -m pip download -q -d "$work/picked" --only-binary :all: \
-        --platform "${platform%.whl}" ${line#pip install}) && ls "$work/picked" | diff - <(basename "$wheel") || return 1
+        --platform "${platform%.whl}" ${line#pip install}) &&
+      ls "$work/picked" | diff - <(basename "$wheel") || return 1
   done
 }
 step "pip picks the wheel of each system" picked
