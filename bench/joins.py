@@ -38,6 +38,7 @@ class Job(NamedTuple):
     rounds: int
     predicate: str  # of Python: without points on borders both have the same pairs
     spatialite: bool  # which reads a whole polygon for each point in its box: of countries that takes minutes
+    many: int = 0  # points of a larger table in PostgreSQL, if there is one
 
 
 class Way(NamedTuple):
@@ -124,7 +125,7 @@ def in_postgres(job):
     covers = "ON ST_Covers(z.geom, p.geom)"
     cut = """CREATE TABLE parts AS SELECT id, ST_Subdivide(geom, 128) AS geom FROM provinces;
         CREATE INDEX ON parts USING gist (geom)"""
-    return compared(job, "PostgreSQL, with PostGIS and without", [
+    found = compared(job, "PostgreSQL, with PostGIS and without", [
         Way("provinces_at(point)", made("SELECT s2_join_table('provinces')"),
             asked("points AS p, provinces_at(p.geom) AS z")),
         Way("provinces_at(longitude, latitude)", None, asked("points AS p, provinces_at(p.x, p.y) AS z")),
@@ -140,6 +141,30 @@ def in_postgres(job):
         Way("ST_Covers, provinces indexed", made("CREATE INDEX ON indexed_provinces USING gist (geom)"),
             asked(f"points AS p JOIN indexed_provinces AS z {covers}")),
     ])
+    if job.many:
+        with_many(session, job.many)
+    return found
+
+
+def with_many(session, many):
+    """Prints what many uniform points cost, the sizes on disk, and what a province costs that is moved."""
+    session.ask(f"""SELECT setseed(0.5);
+        CREATE TABLE many AS SELECT ST_SetSRID(ST_Point(random() * 360 - 180, degrees(asin(random() * 2 - 1))), 4326)
+            AS geom FROM generate_series(1, {many});
+        VACUUM ANALYZE many;""")
+    tiles = session.timed("SELECT count(*) FROM many AS p, provinces_at(p.geom);")
+    index = session.timed("CREATE INDEX ON many USING gist (geom);\n\\echo 1")[1]
+    session.ask("VACUUM ANALYZE many;")
+    covers = session.timed("SELECT count(*) FROM many AS p JOIN provinces AS z ON ST_Covers(z.geom, p.geom);")
+    if tiles[0] != covers[0]:
+        sys.exit(f"of {many} points provinces_at finds {tiles[0]}, and ST_Covers {covers[0]}")
+    print(f"\n{many} points, {tiles[0]} pairs: provinces_at {tiles[1]:.1f} s; "
+          f"ST_Covers {covers[1]:.1f} s, the index of the points {index:.1f} s")
+    for table in "provinces", "provinces_tiles", "many_geom_idx":
+        print(f"{table}:", session.ask(f"SELECT pg_size_pretty(pg_total_relation_size('{table}'));")[0].strip())
+    took = sorted(session.timed(f"UPDATE provinces SET geom = ST_Translate(geom, 0, 1e-6) WHERE id = {province};\n"
+                                "\\echo 1")[1] for province in range(0, 4500, 45))
+    print(f"a province moved, of {len(took)}: {took[len(took) // 2] * 1000:.1f} ms, at most {took[-1] * 1000:.0f} ms")
 
 
 def write(path, rows):
@@ -291,7 +316,8 @@ def main(folder, modules, file, *words):
         for layer in "states_provinces", "countries":
             zones = zones_of(file, layer)
             points = some_points(corners_of(zones), 50000, 50000, 0)
-            joined(Job(folder, modules, zones, *points, 3, "within", layer == "states_provinces"))
+            are_provinces = layer == "states_provinces"
+            joined(Job(folder, modules, zones, *points, 3, "within", are_provinces, 10_000_000 * are_provinces))
         return
     passed = 0
     for layer, every in ("countries", 1), ("states_provinces", 10):

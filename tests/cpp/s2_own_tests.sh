@@ -1,10 +1,10 @@
 #!/usr/bin/env bash
 # S2's own tests of unions, coverings, cell indexes and index terms, with the operations of S2CellUnion replaced by
-# those of s2union.hpp; the program of docs/FROM_S2.md, the function of README.md; and whether S2 has the names of the
+# those of s2union.hpp; the programs in C++ of docs/FROM_S2.md and README.md; and whether S2 has the names of the
 # former: tests/run s2-own-tests -- [--arm SYSTEM] [--no-build]. With --arm all is for ARM, by qemu, over Debian's
 # packages for ARM that are unpacked in SYSTEM. It takes S2's source from the package sources that this machine has,
 # and installs the Debian packages that it needs. It takes some minutes, nearly all to compile. Its last line is
-# 'N passed, M failed', where N counts the names, the program and S2's tests; the status is 1 if any failed.
+# 'N passed, M failed', where N counts the names, the programs and S2's tests; the status is 1 if any failed.
 . "$(dirname "$0")/../steps.sh"
 out=$top/tests/cpp/out sources=$top/tests/cpp/out/s2 processor=x86_64 system= cross= by=()
 if [ "${1:-}" = --arm ]; then
@@ -58,28 +58,16 @@ echo "$(wc -w <<<"$named") names of S2 in docs/FROM_S2.md"
 
 linked=("$out/usr/lib/libs2union.a" "$libraries/libs2.so" -Wl,--as-needed,-rpath-link,"$libraries"
   "$libraries"/libabsl_*.so "$libraries/libcrypto.so")
-block FROM_S2.md cpp >"$out/example.cc"
-if $compiler -I"$out/usr/include" "$out/example.cc" "${linked[@]}" -o "$out/example" \
-  && diff <(block FROM_S2.md text) <("${by[@]}" "$out/example"); then
-  passed=$((passed + 1))
-else
-  echo "FAILED docs/FROM_S2.md: the program in C++"
-  failed=$((failed + 1))
-fi
-
-{ block ../README.md cpp && cat; } >"$out/readme.cc" <<'CPP'
-int main() {
-  const S2CellUnion land({S2CellId::FromFace(0), S2CellId::FromFace(2)});
-  const S2CellUnion lakes({S2CellId::FromToken("04"), S2CellId::FromToken("2c"), S2CellId::FromFace(3)});
-  return without(land, lakes) == land.Difference(lakes) && without(land, lakes) != land ? 0 : 1;
-}
-CPP
-if $compiler -I"$out/usr/include" "$out/readme.cc" "${linked[@]}" -o "$out/readme" && "${by[@]}" "$out/readme"; then
-  passed=$((passed + 1))
-else
-  echo "FAILED README.md: the function in C++"
-  failed=$((failed + 1))
-fi
+for page in FROM_S2.md ../README.md; do # the program of each in C++, and what the page says that it prints
+  block "$page" cpp >"$out/example.cc"
+  if $compiler -I"$out/usr/include" "$out/example.cc" "${linked[@]}" -o "$out/example" \
+    && diff <(block "$page" "text cpp") <("${by[@]}" "$out/example"); then
+    passed=$((passed + 1))
+  else
+    echo "FAILED ${page#../}: the program in C++"
+    failed=$((failed + 1))
+  fi
+done
 
 for name in "${tests[@]}"; do
   "${cross}g++" "$out/$name.o" "${objects[@]}" -o "$out/$name" "${linked[@]}" "$libraries"/libgtest{,_main}.a -lpthread

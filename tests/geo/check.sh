@@ -49,11 +49,12 @@ each_way() { # of the benchmark, which compares all pairs
     /usr/bin/python3 "$top/bench/joins.py" "$work/joins" "$work/usr/lib/sqlite3" "$map" --check
 }
 step "countries and provinces joined with points by each way" each_way
-first_screen() { # its examples that need PostGIS, which the part `postgres` leaves out
-  createdb first && PGOPTIONS="-c client_min_messages=error" /usr/bin/python3 "$top/tests/docs/documented.py" \
-    --only postgis "$top/docs/POSTGRES.md" psql -XAqt -d first
+first_screen() { # PAGE DATABASE: its examples that need PostGIS, which the part `postgres` leaves out
+  createdb "$2" && PGOPTIONS="-c client_min_messages=error" /usr/bin/python3 "$top/tests/docs/documented.py" \
+    --only postgis "$top/$1" psql -XAqt -d "$2"
 }
-step "docs/POSTGRES.md, what needs PostGIS" first_screen
+step "README.md, what needs PostGIS" first_screen README.md readme
+step "docs/POSTGRES.md, what needs PostGIS" first_screen docs/POSTGRES.md first
 modules=$work/node/debian/usr/share/nodejs
 driver_of_node() { # Debian's, unpacked: as a package it would want Debian's Node too
   mkdir -p "$work/node/debian" "$work/node/node_modules" && unpacked "$work/node/debian" node-pg node-split2 &&

@@ -72,6 +72,12 @@ class Joins(unittest.TestCase):
         said = "\n".join(psql("SET enable_seqscan = off; EXPLAIN (COSTS OFF) SELECT id FROM zones_at(1, 2)"))
         self.assertRegex(said, "(?s)Index Scan using zones_tiles_pkey on zones_tiles t.*Index Cond: .tile = '?[0-9]+")
 
+    def test_2_plans_are_parallel(self):
+        parallel = "SET parallel_setup_cost = 0; SET parallel_tuple_cost = 0; SET min_parallel_table_scan_size = 0; "
+        for query in (ZONES, BY_DEGREES):
+            self.assertIn("Parallel Seq Scan on points", "\n".join(psql(f"{parallel} EXPLAIN {query}")))
+            self.assertEqual(pairs_of(parallel + query), self.wanted)
+
     def test_3_changes_of_zones(self):
         """Rows that come, change and go, by a user who may not touch the tiles; and all of them."""
         inside = "SELECT id FROM zones_at(60.5, 60.5) ORDER BY id"
