@@ -201,6 +201,20 @@ class Files(unittest.TestCase):
         self.assertEqual((Index.load(self.path).names, os.listdir(os.path.dirname(self.path))),
                          (found.names, ["zones"]))  # the file is as it was, and no part of another is beside it
 
+    def test_saved_twice_at_once(self):
+        """A save that begins while another one writes the same file takes nothing of it away: the last to end stays."""
+        first, other = (Index([polygon(box(0, 0, 1, 1))], [name]) for name in ("first", "other"))
+
+        def writes(*args, **arrays):
+            with unittest.mock.patch.object(numpy, "savez", write):
+                other.save(self.path)
+            write(*args, **arrays)
+
+        write = numpy.savez
+        with unittest.mock.patch.object(numpy, "savez", writes):
+            first.save(self.path)
+        self.assertEqual((Index.load(self.path).names, os.listdir(os.path.dirname(self.path))), (["first"], ["zones"]))
+
     def test_damaged(self):
         """Cut anywhere, or with one byte changed, it is no index, or it is one, and a join ends well."""
         Index([polygon(box(0, 0, 1, 1)), polygon(box(0.5, 0.5, 2, 2))], ["a", "b"], max_cells=4).save(self.path)

@@ -359,7 +359,7 @@ class Index:
                   "shape": numpy.frombuffer(b"".join(self._shapes), "uint8"),
                   "ends": numpy.cumsum([len(shape) for shape in self._shapes], dtype="int64"),
                   "names": numpy.frombuffer(text, "uint8")}
-        written = f"{os.fspath(path)}.{os.getpid()}.new"
+        written = f"{os.fspath(path)}.{os.urandom(8).hex()}.new"
         try:
             with open(written, "xb") as file:
                 numpy.savez(file, **arrays)
