@@ -47,7 +47,10 @@ positions_of <- function(ring) {
   if (!is.matrix(ring) || !is.numeric(ring) || ncol(ring) < 2) stop("a ring is a matrix of longitudes and latitudes")
   t(ring[, 1:2, drop = FALSE])
 }
-number_of <- function(x) if (is.numeric(x) && length(x) == 1) as.double(x) else stop("not a number")
+number_of <- function(x) { # NA goes as NaN: in C it stands for what is not given
+  if (!is.numeric(x) || length(x) != 1) stop("not a number")
+  if (is.na(x)) NaN else as.double(x)
+}
 degrees_of <- function(x) if (is.numeric(x) || all(is.na(x))) as.double(x) else stop("not degrees")
 
 s2u_neighbors <- function(cell, level = NULL) {

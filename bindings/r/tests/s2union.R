@@ -90,7 +90,7 @@ stopifnot(s2u_tokens(near) == "89c21 89c23 89c27 89c29 89c2f 89c31 89c3b 89c3d",
 refused(s2u_neighbors(none[2]), "S2U_NO_CELL", 1)
 refused(s2u_neighbors(none[3]), "S2U_NO_CELL", 1)
 refused(s2u_bounds(none), "S2U_NO_CELL", 2)
-for (level in c(-1, 7, 31, 8.5, 2^32, NaN, Inf)) refused(s2u_neighbors(cell, level), "S2U_ARGUMENT")
+for (level in c(-1, 7, 31, 8.5, 2^32, NaN, Inf, NA)) refused(s2u_neighbors(cell, level), "S2U_ARGUMENT")
 for (level in c(-1, 31, 8.5, NaN)) refused(s2u_expanded(cell, level), "S2U_ARGUMENT")
 refused(s2u_neighbors(face, 18), "S2U_MANY")
 refused(s2u_expanded(face, 20), "S2U_MANY")
@@ -108,7 +108,7 @@ error <- tryCatch(s2u_interior(list(square, hole[-5, ])), S2U_COVER_OPEN = ident
 stopifnot(error$ring == 2, grepl("^a ring is open: .*: ring 2, position 4$", conditionMessage(error)))
 for (options in list(list(-1), list(1e6 + 1), list(NaN), list(1.5), list(2^32), list(9, 10, 9), list(9, 0, 31),
                      list(9, -1), list(margin = -1), list(margin = 300001), list(margin = NA_real_), list(within = 0),
-                     list(within = NaN), list(within = -Inf)))
+                     list(within = NaN), list(within = -Inf), list(within = NA_real_), list(within = NA_integer_)))
   refused(do.call(s2u_covering, c(list(wkb), options)), "S2U_COVER_OPTION")
 for (shape in list(NULL, 1, "POINT (1 2)", square, list(1), list(square, list(square)), list(cbind(1:4)),
                    list(replace(square, 1, "x")), structure(list(square), class = c("XY", "MULTILINESTRING", "sfg"))))
