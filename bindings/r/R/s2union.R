@@ -18,7 +18,9 @@ s2u_decode <- function(bytes) new_s2_cell(.Call(C_decode, bytes_of(bytes)))
 s2u_file_contains_cells <- function(bytes, cells) .Call(C_file_contains_cells, bytes_of(bytes), cells_of(cells))
 
 s2u_leaf <- function(longitude, latitude) {
-  count <- if (length(longitude) && length(latitude)) max(length(longitude), length(latitude)) else 0
+  counts <- range(length(longitude), length(latitude))
+  if (counts[1] && counts[2] %% counts[1]) stop(length(longitude), " longitudes and ", length(latitude), " latitudes")
+  count <- if (counts[1]) counts[2] else 0
   new_s2_cell(.Call(C_leaf, rep_len(degrees_of(longitude), count), rep_len(degrees_of(latitude), count)))
 }
 s2u_covering <- function(shape, ...) covered(shape, c(TRUE, FALSE), ...)$outer

@@ -63,7 +63,8 @@ x <- c(runif(5000, -180, 180), 0, 180, NA, 2)
 y <- c(asin(runif(5000, -1, 1)) * 180 / pi, 90, -16.5, 1, NaN)
 leaves <- as_s2_cell(s2_lnglat(x, y))
 leaves[5003:5004] <- new_s2_cell(NA_real_)
-stopifnot(identical(s2u_leaf(x, y), leaves), length(s2u_leaf(numeric(), 1)) == 0, is.na(s2u_leaf(NA, 1)))
+stopifnot(identical(s2u_leaf(x, y), leaves), length(s2u_leaf(numeric(), 1)) == 0, is.na(s2u_leaf(NA, 1)),
+          identical(s2u_leaf(1:4, 1:2), s2u_leaf(1:4, c(1, 2, 1, 2))))
 square <- cbind(c(2, 3, 3, 2, 2), c(48, 48, 49, 49, 48))
 hole <- cbind(c(2.4, 2.6, 2.6, 2.4, 2.4), c(48.4, 48.4, 48.6, 48.6, 48.4))
 wkb <- unclass(s2_as_binary(as_s2_geography("POLYGON ((2 48, 3 48, 3 49, 2 49, 2 48))")))[[1]]
@@ -95,7 +96,8 @@ for (level in c(-1, 31, 8.5, NaN)) refused(s2u_expanded(cell, level), "S2U_ARGUM
 refused(s2u_neighbors(face, 18), "S2U_MANY")
 refused(s2u_expanded(face, 20), "S2U_MANY")
 for (wrong in list(quote(s2u_neighbors(near)), quote(s2u_neighbors(nothing)), quote(s2u_neighbors(cell, "8")),
-                   quote(s2u_neighbors("89c25")), quote(s2u_expanded(cell)), quote(s2u_bounds(1))))
+                   quote(s2u_neighbors("89c25")), quote(s2u_expanded(cell)), quote(s2u_bounds(1)),
+                   quote(s2u_leaf(1:3, 1:2)), quote(s2u_leaf("1", 2))))
   stopifnot(inherits(try(eval(wrong), TRUE), "try-error"))
 refused(s2u_leaf(c(0, 541), 0), "S2U_COVER_NUMBER", 2)
 refused(s2u_leaf(0, -Inf), "S2U_COVER_NUMBER", 1)
