@@ -6,13 +6,16 @@ in backticks is there; the files that docs/ARCHITECTURE.md walks through have th
 language has what docs/FROM_S2.md says it has; docs/TROUBLESHOOTING.md has each error that the sources make, and no
 others; docs/CONCEPTS.md has the edges and numbers of cells of all levels; docs/MARIADB.md lists the functions of
 install.sql; docs/README.md leads to each page; README.md has fewer than 10,000 bytes; a page that names the kit names
-the one of the file KIT; CHANGELOG.md says nothing twice; each part that a text names after `tests/run` is one; each
-command of tools/ and bench/ prints its usage with --help, and does nothing else; and what is a command, a file whose
-name has no ending and which names its interpreter, is executable, and no other file is. The last line is 'N passed, M
-failed', where N counts the definitions, the links, the paths, the names, the calls, the errors, the levels, the
-changes, the parts, the commands and the files. A check that has nothing to look at fails.
+the one of the file KIT; CHANGELOG.md says nothing twice; each part that a text names after `tests/run` is one, and has
+beside it the Debian packages that its script installs; each command of tools/ and bench/ prints its usage with
+--help, and does nothing else; and what is a command, a file whose name has no ending and which names its interpreter,
+is executable, and no other file is. The last line is 'N passed, M failed', where N counts the definitions, the links,
+the paths, the names, the calls, the errors, the levels, the changes, the parts, their packages, the commands and the
+files. A check that has nothing to look at fails.
 """
 import functools
+import importlib.machinery
+import importlib.util
 import re
 import subprocess
 import sys
@@ -37,6 +40,7 @@ MADE = ("docs/STATEMENT.md", "docs/STATEMENT.txt", "docs/STATEMENT.rt")
 GONE = {"peer", "faults", "examples"}
 STEP = re.compile(r"^\d+\. `(\w+/src)/(\w+\.rt)`: (.*)$", re.M)
 PART = re.compile(r"^    Part\(\"([\w-]+)\"", re.M)
+NEEDS = re.compile(r"^[^#\n]*?\b(need(?:_file|_modules|_installed)?) (?![^\n]*\$)([\w/][^;&\n]*)", re.M)
 RUNS = re.compile(r"tests/run((?: --tier)?(?: [a-z][\w-]*)+)")
 DEFINES = r"\b(?:fn|struct|trait|record|data|abbrev pub|unfoldable pub) {}\b"
 # The columns of docs/FROM_S2.md: what a name is in them, where it is defined, and how.
@@ -271,6 +275,35 @@ def unknown_parts():
     return len(named), [f"{name}: {word}" for name, word in named if word not in parts]
 
 
+def unnamed_packages():
+    """The number of Debian packages that scripts of parts install, and those that the list of parts lacks."""
+    loader = importlib.machinery.SourceFileLoader("run", str(ROOT / "tests" / "run"))
+    runner = importlib.util.module_from_spec(importlib.util.spec_from_loader("run", loader))
+    loader.exec_module(runner)
+    needed = [(part.name, package, part.installs) for part in runner.PARTS
+              for script in sorted({command.split()[0] for command in part.commands.values()} - {"rt"})
+              for package in needed_by((ROOT / script).read_text())]
+    return len(needed), sorted({f"{part}: {package}" for part, package, installs in needed
+                                if package not in words_of(installs)})
+
+
+def needed_by(script):
+    """The Debian packages that a script of bash asks for, and those of tools/package if it calls that."""
+    if not script.startswith("#!/usr/bin/env bash\n"):
+        return
+    if '"$top/tools/package"' in script:
+        yield from needed_by((ROOT / "tools" / "package").read_text())
+    for command, words in NEEDS.findall(script):
+        yield from words_of(words if command == "need_installed" else words.partition(" ")[2])
+
+
+def words_of(text):
+    """The words of a text, with each of those that braces have, as a shell reads them."""
+    for word in re.findall(r'(?:\{[^}]*\}|[^\s,;{}])+', text):
+        head, *more = re.split(r"\{(.*)\}", word)
+        yield from (f"{head}{it}" for it in more[0].split(",")) if more else [word]
+
+
 def without_usage():
     """The number of commands of tools/ and bench/, and those that don't answer --help by the text at their head."""
     commands = [path for folder in ("tools", "bench") for path in sorted((ROOT / folder).iterdir())
@@ -324,6 +357,7 @@ CHECKS = {
     "a contract that isn't in the sources": changed_contracts,
     "CHANGELOG.md says twice": said_twice,
     "no part of tests/run": unknown_parts,
+    "installed by a part, which doesn't name it": unnamed_packages,
     "--help is not answered by its usage": without_usage,
     "executable, or else a command": wrong_modes,
 }
