@@ -46,7 +46,7 @@ def versions(text):
     header, control = "crates/s2union_c/include/s2union.h", "bindings/postgres/{}.control"
     control_form = r"default_version = '(?P<value>.*)'"
     found = [
-        ("README.md", r"^Version (?P<value>[\d.]+);", whole),
+        ("README.md", r"^Version (?P<value>[\d.]+),", whole),
         ("docs/SCRIPT.md", r"^s2calc (?P<value>[\d.]+): 'help' for help", whole),
         ("CITATION.cff", r"^version: (?P<value>.*)$", whole),
         ("crates/s2calc/src/command_line.rt", r'\.version\("(?P<value>.*)"\)', whole),
