@@ -51,7 +51,21 @@ static void check_the_cells_that_are_looked_into(void) {
   CHECK(refuse_memory(0) < 100000);
 }
 
+/* Edges may touch 4,000,000 cells of a level, and no more. A line along the middle of a face touches two rows of cells:
+ * one of 2,000,000 columns of level 21, and one that ends in the next column. */
+static void check_as_many_as_edges_may_touch(void) {
+  s2u_direction line[] = {{2147483647, -2039297308, 0}, {2147483647, 1993545788, 0}, {2147483647, 1993545788, 0}};
+  const size_t ends[] = {3};
+  len = 77;
+  CHECK(s2u_polygon_inner(line, 3, ends, 1, UINT64_C(0x7000000000000001), 0, 21, 1000, out, ROOM, &len) == S2U_OK);
+  CHECK(len == 0);
+  line[1].y = line[2].y = 1993548445;
+  CHECK(s2u_polygon_inner(line, 3, ends, 1, UINT64_C(0x7000000000000001), 0, 21, 1000, out, ROOM, &len) == S2U_MANY);
+  CHECK(len == 0);
+}
+
 int main(void) {
   check_the_cells_that_are_looked_into();
+  check_as_many_as_edges_may_touch();
   return report();
 }
