@@ -77,6 +77,29 @@ static void check_the_most_cells(void) {
   CHECK(memcmp(made, leaves + 1, 8 * (MOST - 1)) == 0);
 }
 
+/* A polygon of a million corners, in one ring and in many, and memory for it. It is the triangle whose corners it
+ * repeats in turn, or whose ring it lists 333,333 times. */
+static void check_the_most_corners(void) {
+  enum { MOST = 999999, FEW = 1000 };
+  static s2u_direction each[MOST], turned[MOST];
+  static size_t rings[MOST / 3];
+  static const size_t one[] = {3}, all[] = {MOST};
+  static int32_t (*const levels[])(const s2u_direction*, size_t, const size_t*, size_t, uint64_t, uint64_t, uint32_t,
+                                   size_t, uint64_t*, size_t, size_t*) = {s2u_polygon_outer, s2u_polygon_inner};
+  uint64_t right[FEW], made[FEW];
+  size_t n = 0;
+  for (size_t k = 0; k < MOST; k++) each[k] = corners[k / (MOST / 3)], turned[k] = corners[k % 3];
+  for (size_t k = 0; k < MOST / 3; k++) rings[k] = 3 * (k + 1);
+  refuse_memory(0);
+  for (size_t call = 0; call < 2; call++) {
+    CHECK(levels[call](corners, 3, one, 1, 1, 0, 4, FEW, right, FEW, &n) == S2U_OK && n > 0);
+    CHECK(levels[call](each, MOST, all, 1, 1, 0, 4, FEW, made, FEW, &len) == S2U_OK && len == n);
+    CHECK(memcmp(made, right, 8 * n) == 0);
+    CHECK(levels[call](turned, MOST, rings, MOST / 3, 1, 0, 4, FEW, made, FEW, &len) == S2U_OK && len == n);
+    CHECK(memcmp(made, right, 8 * n) == 0);
+  }
+}
+
 int main(void) {
   size_t right = 0;
   static const struct {
@@ -129,5 +152,6 @@ int main(void) {
     printf("%s: %ld allocations refused in turn\n", calls[k].name, allocations);
   }
   check_the_most_cells();
+  check_the_most_corners();
   return report();
 }
