@@ -1,13 +1,13 @@
 #!/usr/bin/env bash
-# The archive that tools/portable makes, on each system that can be tried here: tests/run portable -- [ROUNDS]. Without
-# the kit it is the release's, with its wheels and its jar, beside the release's library. From the archive alone the
-# library is built for x86-64 with glibc, with musl and for Windows, for ARM and for RISC-V. Each answers ROUNDS of all
-# calls three times, with wrong arguments and memory refused, and the sums have to be those of the library that was
-# proved; 340,000 rounds are asked if none are given. Windows is wine, and ARM and RISC-V are qemu. For macOS it is
-# compiled, and its object files are looked at. So are the wheels and the library of the jar, and what of them can be
-# run here is. Then it is built in a new system in which no prover and nothing of this repository is. It has to run as
-# root, and installs the Debian packages that it needs. The last line is 'N passed, M failed'; the status is 1 if any
-# failed.
+# The archive that tools/portable makes, on each system that can be tried here: tests/run portable -- [ROUNDS].
+# Without the kit it is the release's, with its wheels and its natives for macOS, beside the release's library; the
+# other natives are made of that. From the archive alone the library is built for x86-64 with glibc, with musl and for
+# Windows, for ARM and for RISC-V. Each answers ROUNDS of all calls three times, with wrong arguments and memory
+# refused, and the sums have to be those of the library that was proved; 340,000 rounds are asked if none are given.
+# Windows is wine, and ARM and RISC-V are qemu. For macOS it is compiled, and its object files are looked at. So are
+# the wheels and the library of the jar, and what of them can be run here is. Then it is built in a new system in
+# which no prover and nothing of this repository is. It has to run as root, and installs the Debian packages that it
+# needs. The last line is 'N passed, M failed'; the status is 1 if any failed.
 . "$(dirname "$0")/../steps.sh"
 rounds=${1:-340000}
 tests=$top/tests/portable
@@ -218,29 +218,29 @@ loaded() ( # over a python3.dll that has the names of Python's, and does nothing
     [ "$(in_windows ./loads.exe | tr -d '\r')" = s2union._library ]
 )
 step "the wheel for Windows: its module is loaded" loaded
-jar() {
-  if [ "$made" = "$top/dist" ]; then
-    install -D "$made"/s2union-*.jar "$work/java/s2union.jar"
-  else
-    PATH=$with_kit "$top/tools/java" "$work/java" --target x86_64 --source "$archive"
-  fi
+jar() { # that of the release has the natives for macOS too, but calls of its own time
+  local given=$work/java/s2union.jar
+  PATH=$with_kit "$top/tools/java" "$work/java" --target x86_64 --source "$archive" "${released[@]}" || return 1
+  mkdir "$work/hosted" "$work/given" && /usr/bin/python3 -m zipfile -e "$given" "$work/hosted" || return 1
+  [ "$made" != "$top/dist" ] || given=$(echo "$made"/s2union-*.jar)
+  /usr/bin/python3 -m zipfile -e "$given" "$work/given"
 }
 step "the jar, with the library for other systems" jar
 asked_as_java_does() { # on Linux and in Windows: one sum
   local java file=$top/tests/portable/hosted.c flags
   java=$(dirname "$(dirname "$(realpath "$(command -v javac)")")")
   flags=(-std=gnu11 -O2 -Wall -Wextra -Werror -I"$java/include" -I"$top/bindings/java")
-  mkdir "$work/hosted" && cd "$work/hosted" && /usr/bin/python3 -m zipfile -e "$work/java/s2union.jar" . &&
-    gcc "${flags[@]}" -I"$java/include/linux" "$file" -ldl -o here &&
+  cd "$work/hosted" && gcc "${flags[@]}" -I"$java/include/linux" "$file" -ldl -o here &&
     x86_64-w64-mingw32-gcc "${flags[@]}" -I"$top/tools/packaging/windows" "$file" -o there.exe &&
     ./here s2union/amd64/libs2union_java.so "$rounds" >wanted && grep '^sum ' wanted &&
     in_windows ./there.exe s2union/windows-amd64/libs2union_java.dll "$rounds" | tr -d '\r' | diff wanted -
 }
 step "the natives for Windows answer as those for Linux" asked_as_java_does
 natives_for_macos() { # PROCESSOR
-  local file=$work/hosted/s2union/macos-$1/libs2union_java.dylib
-  diff <(nm -D --defined-only "$work/hosted/s2union/amd64/libs2union_java.so" | awk '{ print "_" $3 }' | sort) \
-    <(llvm-nm -gjU "$file" | sort) && ! llvm-nm -m -u "$file" | grep -v '(from libSystem)$'
+  local file=$work/given/s2union/macos-$1/libs2union_java.dylib
+  [ -s "$file" ] &&
+    diff <(nm -D --defined-only "$work/given/s2union/amd64/libs2union_java.so" | awk '{ print "_" $3 }' | sort) \
+      <(llvm-nm -gjU "$file" | sort) && ! llvm-nm -m -u "$file" | grep -v '(from libSystem)$'
 }
 step "the natives for macOS on x86-64: looked at, not run" natives_for_macos x86_64
 step "the natives for macOS on ARM: looked at, not run" natives_for_macos aarch64

@@ -38,7 +38,7 @@ by_kit() { # TARGET FLAG..
 }
 pattern() { tr -s ' \n' '|' <<<"$*" | sed 's/|$//'; } # of these names
 named() { # FLAG..: the names in the objects, as C has them
-  of_kit llvm-nm --just-symbol-name "$@" "$work"/*.o | grep -v ':$' | sed "s/^$before//" | sort -u
+  "${nm[@]}" -j "$@" "$work"/*.o | grep -v ':$' | sed "s/^$before//" | sort -u
 }
 wants_only() { # PATTERN
   local others
@@ -46,7 +46,7 @@ wants_only() { # PATTERN
   [ -z "$others" ] || { echo "shared_for: for $system, not of C:" $others >&2 && exit 1; }
 }
 
-files=() flags=() before=
+files=() flags=() before= nm=(of_kit llvm-nm)
 for word; do case $word in *.c) files+=("$word") ;; *) flags+=("$word") ;; esac; done
 case $system in
   *-musl)
@@ -75,7 +75,7 @@ case $system in
       $(named --undefined-only | grep -xE "$of_python" | sed 's/^/-U _/') "$work"/*.o "$work/libSystem.tbd" -o "$file"
     ;;
   x86_64-windows)
-    before= compile+=(-D__USE_MINGW_ANSI_STDIO=1)
+    nm=(x86_64-w64-mingw32-nm) compile+=(-D__USE_MINGW_ANSI_STDIO=1)
     libraries=() kept=()
     for word in "${flags[@]}"; do case $word in *.a) libraries+=("$word") ;; *) kept+=("$word") ;; esac; done
     flags=("${kept[@]}")
