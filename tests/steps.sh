@@ -127,6 +127,11 @@ need_library() {
   [ "$failed" -eq 0 ] || finish
 }
 
+places() { # $work/places: places in degrees, with the leaves that S2 has there
+  (cd "$top/tests" && /usr/bin/python3 -Bc 'from model.places import POINTS
+for place in POINTS: print(*place)') >"$work/places"
+}
+
 shapes() { # $work/shapes: shapes in degrees, with the coverings that the module for Python makes
   LD_LIBRARY_PATH=$work/usr/lib PYTHONDONTWRITEBYTECODE=1 PYTHONPATH=$top/tests:$work/usr/lib/python \
     /usr/bin/python3 -m model.shapes >"$work/shapes"

@@ -50,14 +50,16 @@ step "the same answers with musl, by a shared library" by_musl
 
 program() { # NAME FLAGS..
   aarch64-linux-gnu-gcc -std=c11 -D_DEFAULT_SOURCE -O2 "${strict[@]}" "${@:2}" -I"$arm/include" "$top/tests/c/$1.c" \
-    "$arm/lib/libs2union.a" -lpthread -o "$work/$1" && on_arm "$work/$1"
+    "$arm/lib/libs2union.a" -lpthread -lm -o "$work/$1" && on_arm "$work/$1"
 }
-for name in header traps garbage threads pages; do step "C: $name" program "$name"; done
-refusing() {
+for name in header examples traps garbage threads pages; do step "C: $name" program "$name"; done
+in_degrees() { places && program points <"$work/places"; }
+step "C: points in degrees" in_degrees
+refusing() { # NAME
   aarch64-linux-gnu-gcc -std=c11 -O2 "${strict[@]}" -c "$top/tests/refuse.c" -o "$work/refuse.o" &&
-    program memory "$work/refuse.o"
+    program "$1" "$work/refuse.o"
 }
-step "C: each allocation refused in turn" refusing
+for name in memory shapes outline neighbors; do step "C: $name, each allocation refused in turn" refusing "$name"; done
 unions() { # with a heap of its own
   aarch64-linux-gnu-g++ -std=c++17 -D_DEFAULT_SOURCE -O2 "${strict[@]}" -I"$arm/include" \
     "$top/tests/cpp/cell_union.cc" "$arm/lib/libs2union_noheap.a" -o "$work/unions" && on_arm "$work/unions"
@@ -100,6 +102,7 @@ step "SQLite: build" extension sqlite
 step "SQLite: build, counting steps" counting
 step "SQLite: against the model, and what is refused" in_sqlite sqlite \
   test_sqlite.py::AgainstTheModel test_sqlite.py::WhatIsRefused
+step "SQLite: points, coverings and exact joins" in_sqlite sqlite test_geo.py test_joins.py
 step "SQLite: a union that is asked for each row is looked at once" in_sqlite counted \
   test_sqlite.py::Steps
 
@@ -107,10 +110,11 @@ in_go() (
   export PYTHONDONTWRITEBYTECODE=1
   export PYTHONPATH=$top/tests
   for asked in vectors edges; do /usr/bin/python3 -m "model.$asked" || exit 1; done >"$work/vectors"
+  shapes || exit 1
   cd "$top/bindings/go" &&
     export GOPATH=$work/go GOCACHE=$work/go-cache GOFLAGS=-mod=mod GOPROXY=off GOTOOLCHAIN=local &&
     GOARCH=arm64 CGO_ENABLED=1 CC=aarch64-linux-gnu-gcc PKG_CONFIG_PATH=$arm/lib/pkgconfig \
-      go test -c -o "$work/for-go" . && S2UNION_VECTORS=$work/vectors on_arm "$work/for-go"
+      go test -c -o "$work/for-go" . && S2UNION_VECTORS=$work/vectors S2UNION_SHAPES=$work/shapes on_arm "$work/for-go"
 )
 step "Go: against the model, what is refused, and the examples" in_go
 

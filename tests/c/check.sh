@@ -28,10 +28,8 @@ for compiler in "gcc -x c -std=c99" "gcc -x c -std=c17" "clang -x c -std=c99" "c
 done
 step "header: run" "$work/header"
 
-in_degrees() { # COMPILER OPTION..: places, with the leaves that S2 has there
-  (cd "$top/tests" && /usr/bin/python3 -Bc 'from model.places import POINTS
-for place in POINTS: print(*place)') >"$work/places" &&
-    "$@" "${strict[@]}" -I"$include" "$tests/points.c" -x none -o "$work/points" "$static" -lm &&
+in_degrees() { # COMPILER OPTION..
+  places && "$@" "${strict[@]}" -I"$include" "$tests/points.c" -x none -o "$work/points" "$static" -lm &&
     "$work/points" <"$work/places"
 }
 step "points in degrees, in C" in_degrees gcc -x c -std=c99
