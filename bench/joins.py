@@ -243,7 +243,7 @@ def in_python(job):
     def indexed():
         kept["frames"] = frames()
         return clocked(lambda: [frame.sindex for frame in kept["frames"]])[1]
-    return compared(job, "Python, beside geopandas " + geopandas.__version__, [
+    return compared(job, f"Python, by {job.predicate}, beside geopandas {geopandas.__version__}", [
         Way("Index.join", makes, joined(lambda: kept["index"])),
         Way("Index.load, and join", lambda: clocked(lambda: kept["index"].save(path))[1],
             joined(lambda: Index.load(path))),
@@ -317,7 +317,10 @@ def main(folder, modules, file, *words):
             zones = zones_of(file, layer)
             points = some_points(corners_of(zones), 50000, 50000, 0)
             are_provinces = layer == "states_provinces"
-            joined(Job(folder, modules, zones, *points, 3, "within", are_provinces, 10_000_000 * are_provinces))
+            job = Job(folder, modules, zones, *points, 3, "within", are_provinces, 10_000_000 * are_provinces)
+            joined(job)
+            if are_provinces:
+                in_python(job._replace(predicate="intersects"))
         return
     passed = 0
     for layer, every in ("countries", 1), ("states_provinces", 10):
