@@ -334,7 +334,7 @@ class Documents(unittest.TestCase):
         self.assertEqual(set(model.COMMANDS) - shown, set())
 
     def test_the_first_command(self):
-        shown = re.compile(r"printf '(.*?)\\n' \| \./s2calc run .*?The first prints `(.*?)`", re.S)
+        shown = re.compile(r"printf '(.*?)\\n' \| \./s2calc run\b.*?The first prints `(.*?)`", re.S)
         script, answer = shown.search(self.texts["README.md"]).groups()
         self.assertEqual(ran("run", script=script.encode())[1].decode(), answer + "\n")
 
