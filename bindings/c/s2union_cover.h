@@ -358,6 +358,7 @@ static inline int s2u_cover_may_overlap(const s2u_cover_polygon* a, const s2u_co
                                         double* left) {
   s2u_cover_bounds box = b->box;
   double back = turn + b->turn - a->turn, here[2];
+  int is_met = 0; /* the box of b, by an edge of a */
   box.west += turn - a->turn - 1e-12, box.east += turn - a->turn + 1e-12;
   for (size_t k = 0; k < a->part.count; k++) {
     uint64_t end = a->part.shape->rings[a->part.rings[k]].end;
@@ -367,13 +368,14 @@ static inline int s2u_cover_may_overlap(const s2u_cover_polygon* a, const s2u_co
       if (fmax(from[0], to[0]) < box.west || fmin(from[0], to[0]) > box.east || fmax(from[1], to[1]) < box.south ||
           fmin(from[1], to[1]) > box.north)
         continue;
+      is_met = 1;
       if (s2u_cover_edge_touches(from, to, &b->part, back, left)) return 1;
     }
   }
   memcpy(here, s2u_cover_first(&b->part), sizeof here);
   if (s2u_cover_is_odd(&a->part, here[0], here[1])) return 1;
   memcpy(here, s2u_cover_first(&a->part), sizeof here);
-  return s2u_cover_is_odd(&b->part, here[0], here[1]);
+  return is_met && s2u_cover_is_odd(&b->part, here[0], here[1]); /* whose positions then were counted as work */
 }
 
 /* Marks polygons that may share a place with another one that isn't marked. */
