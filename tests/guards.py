@@ -34,12 +34,14 @@ from checks import copy_tracked, has_wrong  # noqa: E402
 
 
 class Mistake(NamedTuple):
-    """A mistake: its name, the check that has to find it, a file, and what the mistake makes of the file's text."""
+    """A mistake: its name, the check that has to find it, a file, what the mistake makes of the file's text, and what
+    the check has to say of it."""
 
     name: str
     check: Callable
     file: str
     made: Callable
+    said: str = ""
 
 
 def swapped(old, new):
@@ -65,6 +67,12 @@ ARMS = "".join(f"        {number} => {number},\n" for number in range(8))
 HOST = "crates" + ".io"  # in two words, since no file may name it
 LAST_LEAF = "a_cell_for_its_last_leaf"
 WHOLE = "int32_t s2u_is_cell(uint64_t id);"
+MADE_OF_UNION = """    ensures made { IsLocal xs.now → IsLocal ys.now
+        → MadeInPlace result (IsNormalForm (union_of (has_leaf xs.now) (has_leaf ys.now))) out.old out.new len.new }
+"""
+MISSED = """        ensures missed { IfOk result (λ u. (x : ℕ) → x < LEAVES → outer_leaf self.now x ≡ true
+            → has_leaf u.cells x ≡ true) }
+"""
 MISTAKES = [
     Mistake("a link that leads nowhere", pages.broken_links, "README.md",
             swapped("[all tables](docs/PERFORMANCE.md)", "[all tables](docs/PERFORMANCES.md)")),
@@ -100,6 +108,26 @@ MISTAKES = [
     Mistake("a definition that says another thing", statement, "crates/s2process/specs/Process.antt",
             swapped("pub record RunsListed {V S : Type 0}", "pub record RunsListed {S V : Type 0}")),
     Mistake("checksums that aren't current", statement, "docs/statement.sums", ended_by("more\n")),
+    Mistake("a clause of a call for C that is gone", statement, "crates/s2union_c/src/sets.rt",
+            swapped(MADE_OF_UNION, ""), "s2union_c, sets s2u_union, clause made: gone"),
+    Mistake("a clause of a public method that is gone", statement, "crates/s2polygon/src/covering.rt",
+            swapped(MISSED, ""), "s2polygon, covering Polygon_outer, clause missed: gone"),
+    Mistake("a clause of a call for C that says less", statement, "crates/s2union_c/src/polygons.rt",
+            swapped("IsAsked outside margin 0 level → AreGiven corners.now ends.now → CoversUnless\n"
+                    "        (IsTooFineOuter", "IsAsked outside margin 0 level → AreGiven corners.now ends.now → most ≡ "
+                    "0 → CoversUnless\n        (IsTooFineOuter"),
+            "s2union_c, polygons s2u_polygon_outer, clause made: another"),
+    Mistake("a definition that says less", statement, "crates/s2polygon/specs/Counts.antt",
+            swapped("IsTooFine r k = MOST_TOUCHED < cells_touched r k", "IsTooFine r k = 0 < cells_touched r k"),
+            "s2polygon, Counts IsTooFine: another"),
+    Mistake("a constant that a contract names", statement, "crates/s2polygon/src/counting.rt",
+            lambda text: re.sub(r"(const MOST_TOUCHED: \w+ = )", r"\g<1>1 + ", text), "MOST_TOUCHED: another"),
+    Mistake("a call for C that the statement leaves out", statement, "tools/compiled_contracts.py",
+            swapped('piece.name != "main" and', 'piece.name not in ("main", "s2u_union") and'),
+            "s2u_union: s2union.h declares it, and STATEMENT.rt has no contract of it"),
+    Mistake("a sentence above a definition", statement, "crates/s2polygon/specs/Counts.antt",
+            swapped("-- the edges touch more than `MOST_TOUCHED` cells", "-- the edges touch `MOST_TOUCHED` cells"),
+            "s2polygon: the sentences above its contracts or definitions are others"),
     Mistake("a word of the kit that has no meaning", statement, "tools/kit_words.py",
             swapped('"little_bytes": (', '"small_bytes": (')),
     Mistake("a definition that no public contract needs", statement, "crates/s2cell/specs/Cell.antt",
@@ -370,7 +398,8 @@ def mistakes(counts, room):
         try:
             make(mistake, file)
             found = check()[1]
-            counts.tell(mistake.name, len(found) > len(without[check]), f"{check.__name__}: {found}")
+            is_found = len(found) > len(without[check]) and mistake.said in "\n".join(found)
+            counts.tell(mistake.name, is_found, f"{check.__name__}: {found}")
         except ValueError as why:
             counts.tell(f"{mistake.name}: can't be made: {why}", False)
         file.write_text(text, encoding="utf-8")

@@ -3,7 +3,7 @@ tools/compiled_statement.py makes, and the lemmas by which the kit checks that e
 import re
 from dataclasses import dataclass
 
-from compiled_statement import NAME, PAGE, PIECE, is_named, libraries, used
+from compiled_statement import NAME, OF_CRATES, PAGE, PIECE, is_named, libraries, used
 from definitions import (BINDER, CLAUSE, CONSTANT, LAMBDA, WORD, Piece, Source, closing, comment_above, source_module,
                          without_parameters)
 
@@ -11,7 +11,7 @@ HEAD = """\
 //! The contract of each public function, in the words of STATEMENT.txt: `Page` here. `tools/statement` makes it from
 //! crates/, and `tests/run statement` has the kit check that each is the contract that the crate proves, with the types
 //! of the arguments and the result. A module here is a file of a crate. A method stands with its type before its name,
-//! and with `this` for `self`. Bodies are left out.
+//! and with `this` for `self`. Bodies are left out. STATEMENT.txt ends with the meanings of the kit's words in both.
 #![tactic(auto)]"""
 # The function whose proof has the kit read the lemmas. No other function here is proved, and none is called.
 READER = "read"
@@ -182,13 +182,25 @@ class Contracts:
 
     def renamed(self, call):
         """The head of a function with the names of the page, and the keys of these names."""
-        text, keys = self.plain_signature(call), []
+        parts, keys = self.parts(call)
+        return "".join(text for _, text in parts), keys
+
+    def parts(self, call):
+        """The head of a function up to its clauses and each of these, by their names, with the names of the page, and
+        the keys of these names."""
+        text, keys, found = self.plain_signature(call), [], []
         bound = {"result", "this", *re.findall(r"(\w+)\s*:", text)}
         for clause in CLAUSE.finditer(call.head):
             end = closing(call.head, clause.end() - 1)
             inner = SELF.sub("this", call.head[clause.end():end - 1])
-            text += f"\n    {clause[0]}{self.clause(call.source, inner, bound, keys)}}}"
-        return text, keys
+            name = clause[0].rstrip("{ ").removeprefix("ensures ")
+            found.append((name, f"\n    {clause[0]}{self.clause(call.source, inner, bound, keys)}}}"))
+        return [("head", text), *found], keys
+
+    def words(self):
+        """The words of the kit that the contracts use."""
+        keys = {key for call in self.calls for key in self.parts(call)[1]}
+        return {name for module, name in keys if not OF_CRATES.match(module)} - {"[]"}
 
     def clause(self, source, text, bound, keys):
         """A clause with the names of the page, whose keys join `keys`; what is bound keeps its name."""
@@ -256,7 +268,7 @@ class Contracts:
                   for module, text in lemmas.items()}
         read = [f"use Rattle.{NAME}.proofs.{module}.{{{name}}}" for module, name in first.items()]
         for part, text in {"src/lib.rt": self.text(), "specs/Lib.antt": "pub mod Page\n",
-                           "specs/Page.antt": self.compiled.page(), "proofs/Lib.antt": "mod Same\nmod Contracts\n",
+                           "specs/Page.antt": self.compiled.page(self.words()), "proofs/Lib.antt": "mod Same\nmod Contracts\n",
                            "proofs/Same.antt": lemmas["Same"], "proofs/Contracts.antt": lemmas["Contracts"],
                            f"proofs/{READER}/Answers.antt": "\n".join(read) + "\n"}.items():
             (folder / part).parent.mkdir(parents=True, exist_ok=True)

@@ -18,7 +18,7 @@ HEAD = """\
 -- NAME, is says NAME-is here, and a constructor of a type of data is NAME-case. A name that means two things in the
 -- crates, or is that of a variable too, has its file behind it here, as in `given_in_Listed`. `unfolding` lines only
 -- say to the kit where to look."""
-OF_CRATES = re.compile(r"Rattle\.s2")
+OF_CRATES = re.compile(r"Rattle\.(?:s2|calculator\.)")
 DECLARED = re.compile(r"Rattle\.(\w+)\.specs\.declared\.(.*)")
 GROUP = re.compile(r"\s*([({])")
 PIECE = re.compile(r'--[^\n]*|"(?:[^"\\]|\\.)*"|[^\s(){}\[\],;"`]+')
@@ -256,8 +256,8 @@ class Compiled:
         return ["", *sentence, f"abbrev pub {self.names[key]} : List ℕ", f"{self.names[key]} =", f"    {lines[0]}",
                 *(f"    ++ {line}" for line in lines[1:])]
 
-    def page(self):
-        """The module."""
+    def page(self, more=()):
+        """The module, and the meanings of the words of the kit that it uses, and of more."""
         lines = [line for key in self.hidden for line in self.constant(key)]
         for file in self.files:
             lines += ["", f"-- {file.relative_to(ROOT / 'crates').parts[0]}, {file.stem}"]
@@ -270,14 +270,17 @@ class Compiled:
         by_name = {item.key: item for item in self.items}
         uses = self.uses(lambda key, name: key in self.of_definitions
                          and (key not in by_name or is_named(by_name[key])))
-        return "\n".join([HEAD, *used(uses), *lines, *self.kit()]) + "\n"
+        return "\n".join([HEAD, *used(uses), *lines, *self.kit(more)]) + "\n"
 
-    def kit(self):
-        """The words of the kit that the module uses, each with its meaning."""
-        names = {name for module, name in self.names if not OF_CRATES.match(module)}
+    def words(self):
+        """The words of the kit that the module uses."""
+        return {name for module, name in self.of_definitions if not OF_CRATES.match(module)} - {"[]"}
+
+    def kit(self, more):
+        """The meanings of the words of the kit that the module uses, and of more."""
         yield from ["", "-- Words of the kit, each with its form."]
         for name, (form, meaning) in kit_words.WORDS.items():
-            if name in names:
+            if name in self.words().union(more):
                 yield from textwrap.wrap(f"{form}: {meaning}", 117, initial_indent="-- ", subsequent_indent="--     ")
 
     # Lemmas.

@@ -1,7 +1,7 @@
-"""The words of Rattle's kit that docs/STATEMENT.md uses, each with its form and its meaning. tools/statement prints
-them.
+"""The words of Rattle's kit that the texts of tools/statement use, each with its form and its meaning. STATEMENT.md and
+STATEMENT.txt end with those that they need, STATEMENT.txt with those of STATEMENT.rt too.
 
-`tools/statement --check` refuses a word of the kit on the page that isn't here, and one here that the page doesn't use.
+`tools/statement --check` refuses a word of the kit in a text that isn't here, and one here that no text uses.
 """
 WORDS = {
     # truth
@@ -17,7 +17,7 @@ WORDS = {
     # numbers
     "ℕ": ("ℕ", "the numbers from 0 on"), "zero": ("zero", "0"), "suc": ("suc n", "n + 1"),
     "ℤ": ("ℤ", "the whole numbers"), "pos": ("pos n", "n, as a whole number"), "negsuc": ("negsuc n", "-(n + 1)"),
-    "neg_ℤ": ("neg_ℤ z", "-z"),
+    "neg_ℤ": ("neg_ℤ z", "-z"), "unsigned_abs": ("unsigned_abs z", "how far it is from 0"),
     "◌+◌": ("m + n", "the sum"), "◌-◌": ("m - n", "the difference, and 0 if n is more than m"),
     "◌*◌": ("m * n", "the product"), "◌/◌": ("m / n", "the quotient, rounded down"), "◌%◌": ("m % n", "its remainder"),
     "◌^◌": ("m ^ n", "the power"), "◌==◌": ("m == n", "whether they are the same number"),
@@ -38,6 +38,10 @@ WORDS = {
     "MatchResult": ("MatchResult r P Q", "P holds of the value, or Q of the error"),
     "IfOk": ("IfOk r P", "P holds of the value, if there is one"),
     "IfErr": ("IfErr r P", "P holds of the error, if there is one"),
+    "IsSome": ("IsSome o", "there is a value"), "IsNone": ("IsNone o", "there is none"),
+    "SomeIff": ("SomeIff o P x", "the value is `x` if P holds, and there is none if it doesn't"),
+    "MatchOption": ("MatchOption o P Q", "P, if there is no value, or Q of the value"),
+    "IsOk": ("IsOk r", "there is a value"), "IsErrOf": ("IsErrOf r e", "the error is `e`"),
     "OnOk": ("OnOk r P", "P, if there is a value"), "OnErr": ("OnErr r P", "P, if there is an error"),
     # lists
     "List": ("List A", "a list"), "◌∷◌": ("x ∷ xs", "`x`, and then `xs`; `[]` is the empty list"),
@@ -52,6 +56,8 @@ WORDS = {
     "slice_get": ("slice_get xs n", "the item that n others come before, if there is one"),
     "slice_index": ("slice_index xs n", "the same of numbers, and 0 if there is none"),
     "slice_index_or": ("slice_index_or xs n d", "the same, and `d` if there is none"),
+    "get_or": ("get_or xs n d", "the item that n others come before, and `d` if there is none"),
+    "between": ("between m n xs", "the items that m others or more come before, and fewer than n"),
     "slice_set": ("slice_set xs n x", "the list with `x` in that place"),
     "slice_split": ("slice_split p xs", "the parts between the items that pass the test, without these: one part more "
                                         "than such items"),
@@ -61,8 +67,17 @@ WORDS = {
     "AllPairs": ("AllPairs R xs", "R holds of each item and each later one"),
     "list_any": ("list_any p xs", "whether an item passes the test"),
     "list_all": ("list_all p xs", "whether each does"), "count_by": ("count_by p xs", "how many do"),
+    "AllZip": ("AllZip R xs ys", "they are of one length, and R holds of each two items in the same place"),
     "IsStrictlyIncreasing": ("IsStrictlyIncreasing xs", "each number is less than the next"),
+    "IsNonDecreasing": ("IsNonDecreasing xs", "each number is at most the next"),
     "IsPermutation": ("IsPermutation xs ys", "`ys` has the items of `xs`, in some order"),
+    "get_by_text": ("get_by_text m bs", "what the map has for the text `bs`, if anything"),
+    "vec_capacity": ("vec_capacity v", "how many items the vector has room for"),
+    "iter_rest": ("iter_rest s", "the items that the iterator has left"),
+    "iter_steps": ("iter_steps s o t", "the iterator `s` gives the first of its items, which `t` has no more, or none"),
+    "EveryRun": ("EveryRun steps P", "P holds of each run of such steps, as far as the iterator is asked"),
+    "ItemsMapTo": ("ItemsMapTo p f xs", "`f` of each item of the run is the item of `xs` in its place, and if the run "
+                                        "came to its end, `xs` has no others"),
     # texts: lists of bytes
     "codes": ("codes \"..\"", "the bytes of a text"), "string_bytes": ("string_bytes s", "the bytes of a `String`"),
     "bytes_eq": ("bytes_eq xs ys", "whether they are the same bytes"),
@@ -79,6 +94,9 @@ WORDS = {
                                        "with a backslash before it, as in `\\n` and `\\xff`"),
     "encode_utf8_all": ("encode_utf8_all cs", "the characters in UTF-8"),
     "coded_list": ("coded_list", "how lists are told apart; it has no meaning of its own"),
+    "WritesInCalls": ("WritesInCalls took w bs v", "`bs`, in some number of parts, each a step `took`, leads from `w` "
+                                                   "to `v`"),
+    "error_kind": ("error_kind e", "of which kind the error of a call of std is"),
     # bytes that may be known: those that a reader has left, or a writer holds
     "Appends": ("Appends old new bs", "if they were known, `bs` came behind them"),
     "Consumes": ("Consumes old new bs", "if they were known, they began with `bs`, which are gone"),

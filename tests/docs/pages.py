@@ -1,5 +1,6 @@
 #!/usr/bin/env python3
-"""Checks the pages: docs/statement.sums is what tools/statement makes; each definition has a sentence, and stands in
+"""Checks the pages: docs/statement.sums has each public contract, clause by clause, and each definition as tools/statement
+finds them, which prints a contract for each call of s2union.h; each definition has a sentence, and stands in
 specs/Working if no public contract needs it; every relative link of every page leads to a file, and to its heading;
 if the link's text is names of the sources, the file has them, as it has those that a page says are in it; each path
 in backticks is there; the files that docs/ARCHITECTURE.md walks through have the functions that it names; each
