@@ -26,6 +26,7 @@ from typing import Callable, NamedTuple
 
 TOP = Path(__file__).resolve().parents[1]
 sys.path += [str(TOP / "tests" / "docs"), str(TOP / "tests" / "mutants")]
+import figures  # noqa: E402
 import pages  # noqa: E402
 import prose  # noqa: E402
 import rot  # noqa: E402
@@ -93,6 +94,16 @@ MISTAKES = [
     Mistake("a first page that is too long", pages.too_long, "README.md", ended_by("more\n" * 2000)),
     Mistake("a wrong number of cells of a level", pages.wrong_levels, "docs/CONCEPTS.md",
             swapped("| 5 | 291 km | 6,144 |", "| 5 | 291 km | 6,154 |")),
+    *(Mistake(f"another number on a page, {new}", figures.wrong_figures, page, swapped(old, new)) for page, old, new in (
+        ("docs/HEADLINE.md", "more than 4,000,000 cells", "more than 400,000 cells"),
+        ("docs/HEADLINE.md", "and 10,000 if it isn't given", "and 1,000 if it isn't given"),
+        ("docs/HEADLINE.md", "with 39 contracts of C functions", "with 33 contracts of C functions"),
+        ("docs/HEADLINE.md", "may have a plus", "may have 12,345 pluses"),
+        ("docs/PROOF.md", "at most 64 KiB, waited", "at most 32 KiB, waited"),
+        ("docs/PROOF.md", "axioms=39", "axioms=38"),
+        ("README.md", "[specs](crates/s2polygon/specs), 410", "[specs](crates/s2polygon/specs), 300"))),
+    Mistake("another constant than that of a page", figures.wrong_figures, "crates/s2polygon/src/counting.rt",
+            swapped("MOST_TOUCHED: usize = 4_000_000;", "MOST_TOUCHED: usize = 5_000_000;")),
     Mistake("another kit on a page", pages.other_kits, "docs/PROOF.md", ended_by(f"\n`{'rattle-kit-'}0`\n")),
     Mistake("another logic on a page", pages.other_kits, "docs/INSTALL.md", ended_by("\nThe logic `0`.\n")),
     Mistake("a contract that no source has", pages.changed_contracts, "docs/HEADLINE.md",
@@ -387,7 +398,7 @@ def mistakes(counts, room):
     copy_tracked(TOP, room)
     for words in (["init", "-q"], ["add", "-A"]):
         subprocess.run(["git", *words], cwd=room, check=True)
-    for module in (pages, prose, rot, texts):
+    for module in (figures, pages, prose, rot, texts):
         module.ROOT = room
     without = {}
     for mistake in MISTAKES:

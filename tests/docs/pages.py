@@ -4,7 +4,8 @@ finds them, which prints a contract for each call of s2union.h; each definition 
 specs/Working if no public contract needs it; every relative link of every page leads to a file, and to its heading;
 if the link's text is names of the sources, the file has them, as it has those that a page says are in it; each path
 in backticks is there; the files that docs/ARCHITECTURE.md walks through have the functions that it names; each
-language has what docs/FROM_S2.md says it has; docs/TROUBLESHOOTING.md has each error that the sources make, and no
+language has what docs/FROM_S2.md says it has; the numbers on docs/HEADLINE.md and others are what they count
+(tests/docs/figures.py); docs/TROUBLESHOOTING.md has each error that the sources make, and no
 others; docs/CONCEPTS.md has the edges and numbers of cells of all levels; docs/MARIADB.md lists the functions of
 install.sql; docs/README.md leads to each page; README.md has fewer than 10,000 bytes; a page that names the kit names
 the one of the file KIT; CHANGELOG.md says nothing twice; each part that a text names after `tests/run` is one, and has
@@ -25,6 +26,7 @@ from pathlib import Path
 ROOT = Path(__file__).resolve().parents[2]
 sys.path += [str(ROOT / "tests"), str(ROOT / "tests" / "mutants")]
 from checks import has_wrong, tracked  # noqa: E402
+from figures import wrong_figures  # noqa: E402
 from mutant_texts import mutants_of  # noqa: E402
 
 LINK = re.compile(r"\]\((?!https?://)([^)#\s]*)(?:#([^)\s]+))?[^)]*\)")
@@ -354,6 +356,7 @@ CHECKS = {
     "not in the index docs/README.md": unlisted,
     "README.md is too long": too_long,
     "the table of levels": wrong_levels,
+    "a number that isn't what it counts": wrong_figures,
     "another kit": other_kits,
     "a contract that isn't in the sources": changed_contracts,
     "CHANGELOG.md says twice": said_twice,
