@@ -74,6 +74,16 @@ MADE_OF_UNION = """    ensures made { IsLocal xs.now → IsLocal ys.now
 MISSED = """        ensures missed { IfOk result (λ u. (x : ℕ) → x < LEAVES → outer_leaf self.now x ≡ true
             → has_leaf u.cells x ≡ true) }
 """
+# Numbers on pages, each with its text there and with another one.
+OTHER_NUMBERS = [
+    ("docs/HEADLINE.md", "more than 4,000,000 cells", "more than 400,000 cells"),
+    ("docs/HEADLINE.md", "and 10,000 if it isn't given", "and 1,000 if it isn't given"),
+    ("docs/HEADLINE.md", "with 39 contracts of C functions", "with 33 contracts of C functions"),
+    ("docs/HEADLINE.md", "may have a plus", "may have 12,345 pluses"),
+    ("docs/PROOF.md", "at most 64 KiB, waited", "at most 32 KiB, waited"),
+    ("docs/PROOF.md", "axioms=39", "axioms=38"),
+    ("README.md", "[specs](crates/s2polygon/specs), 410", "[specs](crates/s2polygon/specs), 300"),
+]
 MISTAKES = [
     Mistake("a link that leads nowhere", pages.broken_links, "README.md",
             swapped("[all tables](docs/PERFORMANCE.md)", "[all tables](docs/PERFORMANCES.md)")),
@@ -94,16 +104,12 @@ MISTAKES = [
     Mistake("a first page that is too long", pages.too_long, "README.md", ended_by("more\n" * 2000)),
     Mistake("a wrong number of cells of a level", pages.wrong_levels, "docs/CONCEPTS.md",
             swapped("| 5 | 291 km | 6,144 |", "| 5 | 291 km | 6,154 |")),
-    *(Mistake(f"another number on a page, {new}", figures.wrong_figures, page, swapped(old, new)) for page, old, new in (
-        ("docs/HEADLINE.md", "more than 4,000,000 cells", "more than 400,000 cells"),
-        ("docs/HEADLINE.md", "and 10,000 if it isn't given", "and 1,000 if it isn't given"),
-        ("docs/HEADLINE.md", "with 39 contracts of C functions", "with 33 contracts of C functions"),
-        ("docs/HEADLINE.md", "may have a plus", "may have 12,345 pluses"),
-        ("docs/PROOF.md", "at most 64 KiB, waited", "at most 32 KiB, waited"),
-        ("docs/PROOF.md", "axioms=39", "axioms=38"),
-        ("README.md", "[specs](crates/s2polygon/specs), 410", "[specs](crates/s2polygon/specs), 300"))),
+    *(Mistake(f"another number on a page, {new}", figures.wrong_figures, page, swapped(old, new))
+      for page, old, new in OTHER_NUMBERS),
     Mistake("another constant than that of a page", figures.wrong_figures, "crates/s2polygon/src/counting.rt",
             swapped("MOST_TOUCHED: usize = 4_000_000;", "MOST_TOUCHED: usize = 5_000_000;")),
+    Mistake("a crate on the layer of one that it uses", pages.wrong_layers, "docs/ARCHITECTURE.md",
+            swapped("| 6 | [`s2union_c`]", "| 5 | [`s2union_c`]")),
     Mistake("another kit on a page", pages.other_kits, "docs/PROOF.md", ended_by(f"\n`{'rattle-kit-'}0`\n")),
     Mistake("another logic on a page", pages.other_kits, "docs/INSTALL.md", ended_by("\nThe logic `0`.\n")),
     Mistake("a contract that no source has", pages.changed_contracts, "docs/HEADLINE.md",
@@ -124,9 +130,7 @@ MISTAKES = [
     Mistake("a clause of a public method that is gone", statement, "crates/s2polygon/src/covering.rt",
             swapped(MISSED, ""), "s2polygon, covering Polygon_outer, clause missed: gone"),
     Mistake("a clause of a call for C that says less", statement, "crates/s2union_c/src/polygons.rt",
-            swapped("IsAsked outside margin 0 level → AreGiven corners.now ends.now → CoversUnless\n"
-                    "        (IsTooFineOuter", "IsAsked outside margin 0 level → AreGiven corners.now ends.now → most ≡ "
-                    "0 → CoversUnless\n        (IsTooFineOuter"),
+            swapped("CoversUnless\n        (IsTooFineOuter", "most ≡ 0 → CoversUnless\n        (IsTooFineOuter"),
             "s2union_c, polygons s2u_polygon_outer, clause made: another"),
     Mistake("a definition that says less", statement, "crates/s2polygon/specs/Counts.antt",
             swapped("IsTooFine r k = MOST_TOUCHED < cells_touched r k", "IsTooFine r k = 0 < cells_touched r k"),

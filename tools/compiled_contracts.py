@@ -268,7 +268,8 @@ class Contracts:
                   for module, text in lemmas.items()}
         read = [f"use Rattle.{NAME}.proofs.{module}.{{{name}}}" for module, name in first.items()]
         for part, text in {"src/lib.rt": self.text(), "specs/Lib.antt": "pub mod Page\n",
-                           "specs/Page.antt": self.compiled.page(self.words()), "proofs/Lib.antt": "mod Same\nmod Contracts\n",
+                           "specs/Page.antt": self.compiled.page(self.words()),
+                           "proofs/Lib.antt": "mod Same\nmod Contracts\n",
                            "proofs/Same.antt": lemmas["Same"], "proofs/Contracts.antt": lemmas["Contracts"],
                            f"proofs/{READER}/Answers.antt": "\n".join(read) + "\n"}.items():
             (folder / part).parent.mkdir(parents=True, exist_ok=True)

@@ -11,8 +11,8 @@ import re
 from definitions import comment_above, source_module, without_parameters
 
 HEAD = """\
-# Made by tools/statement: of each crate the public contracts, each with the checksum of its head and of each clause, and
-# the definitions that public contracts need. A change of these that isn't here too is refused by `tests/run docs`.
+# Made by tools/statement: of each crate the public contracts, each with the checksums of its head and of its clauses,
+# and the definitions that public contracts need. A change of these that isn't here too is refused by `tests/run docs`.
 """
 
 

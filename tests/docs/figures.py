@@ -1,4 +1,4 @@
-"""Numbers on README.md, docs/HEADLINE.md and docs/PROOF.md, beside what they count in the sources.
+"""Numbers on README.md, docs/HEADLINE.md and other pages, beside what they count in the sources.
 
 FIGURES has for each page the text around a number and what the number has to be. A page has the text at least once, and
 each time with that number. On docs/HEADLINE.md each number of two digits or more has to be one of these; UNCOUNTED has
@@ -64,6 +64,7 @@ def figures():
     scripts = in_source("tests/run", r"in_gate\(\"tests/peer/scripts.py (\d+)")
     rings = in_source("tests/peer/polygons.sh", r"beside_s2 \"\$\{1:-(\d+)\}\"")
     cells, to_c, polygons = (lines_of_specs(*crates) for crates in (CELLS, ["s2union_c"], ["s2polygon"]))
+    texts = "".join(file.read_text(encoding="utf-8") for file in sorted(ROOT.glob("crates/*/mutants.txt")))
     headline, proof = "docs/HEADLINE.md", "docs/PROOF.md"
     return [
         (headline, r"LIMIT is from 1 to (N)", just(constant("s2edit/src/lib.rt", "MOST_REGISTER"))),
@@ -86,6 +87,7 @@ def figures():
         (proof, r"a plain model on (N) random scripts", just(scripts)),
         (proof, r"(N) lines for the library alone", about(cells + to_c)),
         (proof, r"for the library alone, (N) with polygons", about(cells + to_c + polygons)),
+        ("docs/MUTANTS.md", r"the others there, some (N)", about(texts.count("\n## ") - texts.count("\ngate: always"))),
         ("README.md", r"\[six crates\]\(\S+\), (N) \|", about(cells)),
         ("README.md", r"\[specs\]\(crates/s2union_c/specs\), (N) \|", about(to_c)),
         ("README.md", r"\[specs\]\(crates/s2polygon/specs\), (N) \|", about(polygons)),
@@ -101,7 +103,7 @@ def lines_of_main():
 
 
 def wrong_figures():
-    """The number of these, and those that a page lacks or has wrong, with the numbers of HEADLINE that none of them is."""
+    """The number of these, and those that a page lacks or has wrong, with the numbers of HEADLINE that are none."""
     found, wrong, seen = figures(), [], {}
     for page, form, is_right in found:
         texts = [*re.finditer(form.replace("N", r"\d[\d,]*\d"), text_of(page))]

@@ -1,19 +1,19 @@
 #!/usr/bin/env python3
-"""Checks the pages: docs/statement.sums has each public contract, clause by clause, and each definition as tools/statement
-finds them, which prints a contract for each call of s2union.h; each definition has a sentence, and stands in
-specs/Working if no public contract needs it; every relative link of every page leads to a file, and to its heading;
-if the link's text is names of the sources, the file has them, as it has those that a page says are in it; each path
-in backticks is there; the files that docs/ARCHITECTURE.md walks through have the functions that it names; each
-language has what docs/FROM_S2.md says it has; the numbers on docs/HEADLINE.md and others are what they count
-(tests/docs/figures.py); docs/TROUBLESHOOTING.md has each error that the sources make, and no
-others; docs/CONCEPTS.md has the edges and numbers of cells of all levels; docs/MARIADB.md lists the functions of
-install.sql; docs/README.md leads to each page; README.md has fewer than 10,000 bytes; a page that names the kit names
-the one of the file KIT; CHANGELOG.md says nothing twice; each part that a text names after `tests/run` is one, and has
-beside it the Debian packages that its script installs; each command of tools/ and bench/ prints its usage with
---help, and does nothing else; and what is a command, a file whose name has no ending and which names its interpreter,
-is executable, and no other file is. The last line is 'N passed, M failed', where N counts the definitions, the links,
-the paths, the names, the calls, the errors, the levels, the changes, the parts, their packages, the commands and the
-files. A check that has nothing to look at fails.
+"""Checks the pages: docs/statement.sums has each public contract, clause by clause, and each definition as
+tools/statement finds them, which prints a contract for each call of s2union.h; each definition has a sentence, and
+stands in specs/Working if no public contract needs it; every relative link of every page leads to a file, and to its
+heading; if the link's text is names of the sources, the file has them, as it has those that a page says are in it; each
+path in backticks is there; the files that docs/ARCHITECTURE.md walks through have the functions that it names, and each
+crate uses only those of lower layers there; each language has what docs/FROM_S2.md says it has; the numbers on
+docs/HEADLINE.md and others are what they count (tests/docs/figures.py); docs/TROUBLESHOOTING.md has each error that the
+sources make, and no others; docs/CONCEPTS.md has the edges and numbers of cells of all levels; docs/MARIADB.md lists
+the functions of install.sql; docs/README.md leads to each page; README.md has fewer than 10,000 bytes; a page that
+names the kit names the one of the file KIT; CHANGELOG.md says nothing twice; each part that a text names after
+`tests/run` is one, and has beside it the Debian packages that its script installs; each command of tools/ and bench/
+prints its usage with --help, and does nothing else; and what is a command, a file whose name has no ending and which
+names its interpreter, is executable, and no other file is. The last line is 'N passed, M failed', where N counts the
+definitions, the links, the paths, the names, the calls, the errors, the levels, the changes, the parts, their packages,
+the commands and the files. A check that has nothing to look at fails.
 """
 import functools
 import importlib.machinery
@@ -340,6 +340,15 @@ def is_command(file):
         return "." not in file.name and it.read(2) == b"#!"
 
 
+def wrong_layers():
+    """The crates in the table of docs/ARCHITECTURE.md, and those that use one of their own layer or a higher one."""
+    page = (ROOT / "docs" / "ARCHITECTURE.md").read_text()
+    layers = {name: int(layer) for layer, name in re.findall(r"^\| (\d+) \| \[`(\w+)`\]", page, re.M)}
+    uses = [line.partition(":")[::2] for line in (ROOT / "crates.txt").read_text().splitlines()]
+    return len(layers), [f"{words.split()[0]} uses {used}" for words, libraries in uses for used in libraries.split()
+                         if layers.get(words.split()[0], 99) <= layers.get(used, 0)]
+
+
 def changed_contracts():
     """The parts of contracts that pages quote, and those that no source has, whatever their spaces are."""
     sources = " ".join(" ".join((ROOT / name).read_text().split()) for name in tracked(ROOT, "crates/*.rt"))
@@ -358,6 +367,7 @@ CHECKS = {
     "the table of levels": wrong_levels,
     "a number that isn't what it counts": wrong_figures,
     "another kit": other_kits,
+    "a crate that uses one of no lower layer": wrong_layers,
     "a contract that isn't in the sources": changed_contracts,
     "CHANGELOG.md says twice": said_twice,
     "no part of tests/run": unknown_parts,
