@@ -16,7 +16,8 @@
 static inline uint32_t s2u_geo_place_on_face(double u) {
   double s = u >= 0 ? 0.5 * sqrt(1 + 3 * u) : 1 - 0.5 * sqrt(1 - 3 * u);
   double place = nearbyint(S2U_GEO_SIDE * s - 0.5);
-  return place >= S2U_GEO_SIDE - 1 ? S2U_GEO_SIDE - 1 : (uint32_t)place;
+  if (!isfinite(place) || place <= 0) return 0;
+  return place < S2U_GEO_SIDE - 1 ? (uint32_t)place : S2U_GEO_SIDE - 1;
 }
 
 static inline uint64_t s2u_geo_leaf_of(uint32_t face, double u, double v) {
@@ -55,13 +56,16 @@ static inline void s2u_geo_place(uint32_t face, double i, double j, double* long
   *latitude = atan2(z, sqrt(x * x + y * y)) * (180 / S2U_GEO_PI); /* as S2; hypot is of glibc 2.35 */
 }
 
+static inline void s2u_geo_middle_of_square(const s2u_square* square, double* longitude, double* latitude) {
+  s2u_geo_place(square->face, square->i + square->size / 2.0, square->j + square->size / 2.0, longitude, latitude);
+}
+
 /* The longitude and the latitude of the middle of a cell. S2U_NO_CELL if it is none. */
 static inline int32_t s2u_geo_middle(uint64_t cell, double* longitude, double* latitude) {
   s2u_square square;
   int32_t status = s2u_square_of(cell, &square);
-  if (status != S2U_OK) return status;
-  s2u_geo_place(square.face, square.i + square.size / 2.0, square.j + square.size / 2.0, longitude, latitude);
-  return S2U_OK;
+  if (status == S2U_OK) s2u_geo_middle_of_square(&square, longitude, latitude);
+  return status;
 }
 
 /* ---- cells beside a cell */
@@ -117,7 +121,8 @@ static inline int32_t s2u_geo_vertex_neighbors(uint64_t cell, uint32_t level, ui
   *count = 0;
   if (status != S2U_OK) return status;
   if (level >= (uint32_t)s2u_level(cell)) return S2U_ARGUMENT;
-  s2u_square_of(s2u_parent(cell, level), &above);
+  status = s2u_square_of(s2u_parent(cell, level), &above);
+  if (status != S2U_OK) return status;
   const int64_t size = above.size, i = above.i, j = above.j;
   const int64_t east = 2 * ((int64_t)at.i - i) >= size ? i + size : i - size;
   const int64_t north = 2 * ((int64_t)at.j - j) >= size ? j + size : j - size;
@@ -180,9 +185,9 @@ static inline s2u_geo_box s2u_geo_box_of_corners(const s2u_square* square, doubl
 static inline int32_t s2u_geo_box_of(uint64_t cell, s2u_geo_box* box) {
   double longitude, latitude;
   s2u_square square;
-  int32_t status = s2u_geo_middle(cell, &longitude, &latitude);
+  int32_t status = s2u_square_of(cell, &square);
   if (status != S2U_OK) return status;
-  s2u_square_of(cell, &square);
+  s2u_geo_middle_of_square(&square, &longitude, &latitude);
   *box = square.size == S2U_GEO_SIDE ? s2u_geo_box_of_face(square.face, longitude)
                                      : s2u_geo_box_of_corners(&square, longitude);
   return S2U_OK;

@@ -21,6 +21,7 @@ typedef __SIZE_TYPE__ size_t;
 #define UINT32_MAX __UINT32_MAX__
 #define UINT64_MAX (2UL * __INT64_MAX__ + 1)
 #define INFINITY __builtin_inf()
+#define isfinite(x) __builtin_isfinite(x)
 
 void* malloc(size_t size);
 void* calloc(size_t count, size_t size);
