@@ -917,23 +917,6 @@ static inline uint64_t s2u_cover_beside_edge(const s2u_cover_build* build, const
   return 0;
 }
 
-/* A leaf to the right of geodesic rings; 0 if none was found beside some of their edges. */
-static inline uint64_t s2u_cover_outside_on_the_right(const s2u_cover_build* build) {
-  const s2u_direction* corners = (const s2u_direction*)build->corners.at;
-  const size_t* ends = (const size_t*)build->ends.at;
-  size_t step = build->corners.count / 16 + 1;
-  for (size_t ring = 0, k = 0; ring < build->ends.count; ring++) {
-    s2u_cover_vector before = s2u_cover_vector_of(&corners[ends[ring] - 1]);
-    for (; k < ends[ring]; k++) {
-      s2u_cover_vector here = s2u_cover_vector_of(&corners[k]);
-      uint64_t leaf = k % step == 0 ? s2u_cover_beside_edge(build, &before, &here, k) : 0;
-      if (leaf) return leaf;
-      before = here;
-    }
-  }
-  return 0;
-}
-
 /* A leaf outside of geodesic rings; 0 if none was found. */
 static inline uint64_t s2u_cover_outside_on_sphere(const s2u_cover_build* build) {
   const s2u_direction* corners = (const s2u_direction*)build->corners.at;
@@ -950,6 +933,60 @@ static inline uint64_t s2u_cover_outside_on_sphere(const s2u_cover_build* build)
       return s2u_cover_leaf_at(&at);
   }
   return 0;
+}
+
+/* The normal of an edge, in whole numbers of 64 bits. */
+static inline void s2u_cover_normal(const s2u_direction* a, const s2u_direction* b, int64_t* normal) {
+  normal[0] = a->y * b->z - a->z * b->y;
+  normal[1] = a->z * b->x - a->x * b->z;
+  normal[2] = a->x * b->y - a->y * b->x;
+}
+
+/* Whether a corner is on the circle of an edge: a product of 95 bits is 0 if it is near 0, and its last 64 bits are. */
+static inline int s2u_cover_is_on_circle(const int64_t* normal, const s2u_direction* at) {
+  uint64_t last = (uint64_t)normal[0] * (uint64_t)at->x + (uint64_t)normal[1] * (uint64_t)at->y +
+                  (uint64_t)normal[2] * (uint64_t)at->z;
+  double about = (double)normal[0] * (double)at->x + (double)normal[1] * (double)at->y +
+                 (double)normal[2] * (double)at->z;
+  return last == 0 && fabs(about) < 1e15;
+}
+
+/* Whether rings have no area, as they run out and back on themselves: a ring lies on a circle, or the sum of all normals
+ * is 0. */
+static inline int s2u_cover_run_back(const s2u_cover_build* build) {
+  const s2u_direction* corners = (const s2u_direction*)build->corners.at;
+  const size_t* ends = (const size_t*)build->ends.at;
+  uint64_t all[3] = {0, 0, 0};
+  for (size_t ring = 0, begin = 0; ring < build->ends.count; begin = ends[ring++]) {
+    uint64_t sum[3] = {0, 0, 0};
+    int is_flat = 1;
+    for (size_t k = begin; k < ends[ring]; k++) {
+      int64_t normal[3];
+      s2u_cover_normal(&corners[k > begin ? k - 1 : ends[ring] - 1], &corners[k], normal);
+      is_flat = is_flat && s2u_cover_is_on_circle(normal, &corners[begin]);
+      for (int n = 0; n < 3; n++) sum[n] += (uint64_t)normal[n];
+    }
+    for (int n = 0; n < 3 && !is_flat; n++) all[n] += sum[n];
+  }
+  return all[0] == 0 && all[1] == 0 && all[2] == 0;
+}
+
+/* A leaf to the right of geodesic rings, or anywhere if these run out and back; 0 if none was found beside some of their
+ * edges. */
+static inline uint64_t s2u_cover_outside_on_the_right(const s2u_cover_build* build) {
+  const s2u_direction* corners = (const s2u_direction*)build->corners.at;
+  const size_t* ends = (const size_t*)build->ends.at;
+  size_t step = build->corners.count / 16 + 1;
+  for (size_t ring = 0, k = 0; ring < build->ends.count; ring++) {
+    s2u_cover_vector before = s2u_cover_vector_of(&corners[ends[ring] - 1]);
+    for (; k < ends[ring]; k++) {
+      s2u_cover_vector here = s2u_cover_vector_of(&corners[k]);
+      uint64_t leaf = k % step == 0 ? s2u_cover_beside_edge(build, &before, &here, k) : 0;
+      if (leaf) return leaf;
+      before = here;
+    }
+  }
+  return s2u_cover_run_back(build) ? s2u_cover_outside_on_sphere(build) : 0;
 }
 
 /* ---- margins */
