@@ -6,12 +6,12 @@
  * covering has each place of the shape; its inner covering has places of the shape alone. The cells are those that the
  * proved calls make of whole numbers; how degrees become these numbers is below, tested beside S2 and not proved:
  *
- *   - A corner is rounded to a direction, by at most 3 mm on the earth.
+ *   - A corner is rounded to a direction, by at most 3 mm on the earth, and the middle of an edge moves by more.
  *   - Edges are straight on the map of longitudes and latitudes (S2U_COVER_MAP), as in GeoJSON, or shortest ways on the
  *     sphere (S2U_COVER_GEODESIC), as in S2. An edge on the map is cut into pieces, each so near to a shortest way that
- *     the difference is small beside the cells at the border. The margin of the call pays for the rest and for
- *     rounding, so nothing of the shape is missing in the outer covering, and nothing outside of it is in the inner
- *     one. Of geodesic edges the margin is 0: the shape is that of the rounded corners.
+ *     the difference is small beside the cells at the border, and a shortest way of more than 90 degrees at its
+ *     middle. The margin of the call pays for the rest and for rounding, so nothing of the shape is missing in the
+ *     outer covering, and nothing outside of it is in the inner one.
  *   - A ring may cross itself and others: inside is what an odd number of crossings with the rings of a polygon leads
  *     to. On the map polygons may overlap: a shape is all of them together. Geodesic rings are counted all together,
  *     as in S2.
@@ -163,15 +163,44 @@ static inline void* s2u_cover_add(s2u_cover_list* list) {
 
 /* ---- corners */
 
+typedef struct s2u_cover_vector {
+  double x, y, z;
+} s2u_cover_vector;
+
+static inline s2u_cover_vector s2u_cover_unit(double x, double y, double z) {
+  double size = sqrt(x * x + y * y + z * z);
+  s2u_cover_vector unit = {x / size, y / size, z / size};
+  return unit;
+}
+
+static inline s2u_cover_vector s2u_cover_vector_of(const s2u_direction* at) {
+  return s2u_cover_unit((double)at->x, (double)at->y, (double)at->z);
+}
+
+static inline double s2u_cover_dot(const s2u_cover_vector* a, const s2u_cover_vector* b) {
+  return a->x * b->x + a->y * b->y + a->z * b->z;
+}
+
+static inline s2u_direction s2u_cover_rounded(double x, double y, double z) {
+  const double scale = 2147483647.0;
+  s2u_direction found;
+  found.x = (int64_t)nearbyint(scale * x);
+  found.y = (int64_t)nearbyint(scale * y);
+  found.z = (int64_t)nearbyint(scale * z);
+  return found;
+}
+
 /* A place as a direction, by S2's steps. Two places that are a turn apart have the same one. */
 static inline s2u_direction s2u_cover_direction(double longitude, double latitude) {
   double turn = s2u_cover_radians(remainder(longitude, 360)), height = s2u_cover_radians(latitude);
-  double across = cos(height), scale = 2147483647.0;
-  s2u_direction found;
-  found.x = (int64_t)nearbyint(scale * (cos(turn) * across));
-  found.y = (int64_t)nearbyint(scale * (sin(turn) * across));
-  found.z = (int64_t)nearbyint(scale * sin(height));
-  return found;
+  double across = cos(height);
+  return s2u_cover_rounded(cos(turn) * across, sin(turn) * across, sin(height));
+}
+
+/* The longitude from -180 to 180, and never -180. */
+static inline double s2u_cover_meridian(double longitude) {
+  double meridian = remainder(longitude, 360);
+  return meridian == -180 ? 180 : meridian;
 }
 
 static inline int s2u_cover_is_same(const s2u_direction* a, const s2u_direction* b) {
@@ -180,6 +209,27 @@ static inline int s2u_cover_is_same(const s2u_direction* a, const s2u_direction*
 
 static inline int s2u_cover_is_opposite(const s2u_direction* a, const s2u_direction* b) {
   return a->x == -b->x && a->y == -b->y && a->z == -b->z;
+}
+
+/* The middle of the shortest way between two places: half of the sum of their directions, which is how far the one is
+ * from the place opposite the other. Of places that are nearly opposite each other these differences of degrees are
+ * exact, so the middle is wrong by some 1e-15 radians alone. No number if they are opposite. */
+static inline s2u_cover_vector s2u_cover_middle(const double* a, const double* b) {
+  double x = s2u_cover_meridian(a[0]), y = s2u_cover_meridian(b[0]);
+  int is_first_far = fabs(x) > fabs(y);
+  double near = is_first_far ? y : x, far = is_first_far ? x : y, opposite = far - copysign(180, far);
+  double near_latitude = is_first_far ? b[1] : a[1], far_latitude = is_first_far ? a[1] : b[1];
+  double wide = s2u_cover_radians((near - opposite) / 2), high = s2u_cover_radians((near_latitude + far_latitude) / 2);
+  double turn = s2u_cover_radians((near + opposite) / 2), pole = near_latitude < far_latitude ? -1 : 1;
+  double below = s2u_cover_radians((90 - pole * near_latitude + (90 + pole * far_latitude)) / 2); /* the pole */
+  double out = -pole * cos(below) * sin(high) * cos(wide), east = sin(below) * cos(high) * sin(wide);
+  return s2u_cover_unit(out * cos(turn) - east * sin(turn), out * sin(turn) + east * cos(turn),
+                        sin(below) * sin(high));
+}
+
+/* How much farther than its ends the middle of the shortest way between two corners moves when they are rounded. */
+static inline double s2u_cover_sway(const s2u_cover_vector* a, const s2u_cover_vector* b) {
+  return S2U_COVER_ROUNDING * (1 / sqrt((1 + s2u_cover_dot(a, b)) / 2) - 1);
 }
 
 /* How far a line that is straight on the map is at most from the shortest way between its ends, in radians: an eighth
@@ -403,7 +453,7 @@ static inline void s2u_cover_mark(s2u_cover_polygon* polygons, size_t count, dou
  * away, both are left out */
 
 typedef struct s2u_cover_end {
-  double meridian, latitude; /* the longitude from -180 to 180, and never -180 */
+  double meridian, latitude;
   double turn;
   int change; /* 1 where an edge begins in the south, -1 where it ends in the north */
 } s2u_cover_end;
@@ -411,11 +461,6 @@ typedef struct s2u_cover_end {
 typedef struct s2u_cover_seam {
   double meridian, south, north;
 } s2u_cover_seam;
-
-static inline double s2u_cover_meridian(double longitude) {
-  double meridian = remainder(longitude, 360);
-  return meridian == -180 ? 180 : meridian;
-}
 
 static inline int s2u_cover_by_latitude(const void* a, const void* b) {
   const s2u_cover_end *x = (const s2u_cover_end*)a, *y = (const s2u_cover_end*)b;
@@ -494,7 +539,7 @@ typedef struct s2u_cover_chain { /* corners between two seams, by their first an
 } s2u_cover_chain;
 
 typedef struct s2u_cover_build {
-  double tolerance, bend; /* how far pieces may bend, and how far they do */
+  double tolerance, bend; /* how far pieces may bend, and how far they do; shortest ways, by what is rounded */
   s2u_cover_list corners, ends;
   s2u_cover_list loose, chains; /* corners of rings that have a seam, and their chains */
   s2u_cover_list seams;
@@ -557,11 +602,26 @@ static inline int32_t s2u_cover_end_chain(s2u_cover_build* build, size_t begin) 
   return S2U_OK;
 }
 
+/* Adds a shortest way after its beginning, in two pieces if it is longer than 90 degrees. */
+static inline int32_t s2u_cover_add_shortest(s2u_cover_build* build, s2u_cover_list* to, size_t begin, const double* a,
+                                             const double* b) {
+  s2u_direction corner = s2u_cover_direction(a[0], a[1]);
+  s2u_cover_vector from = s2u_cover_vector_of(&corner), end;
+  corner = s2u_cover_direction(b[0], b[1]);
+  end = s2u_cover_vector_of(&corner);
+  if (s2u_cover_dot(&from, &end) < 0) {
+    from = s2u_cover_middle(a, b);
+    if (!s2u_cover_add_corner(to, begin, s2u_cover_rounded(from.x, from.y, from.z))) return S2U_MEMORY;
+  }
+  build->bend = fmax(build->bend, s2u_cover_sway(&from, &end));
+  return s2u_cover_add_corner(to, begin, corner) ? S2U_OK : S2U_MEMORY;
+}
+
 /* Adds the pieces of an edge after its beginning. */
 static inline int32_t s2u_cover_add_edge(s2u_cover_build* build, s2u_cover_list* to, size_t begin, const double* a,
                                        const double* b) {
-  double bend = build->is_on_map ? s2u_cover_bend(a, b, build->tolerance / 4) : 0;
-  double pieces = build->is_on_map ? s2u_cover_pieces(a, b, bend, build->tolerance) : 1;
+  if (!build->is_on_map) return s2u_cover_add_shortest(build, to, begin, a, b);
+  double bend = s2u_cover_bend(a, b, build->tolerance / 4), pieces = s2u_cover_pieces(a, b, bend, build->tolerance);
   if (pieces > (double)(build->most - build->pieces)) return S2U_COVER_PIECES;
   build->pieces += (uint64_t)pieces;
   build->bend = fmax(build->bend, bend / (pieces * pieces));
@@ -732,24 +792,6 @@ static inline int32_t s2u_cover_build_part(s2u_cover_build* build, const s2u_cov
 
 /* ---- a leaf that is outside */
 
-typedef struct s2u_cover_vector {
-  double x, y, z;
-} s2u_cover_vector;
-
-static inline s2u_cover_vector s2u_cover_unit(double x, double y, double z) {
-  double size = sqrt(x * x + y * y + z * z);
-  s2u_cover_vector unit = {x / size, y / size, z / size};
-  return unit;
-}
-
-static inline s2u_cover_vector s2u_cover_vector_of(const s2u_direction* at) {
-  return s2u_cover_unit((double)at->x, (double)at->y, (double)at->z);
-}
-
-static inline double s2u_cover_dot(const s2u_cover_vector* a, const s2u_cover_vector* b) {
-  return a->x * b->x + a->y * b->y + a->z * b->z;
-}
-
 static inline s2u_cover_vector s2u_cover_cross(const s2u_cover_vector* a, const s2u_cover_vector* b) {
   s2u_cover_vector cross = {a->y * b->z - a->z * b->y, a->z * b->x - a->x * b->z, a->x * b->y - a->y * b->x};
   return cross;
@@ -875,23 +917,6 @@ static inline uint64_t s2u_cover_beside_edge(const s2u_cover_build* build, const
   return 0;
 }
 
-/* A leaf to the right of geodesic rings; 0 if none was found beside some of their edges. */
-static inline uint64_t s2u_cover_outside_on_the_right(const s2u_cover_build* build) {
-  const s2u_direction* corners = (const s2u_direction*)build->corners.at;
-  const size_t* ends = (const size_t*)build->ends.at;
-  size_t step = build->corners.count / 16 + 1;
-  for (size_t ring = 0, k = 0; ring < build->ends.count; ring++) {
-    s2u_cover_vector before = s2u_cover_vector_of(&corners[ends[ring] - 1]);
-    for (; k < ends[ring]; k++) {
-      s2u_cover_vector here = s2u_cover_vector_of(&corners[k]);
-      uint64_t leaf = k % step == 0 ? s2u_cover_beside_edge(build, &before, &here, k) : 0;
-      if (leaf) return leaf;
-      before = here;
-    }
-  }
-  return 0;
-}
-
 /* A leaf outside of geodesic rings; 0 if none was found. */
 static inline uint64_t s2u_cover_outside_on_sphere(const s2u_cover_build* build) {
   const s2u_direction* corners = (const s2u_direction*)build->corners.at;
@@ -908,6 +933,60 @@ static inline uint64_t s2u_cover_outside_on_sphere(const s2u_cover_build* build)
       return s2u_cover_leaf_at(&at);
   }
   return 0;
+}
+
+/* The normal of an edge, in whole numbers of 64 bits. */
+static inline void s2u_cover_normal(const s2u_direction* a, const s2u_direction* b, int64_t* normal) {
+  normal[0] = a->y * b->z - a->z * b->y;
+  normal[1] = a->z * b->x - a->x * b->z;
+  normal[2] = a->x * b->y - a->y * b->x;
+}
+
+/* Whether a corner is on the circle of an edge: a product of 95 bits is 0 if it is near 0, and its last 64 bits are. */
+static inline int s2u_cover_is_on_circle(const int64_t* normal, const s2u_direction* at) {
+  uint64_t last = (uint64_t)normal[0] * (uint64_t)at->x + (uint64_t)normal[1] * (uint64_t)at->y +
+                  (uint64_t)normal[2] * (uint64_t)at->z;
+  double about = (double)normal[0] * (double)at->x + (double)normal[1] * (double)at->y +
+                 (double)normal[2] * (double)at->z;
+  return last == 0 && fabs(about) < 1e15;
+}
+
+/* Whether rings have no area, as they run out and back on themselves: a ring lies on a circle, or the sum of all normals
+ * is 0. */
+static inline int s2u_cover_run_back(const s2u_cover_build* build) {
+  const s2u_direction* corners = (const s2u_direction*)build->corners.at;
+  const size_t* ends = (const size_t*)build->ends.at;
+  uint64_t all[3] = {0, 0, 0};
+  for (size_t ring = 0, begin = 0; ring < build->ends.count; begin = ends[ring++]) {
+    uint64_t sum[3] = {0, 0, 0};
+    int is_flat = 1;
+    for (size_t k = begin; k < ends[ring]; k++) {
+      int64_t normal[3];
+      s2u_cover_normal(&corners[k > begin ? k - 1 : ends[ring] - 1], &corners[k], normal);
+      is_flat = is_flat && s2u_cover_is_on_circle(normal, &corners[begin]);
+      for (int n = 0; n < 3; n++) sum[n] += (uint64_t)normal[n];
+    }
+    for (int n = 0; n < 3 && !is_flat; n++) all[n] += sum[n];
+  }
+  return all[0] == 0 && all[1] == 0 && all[2] == 0;
+}
+
+/* A leaf to the right of geodesic rings, or anywhere if these run out and back; 0 if none was found beside some of their
+ * edges. */
+static inline uint64_t s2u_cover_outside_on_the_right(const s2u_cover_build* build) {
+  const s2u_direction* corners = (const s2u_direction*)build->corners.at;
+  const size_t* ends = (const size_t*)build->ends.at;
+  size_t step = build->corners.count / 16 + 1;
+  for (size_t ring = 0, k = 0; ring < build->ends.count; ring++) {
+    s2u_cover_vector before = s2u_cover_vector_of(&corners[ends[ring] - 1]);
+    for (; k < ends[ring]; k++) {
+      s2u_cover_vector here = s2u_cover_vector_of(&corners[k]);
+      uint64_t leaf = k % step == 0 ? s2u_cover_beside_edge(build, &before, &here, k) : 0;
+      if (leaf) return leaf;
+      before = here;
+    }
+  }
+  return s2u_cover_run_back(build) ? s2u_cover_outside_on_sphere(build) : 0;
 }
 
 /* ---- margins */
@@ -939,9 +1018,7 @@ static inline double s2u_cover_stretch(const s2u_cover_build* build, double radi
 }
 
 static inline uint64_t s2u_cover_margin(const s2u_cover_build* build, const s2u_cover_options* options) {
-  double radians = options->margin / S2U_COVER_EARTH;
-  if (build->is_on_map) radians += build->bend + S2U_COVER_ROUNDING;
-  else if (radians > 0) radians += S2U_COVER_ROUNDING;
+  double radians = options->margin / S2U_COVER_EARTH + build->bend + S2U_COVER_ROUNDING;
   return (uint64_t)ceil(s2u_cover_stretch(build, radians) * radians * (double)S2U_COVER_WHOLE);
 }
 
@@ -1207,13 +1284,21 @@ static inline int s2u_cover_are_few_enough(double length, const s2u_cover_option
   return options->min_level == 0 || (length + wide) / cell * (wide / cell + 1) <= 4.0 * S2U_COVER_MOST_CELLS;
 }
 
+/* Whether two places lie opposite each other, as they are written or rounded. */
+static inline int s2u_cover_are_opposite(const double* a, const double* b) {
+  s2u_direction from = s2u_cover_direction(a[0], a[1]), to = s2u_cover_direction(b[0], b[1]);
+  s2u_cover_vector begin = s2u_cover_vector_of(&from), end = s2u_cover_vector_of(&to);
+  if (s2u_cover_is_opposite(&from, &to)) return 1;
+  if (s2u_cover_dot(&begin, &end) >= 0) return 0;
+  begin = s2u_cover_middle(a, b);
+  return begin.x != begin.x;
+}
+
 /* Whether no two corners of a geodesic ring or line that follow each other lie opposite each other. */
 static inline int32_t s2u_cover_check_opposite(const s2u_cover_shape* shape, s2u_cover_fault* fault) {
   for (size_t ring = 0; ring < shape->count; ring++) {
     for (uint64_t k = s2u_cover_begin(shape, ring) + 1; k < shape->rings[ring].end; k++) {
-      const double *a = s2u_cover_at(shape, k - 1), *b = s2u_cover_at(shape, k);
-      s2u_direction from = s2u_cover_direction(a[0], a[1]), to = s2u_cover_direction(b[0], b[1]);
-      if (!s2u_cover_is_opposite(&from, &to)) continue;
+      if (!s2u_cover_are_opposite(s2u_cover_at(shape, k - 1), s2u_cover_at(shape, k))) continue;
       fault->ring = ring;
       fault->position = k - 1 - s2u_cover_begin(shape, ring);
       return S2U_COVER_OPPOSITE;
@@ -1469,7 +1554,7 @@ static inline int32_t s2u_cover_circle(double longitude, double latitude, double
                                            const s2u_cover_options* options, s2u_cover_cells* outer,
                                            s2u_cover_cells* inner, s2u_cover_fault* fault) {
   double positions[2 * S2U_COVER_CORNERS + 2], place[2] = {longitude, latitude}, radians = radius / S2U_COVER_EARTH;
-  double noise = 2 * S2U_COVER_ROUNDING, around = atan(tan(radians + noise) / cos(S2U_GEO_PI / S2U_COVER_CORNERS));
+  double around = atan(tan(radians) / cos(S2U_GEO_PI / S2U_COVER_CORNERS));
   s2u_cover_ring ring = {S2U_COVER_CORNERS + 1, 0};
   s2u_cover_shape shape = {positions, &ring, 1};
   s2u_cover_options geodesic = *options;
@@ -1482,11 +1567,11 @@ static inline int32_t s2u_cover_circle(double longitude, double latitude, double
   if (!(radius >= 0 && radius <= S2U_COVER_MOST_RADIUS)) return S2U_COVER_OPTION;
   int32_t status = S2U_OK;
   if (outer) {
-    s2u_cover_ring_around(longitude, latitude, around + noise, positions);
+    s2u_cover_ring_around(longitude, latitude, around, positions);
     status = s2u_cover(&shape, &geodesic, outer, NULL, fault);
   }
-  if (status != S2U_OK || !inner || radians <= 2 * noise) return status;
-  s2u_cover_ring_around(longitude, latitude, radians - noise, positions);
+  if (status != S2U_OK || !inner) return status;
+  s2u_cover_ring_around(longitude, latitude, radians, positions);
   return s2u_cover(&shape, &geodesic, NULL, inner, fault);
 }
 

@@ -503,6 +503,50 @@ static void geodesic(void) {
   drop(&it);
 }
 
+/* Rings with the inside on the left that run out and back on themselves have no place inside: they are covered as lines,
+ * by the same cells as with any place outside. */
+static void out_and_back(void) {
+  static const double rings[][12] = {
+      {20, 10, 20, 10, 20, 40, 20, 40, 20, 10},           /* boxes of no width, of no height, and of neither */
+      {20, 10, 50, 10, 50, 10, 20, 10, 20, 10},           {20, 10, 20, 10, 20, 10, 20, 10, 20, 10},
+      {-180, -10, 180, -10, 180, 60, -180, 60, -180, -10}, /* of 360 degrees, and of more */
+      {-100, 20, 260, 20, 260, 50, -100, 50, -100, 20},   {-360, 0, 360, 0, 360, 30, -360, 30, -360, 0},
+      {-180, 70, 180, 70, 180, 90, -180, 90, -180, 70},   {10, -80, 370, -80, 370, 85, 10, 85, 10, -80},
+      {0, 0, 30, 20, 60, 10, 30, 20, 0, 0, 0, 0},         /* lines */
+      {0, 0, 20, 0, 50, 0, 40, 0, 10, 0, 0, 0},           {90, -40, 90, 50, 90, 20, 90, -10, 90, 0, 90, -40}};
+  for (size_t k = 0; k < sizeof rings / sizeof *rings; k++) {
+    s2u_cover_options options = at_most(500);
+    const uint64_t count = k < 8 ? 5 : 6;
+    options.edges = S2U_COVER_LEFT;
+    answer left = cover_ring(rings[k], count, options);
+    options.edges = S2U_COVER_GEODESIC;
+    answer geodesic = cover_ring(rings[k], count, options);
+    CHECK(left.status == S2U_OK && left.inner.count == 0 && left.outer.count > 0);
+    CHECK(left.outer.count == geodesic.outer.count &&
+          memcmp(left.outer.ids, geodesic.outer.ids, 8 * left.outer.count) == 0);
+    for (uint64_t n = 0; n < count; n++) CHECK(has(&left.outer, rings[k][2 * n], rings[k][2 * n + 1]));
+    CHECK(!has(&left.outer, 65, 5) && !has(&left.outer, -50, -45));
+    drop(&left);
+    drop(&geodesic);
+  }
+  double both[24] = {-180, 80, 180, 80, 180, 90, -180, 90, -180, 80, -180, -90, 180, -90, 180, -80, -180, -80, -180, -90};
+  const s2u_cover_ring caps[] = {{5, 0}, {10, 1}}, turned[] = {{5, 0}, {10, 0}};
+  s2u_cover_options options = at_most(500);
+  options.edges = S2U_COVER_LEFT;
+  answer it = cover(both, caps, 2, options);
+  CHECK(it.status == S2U_OK && has(&it.outer, 180, 85) && has(&it.outer, 180, -85) && !has(&it.outer, 0, 85));
+  drop(&it);
+  box_of(2, 48, 3, 49, both); /* a ring, and the same the other way around */
+  for (int k = 0; k < 10; k++) both[10 + k] = both[8 - k / 2 * 2 + k % 2];
+  it = cover(both, turned, 2, options);
+  CHECK(it.status == S2U_OK && it.inner.count == 0 && has(&it.outer, 2.5, 48) && !has(&it.outer, 2.5, 48.5));
+  drop(&it);
+  const double small[] = {2, 48, 2, 48 + 1e-7, 2 + 1e-7, 48 + 1e-7, 2 + 1e-7, 48, 2, 48}; /* all but some leaves */
+  it = cover_ring(small, 5, options);
+  CHECK(it.status == S2U_COVER_OUTSIDE || has(&it.inner, 60, 30));
+  drop(&it);
+}
+
 /* ---- what is refused, and where */
 
 static void refused(void) {
@@ -713,6 +757,7 @@ int main(void) {
   margins();
   least_levels();
   geodesic();
+  out_and_back();
   refused();
   wkb();
   wkb_refused();

@@ -2,7 +2,7 @@ package s2union;
 
 /**
  * Makes coverings of shapes in degrees, by the proved calls of the library. A corner is rounded to 3 mm, for which a
- * covering pays on the map; how degrees become whole numbers is tested beside S2. Its options have the names of S2's
+ * covering pays; how degrees become whole numbers is tested beside S2. Its options have the names of S2's
  * {@code S2RegionCoverer}. It never changes: a call for an option returns another one, so threads may share it. A call
  * that gets no memory throws an {@link OutOfMemoryError}.
  *

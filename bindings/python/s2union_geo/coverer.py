@@ -66,7 +66,7 @@ def covering(shape: Any, max_cells: int | None = None, max_level: int = 30, *, m
     -----
     A place is inside of a polygon if a way to it crosses the polygon's rings an odd number of times. Polygons on the
     map may overlap; geodesic rings are counted all together. The corners are rounded to 3 mm, for which the covering
-    pays on the map. The cells of the rounded shape are proved. S2: ``S2RegionCoverer::GetCovering``.
+    pays. The cells of the rounded shape are proved. S2: ``S2RegionCoverer::GetCovering``.
 
     Examples
     --------
