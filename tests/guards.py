@@ -30,6 +30,7 @@ import figures  # noqa: E402
 import pages  # noqa: E402
 import prose  # noqa: E402
 import rot  # noqa: E402
+import schemas  # noqa: E402
 import texts  # noqa: E402
 from checks import copy_tracked, has_wrong  # noqa: E402
 
@@ -159,6 +160,21 @@ MISTAKES = [
             ended_by(f"\nfn planted(x: u8) -> u8 {{\n    match x {{\n{ARMS}    }}\n}}\n")),
     Mistake("a line that is too long", rot.long_lines, "tests/steps.sh", ended_by(f"#{'=' * 120}\n")),
     Mistake("the host of a registry", rot.hosts, "README.md", ended_by(f"\n{HOST}\n")),
+    *(Mistake(f"{what} without its schema", schemas.without_schema, "bindings/postgres/s2union--1.0--1.1.sql",
+              swapped(old, new)) for what, old, new in [
+        ("a function", "pg_catalog.format('%s(%s'", "format('%s(%s'"),
+        ("an operator", "d.objid OPERATOR(pg_catalog.=) p.oid", "d.objid = p.oid"),
+        ("a type", "::pg_catalog.regclass", "::regclass"),
+        ("a table", "JOIN pg_catalog.pg_depend d", "JOIN pg_depend d"),
+        ("a function in a body that is no text", "pg_catalog.unnest(", "unnest(")]),
+    Mistake("a text of a function that has no path", schemas.without_schema,
+            "bindings/postgres/s2union_postgis--1.4.1.sql", swapped("SET search_path = pg_catalog, pg_temp\n", "")),
+    Mistake("a function that a text makes without a path", schemas.without_schema, "bindings/postgres/owners.sql",
+            ended_by("DO $$ BEGIN EXECUTE 'CREATE FUNCTION f() RETURNS int '\n'LANGUAGE plpgsql AS %L'; END $$;\n")),
+    Mistake("a path that a text sets", schemas.without_schema, "bindings/postgres/owners.sql",
+            ended_by("DO $$ BEGIN PERFORM set_config('search_path', 'public', true); END $$;\n")),
+    Mistake("the end of each script without a path", schemas.without_schema, "bindings/postgres/owners.sql",
+            swapped("SET LOCAL search_path = pg_catalog, pg_temp;\n", "")),
     Mistake("words that the house avoids", prose.habits, "README.md", ended_by("\nIt was asked\nabout.\n")),
     Mistake("a sentence that begins with a free what", prose.habits, "README.md",
             ended_by("\nWhat is here has to be read twice.\n")),
@@ -402,7 +418,7 @@ def mistakes(counts, room):
     copy_tracked(TOP, room)
     for words in (["init", "-q"], ["add", "-A"]):
         subprocess.run(["git", *words], cwd=room, check=True)
-    for module in (figures, pages, prose, rot, texts):
+    for module in (figures, pages, prose, rot, schemas, texts):
         module.ROOT = room
     without = {}
     for mistake in MISTAKES:

@@ -1,9 +1,9 @@
 """Facts that stand in more than one file: where each stands, for tools/calls, which writes them.
 
-The version is that of the file VERSION. The statuses, their numbers and texts are those of s2union.h. The commands of a
-script, with the forms of their words, are those of HELP in crates/s2script/src/table.rt; their errors and examples are
-those of docs/SCRIPT.md. The limits are constants of the crates. A file that tools/calls makes, whole or in part, isn't
-here.
+The version is that of the file VERSION, and the extensions for PostgreSQL have one of their own. The statuses, their
+numbers and texts are those of s2union.h. The commands of a script, with the forms of their words, are those of HELP in
+crates/s2script/src/table.rt; their errors and examples are those of docs/SCRIPT.md. The limits are constants of the
+crates. A file that tools/calls makes, whole or in part, isn't here.
 """
 import re
 import sys
@@ -41,10 +41,9 @@ class Place(NamedTuple):
 def versions(text):
     """The places of the version, whose file has this text."""
     major, minor, patch = map(int, text.split("."))
-    whole, short = text.strip(), f"{major}.{minor}"
+    whole = text.strip()
     number, cells = 10000 * major + 100 * minor + patch, "crates/s2union_c/src/cells.rt"
-    header, control = "crates/s2union_c/include/s2union.h", "bindings/postgres/{}.control"
-    control_form = r"default_version = '(?P<value>.*)'"
+    header = "crates/s2union_c/include/s2union.h"
     found = [
         ("README.md", r"^Version (?P<value>[\d.]+),", whole),
         ("docs/SCRIPT.md", r"^s2calc (?P<value>[\d.]+): 'help' for help", whole),
@@ -61,12 +60,20 @@ def versions(text):
         ("bindings/rust/serde/Cargo.toml", r'^version = "(?P<value>.*)"', whole),
         ("bindings/r/DESCRIPTION", r"^Version: (?P<value>.*)$", whole),
         ("bindings/js/package.json", r'^  "version": "(?P<value>.*)"', whole),
-        (control.format("s2union"), control_form, short),
-        (control.format("s2union_geo"), control_form, short),
-        (control.format("s2union_postgis"), control_form, short),
-        ("bindings/postgres/expected/s2union.out", r"^ (?P<value>\d+\.\d+)$", short),
     ]
     return [Place(file, pattern, {"": {"value": value}}) for file, pattern, value in found]
+
+
+CONTROL = re.compile(r"^default_version = '(?P<value>.*)'$", re.M)
+
+
+def versions_of_sql(control):
+    """The other places of the version of the extensions for PostgreSQL, which a release has that changes their SQL: by
+    the text of s2union.control."""
+    files = {"s2union_geo.control": CONTROL.pattern, "s2union_postgis.control": CONTROL.pattern,
+             "expected/s2union.out": r"^ (?P<value>\d+\.\d+\.\d+)$"}
+    found = {"": {"value": CONTROL.search(control)["value"]}}
+    return [Place(f"bindings/postgres/{file}", pattern, found) for file, pattern in files.items()]
 
 
 def of_statuses(statuses):

@@ -1,5 +1,5 @@
 -- s2union 1.1: what came after 1.0. A text names a cell in each function that takes one. What is here is in
--- s2union--1.4.sql too, which has everything.
+-- s2union--1.4.1.sql too, which has everything.
 
 \echo Use "ALTER EXTENSION s2union UPDATE" to load this file. \quit
 
@@ -223,7 +223,7 @@ COMMENT ON FUNCTION s2_is_empty(s2union) IS 'whether a union has no cell';
 CREATE FUNCTION unnest(region s2union)
 RETURNS SETOF bigint
 LANGUAGE sql IMMUTABLE PARALLEL SAFE
-BEGIN ATOMIC SELECT unnest(s2_cells($1)); END;
+BEGIN ATOMIC SELECT pg_catalog.unnest(s2_cells($1)); END;
 COMMENT ON FUNCTION unnest(s2union) IS 'the cells as rows';
 
 CREATE FUNCTION s2_tiles(region s2union, level integer, OUT tile bigint, OUT part s2union)
@@ -300,9 +300,12 @@ DECLARE
     definition text;
 BEGIN
     FOR definition IN
-        SELECT replace(pg_get_functiondef(p.oid), was, now)
-        FROM pg_proc p JOIN pg_depend d ON d.objid = p.oid AND d.classid = 'pg_proc'::regclass AND d.deptype = 'e'
-        JOIN pg_extension e ON e.oid = d.refobjid AND e.extname = 's2union', (VALUES
+        SELECT pg_catalog.replace(pg_catalog.pg_get_functiondef(p.oid), was, now)
+        FROM pg_catalog.pg_proc p
+        JOIN pg_catalog.pg_depend d ON d.objid OPERATOR(pg_catalog.=) p.oid AND d.deptype OPERATOR(pg_catalog.=) 'e'
+            AND d.classid OPERATOR(pg_catalog.=) 'pg_catalog.pg_proc'::pg_catalog.regclass
+        JOIN pg_catalog.pg_extension e ON e.oid OPERATOR(pg_catalog.=) d.refobjid
+            AND e.extname OPERATOR(pg_catalog.=) 's2union', (VALUES
             ('s2_union(s2union, s2union', 's2_union(one s2union, other s2union'),
             ('s2_intersection(s2union, s2union', 's2_intersection(one s2union, other s2union'),
             ('s2_difference(s2union, s2union', 's2_difference(one s2union, other s2union'),
@@ -333,7 +336,8 @@ BEGIN
             ('s2_child(bigint', 's2_child(cell bigint'),
             ('s2_common_ancestor(bigint, bigint', 's2_common_ancestor(one bigint, other bigint')
         ) AS names(was, now)
-        WHERE p.prokind = 'f' AND starts_with(format('%s(%s', p.proname, pg_get_function_arguments(p.oid)), was)
+        WHERE p.prokind OPERATOR(pg_catalog.=) 'f' AND pg_catalog.starts_with(
+            pg_catalog.format('%s(%s', p.proname, pg_catalog.pg_get_function_arguments(p.oid)), was)
     LOOP
         EXECUTE definition;
     END LOOP;

@@ -1,6 +1,6 @@
 """What rots unseen: lemmas and definitions that nobody cites, names imported for nothing, lemmas that are stated
-twice, word for word, functions with many arms, lines of more than 120 characters, hosts of package registries, and
-habits of tests/docs/prose.py. tests/docs/pages.py looks for paths.
+twice, word for word, functions with many arms, lines of more than 120 characters, hosts of package registries,
+habits of tests/docs/prose.py, and the names in SQL of tests/docs/schemas.py. tests/docs/pages.py looks for paths.
 
 UNCITED and DOUBLES are the most that may stand, and MANY_ARMS what may: what stood there when this check came, and
 less from time to time. The last line is 'N passed, M failed', where N counts the declarations, the files and the
@@ -14,6 +14,7 @@ from pathlib import Path
 ROOT = Path(__file__).resolve().parents[2]
 sys.path.append(str(ROOT / "tests"))
 import prose  # noqa: E402
+import schemas  # noqa: E402
 from checks import has_wrong, tracked  # noqa: E402
 
 MOST = 120
@@ -236,6 +237,7 @@ def main():
         "nobody cites it": (declared, dead), "imported for nothing": unused(), "stated before": (counts, double),
         "more arms than seven: split it": many_arms(), "too long": long_lines(),
         "names the host of a registry": hosts(), "hard to read": prose.habits(),
+        "looked up where others may create": schemas.without_schema(),
     })
 
 

@@ -58,6 +58,7 @@ step "arrays of the caller, windows, values that come again" tests test_kept.py:
 step "one script, and an update from each earlier version" tests test_catalogue.py::Catalogue test_catalogue.py::Updates
 installcheck() { make -C "$work/build" PREFIX="$work/usr" PG_CONFIG="$config" installcheck; }
 step "make installcheck" installcheck
+step "what strangers have made is neither run nor taken for a type" tests test_strangers.py
 step "dump and restore" tests DumpAndRestore
 step "a session's memory limited in steps" tests MemoryLimits
 step "a large question is kept once for sixty parts of a table" tests test_kept.py::Memory

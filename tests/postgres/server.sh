@@ -53,7 +53,8 @@ guarded() {
 put_in() { # FOLDER: sessions that begin from now on have the extension built there
   local to=$copy/usr/lib/postgresql/$server/lib extension=$copy/usr/share/postgresql/$server/extension
   install -m 755 "$work/$1/s2union.so" "$to/s2union.new" && mv "$to/s2union.new" "$to/s2union.so" &&
-    install -m 644 "$work/$1"/*.control "$work/$1"/*.sql "$extension/"
+    make -C "$work/$1" PREFIX="$work/usr" PG_CONFIG="$config" scripts-with-ends &&
+    install -m 644 "$work/$1"/*.control "$work/$1"/scripts/*.sql "$extension/"
 }
 
 # A cluster's server under valgrind, with findings in $work/valgrind, or with the sanitizers, with findings in its log.

@@ -6,11 +6,13 @@ import itertools
 import os
 import re
 import unittest
+from pathlib import Path
 
 from model import unions as model
 from test_postgres import PAGES, TRY, Tests, ask, psql
 
-VERSION = model.VERSION.rpartition(".")[0]
+CONTROL = Path(os.environ["EXTENSIONS"], "s2union.control").read_text(encoding="utf-8")
+VERSION = re.search("default_version = '(.*)'", CONTROL)[1]
 MEMBERS = """
     SELECT d.classid, d.objid, pg_describe_object(d.classid, d.objid, 0) AS object FROM pg_depend d
     JOIN pg_extension e ON e.oid = d.refobjid AND e.extname IN ('s2union', 's2union_geo') WHERE d.deptype = 'e'
@@ -21,7 +23,8 @@ OF_TABLES = "'regclass'::regtype = ANY (p.proargtypes)"
 # members, casts, the type, and comments. Numbers of objects are their names here.
 CATALOGUE = f"""
     WITH members AS ({MEMBERS})
-    SELECT object, pg_get_functiondef(objid) FROM members JOIN pg_proc p ON p.oid = objid AND prokind = 'f'
+    SELECT object, pg_get_functiondef(objid) || coalesce(proacl::text, '')
+        FROM members JOIN pg_proc p ON p.oid = objid AND prokind = 'f'
     UNION ALL
     SELECT object, (to_jsonb(a) - '{{aggfnoid,aggtranstype}}'::text[])::text || aggtranstype::regtype
         FROM members JOIN pg_aggregate a ON aggfnoid = objid
@@ -305,10 +308,11 @@ class Updates(unittest.TestCase):
             SELECT count(*) FROM regions WHERE region && '04'; SELECT sum(n) FROM counts;
             SELECT count(*), min(tile), max(tile) FROM tiles; SELECT count(*) FROM regions WHERE s2_level(leaf) = 30;
         """
+        geo = max("1.3", earlier)  # a script for new databases is there since then
         psql("DROP DATABASE IF EXISTS updated;")
         psql("CREATE DATABASE updated;")
         before = psql(f"""
-            CREATE EXTENSION s2union VERSION '{earlier}'; CREATE EXTENSION s2union_geo VERSION '1.3';
+            CREATE EXTENSION s2union VERSION '{earlier}'; CREATE EXTENSION s2union_geo VERSION '{geo}';
             CREATE TABLE regions(id int, region s2union, leaf bigint);
             INSERT INTO regions SELECT k, s2_leaf(0, k * 1000000, k * 900000)::s2union, s2_leaf(0, k, k)
                 FROM generate_series(1, 999) k;

@@ -1,4 +1,4 @@
--- s2union 1.4, whole: what CREATE EXTENSION makes. docs/POSTGRES.md says what each function does, in the words of its
+-- s2union 1.4.1, whole: what CREATE EXTENSION makes. docs/POSTGRES.md says what each function does, in the words of its
 -- comment. From an earlier version an upgrade leads to the same; tests/postgres compares them.
 
 \echo Use "CREATE EXTENSION s2union" to load this file. \quit
@@ -602,7 +602,7 @@ COMMENT ON FUNCTION s2_ancestors(s2union) IS 'the cells and all their ancestors,
 CREATE FUNCTION unnest(region s2union)
 RETURNS SETOF bigint
 LANGUAGE sql IMMUTABLE PARALLEL SAFE
-BEGIN ATOMIC SELECT unnest(s2_cells($1)); END;
+BEGIN ATOMIC SELECT pg_catalog.unnest(s2_cells($1)); END;
 COMMENT ON FUNCTION unnest(s2union) IS 'the cells as rows';
 
 CREATE FUNCTION s2_tiles(region s2union, level integer, OUT tile bigint, OUT part s2union)

@@ -1,10 +1,10 @@
--- s2union_postgis 1.4. docs/GEO.md says what each function does, in the words of its comment. The Makefile makes of it
--- what leads from 1.3 to 1.4, so it replaces those that 1.3 had, which keep the names of their arguments.
+-- s2union_postgis 1.4.1. docs/GEO.md says what each function does, in the words of its comment. The Makefile makes of
+-- it what leads there from 1.3 and 1.4, so it replaces those functions, which keep the names of their arguments.
 
 \echo Use "CREATE EXTENSION s2union_postgis" to load this file. \quit
 
 -- Geometries without a system of coordinates have degrees.
-CREATE FUNCTION s2_degrees(shape geometry)
+CREATE OR REPLACE FUNCTION s2_degrees(shape geometry)
 RETURNS geometry
 LANGUAGE SQL IMMUTABLE PARALLEL SAFE
 RETURN CASE WHEN ST_SRID(shape) IN (0, 4326) THEN ST_SetSRID(shape, 4326) ELSE ST_Transform(shape, 4326) END;
@@ -24,7 +24,7 @@ RETURN s2_interior(ST_AsBinary(s2_degrees(polygons)), max_cells, max_level);
 COMMENT ON FUNCTION s2_interior(geometry, integer, integer)
   IS 'a union that lies in the polygons. Errors: those of s2_covering';
 
-CREATE FUNCTION s2_coverings(shape geometry, max_cells integer DEFAULT 200, max_level integer DEFAULT 30,
+CREATE OR REPLACE FUNCTION s2_coverings(shape geometry, max_cells integer DEFAULT 200, max_level integer DEFAULT 30,
   OUT covering s2union, OUT interior s2union)
 LANGUAGE SQL IMMUTABLE STRICT PARALLEL SAFE
 BEGIN ATOMIC
@@ -35,13 +35,13 @@ COMMENT ON FUNCTION s2_coverings(geometry, integer, integer)
   IS 'both unions at once: s2_covering and s2_interior. Errors: theirs';
 
 -- A text, which PostgreSQL takes an untyped literal for where there are several functions of a name.
-CREATE FUNCTION s2_covering(shape text, max_cells integer DEFAULT 200, max_level integer DEFAULT 30)
+CREATE OR REPLACE FUNCTION s2_covering(shape text, max_cells integer DEFAULT 200, max_level integer DEFAULT 30)
 RETURNS s2union
 LANGUAGE SQL IMMUTABLE STRICT PARALLEL SAFE
 RETURN s2_covering(shape::geometry, max_cells, max_level);
 COMMENT ON FUNCTION s2_covering(text, integer, integer) IS 's2_covering of a geometry, which is written as a text';
 
-CREATE FUNCTION s2_interior(shape text, max_cells integer DEFAULT 200, max_level integer DEFAULT 30)
+CREATE OR REPLACE FUNCTION s2_interior(shape text, max_cells integer DEFAULT 200, max_level integer DEFAULT 30)
 RETURNS s2union
 LANGUAGE SQL IMMUTABLE STRICT PARALLEL SAFE
 RETURN s2_interior(shape::geometry, max_cells, max_level);
@@ -54,7 +54,7 @@ RETURN ST_GeomFromWKB(s2_squares(region), 4326);
 COMMENT ON FUNCTION s2_geometry(s2union)
   IS 'the cells of a region as a MultiPolygon in degrees (SRID 4326); faces are cut';
 
-CREATE FUNCTION s2_geometry(region s2union, outline boolean)
+CREATE OR REPLACE FUNCTION s2_geometry(region s2union, outline boolean)
 RETURNS geometry
 LANGUAGE SQL IMMUTABLE STRICT PARALLEL SAFE
 RETURN CASE WHEN outline THEN ST_GeomFromWKB(s2_outline(region), 4326) ELSE s2_geometry(region) END;
@@ -67,7 +67,7 @@ LANGUAGE SQL IMMUTABLE STRICT PARALLEL SAFE
 RETURN ST_AsGeoJSON(s2_geometry(region), 17, 0);
 COMMENT ON FUNCTION s2_geojson(s2union) IS 'the cells of a region as a MultiPolygon of GeoJSON; faces are cut';
 
-CREATE FUNCTION s2_geojson(region s2union, outline boolean)
+CREATE OR REPLACE FUNCTION s2_geojson(region s2union, outline boolean)
 RETURNS text
 LANGUAGE SQL IMMUTABLE STRICT PARALLEL SAFE
 RETURN ST_AsGeoJSON(s2_geometry(region, outline), 17, 0);
@@ -75,7 +75,7 @@ COMMENT ON FUNCTION s2_geojson(s2union, boolean) IS 'with true the outline of a 
 
 -- ---- exact joins of points with polygons, by tiles: s2_join_table of s2union_geo makes them
 
-CREATE FUNCTION s2_envelope(cell bigint)
+CREATE OR REPLACE FUNCTION s2_envelope(cell bigint)
 RETURNS geometry
 LANGUAGE SQL IMMUTABLE STRICT PARALLEL SAFE
 BEGIN ATOMIC
@@ -83,7 +83,7 @@ BEGIN ATOMIC
 END;
 COMMENT ON FUNCTION s2_envelope(bigint) IS 'the rectangle of degrees in which a cell lies. Error: an invalid cell';
 
-CREATE FUNCTION s2_join_tiles(shape geometry, level integer, max_cells integer DEFAULT 50, OUT tile bigint,
+CREATE OR REPLACE FUNCTION s2_join_tiles(shape geometry, level integer, max_cells integer DEFAULT 50, OUT tile bigint,
   OUT part s2union, OUT sure s2union, OUT clip bytea)
 RETURNS SETOF record
 LANGUAGE SQL IMMUTABLE STRICT PARALLEL SAFE ROWS 10
@@ -93,16 +93,23 @@ END;
 COMMENT ON FUNCTION s2_join_tiles(geometry, integer, integer)
   IS 'those of the shape as WKB in degrees. Errors: those of s2_covering and of s2_tiles';
 
-CREATE FUNCTION s2_has_degrees(place geometry)
+CREATE OR REPLACE FUNCTION s2_has_degrees(srid integer)
 RETURNS boolean
 LANGUAGE plpgsql IMMUTABLE STRICT PARALLEL SAFE
+SET search_path = pg_catalog, pg_temp
 AS $$
 BEGIN
-  IF ST_SRID(place) NOT IN (0, 4326) THEN
-    RAISE 's2union: a place has degrees (SRID 4326), not SRID %', ST_SRID(place)
+  IF srid NOT IN (0, 4326) THEN
+    RAISE 's2union: a place has degrees (SRID 4326), not SRID %', srid
       USING ERRCODE = 'invalid_parameter_value', HINT = 'ST_Transform(place, 4326) takes it there.';
   END IF;
   RETURN true;
 END
 $$;
+COMMENT ON FUNCTION s2_has_degrees(integer) IS 'true. Error: an SRID that is neither 0 nor 4326';
+
+CREATE OR REPLACE FUNCTION s2_has_degrees(place geometry)
+RETURNS boolean
+LANGUAGE SQL IMMUTABLE STRICT PARALLEL SAFE
+RETURN s2_has_degrees(ST_SRID(place));
 COMMENT ON FUNCTION s2_has_degrees(geometry) IS 'true. Error: an SRID that is neither 0 nor 4326';

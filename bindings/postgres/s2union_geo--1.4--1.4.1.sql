@@ -1,0 +1,1 @@
+-- s2union_geo 1.4.1: no function came after 1.4.
