@@ -6,6 +6,7 @@
 #include <string.h>
 #include "functions.h"
 SQLITE_EXTENSION_INIT1
+#include "values.h"
 
 /* ---- memory: the library takes it from SQLite's heap, so SQLite's limits hold for both ---- */
 
@@ -61,18 +62,6 @@ static void refuse(sqlite3_context* c, int32_t status, sqlite3_value** v, int n)
   char* text = status == S2U_MEMORY ? NULL : refusal(status, v, n);
   text ? sqlite3_result_error(c, text, -1) : sqlite3_result_error_nomem(c);
   sqlite3_free(text);
-}
-
-static int32_t text_of(sqlite3_value* v, const char** text, size_t* n) {
-  *text = (const char*)sqlite3_value_text(v);
-  *n = (size_t)sqlite3_value_bytes(v);
-  return *text ? S2U_OK : S2U_MEMORY;
-}
-
-static int32_t bytes_of(sqlite3_value* v, const uint8_t** bytes, size_t* n) {
-  *bytes = sqlite3_value_blob(v);
-  *n = (size_t)sqlite3_value_bytes(v);
-  return *bytes || *n == 0 ? S2U_OK : S2U_MEMORY; /* NULL with a length: a zeroblob that is too large to make */
 }
 
 static int32_t cell_of(sqlite3_value* v, uint64_t* cell) {

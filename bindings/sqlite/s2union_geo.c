@@ -4,6 +4,7 @@
 #include <s2union_join.h>
 #include <string.h>
 SQLITE_EXTENSION_INIT1
+#include "values.h"
 
 /* What is wrong with a value: a text of SQLite's memory, and the code of an error, SQLITE_NOMEM if there is no memory
  * for the text. */
@@ -52,9 +53,9 @@ static void leaf_at_function(sqlite3_context* c, int n, sqlite3_value** v) {
 /* A cell is an INTEGER or a TEXT, as in the extension s2union. */
 static int32_t cell_of(sqlite3_value* v, uint64_t* cell) {
   if (sqlite3_value_type(v) == SQLITE_TEXT) {
-    const char* text = (const char*)sqlite3_value_text(v);
-    size_t n = (size_t)sqlite3_value_bytes(v);
-    if (!text) return S2U_MEMORY;
+    const char* text;
+    size_t n;
+    if (text_of(v, &text, &n) != S2U_OK) return S2U_MEMORY;
     return memchr(text, '/', n) ? s2u_from_debug(text, n, cell) : s2u_from_token(text, n, cell);
   }
   *cell = (uint64_t)sqlite3_value_int64(v);
@@ -83,8 +84,15 @@ static void latitude_function(sqlite3_context* c, int n, sqlite3_value** v) { co
 
 /* ---- coverings of shapes in WKB */
 
-static int check_shape(sqlite3_value* v, char** text) {
-  return sqlite3_value_type(v) == SQLITE_BLOB ? SQLITE_OK : wrong(text, "a shape is a BLOB of WKB", v);
+typedef struct wkb {
+  const uint8_t* at;
+  size_t size;
+} wkb;
+
+/* The bytes of a shape. */
+static int shape_of(sqlite3_value* v, wkb* shape, char** text) {
+  if (sqlite3_value_type(v) != SQLITE_BLOB) return wrong(text, "a shape is a BLOB of WKB", v);
+  return bytes_of(v, &shape->at, &shape->size) == S2U_OK ? SQLITE_OK : SQLITE_NOMEM;
 }
 
 /* A whole number from 0 to the most that it may be, which an argument that isn't there leaves as it is. */
@@ -122,20 +130,20 @@ static int check_status(int32_t status, const s2u_cover_fault* fault, char** tex
   return *text ? SQLITE_ERROR : SQLITE_NOMEM;
 }
 
-#define WKB_OF(v) sqlite3_value_blob(v), (size_t)sqlite3_value_bytes(v)
-
 static void cover(sqlite3_context* c, int n, sqlite3_value** v, int is_outer) {
   sqlite3_int64 most = 200, deepest = 30;
   s2u_cover_cells cells = {NULL, 0};
   char* text = NULL;
+  wkb shape;
   if (has_null(n, v)) return;
-  int code = check_shape(v[0], &text);
+  int code = shape_of(v[0], &shape, &text);
   if (code == SQLITE_OK) code = max_cells_of(n > 1 ? v[1] : NULL, &most, &text);
   if (code == SQLITE_OK) code = level_of(n > 2 ? v[2] : NULL, &deepest, &text);
   if (code == SQLITE_OK) {
     const s2u_cover_options options = {(uint64_t)most, 0, (uint32_t)deepest, S2U_COVER_MAP, 0};
     s2u_cover_fault fault;
-    int32_t status = s2u_cover_wkb(WKB_OF(v[0]), &options, is_outer ? &cells : NULL, is_outer ? NULL : &cells, &fault);
+    int32_t status = s2u_cover_wkb(shape.at, shape.size, &options, is_outer ? &cells : NULL, is_outer ? NULL : &cells,
+                                   &fault);
     code = check_status(status, &fault, &text);
   }
   if (code == SQLITE_OK) result_cells(c, &cells);
@@ -149,13 +157,14 @@ static void cover(sqlite3_context* c, int n, sqlite3_value** v, int is_outer) {
  * them, also after an error. */
 static int32_t region_of(sqlite3_value* v, s2u_cover_cells* cells) {
   int type = sqlite3_value_type(v);
-  const char* text = type == SQLITE_TEXT ? (const char*)sqlite3_value_text(v) : NULL;
-  const uint8_t* bytes = type == SQLITE_BLOB ? sqlite3_value_blob(v) : NULL;
-  size_t n = type == SQLITE_INTEGER ? 1 : (size_t)sqlite3_value_bytes(v);
-  size_t room = text ? S2U_MOST_NAMED(n) : bytes ? S2U_MOST_IN_FILE(n) : 1;
+  const char* text = NULL;
+  const uint8_t* bytes = NULL;
+  size_t n = 1;
   *cells = (s2u_cover_cells){NULL, 1};
   if (type == SQLITE_FLOAT) return S2U_NO_CELL;
-  if (type != SQLITE_INTEGER && !text && !bytes && n > 0) return S2U_MEMORY;
+  if (type == SQLITE_TEXT && text_of(v, &text, &n) != S2U_OK) return S2U_MEMORY;
+  if (type == SQLITE_BLOB && bytes_of(v, &bytes, &n) != S2U_OK) return S2U_MEMORY;
+  size_t room = text ? S2U_MOST_NAMED(n) : bytes ? S2U_MOST_IN_FILE(n) : 1;
   if (!s2u_cover_resize(cells, room)) return S2U_MEMORY;
   if (type == SQLITE_INTEGER) return cell_of(v, cells->ids);
   return type == SQLITE_TEXT ? s2u_from_tokens(text, n, cells->ids, room, &cells->count)
@@ -232,24 +241,28 @@ static void interior_function(sqlite3_context* c, int n, sqlite3_value** v) { co
 static void covers_function(sqlite3_context* c, int n, sqlite3_value** v) {
   char* text = NULL;
   int covers;
+  wkb shape;
   if (has_null(n, v)) return;
-  int code = check_shape(v[0], &text);
+  int code = shape_of(v[0], &shape, &text);
   if (code == SQLITE_OK) code = check_place(v + 1, &text);
   if (code == SQLITE_OK) {
     s2u_cover_fault fault;
-    int32_t status = s2u_join_covers(WKB_OF(v[0]), sqlite3_value_double(v[1]), sqlite3_value_double(v[2]), &covers,
-                                     &fault);
+    int32_t status = s2u_join_covers(shape.at, shape.size, sqlite3_value_double(v[1]), sqlite3_value_double(v[2]),
+                                     &covers, &fault);
     code = check_status(status, &fault, &text);
   }
   if (code == SQLITE_OK) sqlite3_result_int(c, covers);
   refuse(c, code, text);
 }
 
-/* The clip of a shape, which is a BLOB, in a tile. */
-static int answer_clip(sqlite3_context* c, sqlite3_value* shape, uint64_t tile, char** text) {
+/* The clip of a shape in a tile. */
+static int answer_clip(sqlite3_context* c, sqlite3_value* v, uint64_t tile, char** text) {
   s2u_cover_fault fault;
   s2u_join_bytes clip;
-  int code = check_status(s2u_join_clip(WKB_OF(shape), tile, &clip, &fault), &fault, text);
+  wkb shape;
+  int code = shape_of(v, &shape, text);
+  if (code != SQLITE_OK) return code;
+  code = check_status(s2u_join_clip(shape.at, shape.size, tile, &clip, &fault), &fault, text);
   if (code == SQLITE_OK) sqlite3_result_blob64(c, clip.at, clip.size, SQLITE_TRANSIENT);
   free(clip.at);
   return code;
@@ -259,7 +272,8 @@ static void clip_function(sqlite3_context* c, int n, sqlite3_value** v) {
   char* text = NULL;
   uint64_t tile = 0;
   if (has_null(n, v)) return;
-  int code = check_shape(v[0], &text);
+  wkb shape;
+  int code = shape_of(v[0], &shape, &text);
   if (code == SQLITE_OK) code = check_cell(cell_of(v[1], &tile), v[1], &text);
   if (code == SQLITE_OK && !s2u_is_cell(tile)) code = wrong(&text, "not a cell", v[1]);
   if (code == SQLITE_OK) code = answer_clip(c, v[0], tile, &text);
@@ -340,13 +354,14 @@ static int next(sqlite3_vtab_cursor* base) {
 
 static int fill(cursor* u, int n, sqlite3_value** v, char** text) {
   sqlite3_int64 most = 50;
-  int code = check_shape(v[0], text);
+  wkb shape;
+  int code = shape_of(v[0], &shape, text);
   if (code == SQLITE_OK) code = level_of(v[1], &u->level, text);
   if (code == SQLITE_OK) code = max_cells_of(n > 2 ? v[2] : NULL, &most, text);
   if (code != SQLITE_OK) return code;
   const s2u_cover_options options = {(uint64_t)most, 0, 30, S2U_COVER_MAP, 0};
   s2u_cover_fault fault;
-  code = check_status(s2u_cover_wkb(WKB_OF(v[0]), &options, &u->outer, &u->inner, &fault), &fault, text);
+  code = check_status(s2u_cover_wkb(shape.at, shape.size, &options, &u->outer, &u->inner, &fault), &fault, text);
   if (code != SQLITE_OK) return code;
   if (!take_room(&u->cells, &u->outer) || !take_room(&u->part, &u->outer) || !take_room(&u->sure, &u->inner))
     return SQLITE_NOMEM;

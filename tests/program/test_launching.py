@@ -73,8 +73,9 @@ def test_why_a_cell_or_a_file_has_an_error(words, reason):
 @pytest.mark.parametrize("line", ["run", "run --explain", "", "run script", "run --explain script", "run -c history",
                                   "run --explain -c history", "cell 1", "check square", "draw square", "cells script"])
 def test_a_pipe_that_nobody_reads(line, tmp_path):
-    """Then nothing is said, and the status is that of SIGPIPE, as of other programs."""
+    """Then nothing is said. The status of a run is the program's, and else that of SIGPIPE, as of other programs."""
     words = line.split()
+    wanted = 2 if words[:1] in ([], ["run"]) else 128 + signal.SIGPIPE
     (tmp_path / "script").write_bytes(b"1 3 5\n" if words[:1] == ["cells"] else b"cell 1\n" * 1000)
     ran("run", script=b"add a 1\nsave a square\n", cwd=tmp_path)
     for is_ignored in False, True:  # the signal, as some programs leave it to what they start
@@ -83,7 +84,48 @@ def test_a_pipe_that_nobody_reads(line, tmp_path):
         with open(writer, "wb") as pipe, open(tmp_path / "script", "rb") as script:
             done = subprocess.run([LAUNCHER, *words], cwd=tmp_path, env=ENVIRONMENT, stdin=script, stdout=pipe,
                                   stderr=subprocess.PIPE, restore_signals=not is_ignored, timeout=SECONDS, check=False)
-        assert (done.returncode, done.stderr) == (128 + signal.SIGPIPE, b"")
+        assert (done.returncode, done.stderr) == (wanted, b"")
+
+
+@pytest.mark.parametrize("line", ["help add", "help", "cells --help", "help cells", "run --help", "cell 1 -h"])
+def test_help_that_nobody_reads(line):
+    """It ends as answers do."""
+    reader, writer = os.pipe()
+    os.close(reader)
+    for out, wanted in (writer, (128 + signal.SIGPIPE, b"")), (os.open("/dev/full", os.O_WRONLY), (2, b"s2calc: output")):
+        with open(out, "wb") as file:
+            done = subprocess.run([LAUNCHER, *line.split()], env=ENVIRONMENT, stdout=file, stderr=subprocess.PIPE,
+                                  timeout=SECONDS, check=False)
+        assert (done.returncode, first_line(done.stderr)) == wanted
+
+
+@pytest.mark.parametrize("name", ["SIGTERM", "SIGHUP", "SIGINT", "SIGKILL"])
+@pytest.mark.parametrize("line", ["", "run", "run --explain", "run --prompt", "run pipe", "run --explain pipe"])
+def test_a_signal_ends_the_program(line, name, tmp_path):
+    """Whatever ends the process that was started, the program answers no more."""
+    os.mkfifo(tmp_path / "pipe")
+    with subprocess.Popen([LAUNCHER, *line.split()], 0, cwd=tmp_path, env=ENVIRONMENT, stdin=subprocess.PIPE,
+                          stdout=subprocess.PIPE, stderr=subprocess.PIPE) as process:
+        with open(tmp_path / "pipe", "r+b", 0) if "pipe" in line else process.stdin as script:
+            script.write(b"count a\n")
+            assert process.stdout.readline() == b"cells 0 leaves 0\n"
+            process.send_signal(signal.Signals[name])
+            assert process.wait(SECONDS) == -signal.Signals[name]
+            with contextlib.suppress(BrokenPipeError):
+                script.write(b"count b\n")
+        assert process.stdout.read() == b""
+
+
+def test_what_is_said_comes_before_the_end():
+    """Who has read a pipe to its end finds all that was said of the run in a file."""
+    with tempfile.TemporaryFile() as said:
+        for _ in range(100):
+            with subprocess.Popen([LAUNCHER, "run", "--limit", "0"], env=ENVIRONMENT, stdin=subprocess.DEVNULL,
+                                  stdout=subprocess.PIPE, stderr=said) as process:
+                assert process.stdout.read() == b""
+                assert os.pread(said.fileno(), 1000, 0) == ran("run", "--limit", "0")[2]
+            said.seek(0)
+            said.truncate()
 
 
 def test_a_script_needs_no_word(tmp_path):
@@ -100,10 +142,11 @@ def test_a_word_is_never_a_script(words, tmp_path):
 
 
 def test_an_option_that_is_no_option_of_cell():
-    for words in ["--json", "0c"], ["--json"], ["0c", "--json"]:
-        status, out, error = launched("cell", *words)
-        assert (status, out, error.splitlines()[:2]) == (
-            2, b"", [b"s2calc: usage", b"error: unexpected argument '--json' found"])
+    """One word is a cell, whatever it begins with, and has the program's answer; of two words, its fault too."""
+    for word in "--x", "---", "--json", "--explain=1", "-x":
+        assert launched("cell", word) == (1, b"error cell\n", f"s2calc: '{word}' {NO_CELL}\n".encode())
+    for words in ["--json", "0c"], ["0c", "--json"], ["--"], ["--", "--"], ["--", "0c"], []:
+        assert launched("cell", *words) == ran("cell", *words)
 
 
 @pytest.mark.parametrize("number", [1, 3, 864691128455135232, 5180949494577750587, 10789722008133304320])
@@ -164,17 +207,18 @@ class TheProgram(unittest.TestCase):
     """What the launcher adds nothing to."""
 
     def test_no_process_stays_between(self):
-        """The process that was started is the program, which waits for the script, unless its answers go to a pipe."""
-        for words in ([], ["run"], ["run", "--prompt"], ["run", "-"], ["run", "/dev/stdin"]):
-            ours, its = socket.socketpair()
-            with ours, its, subprocess.Popen([LAUNCHER, *words], env=ENVIRONMENT, stdin=subprocess.PIPE, stdout=its,
-                                             stderr=subprocess.PIPE) as process:
-                process.stdin.write(b"count a\n")
-                process.stdin.flush()
-                self.assertEqual(ours.recv(100), b"cells 0 leaves 0\n")
-                self.assertTrue(os.path.samefile(f"/proc/{process.pid}/exe", os.path.realpath(PROGRAM)))
-                process.stdin.close()
-                self.assertEqual(process.wait(SECONDS), 0)
+        """The process that was started is the program, which waits for the script."""
+        for words in ([], ["run"], ["run", "--prompt"], ["run", "-"], ["run", "/dev/stdin"], ["run", "--explain"]):
+            for ours, its in os.pipe(), (it.detach() for it in socket.socketpair()):
+                with open(ours, "rb", 0) as answers, open(its, "wb") as out, subprocess.Popen(
+                        [LAUNCHER, *words], env=ENVIRONMENT, stdin=subprocess.PIPE, stdout=out,
+                        stderr=subprocess.PIPE) as process:
+                    process.stdin.write(b"count a\n")
+                    process.stdin.flush()
+                    self.assertEqual(answers.read(100), b"cells 0 leaves 0\n")
+                    self.assertTrue(os.path.samefile(f"/proc/{process.pid}/exe", os.path.realpath(PROGRAM)))
+                    process.stdin.close()
+                    self.assertEqual(process.wait(SECONDS), 0)
 
     def test_as_it_is_installed(self):
         """A link in a folder of the PATH leads to the launcher, beside which the program is."""
@@ -349,6 +393,9 @@ class Help(unittest.TestCase):
             self.assertRegex(whole[len(own):], rf"\A\nBeside the proved program, s2calc takes:\n(?:  .*\n)*  {added} ")
         self.assertEqual(launched("help", "run"), launched("run", "--limit", "5", "-h"))
         self.assertEqual(launched("help", "cell"), launched("cell", "--help"))
+        for command in "cell", "check", "draw":
+            for words in ["1", "--help"], ["1", "-h"], ["-h", "1"]:
+                self.assertEqual(launched(command, *words), launched("help", command), words)
         self.assertIn(b"  --explain      Says", launched("help", "cell")[1])
         self.assertIn(b"\n  quit    ", launched("help", "quit")[1])
         self.assertIn(b"did you mean 'count'?", launched("help", "COUNT")[2])

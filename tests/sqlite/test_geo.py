@@ -8,6 +8,8 @@ import math
 import os
 import sqlite3
 import struct
+import subprocess
+import sys
 import unittest
 
 import pytest
@@ -30,6 +32,32 @@ def opened(*more):
 def wkb(ring, order="<"):
     """A polygon of one ring as WKB."""
     return bytes([order == "<"]) + struct.pack(f"{order}III{2 * len(ring)}d", 3, 1, len(ring), *sum(ring, ()))
+
+
+WITHOUT_ROOM = """import sqlite3, sys
+db = sqlite3.connect(":memory:")
+db.enable_load_extension(True)
+for it in sys.argv[1:3]:
+    db.load_extension(it)
+db.execute("PRAGMA hard_heap_limit=5000000")
+for call in sys.argv[3:]:
+    try:
+        print(call, db.execute(f"SELECT * FROM {call}" if "tiles" in call else f"SELECT {call}").fetchall())
+    except MemoryError:
+        print(call, "is out of memory")
+"""
+
+
+def test_bytes_that_the_heap_has_no_room_for():
+    """They have a length, and there is no pointer to them. The limit is the process's, so one of its own has it."""
+    bytes_ = "zeroblob(100000000)"
+    calls = [f"s2_covers({bytes_}, 1, 2)", f"s2_covering({bytes_})", f"s2_interior({bytes_}, 8, 9)",
+             f"s2_clip({bytes_}, 1)", f"s2_join_tiles({bytes_}, 3)", f"s2_expanded({bytes_}, 3)", f"s2_bounds({bytes_})",
+             f"s2_union({bytes_}, 1)", f"s2_tokens({bytes_})", f"s2_contains({bytes_}, 1)", f"s2_is_union({bytes_})",
+             f"s2_tiles({bytes_}, 3)", f"s2_union_agg({bytes_})"]
+    done = subprocess.run([sys.executable, "-c", WITHOUT_ROOM, EXTENSION, os.environ["S2UNION_SQLITE"], *calls],
+                          capture_output=True, text=True, check=False)
+    assert (done.returncode, done.stdout.splitlines()) == (0, [f"{call} is out of memory" for call in calls])
 
 
 SQUARE = [(2.0, 48.0), (3.0, 48.0), (3.0, 49.0), (2.0, 49.0), (2.0, 48.0)]

@@ -3,7 +3,7 @@
     words.py PROGRAM WORD..
 
 The launcher itself says `--prompt OPTION..` for a run at a terminal, `--notes SCRIPT OPTION..` for one whose reasons
-are to be shown, and `--unread FILE WORD..` for a script that can't be read. `cell` takes several cells with commas
+are to be shown with the script's name, and `--unread FILE WORD..` for a script that can't be read. `cell` takes several cells with commas
 between them, decimal identifiers and --explain; `check` and `draw` take paths of files that lie in one folder. Where
 one of them has an error, standard error says why. A picture goes out only if it is whole. Help is the program's, with
 what stands beside it after it; and a word that is no command may mean one.
@@ -13,6 +13,7 @@ import signal
 if __name__ == "__main__":
     signal.signal(signal.SIGINT, signal.SIG_DFL)  # until lines are read, Ctrl-C ends this without a word
 
+import ctypes  # noqa: E402
 import os  # noqa: E402
 import re  # noqa: E402
 import stat  # noqa: E402
@@ -77,7 +78,7 @@ def put(answer):
     """Writes an answer; if nobody reads it, without a word, as if by SIGPIPE."""
     try:
         sys.stdout.buffer.write(answer)
-        sys.stdout.buffer.flush()
+        sys.stdout.flush()
     except BrokenPipeError:
         os._exit(141)
     except (OSError, AttributeError):
@@ -88,30 +89,22 @@ def put(answer):
 # ---- scripts
 
 
-def noted(program, options, name):
-    """Runs the program, with the script's name before each note; and if nobody reads the pipe any more, as if by
-    SIGPIPE."""
-    with subprocess.Popen([program.path, "run", *options], stderr=subprocess.PIPE) as process:
+def noted(program, script, *options):
+    """Runs the program, with the script's name before each note. If nobody reads the pipe any more, it isn't said."""
+    def ends_with_this():
+        ctypes.CDLL(None).prctl(1, signal.SIGKILL)  # PR_SET_PDEATHSIG: whatever ends this process ends the program
+
+    with subprocess.Popen([program.path, "run", *options], stderr=subprocess.PIPE, preexec_fn=ends_with_this) as process:
         for line in process.stderr:
-            if line == b"s2calc: output\n" and is_pipe(1):
-                os._exit(141)
-            os.write(2, name + line if line.startswith(b"line") else line)
+            if line != b"s2calc: output\n" or not is_pipe(1):
+                os.write(2, os.fsencode(f"{script}: ") + line if line.startswith(b"line") else line)
     return process.returncode if process.returncode >= 0 else 128 - process.returncode
 
 
 def prompted(program, options):
-    """The prompt, where a terminal is there for it."""
-    if (os.isatty(1) or os.isatty(2)) and os.path.exists("/dev/fd/1"):
+    """The prompt at a terminal, where standard output is open."""
+    if os.path.exists("/dev/fd/1"):
         return session(program.path, [word for word in options if word != "--prompt"])
-    return noted(program, options, b"") if is_pipe(1) else program.instead("run", *options)
-
-
-def explained(program, script, *options):
-    """A run with reasons. The script is standard input already; it has a name if it came from a file."""
-    if os.isatty(2) and "--explain" not in options:
-        options += ("--explain",)
-    if is_pipe(1) or script:
-        return noted(program, options, os.fsencode(f"{script}: ") if script else b"")
     return program.instead("run", *options)
 
 
@@ -139,11 +132,8 @@ def why_cell(program, word):
 def cell(program, words):
     """The answers to the cells, and why they are errors, or their identifiers; the greatest status."""
     explains, given = "--explain" in words, [word for word in words if word != "--explain"]
-    unknown = next((word for word in given if word.startswith("--")), None)
-    if unknown == "--" or unknown is None and len(given) != 1:
+    if len(given) != 1 or given == ["--"]:
         program.instead("cell", *given)
-    if unknown:
-        return usage(f"unexpected argument '{unknown}' found")
     parts = [part for part in re.split("[, ]+", given[0]) if part] if "," in given[0] else []
     worst = 0
     for word in parts or given:
@@ -227,7 +217,9 @@ def helped(program, words):
         return help_of(program, topic)
     if topic in ("check", "draw", "help") or topic.startswith("-"):
         program.instead("help", *words)
-    return show_help(program.path, words)
+    status = show_help(program.path, words)
+    put(b"")  # what is printed
+    return status
 
 
 def main(path, *words):
@@ -239,7 +231,7 @@ def main(path, *words):
     if first == "--prompt":
         return prompted(program, rest)
     if first == "--notes":
-        return explained(program, *rest)
+        return noted(program, *rest)
     if first == "--unread":
         return unread(program, *rest)
     if first == "cells":
