@@ -414,7 +414,7 @@ static inline int s2u_cover_may_overlap(const s2u_cover_polygon* a, const s2u_co
     uint64_t end = a->part.shape->rings[a->part.rings[k]].end;
     for (uint64_t n = s2u_cover_begin(a->part.shape, a->part.rings[k]) + 1; n < end; n++) {
       const double *from = s2u_cover_at(a->part.shape, n - 1), *to = s2u_cover_at(a->part.shape, n);
-      if (--*left < 0) return 1;
+      if (--*left < 0 || S2U_IS_CANCELLED()) return 1;
       if (fmax(from[0], to[0]) < box.west || fmin(from[0], to[0]) > box.east || fmax(from[1], to[1]) < box.south ||
           fmin(from[1], to[1]) > box.north)
         continue;
@@ -433,6 +433,7 @@ static inline void s2u_cover_mark(s2u_cover_polygon* polygons, size_t count, dou
   qsort(polygons, count, sizeof *polygons, s2u_cover_by_west);
   for (size_t k = 0; k < count; k++) {
     s2u_cover_polygon* a = &polygons[k];
+    if (S2U_IS_CANCELLED()) return;
     for (int turn = 0; turn <= 3 && !a->is_alone; turn++) {
       for (size_t n = turn ? 0 : k + 1; n < count && !a->is_alone; n++) {
         s2u_cover_polygon* b = &polygons[n];
@@ -499,6 +500,7 @@ static inline int32_t s2u_cover_find_seams(const s2u_cover_part* part, int is_wi
   double turns = 0, squares = 0, positions = (double)s2u_cover_positions(part), work = 100000 + 64 * positions;
   int count = 0;
   for (size_t k = 0; status == S2U_OK && k < ends.count; k++) {
+    if (S2U_IS_CANCELLED()) status = S2U_MEMORY;
     int is_seam = k && count == 2 && all[k].latitude != all[k - 1].latitude && 2 * squares != turns * turns;
     if (is_seam && is_wide) {
       double middle = all[k - 1].latitude + (all[k].latitude - all[k - 1].latitude) / 2;
@@ -623,6 +625,7 @@ static inline int32_t s2u_cover_add_edge(s2u_cover_build* build, s2u_cover_list*
   if (!build->is_on_map) return s2u_cover_add_shortest(build, to, begin, a, b);
   double bend = s2u_cover_bend(a, b, build->tolerance / 4), pieces = s2u_cover_pieces(a, b, bend, build->tolerance);
   if (pieces > (double)(build->most - build->pieces)) return S2U_COVER_PIECES;
+  if (S2U_IS_CANCELLED()) return S2U_MEMORY;
   build->pieces += (uint64_t)pieces;
   build->bend = fmax(build->bend, bend / (pieces * pieces));
   for (double k = 1; k <= pieces; k++) {
@@ -855,6 +858,7 @@ static inline uint64_t s2u_cover_beside_edges(const s2u_cover_build* build, cons
       const double *a = s2u_cover_at(part->shape, n - 1), *b = s2u_cover_at(part->shape, n);
       if (edges++ % step) continue;
       for (double away = 0.25; fabs(away) > 1e-4; away *= away > 0 ? -1 : -0.1) {
+        if (S2U_IS_CANCELLED()) return 0;
         double x = (a[0] + b[0]) / 2 + away * (b[1] - a[1]), y = (a[1] + b[1]) / 2 - away * (b[0] - a[0]);
         if (!(fabs(y) <= 90) || !(fabs(x) <= 540) || s2u_cover_is_odd(part, x, y)) continue;
         s2u_direction corner = s2u_cover_direction(x, y);
@@ -871,7 +875,7 @@ static inline uint64_t s2u_cover_outside_on_map(const s2u_cover_build* build, co
   s2u_cover_bounds box = s2u_cover_bounds_of(part);
   double x, y, least = 2 * build->bend + 1e-8;
   if (s2u_cover_radians(s2u_cover_beside(&box, &x, &y)) > least) return s2u_geo_leaf(x, y);
-  for (int k = 0; k < 128; k++) { /* places that lie as the seeds of a sunflower */
+  for (int k = 0; k < 128 && !S2U_IS_CANCELLED(); k++) { /* places that lie as the seeds of a sunflower */
     x = remainder(k * 137.50776405003785, 360), y = asin((k + 0.5) / 64 - 1) * (180 / S2U_GEO_PI);
     s2u_direction corner = s2u_cover_direction(x, y);
     s2u_cover_vector at = s2u_cover_vector_of(&corner);
@@ -909,7 +913,7 @@ static inline uint64_t s2u_cover_beside_edge(const s2u_cover_build* build, const
                                              const s2u_cover_vector* b, size_t last) {
   s2u_cover_vector right = s2u_cover_cross(b, a), middle = s2u_cover_unit(a->x + b->x, a->y + b->y, a->z + b->z);
   right = s2u_cover_unit(right.x, right.y, right.z);
-  for (double away = 0.25; right.x == right.x && away > 1e-8; away /= 8) {
+  for (double away = 0.25; right.x == right.x && away > 1e-8 && !S2U_IS_CANCELLED(); away /= 8) {
     s2u_cover_vector at = s2u_cover_unit(middle.x + away * right.x, middle.y + away * right.y,
                                          middle.z + away * right.z);
     if (s2u_cover_is_clear(build, &at, 1.000001 * away, last)) return s2u_cover_leaf_at(&at);
@@ -925,7 +929,7 @@ static inline uint64_t s2u_cover_outside_on_sphere(const s2u_cover_build* build)
     s2u_cover_vector corner = s2u_cover_vector_of(&corners[k]);
     sum.x -= corner.x, sum.y -= corner.y, sum.z -= corner.z;
   }
-  for (int k = -1; k < 64; k++) {
+  for (int k = -1; k < 64 && !S2U_IS_CANCELLED(); k++) {
     double height = (k + 0.5) / 32 - 1, across = sqrt(1 - height * height), turn = k * 2.399963229728653;
     s2u_cover_vector at = k < 0 ? s2u_cover_unit(sum.x, sum.y, sum.z)
                               : s2u_cover_unit(across * cos(turn), across * sin(turn), height);
@@ -1337,7 +1341,7 @@ static inline int32_t s2u_cover(const s2u_cover_shape* shape, const s2u_cover_op
   }
   free(rings);
   free(polygons);
-  return status;
+  return S2U_IS_CANCELLED() ? S2U_MEMORY : status; /* what wasn't done may have looked like another error */
 }
 
 /* ---- WKB
@@ -1639,6 +1643,7 @@ static inline int32_t s2u_cover_expand(const uint64_t* ids, size_t count, uint32
   s2u_square at;
   for (size_t k = 0; k < count; k++) {
     if (!s2u_is_cell(ids[k])) return S2U_NO_CELL;
+    if (S2U_IS_CANCELLED()) return S2U_MEMORY;
     uint64_t cell = s2u_cover_no_deeper(ids[k], level);
     if (cell == last) continue;
     last = cell;
@@ -1664,7 +1669,8 @@ static inline int32_t s2u_cover_expanded(const uint64_t* ids, size_t count, uint
   int32_t status = s2u_cover_expand(ids, count, level, NULL, &most);
   if (status != S2U_OK) return status;
   if (!s2u_cover_resize(expanded, (size_t)most)) return S2U_MEMORY;
-  s2u_cover_expand(ids, count, level, expanded, &most);
+  status = s2u_cover_expand(ids, count, level, expanded, &most);
+  if (status != S2U_OK) return status;
   return s2u_normalise(expanded->ids, expanded->count, &expanded->count);
 }
 
@@ -1729,7 +1735,7 @@ static inline int32_t s2u_cover_rect_bound(const uint64_t* ids, size_t count, s2
   if (count == 0) return S2U_OK;
   s2u_cover_bounds* boxes = (s2u_cover_bounds*)calloc(count + 3 * faces, sizeof *boxes);
   if (!boxes) return S2U_MEMORY;
-  for (size_t k = 0; k < count; k++) {
+  for (size_t k = 0; k < count && !S2U_IS_CANCELLED(); k++) {
     s2u_square_of(ids[k], &at);
     double size = at.size == S2U_GEO_SIDE ? at.size / 2 : at.size;
     for (int child = 0; child < (at.size == S2U_GEO_SIDE ? 4 : 1); child++, length++) {
@@ -1741,7 +1747,7 @@ static inline int32_t s2u_cover_rect_bound(const uint64_t* ids, size_t count, s2
   qsort(boxes, length, sizeof *boxes, s2u_cover_by_its_west);
   s2u_cover_join_longitudes(boxes, length, box);
   free(boxes);
-  return S2U_OK;
+  return S2U_IS_CANCELLED() ? S2U_MEMORY : S2U_OK;
 }
 
 #endif

@@ -7,6 +7,14 @@
 #include <math.h>
 #include "s2union.h"
 
+/* Long calls of s2union_cover.h and s2union_outline.h can be cancelled: define S2U_IS_CANCELLED() before the headers.
+ * It is asked again and again, says whether the call is to end, and stays true until the call has ended. The call then
+ * ends with S2U_MEMORY, and nothing is lost; its caller knows that it isn't memory that is missing. The library's own
+ * calls end if they are given no memory: s2union_host.h says how. */
+#ifndef S2U_IS_CANCELLED
+#define S2U_IS_CANCELLED() 0
+#endif
+
 #define S2U_GEO_MOST_LONGITUDE 540.0 /* data go from -180 to 180 or from 0 to 360, and rings on over the date line */
 #define S2U_GEO_MOST_LATITUDE 90.0
 #define S2U_GEO_SIDE 1073741824 /* of a face, in leaves */

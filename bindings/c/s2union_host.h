@@ -11,8 +11,10 @@
 
 #define S2U_HOST_BLANKS " ,\t\r\n" /* between the words of a text */
 
-/* A statement can be cancelled only between two calls of the library. PIECE is the most bytes of a text, or cells, that
- * one call is given. Cells that are gathered are normalized if there are more than GATHERED. */
+/* A call of the library takes memory again and again where its work grows, as a covering's does. To cancel it, give it
+ * none: S2U_HOST_TAKE answers NULL from then on, the call ends with S2U_MEMORY, and nothing is lost. Statements with
+ * calls that take none are cancelled between two of them. PIECE is the most bytes of a text, or cells, that one such call
+ * is given. Cells that are gathered are normalized if there are more than GATHERED. */
 enum { S2U_HOST_PIECE = 65536, S2U_HOST_GATHERED = 100000, S2U_HOST_ALIGNMENT = 16 };
 
 /* The cell that a text names, by its token or its debug text. */

@@ -66,8 +66,9 @@ typedef struct s2u_geo_outliner {
   size_t positions_len, positions_room; /* numbers, two a position */
 } s2u_geo_outliner;
 
-/* Room for one more item in a list, or false. */
+/* Room for one more item in a list, or false: also if the call is cancelled. */
 static inline bool s2u_geo_grown(void** list, size_t length, size_t* room, size_t item) {
+  if (S2U_IS_CANCELLED()) return false;
   if (length < *room) return true;
   size_t more = *room ? *room * 2 : 64;
   void* grown = more <= SIZE_MAX / item ? realloc(*list, more * item) : NULL;
@@ -102,6 +103,7 @@ static inline void s2u_geo_degrees(s2u_geo_corner c, double* place) {
 
 static inline int s2u_geo_compare_marks(const void* left, const void* right) {
   const s2u_geo_mark *a = (const s2u_geo_mark*)left, *b = (const s2u_geo_mark*)right;
+  if (S2U_IS_CANCELLED()) return 0; /* so a sort ends soon, in any order */
   int order = s2u_geo_order(a->axis, b->axis);
   if (!order) order = s2u_geo_order(a->line[0], b->line[0]);
   if (!order) order = s2u_geo_order(a->line[1], b->line[1]);
@@ -206,6 +208,7 @@ static inline bool s2u_geo_put_parts(s2u_geo_outliner* o) {
   size_t sides[2] = {none, none};
   if (o->marks_len) qsort(o->marks, o->marks_len, sizeof *o->marks, s2u_geo_compare_marks);
   for (size_t k = 0; k < o->marks_len; k++) {
+    if (S2U_IS_CANCELLED()) return false;
     const s2u_geo_mark* mark = &o->marks[k];
     if (k && mark->at != mark[-1].at) {
       if (sides[0] != none && sides[1] != none) s2u_geo_join(o->roots, sides[0], sides[1]);
@@ -230,6 +233,7 @@ static inline int s2u_geo_compare_corners(const s2u_geo_corner* a, const s2u_geo
 
 static inline int s2u_geo_compare_parts(const void* left, const void* right) {
   const s2u_geo_part *a = (const s2u_geo_part*)left, *b = (const s2u_geo_part*)right;
+  if (S2U_IS_CANCELLED()) return 0;
   int order = s2u_geo_compare_corners(&a->from, &b->from);
   return order ? order : s2u_geo_compare_corners(&a->to, &b->to);
 }
@@ -342,10 +346,10 @@ static inline bool s2u_geo_put_loops_from(s2u_geo_outliner* o, size_t vertex) {
 
 static inline bool s2u_geo_put_loops(s2u_geo_outliner* o) {
   if (o->parts_len) qsort(o->parts, o->parts_len, sizeof *o->parts, s2u_geo_compare_parts);
-  for (size_t k = 0; k < o->parts_len; k++) o->parts[k].vertex = s2u_geo_end(o, o->parts[k].to);
+  for (size_t k = 0; k < o->parts_len && !S2U_IS_CANCELLED(); k++) o->parts[k].vertex = s2u_geo_end(o, o->parts[k].to);
   o->path = (size_t*)calloc(o->parts_len + 1, sizeof *o->path);
   o->places = (size_t*)calloc(o->parts_len + 1, sizeof *o->places);
-  if (!o->path || !o->places) return false;
+  if (!o->path || !o->places || S2U_IS_CANCELLED()) return false;
   for (size_t k = 0; k < o->parts_len; k++)
     if (!s2u_geo_put_loops_from(o, s2u_geo_vertex(o, &o->parts[k].from))) return false;
   return true;

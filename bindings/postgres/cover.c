@@ -10,10 +10,10 @@
 #include "fmgr.h"
 #include "funcapi.h"
 #include "lib/stringinfo.h"
-#include "miscadmin.h"
 #include "utils/array.h"
 #include "value.h"
 
+#define S2U_IS_CANCELLED() is_cancelled()
 #pragma GCC visibility push(hidden)
 #include <s2union_join.h>
 #include <s2union_outline.h>
@@ -22,7 +22,7 @@
 static void must_be_covered(int32_t status, const s2u_cover_fault* fault) {
   const char* text = s2u_cover_status_text(status);
   if (status == S2U_OK) return;
-  if (status == S2U_MEMORY) ereport(ERROR, errcode(ERRCODE_OUT_OF_MEMORY), errmsg("s2union: %s", text));
+  if (status == S2U_MEMORY) must_be_ok(status);
   if (status == S2U_COVER_OPTION)
     ereport(ERROR, errcode(ERRCODE_INVALID_PARAMETER_VALUE),
             errmsg("s2union: out of range: a number of cells is from 0 to %d, and a level from 0 to 30",

@@ -12,10 +12,12 @@
 
 PG_MODULE_MAGIC;
 
-/* ---- memory: the library takes it from the current context, and no longjmp leaves a call of the library ---- */
+/* ---- memory: the library takes it from the current context, and no longjmp leaves a call of the library. As it takes
+ * some again and again while it works, a call that gets none when the statement is cancelled ends at once, in the way
+ * that is proved: by S2U_MEMORY, with nothing lost. The error is that of the cancel ---- */
 
 static void* of_context(size_t size) {
-  if (size > MaxAllocHugeSize) return NULL;
+  if (size > MaxAllocHugeSize || is_cancelled()) return NULL;
   return MemoryContextAllocExtended(CurrentMemoryContext, size, MCXT_ALLOC_HUGE | MCXT_ALLOC_NO_OOM);
 }
 
@@ -40,6 +42,7 @@ static int code_of(int32_t status) {
 }
 
 void must_be_ok(int32_t status) {
+  if (status == S2U_MEMORY) CHECK_FOR_INTERRUPTS();
   if (status < 0) ereport(ERROR, errcode(code_of(status)), errmsg("s2union: %s", s2u_status_text(status)));
 }
 

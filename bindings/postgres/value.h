@@ -5,6 +5,7 @@
 
 #include "access/stratnum.h"
 #include "fmgr.h"
+#include "miscadmin.h"
 #include "utils/memutils.h"
 
 #pragma GCC visibility push(hidden)
@@ -34,7 +35,13 @@ typedef int32_t question(const uint64_t* xs, size_t nx, const uint64_t* ys, size
 
 /* ---- server.c: errors ---- */
 
-/* The error of a status below 0. */
+/* Whether CHECK_FOR_INTERRUPTS would end the statement. Other interrupts don't. */
+static inline bool is_cancelled(void) {
+  return unlikely(QueryCancelPending || ProcDiePending) && InterruptHoldoffCount == 0 && CritSectionCount == 0 &&
+         QueryCancelHoldoffCount == 0;
+}
+
+/* The error of a status below 0; of memory that is missing because the statement is cancelled, that of the cancel. */
 void must_be_ok(int32_t status);
 
 /* The same of a call that takes numbers, from argument `first` on. */

@@ -74,6 +74,8 @@ around() { # cells around cells
   program neighbors "$static" -fsanitize=address,undefined -fno-sanitize-recover "$work/refuse.o"
 }
 step "cells around cells, and the boxes of unions, under the sanitizers" around
+step "long calls cancelled at each look, under the sanitizers" program cancels "$noheap" \
+  -fsanitize=address,undefined -fno-sanitize-recover "$work/refuse.o"
 included() { echo '#include <s2union_join.h>' | "$@" "${strict[@]}" -I"$include" -fsyntax-only -; }
 for compiler in "gcc -x c -std=c99" "clang -x c -std=c17" "g++ -x c++ -std=c++11" "clang++ -x c++ -std=c++20"; do
   step "headers of coverings and joins: $compiler" included $compiler

@@ -2,6 +2,7 @@
  *   - puts a guard after each block, and ends the session if one has been written over when the call ends,
  *   - hides the guard from the address sanitizer or from valgrind, so that a read of it is caught too,
  *   - refuses the allocation that s2_refuse(n) names: as the server does, or by telling the library that there is none,
+ *   - cancels the statement at the allocation that s2_cancel(n) names,
  *   - counts what a call leaves: s2_left(), the blocks of the call and the copies of its arguments that nobody freed,
  *   - takes as the most bytes of a value or a text those that s2_limit(n) names,
  *   - counts where a call may be cancelled: s2_chances(),
@@ -86,7 +87,10 @@ static void end_of_call(void) {
   called = false;
 }
 
+static int64 takes, cancelled;
+
 static void* taken(MemoryContext context, Size n, int flags) {
+  if (++takes == cancelled) InterruptPending = QueryCancelPending = true;
   if (!called) return MemoryContextAllocExtended(context, n, flags);
   if (refuses()) {
     if (flags & MCXT_ALLOC_NO_OOM) return NULL;
@@ -137,6 +141,16 @@ Datum s2_refuse(PG_FUNCTION_ARGS) {
   keep_nothing();
   asked = 0;
   refused = PG_GETARG_INT64(0) > 0 ? PG_GETARG_INT64(0) : -1;
+  PG_RETURN_INT64(were);
+}
+
+/* s2_cancel(n): at the n-th allocation from now on the statement is cancelled, as by pg_cancel_backend; at none if n is
+ * 0. Answers how many there were since the last call of it. */
+PG_FUNCTION_INFO_V1(s2_cancel);
+Datum s2_cancel(PG_FUNCTION_ARGS) {
+  int64 were = takes;
+  takes = 0;
+  cancelled = PG_GETARG_INT64(0);
   PG_RETURN_INT64(were);
 }
 

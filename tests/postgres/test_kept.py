@@ -3,10 +3,11 @@ after part of a table, asks an aggregate over a window again and again, hands ov
 cancels while an index is made. The server is that of test_postgres.py."""
 
 import hashlib
+import math
 import unittest
 
 from model import unions as model
-from test_postgres import ROUNDS, Tests, array, psql, seconds_of, tokens, u
+from test_postgres import ROUNDS, Tests, array, psql, seconds_of, tokens, u, wkb_of
 
 # The most memory that a session has had, in MB.
 PEAK = "SELECT (regexp_match(pg_read_file('/proc/self/status'), 'VmHWM:\\s*(\\d+)'))[1]::int / 1024;"
@@ -224,7 +225,32 @@ class Memory(Tests):
 
 
 class Cancels(Tests):
-    """While an index of large values is made, and while ANALYZE reads them."""
+    """While an index of large values is made, while ANALYZE reads them, and inside of one shape."""
+
+    def test_one_shape(self):
+        """Calls that take many seconds each: a session that is cancelled in one goes on, and doesn't grow."""
+        ring = [(0, 0), (30, 5), (40, 40), (10, 30), (-5, 20), (0, 0)]
+        star = [(10 + r * math.cos(k / 5000), 20 + r * math.sin(k / 5000)) for k, r in
+                ((k, 14 + 6 * (k * 7919 % 1000) / 1000) for k in range(31415))]
+        psql(f"""
+            SET client_min_messages = error;
+            CREATE EXTENSION IF NOT EXISTS s2union_geo CASCADE;
+            DROP TABLE IF EXISTS shaped;
+            CREATE TABLE shaped AS SELECT {wkb_of(ring)} AS few, {wkb_of([*star, star[0]])} AS many,
+                s2_covering({wkb_of(ring)}, 300000) AS region;
+        """)
+        for call in ("s2_covering(few, 1000000)", "s2_interior(few, 1000000)", "s2_covering(many, 1000000)",
+                     "s2_outline(region)", "s2_covering(s2_outline(region), 1000000)", "s2_bounds(region)"):
+            took, said = seconds_of(f"SELECT {call} FROM shaped", 100)
+            self.assertIn("due to statement timeout", said, call)
+            self.assertLess(took, 1, call)
+        size = "SELECT split_part(pg_read_file('/proc/self/statm'), ' ', 2)::int;\n"
+        cancelled = "DO $$ BEGIN PERFORM s2_covering(few, 1000000) FROM shaped; EXCEPTION WHEN query_canceled THEN" \
+                    " NULL; END $$;\n"
+        first, *_, last = map(int, psql("SET statement_timeout = '200ms';\n" + (cancelled + size) * 10))
+        self.assertLess(last - first, 1000, "pages that ten cancels have left")
+        self.assertEqual(psql("SELECT s2_count(region) > 200000 FROM shaped"), ["t"])
+        psql("DROP TABLE shaped;")
 
     def test_indexes_and_analyze(self):
         psql("""

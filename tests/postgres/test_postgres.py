@@ -1534,6 +1534,7 @@ class Guarded(Tests):
         psql(STATE + """
             SET client_min_messages = error;
             CREATE OR REPLACE FUNCTION s2_refuse(bigint) RETURNS bigint LANGUAGE C AS '$libdir/s2union';
+            CREATE OR REPLACE FUNCTION s2_cancel(bigint) RETURNS bigint LANGUAGE C AS '$libdir/s2union';
             CREATE OR REPLACE FUNCTION s2_left() RETURNS integer LANGUAGE C AS '$libdir/s2union';
             CREATE OR REPLACE FUNCTION s2_limit(bigint) RETURNS void LANGUAGE C AS '$libdir/s2union';
             CREATE OR REPLACE FUNCTION s2_chances() RETURNS bigint LANGUAGE C AS '$libdir/s2union';
@@ -1615,6 +1616,39 @@ class Guarded(Tests):
             self.assertEqual(wrong, "", query)
             self.assertEqual(int(errors) > 0, int(allocations) > 0, query)
         self.assertGreater(sum(int(errors) for _, errors, _ in said), 150)
+
+    def test_cancelled_at_an_allocation(self):
+        """The call takes no other one, its error is that of the cancel, and then the session answers as before."""
+        ring = [(0, 0), (30, 5), (40, 40), (10, 30), (-5, 20), (0, 0)]
+        calls = [f"s2_covering({wkb_of(ring)}, 500)", f"s2_interior({wkb_of(ring)}, 500)",
+                 f"(s2_coverings({wkb_of(ring)}, 500)).interior"]
+        script = """SET client_min_messages = error; CREATE EXTENSION IF NOT EXISTS s2union_geo;
+            CREATE FUNCTION pg_temp.cancelled(query text, OUT all_takes bigint, OUT wrong text) LANGUAGE plpgsql AS $$
+            DECLARE answer text; again text; n bigint; takes bigint;
+            BEGIN
+                EXECUTE query INTO answer;
+                PERFORM s2_cancel(0);
+                EXECUTE query INTO again;
+                all_takes := s2_cancel(0);
+                FOR k IN 0 .. 19 LOOP
+                    n := 1 + k * (all_takes - 4) / 19; -- the last ones are those of the value
+                    BEGIN
+                        PERFORM s2_cancel(n);
+                        EXECUTE query INTO again;
+                        wrong := format('not cancelled at %s', n);
+                    EXCEPTION WHEN query_canceled THEN
+                        takes := s2_cancel(0);
+                        IF takes > n THEN wrong := format('cancelled at %s, and took %s', n, takes); END IF;
+                    END;
+                    EXECUTE query INTO again;
+                    IF again <> answer THEN wrong := 'another answer'; END IF;
+                END LOOP;
+            END $$;\n"""
+        said = psql(script + "".join(f"SELECT * FROM pg_temp.cancelled($q$SELECT {call}::text$q$);" for call in calls))
+        for call, line in zip(calls, said, strict=True):
+            takes, wrong = line.split("|")
+            self.assertEqual(wrong, "", call)
+            self.assertGreater(int(takes), 1000, call)
 
     def test_what_a_call_leaves(self):
         """Blocks that are still there when a call ends: the result, and what the end of the statement frees. A sort or
