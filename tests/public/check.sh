@@ -1,0 +1,59 @@
+#!/usr/bin/env bash
+# What anybody can check without Rattle's kit, by tools of Debian 12: tests/public/check.sh [--tier quick|gate|full]
+# [--text FILE] [CALL..].
+#
+# Z3 proves that the text from which the library is compiled does what the contracts of its calls say. That text is
+# FILE, or the one of the library that this machine has proved, or src/s2union.ll of the source archive in dist/. With
+# CALLs only these are proved. The last line is 'N passed, M failed'.
+. "$(dirname "$0")/../steps.sh"
+tier=gate text='' calls=()
+while [ $# -gt 0 ]; do
+  case $1 in
+    --tier) tier=${2:-} && shift ;;
+    --text) text=${2:-} && shift ;;
+    *) calls+=("$1") ;;
+  esac
+  shift
+done
+
+need_file /usr/bin/python3 python3
+need_modules z3 python3-z3
+need xz xz-utils
+need_packages
+
+of_this_machine() { # the text of the library that was proved here
+  PYTHONPATH=$top/tools /usr/bin/python3 -Bc \
+    'import portable_text; print(portable_text.text_of(portable_text.BITCODE), end="")' >"$work/s2union.ll"
+}
+
+of_the_release() {
+  tar -xJf "$archive" -C "$work" --strip-components 2 --wildcards '*/src/s2union.ll'
+}
+
+choose_text() {
+  if [ -n "$text" ]; then
+    echo "       the text: $text"
+  elif command -v rt >/dev/null && "$top/tools/archive" --is-kept; then
+    step "the text of the library that is proved here" of_this_machine
+  else
+    archive=$(echo "$top"/dist/s2union-*-source.tar.xz)
+    step "the text: src/s2union.ll of ${archive#"$top/"}" of_the_release
+  fi
+  text=${text:-$work/s2union.ll}
+  [ "$failed" -eq 0 ] || finish
+}
+
+counted() { # COMMAND..: what it says is shown, and its last line counts
+  "$@" 2>&1 | tee "$work/said"
+  local last
+  last=$(tail -1 "$work/said")
+  if [[ $last =~ ^([0-9]+)\ passed,\ ([0-9]+)\ failed$ ]]; then
+    passed=$((passed + BASH_REMATCH[1])) failed=$((failed + BASH_REMATCH[2]))
+  else
+    echo "FAILED $1 ended without counts" && failed=$((failed + 1))
+  fi
+}
+
+choose_text
+counted /usr/bin/python3 -B "$top/tests/public/llvm/prove.py" --tier "$tier" --text "$text" "${calls[@]}"
+finish

@@ -1,0 +1,319 @@
+"""The definitions in crates, and clauses of contracts, as formulas of Z3: read from their own text, so that nobody
+writes them a second time.
+
+A clause is shown where it is claimed: it then speaks of any number where it says `(n : ℕ) →`. Where a statement is
+given, such as to the left of an arrow, one that is true for all numbers is used for one of them, which the table of
+calls names as its witness; likewise what is claimed for some number is shown for its witness. All this only makes
+claims stronger. Words that have no such witness have a form without quantifiers, in words.py."""
+import functools
+
+import z3
+
+import antt
+import natural as numbers
+from natural import Number, constant
+from solver import FALSE, TRUE, Undecided
+
+
+@functools.cache
+def declarations(path):
+    return [{**found, "path": path} for found in antt.read(path)]
+
+
+class Closure:
+    """A function of some names, or a statement that is looked at where it is claimed or given."""
+
+    def __init__(self, names, body, names_known, where):
+        self.names, self.body, self.known, self.where = names, body, names_known, where
+
+
+class Listed:
+    """A list: its first elements, and the rest: nothing, or a name and a length that stand for any elements."""
+
+    def __init__(self, front, rest=None):
+        self.front, self.rest = list(front), rest
+
+    def length(self):
+        front = constant(len(self.front))
+        return numbers.add(front, self.rest[1]) if self.rest else front
+
+    def drop(self, count):
+        if count > len(self.front):
+            if self.rest:
+                raise Undecided("elements of a list are dropped that aren't known")
+            return Listed([])
+        return Listed(self.front[count:], self.rest)
+
+
+class Words:
+    """What the words mean: the definitions of some files, and the forms of words in Python."""
+
+    def __init__(self, paths):
+        self.definitions, self.records, self.forms, self.witnesses, self.where = {}, {}, {}, {}, "a clause"
+        for path in paths:
+            for found in declarations(path):
+                if found["kind"] == "def":
+                    self.definitions[found["name"]] = found
+                elif found["kind"] == "record":
+                    self.records[found["name"]] = found
+
+    def unknown(self, what):
+        return Undecided(f"{self.where}: {what} isn't known")
+
+    # ---- statements
+
+    def holds(self, term, known, claimed):
+        """The formula for a statement, where it is claimed, or given."""
+        kind = term[0]
+        if kind == "pi":
+            return self.follows(term[1], term[2], known, claimed)
+        if kind == "sig":
+            return self.all_hold(term[1], known, claimed)
+        if kind == "app":
+            head, arguments = term[1], [it for it in term[2] if it[0] != "iarg"]
+            if head[0] == "var" and head[1] not in known:
+                return self.word_holds(head[1], arguments, known, claimed)
+            return self.holds_of(self.value(head, known), [self.value(it, known) for it in arguments], claimed)
+        if kind == "var" and term[1] in known:
+            return self.holds_of(known[term[1]], [], claimed)
+        if kind == "var":
+            return self.word_holds(term[1], [], known, claimed)
+        raise self.unknown(f"the statement {term}")
+
+    def holds_of(self, statement, arguments, claimed):
+        """The formula for a value that is a statement, or a function whose values are."""
+        if z3.is_bool(statement) and not arguments:
+            return statement
+        if not isinstance(statement, Closure) or len(arguments) != len(statement.names):
+            raise self.unknown("a statement made of a value")
+        known = {**statement.known, **dict(zip(statement.names, arguments))}
+        return self.holds(statement.body, known, claimed)
+
+    def follows(self, groups, body, known, claimed):
+        """`premise → conclusion`, or a statement about all numbers."""
+        (names, kind, _), *others = groups
+        if names == [None]:
+            premise = simple(self.holds(kind, known, not claimed))
+            if z3.is_false(premise):
+                return TRUE
+        else:
+            known, premise = self.some(names, kind, known, claimed)
+        then = self.follows(others, body, known, claimed) if others else self.holds(body, known, claimed)
+        return simple(z3.Implies(premise, then))
+
+    def all_hold(self, parts, known, claimed):
+        """Statements that all hold; those with a name say that there is such a number."""
+        formulas = []
+        for name, kind in parts:
+            if name is None:
+                formulas.append(simple(self.holds(kind, known, claimed)))
+            else:
+                known, condition = self.some([name], kind, known, not claimed)
+                formulas.append(condition)
+            if z3.is_false(formulas[-1]):
+                return FALSE
+        return simple(z3.And(*formulas))
+
+    def some(self, names, kind, known, is_any):
+        """The names with numbers: any ones, or their witnesses; and what is known of these."""
+        if kind != ("var", "ℕ"):
+            raise self.unknown(f"a quantifier over {kind}")
+        known = dict(known)
+        for name in names:
+            if is_any:
+                known[name] = numbers.variable(name, numbers.TOP)[0]
+            elif name in self.witnesses:
+                known[name] = self.value(antt.term(self.witnesses[name]), known)
+            else:
+                raise self.unknown(f"a witness for {name}")
+        return known, TRUE
+
+    def word_holds(self, word, arguments, known, claimed):
+        """The formula for a word that makes a statement of its arguments."""
+        if word in ("◌≡◌", "◌≢◌"):
+            same = self.same(self.value(arguments[0], known), self.value(arguments[1], known))
+            return same if word == "◌≡◌" else z3.Not(same)
+        if word == "◌⊎◌":
+            return z3.Or([self.holds(it, known, claimed) for it in arguments])
+        if word in ("⊤", "⊥"):
+            return TRUE if word == "⊤" else FALSE
+        if word in ("◌<◌", "◌≤◌"):
+            left, right = (self.number(it, known) for it in arguments)
+            return (z3.ULT if word == "◌<◌" else z3.ULE)(left.bits, right.bits)
+        if word in self.forms:
+            return self.forms[word](*[self.value(it, known) for it in arguments])
+        if word in self.records:
+            return self.record_holds(word, [self.value(it, known) for it in arguments], claimed)
+        if word in self.definitions:
+            kinds = argument_kinds(self.definitions[word]["type"])
+            values = [Closure([], it, known, self.where) if is_statement(kind) else self.value(it, known)
+                      for it, kind in zip(arguments, kinds)]
+            return self.defined(word, values, lambda body, names: self.holds(body, names, claimed))
+        raise self.unknown(f"the word {word}")
+
+    def record_holds(self, word, values, claimed, only=None):
+        """The formula for a record of statements, or for those of its fields that are named."""
+        record = self.records[word]
+        names = [name for group in record["params"] if not group[2] for name in group[0]]
+        known = dict(zip(names, values))
+        return self.all_hold([(None, kind) for name, kind in record["fields"] if only is None or name in only],
+                             known, claimed)
+
+    # ---- values
+
+    def number(self, term, known):
+        value = self.value(term, known)
+        if not isinstance(value, Number):
+            raise self.unknown(f"the number {term}")
+        return value
+
+    def value(self, term, known):
+        kind = term[0]
+        if kind == "num":
+            return constant(term[1])
+        if kind == "var":
+            return known[term[1]] if term[1] in known else self.word(term[1], [])
+        if kind == "lam":
+            return Closure([name[1] for name in term[1]], term[2], known, self.where)
+        if kind == "proj":
+            record = self.value(term[1], known)
+            if not isinstance(record, dict) or term[2] not in record:
+                raise self.unknown(f"the field {term[2]}")
+            return record[term[2]]
+        if kind == "app":
+            arguments = [it for it in term[2] if it[0] != "iarg"]
+            if term[1][0] == "var" and term[1][1] not in known:
+                return self.word(term[1][1], [self.value(it, known) for it in arguments])
+            return self.applied(self.value(term[1], known), [self.value(it, known) for it in arguments])
+        return Closure([], term, known, self.where)
+
+    def applied(self, function, values):
+        if isinstance(function, Closure) and len(function.names) == len(values):
+            return self.value(function.body, {**function.known, **dict(zip(function.names, values))})
+        raise self.unknown("a function that is applied")
+
+    def word(self, word, values):
+        """The value of a word, of a built-in one first."""
+        if word in BUILT_IN:
+            return BUILT_IN[word](*values)
+        if word in self.forms:
+            return self.forms[word](*values)
+        if word in self.definitions:
+            return self.defined(word, values, self.value)
+        if word in self.records:
+            return self.record_holds(word, values, True)
+        raise self.unknown(f"the word {word}")
+
+    def defined(self, word, values, look):
+        """What `look` makes of the clause of a definition that fits the values."""
+        definition, outer = self.definitions[word], self.where
+        for patterns, body, _ in definition["clauses"]:
+            patterns = [it for it in patterns if it[0] not in ("ipat", "many")]
+            known = {}
+            if len(patterns) == len(values) and all(fits(it, value, known) for it, value in zip(patterns, values)):
+                self.where = f"{definition['path']}:{definition['line']}: {word}"
+                try:
+                    return look(body, known)
+                finally:
+                    self.where = outer
+        raise self.unknown(f"the clause of {word} for such arguments")
+
+    def same(self, a, b):
+        if isinstance(a, Number) and isinstance(b, Number):
+            return a.bits == b.bits
+        if z3.is_bool(a) and z3.is_bool(b):
+            return a == b
+        if isinstance(a, Listed) and isinstance(b, Listed):
+            return self.same_lists(a, b)
+        if isinstance(a, dict) and isinstance(b, dict) and set(a) == set(b):
+            return z3.And([self.same(a[field], b[field]) for field in a])
+        raise self.unknown("an equality of such values")
+
+    def same_lists(self, a, b):
+        if bool(a.rest) != bool(b.rest) or (a.rest and (a.rest[0] != b.rest[0] or len(a.front) != len(b.front))):
+            raise self.unknown("an equality of lists of any length")
+        if len(a.front) != len(b.front):
+            return FALSE
+        return z3.And([self.same(x, y) for x, y in zip(a.front, b.front)] or [TRUE])
+
+
+def simple(formula):
+    return z3.simplify(formula)
+
+
+def argument_kinds(kind):
+    """The types of the explicit arguments of a definition's type."""
+    kinds = []
+    while kind[0] == "pi":
+        for names, type_, is_implicit in kind[1]:
+            kinds += [] if is_implicit else [type_] * len(names)
+        kind = kind[2]
+    return kinds
+
+
+def is_statement(kind):
+    return kind[0] == "app" and kind[1] == ("var", "Type")
+
+
+def fits(pattern, value, known):
+    """Whether a pattern fits a value; if so the names in it are known afterwards."""
+    if pattern == ("var", "zero"):
+        return decided(value) == 0
+    if pattern == ("var", "[]"):
+        return not value.front and not value.rest
+    if pattern[0] == "var":
+        known[pattern[1]] = value
+        return True
+    if pattern[0] == "con" and pattern[1] == "suc":
+        return decided(value) > 0 and fits(pattern[2][0], constant(decided(value) - 1), known)
+    if pattern[0] == "con" and pattern[1] == "◌∷◌":
+        if not value.front and value.rest:
+            raise Undecided("a list whose elements aren't known")
+        return (bool(value.front) and fits(pattern[2][0], value.front[0], known)
+                and fits(pattern[2][1], value.drop(1), known))
+    raise Undecided(f"the pattern {pattern} isn't known")
+
+
+def decided(value):
+    if value.literal is None:
+        raise Undecided("a choice between clauses that depends on a formula")
+    return value.literal
+
+
+# ---- words of the kit whose meaning is here
+
+def looked_up(xs, index):
+    """`slice_index`: the element, or 0 where there is none."""
+    if index.literal is not None and index.literal < len(xs.front):
+        return xs.front[index.literal]
+    if xs.rest:
+        raise Undecided("an element of a list that isn't known")
+    result = constant(0)
+    for place in range(len(xs.front) - 1, -1, -1):
+        result = numbers.choice(index.bits == place, xs.front[place], result)
+    return result
+
+
+def below_zero(value):
+    """`negsuc`: 0 for -1, and so on; a number of ℤ is a formula of 128 bits with a sign."""
+    return Number(z3.BitVecVal(-1 - decided(value), numbers.BITS), numbers.TOP)
+
+
+BUILT_IN = {
+    "◌+◌": numbers.add, "◌-◌": numbers.subtract, "◌*◌": numbers.multiply, "◌/◌": numbers.divide,
+    "◌%◌": numbers.remainder, "◌^◌": numbers.power, "suc": lambda n: numbers.add(n, constant(1)),
+    "zero": lambda: constant(0), "true": lambda: TRUE, "false": lambda: FALSE,
+    "nat_lt": lambda a, b: z3.ULT(a.bits, b.bits), "nat_le": lambda a, b: z3.ULE(a.bits, b.bits),
+    "◌==◌": lambda a, b: a.bits == b.bits, "◌&&◌": lambda a, b: z3.And(a, b), "◌||◌": lambda a, b: z3.Or(a, b),
+    "cond": numbers.choice, "bit_xor": numbers.exclusive_or, "pos": lambda n: n, "negsuc": below_zero,
+    "count_trailing_zeros": lambda bits, n: numbers.trailing_zeros(decided(bits), n),
+    "[]": lambda: Listed([]), "◌∷◌": lambda x, xs: Listed([x, *xs.front], xs.rest),
+    "◌++◌": lambda xs, ys: joined(xs, ys), "length": lambda xs: xs.length(),
+    "drop": lambda count, xs: xs.drop(decided(count)), "slice_index": looked_up,
+}
+
+
+def joined(xs, ys):
+    if xs.rest:
+        raise Undecided("a list that is joined to one of any length")
+    return Listed(xs.front + ys.front, ys.rest)

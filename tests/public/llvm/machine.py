@@ -1,0 +1,329 @@
+"""Runs functions of LLVM's text on symbols, on all ways that are possible.
+
+It knows the instructions of text.py, and stops with an error at anything else. Where LLVM leaves open what happens, as
+after an access out of bounds or not aligned, a shift too far, a division by 0, `unreachable`, a number out of its
+`!range` or bytes under `!noundef` that were never written, Z3 has to prove that it doesn't happen."""
+import z3
+
+from memory import UNWRITTEN, Memory, Pointer, State, Thing, as_bits, simple
+from solver import Refuted, Undecided, is_possible, literal, prove
+from text import CASE, Unknown, arguments_of, fields_of, size_of, width
+
+MOST_STEPS = 2_000_000
+COMPARISONS = {
+    "eq": lambda a, b: a == b, "ne": lambda a, b: a != b, "ult": z3.ULT, "ule": z3.ULE, "ugt": z3.UGT, "uge": z3.UGE,
+    "slt": lambda a, b: a < b, "sle": lambda a, b: a <= b, "sgt": lambda a, b: a > b, "sge": lambda a, b: a >= b,
+}
+OPERATIONS = {
+    "add": lambda a, b: a + b, "sub": lambda a, b: a - b, "mul": lambda a, b: a * b, "udiv": z3.UDiv, "urem": z3.URem,
+    "and": lambda a, b: a & b, "or": lambda a, b: a | b, "xor": lambda a, b: a ^ b, "shl": lambda a, b: a << b,
+    "lshr": z3.LShR, "ashr": lambda a, b: a >> b,
+}
+
+
+class Machine(Memory):
+    """Runs functions of a text. It counts the instructions, the ways and what it had to prove. `watch`, if there is
+    one, is given each number that is stored in a local variable, and answers what is stored in its place."""
+
+    def __init__(self, text, watch=None):
+        self.text, self.watch = text, watch
+        self.steps = self.proved = 0
+
+    def must(self, state, claim, what):
+        self.proved += 1
+        claim = z3.simplify(claim)
+        if not z3.is_true(claim):
+            prove(claim, what, *state.known())
+
+    def run(self, state, name, arguments):
+        """Each way through a function: the state in the end, and what is answered."""
+        function = self.text.function(name)
+        todo = [(state, dict(zip(function.parameters, arguments)), next(iter(function.blocks)), 0, ())]
+        while todo:
+            way = Way(self, name, function, *todo.pop())
+            try:
+                others, answer = way.follow()
+            except (Refuted, Undecided, Unknown) as error:
+                raise type(error)(f"{self.text.path}:{way.line}: {error}") from error
+            todo += others
+            if answer is not None:
+                yield answer
+
+
+class Way:
+    """One way through a function: the state, the values of its names, where it is, and the local variables."""
+
+    def __init__(self, machine, name, function, state, names, label, at, locals_):
+        self.machine, self.name, self.function, self.state = machine, name, function, state
+        self.names, self.label, self.at, self.locals = names, label, at, list(locals_)
+        self.others, self.answer, self.has_ended, self.line = [], None, False, 0
+
+    def follow(self):
+        """Runs to the end: the other ways that leave this one, and the state and the answer in the end."""
+        while not self.has_ended:
+            instruction = self.function.blocks[self.label][self.at]
+            self.at += 1
+            self.machine.steps += 1
+            if self.machine.steps > MOST_STEPS:
+                raise Undecided("more instructions than are run here")
+            self.line = instruction.line
+            getattr(self, instruction.form)(*instruction.parts)
+        return self.others, self.answer
+
+    # ---- values
+
+    def value(self, kind, word):
+        if word.startswith("%"):
+            return self.names[word]
+        if word.startswith("@"):
+            return self.constant(word[1:])
+        if word == "null":
+            return Pointer(0, 0)
+        if word in ("undef", "poison"):
+            return UNWRITTEN
+        if word in ("true", "false"):
+            return z3.BitVecVal(int(word == "true"), 1)
+        return z3.BitVecVal(int(word), width(kind))
+
+    def number(self, kind, word):
+        value = self.value(kind, word)
+        if value is UNWRITTEN or isinstance(value, (Pointer, tuple)):
+            raise Refuted(f"{word} is no number: bytes were never written")
+        return value
+
+    def pointer(self, word):
+        value = self.value("ptr", word)
+        if not isinstance(value, Pointer):
+            raise Refuted(f"{word} is no pointer: bytes were never written")
+        return value
+
+    def constant(self, name):
+        if name not in self.state.things:
+            constant = self.machine.text.constants.get(name)
+            if constant is None:
+                raise Unknown(f"no constant @{name}")
+            self.state.things[name] = Thing(f"@{name}", len(constant.content), constant.align, constant.content)
+        return Pointer(name, 0)
+
+    # ---- memory
+
+    def alloca(self, target, kind, align):
+        self.names[target] = self.state.add(Thing(target, size_of(kind), int(align)))
+        self.locals.append(self.names[target].thing)
+
+    def load(self, target, kind, place, align, marks):
+        is_defined = "!noundef" in marks
+        value = self.machine.load(self.state, self.pointer(place), kind, int(align), is_defined)
+        for mark in marks.split(", ")[1:]:
+            word, name = mark.split(" ")
+            if word == "!range":
+                if name not in self.machine.text.ranges:
+                    raise Unknown(f"no range {name}")
+                least, end = self.machine.text.ranges[name]
+                self.must(z3.And(z3.UGE(value, least), z3.ULT(value, end)), "a number in its range")
+        self.names[target] = value
+
+    def store(self, kind, word, place, align):
+        value, pointer = self.value(kind, word), self.pointer(place)
+        if kind.startswith("{"):
+            for (offset, field), part in zip(fields_of(kind)[0], value):
+                self.machine.store(self.state, pointer.plus(offset), size_of(field), 1, part)
+            return
+        if z3.is_bv(value) and value.size() < 8:
+            value = z3.ZeroExt(8 - value.size(), value)
+        if self.machine.watch and z3.is_bv(value):
+            value = self.machine.watch(self.state, self.name, place, value)
+        self.machine.store(self.state, pointer, size_of(kind), int(align), value)
+
+    def place(self, target, is_inbounds, base, kind, word):
+        pointer, count = self.pointer(base), self.number(kind, word)
+        count = z3.SignExt(64 - count.size(), count) if count.size() < 64 else count
+        self.names[target] = pointer.plus(count)
+        size = self.state.thing(pointer).size if is_inbounds else None
+        offset = self.names[target].offset
+        if is_inbounds and not (isinstance(size, int) and isinstance(offset, int) and offset <= size):
+            self.must(z3.ULE(as_bits(self.names[target].offset), as_bits(size)), "a place within its object")
+
+    def address(self, target, word):
+        self.names[target] = z3.simplify(self.state.address(self.pointer(word)))
+
+    # ---- numbers
+
+    def convert(self, target, how, kind, word, wanted):
+        value = self.value(kind, word)
+        if value is not UNWRITTEN:
+            more = width(wanted) - value.size()
+            value = z3.simplify({"zext": lambda: z3.ZeroExt(more, value), "sext": lambda: z3.SignExt(more, value),
+                                 "trunc": lambda: z3.Extract(width(wanted) - 1, 0, value)}[how]())
+        self.names[target] = value
+
+    def compare(self, target, how, kind, left, right):
+        if kind == "ptr":
+            a, b = self.pointer(left), self.pointer(right)
+            if how not in ("eq", "ne"):
+                raise Unknown("pointers are compared by their order")
+            holds = (as_bits(a.offset) == as_bits(b.offset) if a.thing == b.thing else z3.BoolVal(False))
+            holds = z3.Not(holds) if how == "ne" else holds
+        else:
+            if how not in COMPARISONS:
+                raise Unknown(f"icmp {how}")
+            holds = COMPARISONS[how](self.number(kind, left), self.number(kind, right))
+        self.names[target] = z3.simplify(z3.If(holds, z3.BitVecVal(1, 1), z3.BitVecVal(0, 1)))
+
+    def binary(self, target, how, kind, left, right):
+        a, b = self.number(kind, left), self.number(kind, right)
+        if how in ("udiv", "urem"):
+            self.must(b != 0, "a divisor that is not 0")
+        if how in ("shl", "lshr", "ashr"):
+            self.must(z3.ULT(b, width(kind)), "a shift by less than the width")
+        self.names[target] = z3.simplify(plain(how, a, b))
+
+    def extract(self, target, kind, word, index):
+        value = self.value(kind, word)
+        self.names[target] = value if value is UNWRITTEN else value[int(index)]
+
+    def insert(self, target, kind, word, field, part, index):
+        value = self.value(kind, word)
+        parts = [UNWRITTEN] * len(fields_of(kind)[0]) if value is UNWRITTEN else list(value)
+        parts[int(index)] = self.value(field, part)
+        self.names[target] = tuple(parts)
+
+    def must(self, claim, what):
+        self.machine.must(self.state, claim, what)
+
+    # ---- where it goes on
+
+    def jump(self, label):
+        self.label, self.at = label, 0
+
+    def branch(self, word, yes, no):
+        holds = self.number("i1", word)
+        self.choose([(holds == 1, yes), (holds == 0, no)])
+
+    def switch(self, kind, word, otherwise, cases):
+        value = self.number(kind, word)
+        cases = [(z3.BitVecVal(int(number), width(kind)), label) for number, label in CASE.findall(cases)]
+        ways = [(value == number, label) for number, label in cases]
+        self.choose(ways + [(z3.And([value != number for number, _ in cases]), otherwise)])
+
+    def choose(self, ways):
+        """Goes the first of the ways that are possible, and keeps the others for later."""
+        ways = [(z3.simplify(condition), label) for condition, label in ways]
+        ways = [(condition, label) for condition, label in ways if not z3.is_false(condition)]
+        if len(ways) > 1:
+            ways = [way for way in ways if is_possible(*self.state.known(), way[0])]
+        if not ways:
+            raise Undecided("a way that nothing takes")
+        for condition, label in ways[1:]:
+            other = self.state.fork()
+            other.conditions.append(condition)
+            self.others.append((other, dict(self.names), label, 0, tuple(self.locals)))
+        if len(ways) > 1:
+            self.state.conditions.append(ways[0][0])
+        self.jump(ways[0][1])
+
+    def never(self, _):
+        raise Refuted("what is unreachable is reached")
+
+    def give(self, what):
+        value = None
+        if what != "void":
+            kind, _, word = what.rpartition(" ")
+            value = self.value(kind, word)
+        for number in self.locals:
+            del self.state.things[number]
+            self.state.addresses.pop(number, None)
+        self.has_ended, self.answer = True, (self.state, value)
+
+    def call(self, target, callee, arguments):
+        values = [self.value(kind.split(" ")[0] if kind[0] != "{" else kind, word)
+                  for kind, word in arguments_of(arguments)]
+        if callee.startswith("llvm."):
+            ways = [(self.state, self.built_in(callee, values))]
+        else:
+            ways = list(self.machine.run(self.state, callee, values))
+        if not ways:
+            raise Undecided(f"{callee} ends on no way")
+        for state, value in ways[1:]:
+            names = {**self.names, target: value} if target else dict(self.names)
+            self.others.append((state, names, self.label, self.at, tuple(self.locals)))
+        self.state, value = ways[0]
+        if target:
+            self.names[target] = value
+
+    def built_in(self, name, values):
+        """A function of LLVM's own."""
+        if name.startswith(("llvm.memset.", "llvm.memmove.")):
+            count = literal(values[2])
+            if count is None:
+                raise Undecided("a number of bytes that is a formula")
+            if name.startswith("llvm.memset."):
+                return self.machine.fill(self.state, values[0], values[1], count)
+            return self.machine.copy(self.state, values[0], values[1], count)
+        if name.startswith(("llvm.cttz.i", "llvm.ctlz.i")):
+            return zeros(values[0], name.startswith("llvm.cttz."))
+        if name == "llvm.trap":
+            raise Refuted("a trap is reached")
+        raise Unknown(f"the function {name}")
+
+
+def plain(how, a, b):
+    """An operation, so written that Z3 has no division or product by a power of two, and no sum of bits apart."""
+    power = literal(b)
+    if how in ("udiv", "urem") and power and power & (power - 1) == 0:
+        return z3.LShR(a, power.bit_length() - 1) if how == "udiv" else a & (power - 1)
+    if how == "add":
+        return joined_bits(a, b)
+    return OPERATIONS[how](a, b)
+
+
+def joined_bits(a, b):
+    """The sum of two numbers: their bits side by side, if one has zeros wherever the other may have ones."""
+    for high, low in ((a, b), (b, a)):
+        count = zeros_at_end(high)
+        if count and zeros_at_front(low) >= low.size() - count:
+            if count >= high.size():
+                return low
+            return z3.Concat(z3.Extract(high.size() - 1, count, high), z3.Extract(count - 1, 0, low))
+    return a + b
+
+
+def zeros_at_end(value):
+    """How many of the lowest bits are seen to be zeros."""
+    if z3.is_bv_value(value):
+        number = value.as_long()
+        return (number & -number).bit_length() - 1 if number else value.size()
+    if value.decl().kind() == z3.Z3_OP_CONCAT:
+        count = 0
+        for part in reversed(value.children()):
+            more = zeros_at_end(part)
+            count += more
+            if more < part.size():
+                break
+        return count
+    return 0
+
+
+def zeros_at_front(value):
+    """How many of the highest bits are seen to be zeros."""
+    if z3.is_bv_value(value):
+        return value.size() - value.as_long().bit_length()
+    if value.decl().kind() == z3.Z3_OP_CONCAT:
+        count = 0
+        for part in value.children():
+            more = zeros_at_front(part)
+            count += more
+            if more < part.size():
+                break
+        return count
+    return 0
+
+
+def zeros(value, is_at_end):
+    """How many zeros a number ends in, or begins with."""
+    bits = value.size()
+    count = z3.BitVecVal(bits, bits)
+    for bit in range(bits - 1, -1, -1) if is_at_end else range(bits):
+        here = z3.BitVecVal(bit if is_at_end else bits - 1 - bit, bits)
+        count = z3.If(z3.Extract(bit, bit, value) == 1, here, count)
+    return z3.simplify(count)

@@ -1,0 +1,110 @@
+"""Mistakes, made by a program in the text that the library is compiled from: a constant that is one more or less, an
+operation or a comparison that is another one, two operands that change places. Each has to be refuted."""
+import random
+import re
+import shutil
+from typing import NamedTuple
+
+from proofs import DEFINITIONS
+from text import Text
+
+OTHER = {"add": "sub", "sub": "add", "mul": "add", "udiv": "urem", "urem": "udiv", "and": "or", "or": "and",
+         "xor": "or", "shl": "lshr", "lshr": "shl", "ule": "ult", "ult": "ule", "uge": "ugt", "ugt": "uge", "eq": "ne",
+         "ne": "eq"}
+LINE = re.compile(r"  %r\d+ = (?:(?:add|sub|mul|udiv|urem|and|or|xor|shl|lshr) |icmp \w+ )i\d+ [^,]+, \S+$"
+                  r"|  store i\d+ -?\d+, .*|  ret i\d+ -?\d+$")
+NUMBER = re.compile(r"(?<=, )\d+$|(?<=i8 )-?\d+(?=,)|(?<=i32 )-?\d+(?=,)|(?<=i64 )-?\d+(?=,)")
+# Mistakes that change nothing, each with its reason: the old line, and what is in its place.
+SAME = {
+    ("icmp ule i32 %r, 60", "icmp ule i32 %r, 61"): "the zeros at the end of a cell are even, so never 61",
+}
+
+
+class Mistake:
+    """A line of the text, and what is in its place."""
+
+    def __init__(self, at, old, new):
+        self.at, self.old, self.new = at, old, new
+
+    def __str__(self):
+        return f"line {self.at + 1}: {self.new.strip()} in place of {self.old.strip()}"
+
+    def reason(self):
+        """Why the program is the same with it, if it is."""
+        plain = tuple(re.sub(r"^%r\d+ = ", "", re.sub(r"%r\d+(?=[,)])", "%r", line.strip())) for line in
+                      (self.old, self.new))
+        return SAME.get(plain)
+
+    def text(self, text):
+        lines = list(text.lines)
+        lines[self.at] = self.new
+        return Text(text.path, "\n".join(lines))
+
+
+def mistakes(text, name, count):
+    """So many mistakes in a call and what it calls, always the same ones, no two in one line if there are enough."""
+    chooser = random.Random(name)
+    spots = [(at, line) for function in text.reached(name) for at, line in lines_of(text, function)]
+    chooser.shuffle(spots)
+    found = []
+    while len(found) < count and spots:
+        at, line = spots.pop()
+        changed = [new for new in changes(line) if new != line]
+        if changed:
+            found.append(Mistake(at, line, chooser.choice(changed)))
+    return found
+
+
+def lines_of(text, function):
+    _, begin, end = text.heads[function]
+    return [(at, text.lines[at]) for at in range(begin + 1, end) if LINE.fullmatch(text.lines[at])]
+
+
+def changes(line):
+    """The mistakes that can be made in a line."""
+    for found in NUMBER.finditer(line):
+        number = int(found[0])
+        for other in (number + 1, number - 1) if number > 0 else (number + 1,):
+            yield line[:found.start()] + str(other) + line[found.end():]
+    for word in line.split():
+        if word in OTHER:
+            yield line.replace(f" {word} ", f" {OTHER[word]} ", 1)
+    if found := re.search(r"(?<= )(%\w+), (%\w+)$", line):
+        if not re.search(r"= (?:add|mul|and|or|xor|icmp eq|icmp ne) ", line):
+            yield line[:found.start()] + f"{found[2]}, {found[1]}"
+
+
+class Change(NamedTuple):
+    """A change of a contract or a definition: the file in crates, the text and what is in its place, the call whose
+    proof it has to end, and how."""
+
+    file: str
+    old: str
+    new: str
+    call: str
+    wanted: str = "refuted"
+
+    def __str__(self):
+        return f"{self.file}: {self.new} in place of {self.old}"
+
+    def made(self, crates, room):
+        """A copy of the contracts and the definitions with the change."""
+        for name in [*(f"{name}.antt" for name in DEFINITIONS), "s2union_c/src/cells.rt"]:
+            (room / name).parent.mkdir(parents=True, exist_ok=True)
+            shutil.copy(crates / name, room / name)
+        text = (room / self.file).read_text(encoding="utf-8")
+        if text.count(self.old) != 1:
+            raise ValueError(f"{self.file}: {self.old} doesn't stand there once")
+        (room / self.file).write_text(text.replace(self.old, self.new), encoding="utf-8")
+        return room
+
+
+CHANGES = [
+    Change("s2union_c/src/cells.rt", "result ≡ pos (level_of id)", "result ≡ pos (face_of id)", "s2u_level"),
+    Change("s2union_c/src/cells.rt", "result ≡ 2 * first_leaf id + 1", "result ≡ 2 * first_leaf id", "s2u_range_min"),
+    Change("s2cell/specs/Cell.antt", "level_of n = 30 - ", "level_of n = 31 - ", "s2u_level"),
+    Change("s2cell/specs/Cell.antt", "size_of n = 4 ^", "size_of n = 2 ^", "s2u_size"),
+    Change("s2union_c/specs/Status.antt", "no_cell = negsuc 2", "no_cell = negsuc 3", "s2u_face"),
+    Change("s2union_c/src/cells.rt", "result ≡ size_of id", "result ≡ weight_of id", "s2u_size",
+           "not decided: s2union_c/src/cells.rt:122: the word weight_of isn't known"),
+]

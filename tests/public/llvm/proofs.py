@@ -1,0 +1,75 @@
+"""Proves the clauses of a call's contract of the text that the library is compiled from."""
+import sys
+import time
+from pathlib import Path
+
+import z3
+
+TOP = Path(__file__).resolve().parents[3]
+sys.path += [str(TOP / "tests" / "public"), str(TOP / "tests" / "public" / "llvm")]
+from clauses import contracts, structures  # noqa: E402
+from inputs import cases  # noqa: E402
+from machine import Machine  # noqa: E402
+from solver import Undecided, is_possible, prove  # noqa: E402
+from words import CellWords  # noqa: E402
+
+DEFINITIONS = ["s2cell/specs/Cell", "s2cell/specs/Curve", "s2cell/specs/Neighbours", "s2cell/specs/Square",
+               "s2cell/specs/Text", "s2cell/specs/Token", "s2cell/specs/Debug", "s2union_c/specs/Status",
+               "s2union_c/specs/Results"]
+
+
+class Proved:
+    """What was proved of a call: each clause with the seconds that it took, the cases and the ways."""
+
+    def __init__(self, names):
+        self.seconds, self.cases, self.ways, self.steps, self.obligations = dict.fromkeys(names, 0.0), 0, 0, 0, 0
+
+
+def words_of(crates, is_apart=False):
+    paths = [TOP / "tests" / "public" / "kit.antt", *(crates / f"{name}.antt" for name in DEFINITIONS)]
+    return CellWords([str(path) for path in paths], is_apart)
+
+
+def contract_of(crates, name, plan):
+    path = str(crates / plan.file)
+    found = contracts(path)
+    if name not in found:
+        raise Undecided(f"{path}: no call {name}")
+    return found[name], structures(path)
+
+
+def prove_call(text, crates, name, plan):
+    """Proves all clauses of a call, in all cases."""
+    contract, fields = contract_of(crates, name, plan)
+    done = Proved([clause.name for clause in contract.ensures])
+    for case in cases(contract, plan, fields):
+        begun = time.monotonic()
+        machine = Machine(text)
+        if not is_possible(*case.state.given):
+            raise Undecided(f"{name}: nothing fits the case {', '.join(case.names)}")
+        given = list(case.state.given)
+        ways = list(machine.run(case.state, name, case.values))
+        prove_all_ways(name, given, ways)
+        done.cases, done.ways = done.cases + 1, done.ways + len(ways)
+        done.steps, done.obligations = done.steps + machine.steps, done.obligations + machine.proved
+        for clause in contract.ensures:
+            prove_clause(crates, name, plan, contract, clause, case, ways)
+            done.seconds[clause.name] += time.monotonic() - begun
+            begun = time.monotonic()
+    return done
+
+
+def prove_all_ways(name, given, ways):
+    """The ways are all that there are."""
+    for state, _ in ways:
+        given += [it for it in state.given if not any(it is other for other in given)]
+    prove(z3.Or([z3.And(state.conditions) for state, _ in ways]), f"{name}: all ways are run", *given)
+
+
+def prove_clause(crates, name, plan, contract, clause, case, ways):
+    for state, result in ways:
+        words = words_of(crates, plan.is_apart)
+        words.where, words.witnesses = f"{contract.path}:{clause.line}", plan.witnesses
+        claim = words.holds(clause.term, case.after(state, result, contract.result), True)
+        prove(claim, f"{contract.path}:{clause.line}: {name}, clause {clause.name}, {', '.join(case.names)}",
+              *state.known(), *words.facts)

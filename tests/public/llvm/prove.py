@@ -1,0 +1,120 @@
+"""Proves by Z3, for all inputs, that the text from which the library is compiled does what the contracts of its calls
+say: tests/public/llvm/prove.py [--tier quick|gate|full] [--text FILE] [--crates FOLDER] [CALL..].
+
+FILE is s2union.ll, of the source archive in dist, or of one that tools/portable made. FOLDER is crates, which has the
+contracts and the definitions that they cite. A line tells for each clause that it was proved, with the seconds that it
+took and how many ways through the text there are. Then mistakes are made in the text, one at a time, in a contract and
+in a definition, and each has to be refuted. With no CALL it proves those of the tier. The last line is 'N passed, M
+failed'."""
+import argparse
+import sys
+import tempfile
+import time
+from pathlib import Path
+
+from calls import PLANS
+from mistakes import CHANGES, mistakes
+from proofs import TOP, contract_of, prove_call, words_of
+from solver import Refuted, Undecided
+from text import Text, Unknown
+
+TIERS = ("quick", "gate", "full")
+MISTAKES = 4
+
+
+def say(text):
+    print(text, flush=True)
+
+
+class Count:
+    """What was tried, and how often it was as it has to be."""
+
+    def __init__(self):
+        self.passed = self.failed = 0
+
+    def check(self, is_right, text):
+        self.passed, self.failed = self.passed + is_right, self.failed + (not is_right)
+        say(text if is_right else f"FAILED {text}")
+
+
+def prove_one(text, crates, name, count):
+    """Proves the clauses of a call; whether they all hold."""
+    plan = PLANS[name]
+    try:
+        contract, _ = contract_of(crates, name, plan)
+        done = prove_call(text, crates, name, plan)
+    except (Refuted, Undecided, Unknown) as error:
+        count.check(False, f"{name}: {type(error).__name__.lower()}: {error}")
+        return False
+    for clause in contract.ensures:
+        count.check(True, f"{name:22} {clause.name or 'its clause':10} proved for all inputs by Z3, "
+                    f"{done.ways} ways in {done.cases} cases, {done.seconds[clause.name]:.1f} s")
+    return True
+
+
+def verdict(text, crates, name):
+    """What is found of a call: proved, refuted, or what wasn't decided."""
+    try:
+        prove_call(text, crates, name, PLANS[name])
+        return "proved"
+    except Refuted:
+        return "refuted"
+    except (Undecided, Unknown) as error:
+        return f"not decided: {error}"
+
+
+def refuse_mistakes(text, crates, name, count):
+    """Makes mistakes in the text of a call until enough of them were refuted. One that is known to change nothing has
+    to be proved."""
+    refuted = 0
+    for mistake in mistakes(text, name, 3 * MISTAKES):
+        if refuted == MISTAKES:
+            break
+        found, reason = verdict(mistake.text(text), crates, name), mistake.reason()
+        if reason:
+            count.check(found == "proved", f"{name:22} {mistake}: {found}, the same since {reason}")
+        else:
+            refuted += found == "refuted"
+            count.check(found == "refuted", f"{name:22} {mistake}: {found}")
+
+
+def refuse_changes(text, crates, count):
+    """Changes a contract and definitions, one at a time, each of which has to be refuted or not to be known."""
+    for change in CHANGES:
+        with tempfile.TemporaryDirectory() as room:
+            found = verdict(text, change.made(crates, Path(room)), change.call)
+            found = found.replace(f"{room}/", "")
+            count.check(found.startswith(change.wanted), f"{change.call:22} {change}: {found}")
+
+
+def main():
+    asked = words()
+    count = Count()
+    text = Text(asked.text)
+    names = asked.calls or [name for name, plan in PLANS.items()
+                            if TIERS.index(plan.tier) <= TIERS.index(asked.tier)]
+    begun = time.monotonic()
+    count.check(True, f"the forms of words: {words_of(asked.crates).prove_forms()} claims proved by Z3, "
+                f"{time.monotonic() - begun:.1f} s")
+    for name in names:
+        if prove_one(text, asked.crates, name, count) and asked.tier != "quick":
+            refuse_mistakes(text, asked.crates, name, count)
+    refuse_changes(text, asked.crates, count)
+    say(f"{count.passed} passed, {count.failed} failed")
+    return count.failed > 0
+
+
+def words():
+    parser = argparse.ArgumentParser(prog="tests/public/llvm/prove.py")
+    parser.add_argument("--tier", choices=TIERS, default="gate")
+    parser.add_argument("--text", required=True)
+    parser.add_argument("--crates", type=Path, default=TOP / "crates")
+    parser.add_argument("calls", nargs="*", metavar="CALL")
+    asked = parser.parse_args()
+    if unknown := sorted(set(asked.calls) - set(PLANS)):
+        parser.error(f"no plan for {', '.join(unknown)}")
+    return asked
+
+
+if __name__ == "__main__":
+    sys.exit(main())

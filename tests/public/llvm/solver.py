@@ -1,0 +1,50 @@
+"""Questions to Z3, and how it is told that something is false or not known."""
+import z3
+
+MILLISECONDS = 600_000
+TRUE, FALSE = z3.BoolVal(True), z3.BoolVal(False)
+
+
+class Refuted(Exception):
+    """Z3 has found numbers for which a claim is false."""
+
+
+class Undecided(Exception):
+    """Z3 gave up, or the text does what isn't known here."""
+
+
+def model_of(*claims):
+    """Numbers for which all claims are true, or nothing if there are none."""
+    claims = [claim for claim in map(z3.simplify, claims) if not z3.is_true(claim)]
+    if any(map(z3.is_false, claims)):
+        return None
+    solver = z3.SolverFor("QF_BV")
+    solver.set("timeout", MILLISECONDS)
+    solver.add(*claims)
+    found = solver.check()
+    if found == z3.unknown:
+        raise Undecided(f"Z3 gave up: {solver.reason_unknown()}")
+    return solver.model() if found == z3.sat else None
+
+
+def is_possible(*claims):
+    return model_of(*claims) is not None
+
+
+def prove(claim, what, *given):
+    """Z3 proves that a claim follows from what is given, or this is an error that says what was to be proved."""
+    model = model_of(z3.Not(claim), *given)
+    if model is not None:
+        raise Refuted(f"{what}: false for {said(model)}")
+
+
+def said(model):
+    numbers = sorted((str(it), model[it]) for it in model.decls() if "!" not in str(it))
+    return ", ".join(f"{name} = {value}" for name, value in numbers) or "all numbers"
+
+
+def literal(value):
+    """The number that a formula is, if it is one."""
+    if isinstance(value, int):
+        return value
+    return value.as_long() if z3.is_bv_value(value) else None
