@@ -36,6 +36,7 @@ double sqrt(double x);
 double ceil(double x);
 double floor(double x);
 double nearbyint(double x);
+double copysign(double x, double sign);
 
 /* Imported: Math's, and the operator %. */
 double sin(double x);

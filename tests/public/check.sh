@@ -4,7 +4,8 @@
 #
 # Z3 proves that the text from which the library is compiled does what the contracts of its calls say. That text is
 # FILE, or the one of the library that this machine has proved, or src/s2union.ll of the source archive in dist/. With
-# CALLs only these are proved. The last line is 'N passed, M failed'.
+# CALLs only these are proved. Then, in all tiers except quick, Frama-C looks at the C of the headers that nothing proves.
+# The last line is 'N passed, M failed'.
 . "$(dirname "$0")/../steps.sh"
 tier=gate text='' calls=()
 while [ $# -gt 0 ]; do
@@ -19,6 +20,7 @@ done
 need_file /usr/bin/python3 python3
 need_modules z3 python3-z3
 need xz xz-utils
+[ "$tier" = quick ] || need frama-c frama-c-base
 need_packages
 
 of_this_machine() { # the text of the library that was proved here
@@ -56,4 +58,5 @@ counted() { # COMMAND..: what it says is shown, and its last line counts
 
 choose_text
 counted /usr/bin/python3 -B "$top/tests/public/llvm/prove.py" --tier "$tier" --text "$text" "${calls[@]}"
+[ "$tier" = quick ] || [ ${#calls[@]} -gt 0 ] || counted "$top/tests/public/headers/check.py"
 finish
