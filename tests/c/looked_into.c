@@ -1,5 +1,5 @@
-/* How many cells a covering of a polygon at one level looks into, by the blocks of memory that it takes: millions, so
- * this is no part of memory.c, which runs under the sanitizer. */
+/* How many cells a covering of a polygon looks into, by the blocks of memory that it takes: millions, so this is no
+ * part of memory.c, which runs under the sanitizer. */
 #include "../refuse.h"
 #include "tests.h"
 
@@ -64,8 +64,40 @@ static void check_as_many_as_edges_may_touch(void) {
   CHECK(len == 0);
 }
 
+/* Edges that run to and fro meet each cell along them, so that a covering of few cells could look at all of them in
+ * each of its cells at each level. It splits cells for 2^20 pairs of a cell and an edge that meets it, and 32 more for
+ * each edge and each cell that it may have. A block is taken for each child, and again when its list of edges has
+ * doubled. */
+static void check_edges_that_run_to_and_fro(void) {
+  enum { MOST = 10000, CELLS = 200 };
+  static s2u_direction corners[MOST];
+  static const struct {
+    size_t n;
+    int is_inner, has_area;
+  } rows[] = {{4000, 0, 0}, {4000, 1, 0}, {4000, 0, 1}, {4000, 1, 1},
+              {MOST, 0, 0}, {MOST, 1, 0}, {MOST, 0, 1}, {MOST, 1, 1}};
+  for (size_t k = 0; k < sizeof rows / sizeof *rows; k++) {
+    const size_t n = rows[k].n, ends[] = {n};
+    for (size_t j = 0; j < n; j++) { /* from 11 to 21 degrees of longitude, and up to 10 of latitude */
+      const int32_t shift = rows[k].has_area ? (int32_t)j * 100 : 0;
+      corners[j] = j % 2 ? (s2u_direction){1974430000, 757900000 + shift, 372900000}
+                         : (s2u_direction){2107880000, 409730000 + shift, 0};
+    }
+    len = 77;
+    refuse_memory(0);
+    CHECK((rows[k].is_inner ? s2u_polygon_inner_up_to : s2u_polygon_outer_up_to)(
+              corners, n, ends, 1, UINT64_C(0x7000000000000001), 0, 0, 30, CELLS, out, ROOM, &len) == S2U_OK);
+    const long blocks = refuse_memory(0);
+    const long pairs = (1 << 20) + 32 * (long)(n + CELLS), splits = pairs / (long)n;
+    printf("to and fro %zu times, row %zu: %zu cells, %ld blocks, %ld times the edges\n", n, k, len, blocks, splits);
+    CHECK(len <= CELLS && (len > 0 || rows[k].is_inner));
+    CHECK(blocks < 100000);
+  }
+}
+
 int main(void) {
   check_the_cells_that_are_looked_into();
+  check_edges_that_run_to_and_fro();
   check_as_many_as_edges_may_touch();
   return report();
 }

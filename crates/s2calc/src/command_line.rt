@@ -92,7 +92,7 @@ fn command<'a>(alloc: Global) -> Result<Command<'a>, AllocError> {
         .bin_name("s2calc")?
         .about(ABOUT)
         .after_help(AFTER)
-        .version("1.4.0")
+        .version("1.4.1")
         .subcommand_required(true);
     with_commands(
         alloc,

@@ -1,9 +1,10 @@
 -- The steps of a search for a covering of few cells.
 use Rattle.std.proofs.Common.{◌≡◌, ℕ, ◌+◌, ◌-◌, ◌*◌, ◌/◌, ◌^◌, ◌<◌, ◌≤◌, Bool, true, false, ◌||◌, List, [], ◌∷◌}
-use Rattle.std.proofs.Common.{◌++◌, length, take, All, Contains, refl, sym, ◌∙◌, ap, arith, subst, ◌⊎◌, inl, inr}
+use Rattle.std.proofs.Common.{◌++◌, length, take, drop, All, Contains, refl, sym, ◌∙◌, ap, arith, subst, ◌⊎◌, inl, inr}
 use Rattle.std.proofs.Common.{⊎_elim, length-append}
 use Rattle.std.proofs.lemmas.Bool.{both_ways, or_left, or_right, or_cases, cases_lt}
-use Rattle.std.proofs.lemmas.List.Elements.{All-append, All-push, All-pop, All-nil, All-take, All-contains, All-weaker}
+use Rattle.std.proofs.lemmas.List.Elements.{All-append, All-push, All-pop, All-nil, All-take, All-drop, All-contains}
+use Rattle.std.proofs.lemmas.List.Elements.{All-weaker}
 use Rattle.std.proofs.lemmas.List.Folds.{list_any-append}
 use Rattle.s2cell.specs.Cell.{IsCell, level_of, face_of, place_of, first_leaf, covers, parent_of, child_of}
 use Rattle.s2cell.specs.declared.TheConstants.{LEAVES}
@@ -21,7 +22,7 @@ use Rattle.std.proofs.lemmas.Bool.{true_from_ne_false}
 use Rattle.std.proofs.Math.Nat.{div-one, le-max_left, le-max_right, min-le_left, min-le_right}
 use Rattle.std.specs.Prelude.{Some, get_or}
 use Rattle.std.proofs.lemmas.Nat.{div_below}
-use Rattle.std.proofs.lemmas.List.{length-take}
+use Rattle.std.proofs.lemmas.List.{length-take, take-append-drop}
 use Rattle.std.proofs.lemmas.List.Elements.{All-from_get_or}
 use Rattle.s2cell.proofs.CellLemmas.{four_pos, own_place}
 use Rattle.s2cell.proofs.Squares.{covers_block}
@@ -705,6 +706,79 @@ module _ {A : Type 0} (id : A → ℕ) (sound : A → Type 0) (outer inner : A �
       (λ (w : (has_leaf kept x || any_covers id ahead x) ≡ true). w)
       (λ (w : false ≡ true). absurd (both_ways false refl w))
       (or_cases (has_leaf kept x || any_covers id ahead x) false (f.leaves t x l ox))
+
+  -- ---- what is not split
+
+  pub left_sizes : (whole : Bool) {most : ℕ} (n : ℕ) {kept kept2 : List ℕ} (ahead : List A) {ahead2 rest : List A} →
+      ahead2 ≡ take n ahead → rest ≡ drop n ahead →
+      (whole ≡ true → length kept2 ≤ length kept + length rest) → (whole ≡ false → kept2 ≡ kept) →
+      Sizes whole most 0 (length kept) (length ahead) → Sizes whole most 0 (length kept2) (length ahead2)
+  left_sizes whole {most} n {kept} {kept2} ahead {ahead2} {rest} e e2 len same s =
+      let all = ap length (ap (λ z. z ++ rest) e ∙ ap (λ z. take n ahead ++ z) e2 ∙ take-append-drop n ahead) in
+      let both = length-append ahead2 rest in
+      by_kind whole refl all both len same s
+    where
+      by_kind : (w : Bool) → w ≡ whole → length (ahead2 ++ rest) ≡ length ahead →
+          length (ahead2 ++ rest) ≡ length ahead2 + length rest →
+          (w ≡ true → length kept2 ≤ length kept + length rest) → (w ≡ false → kept2 ≡ kept) →
+          Sizes w most 0 (length kept) (length ahead) → Sizes w most 0 (length kept2) (length ahead2)
+      by_kind true t all both l k z =
+          let a = l refl in
+          let b = z.few refl in
+          let c = z.small.1 in
+          record {
+            few = λ w. omega arith;
+            less = λ w. absurd (both_ways true w refl);
+            small = (omega arith, omega arith, omega arith);
+          }
+      by_kind false t all both l k z =
+          let a = ap length (k refl) in
+          let b = z.less refl in
+          let c = z.small.0 in
+          let d = z.small.1 in
+          record {
+            few = λ w. absurd (both_ways false refl w);
+            less = λ w. omega arith;
+            small = (omega arith, omega arith, omega arith);
+          }
+
+  pub left_front : {whole : Bool} {o i : ℕ → Bool} {deepest k : ℕ} (n : ℕ) {kept : List ℕ} (kept2 : List ℕ)
+      {ahead : List A} (ahead2 rest : List A) → ahead2 ≡ take n ahead → rest ≡ drop n ahead →
+      (whole ≡ true → (x : ℕ) → (has_leaf kept x || any_covers id rest x) ≡ true → has_leaf kept2 x ≡ true) →
+      (whole ≡ true → (o i : ℕ → Bool) (deepest k : ℕ) → k ≤ deepest →
+      All (IsAcross id sound outer inner o i k) rest → All (IsKept true o i deepest) kept →
+      All (IsKept true o i deepest) kept2) → (whole ≡ false → kept2 ≡ kept) →
+      Front id sound outer inner whole o i deepest k (λ x. false) kept ahead →
+      Front id sound outer inner whole o i deepest k (λ x. false) kept2 ahead2
+  left_front {whole} {o} {i} {deepest} {k} n {kept} kept2 {ahead} ahead2 rest e e2 has keeps same f =
+      let Across = IsAcross id sound outer inner o i k in
+      let joined : ahead ≡ ahead2 ++ rest = sym (ap (λ z. z ++ rest) e ∙ ap (λ z. take n ahead ++ z) e2
+      ∙ take-append-drop n ahead) in
+      let split : (x : ℕ) → any_covers id ahead x ≡ (any_covers id ahead2 x || any_covers id rest x) = λ x.
+      ap (λ z. any_covers id z x) joined ∙ list_any-append (λ q. covers (id q) x) ahead2 rest in
+      let cut : Front id sound outer inner whole o i deepest k (any_covers id ahead2) kept rest = record {
+        deep = f.deep;
+        kept_are = f.kept_are;
+        ahead_are = subst (All Across) (sym e2) (All-drop Across n ahead f.ahead_are);
+        leaves = λ w x l t. ⊎_elim
+            (λ (y : has_leaf kept x ≡ true). or_left (has_leaf kept x || any_covers id rest x) (any_covers id ahead2 x)
+            (or_left (has_leaf kept x) (any_covers id rest x) y))
+            (λ (y : any_covers id ahead x ≡ true). ⊎_elim
+            (λ (z : any_covers id ahead2 x ≡ true). or_right (has_leaf kept x || any_covers id rest x)
+            (any_covers id ahead2 x) z)
+            (λ (z : any_covers id rest x ≡ true). or_left (has_leaf kept x || any_covers id rest x)
+            (any_covers id ahead2 x) (or_right (has_leaf kept x) (any_covers id rest x) z))
+            (or_cases (any_covers id ahead2 x) (any_covers id rest x) (sym (split x) ∙ y)))
+            (or_cases (has_leaf kept x) (any_covers id ahead x) (closed_leaf w x l t f));
+      } in
+      record {
+        deep = f.deep;
+        kept_are = closed_kept whole kept2 keeps same cut;
+        ahead_are = subst (All Across) (sym e) (All-take Across n ahead f.ahead_are);
+        leaves = λ w x l t. or_left (has_leaf kept2 x || any_covers id ahead2 x) false
+            (either (has_leaf kept x || any_covers id rest x) (any_covers id ahead2 x) (has_leaf kept2 x)
+            (any_covers id ahead2 x) (has w x) (λ y. y) (cut.leaves w x l t));
+      }
 
 -- each cell of the normal form of a list has a cell of the list inside it
 pub record Inner (v : List ℕ) (c : ℕ) : Type 0 where

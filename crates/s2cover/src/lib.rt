@@ -13,6 +13,7 @@
 #![tactic(auto)]
 
 mod around;
+mod budget;
 mod clip;
 mod covering;
 mod cut;

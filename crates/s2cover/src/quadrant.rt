@@ -27,6 +27,9 @@ pub trait Quadrant: Drop {
     fn cell(&self) -> CellId
         ensures { result ≡ id self.now };
 
+    /// How much it takes to find what is known in a child, as the number of edges that are tried on it.
+    fn size(&self) -> usize;
+
     /// How the cell lies relative to the region: `Out` if it has no leaf of `outer`, `In` if all its leaves are in
     /// `inner`, else `Cross`. If it is `Out` it has no leaf of `inner` either, and if it is `In` all its leaves are in
     /// `outer` too.
@@ -59,6 +62,9 @@ pub trait Quartered {
 
     /// What is known of the region in one cell.
     type At: Quadrant;
+
+    /// How large the region is, by what `size` of a quadrant counts, as the number of all its edges.
+    fn size(&self) -> usize;
 
     /// What is known of the region in a face, 0 to 5. Fails only if there is no memory for it.
     fn face(&self, alloc: Global, face: u8) -> Result<Self::At, AllocError>

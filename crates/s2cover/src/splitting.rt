@@ -9,6 +9,7 @@ ghost use Rattle.s2cover.specs.Working.Descent.{is_outer};
 ghost use Rattle.s2cover.specs.Working.Splitting.{Front, IsAcross, IsFamily, IsKept, Sizes, any_covers};
 
 use crate::MOST_COVERING;
+use crate::budget::{budget, spend};
 use crate::descent::Kind;
 use crate::family::{Family, add, families_of, join, sort_in};
 use crate::quadrant::{Quadrant, Quartered};
@@ -24,7 +25,9 @@ const FACES: usize = 6;
 ///
 /// Goes down level by level. A cell that crosses the region is split if its children that don't lie outside fit, those
 /// first that have the fewest; else it is kept whole. Each level looks at no more than four cells for each that the
-/// covering may have. Fails only if there is no memory. S2: `GetCovering` with `max_cells` and `max_level`.
+/// covering may have. The sizes of the quadrants that are split add up to 2^20 + 32 (`size` of the region + `most`) or
+/// less; the others are kept whole then, which no error tells. Fails only if there is no memory. S2: `GetCovering` with
+/// `max_cells` and `max_level`.
 pub fn outer_up_to<R: Quartered>(
     alloc: Global,
     region: &R,
@@ -47,7 +50,9 @@ pub fn outer_up_to<R: Quartered>(
 ///
 /// Goes down level by level, and keeps the cells inside until they are as many as it may have, the largest first. Of
 /// the cells that cross the region it looks into no more than that at each level, or 6, those first with the fewest
-/// children outside. Fails only if there is no memory. S2: `GetInteriorCovering` with `max_cells` and `max_level`.
+/// children outside; into none once it has as many cells as it may have, or once their sizes would add up to more than
+/// those of `outer_up_to` may. Fails only if there is no memory. S2: `GetInteriorCovering` with `max_cells` and
+/// `max_level`.
 pub fn inner_up_to<R: Quartered>(
     alloc: Global,
     region: &R,
@@ -86,7 +91,9 @@ fn cover_up_to<R: Quartered>(
     let mut ahead = Vec::new(alloc);
     enter(alloc, region, &mut kept, &mut ahead)?;
     trim(kind, most, &mut kept);
+    let mut left = budget(region.size(), most);
     for level in 0..deepest {
+        leave_out(kind, most, &mut left, &mut kept, &mut ahead)?;
         split(alloc, kind, most, &mut kept, &mut ahead)?;
     }
     close(kind, &mut ahead, &mut kept)?;
@@ -122,6 +129,41 @@ fn trim(kind: Kind, most: usize, kept: &mut Vec<CellId>)
     match kind {
         Kind::Outer => {}
         Kind::Inner => kept.truncate(most),
+    }
+}
+
+/// Takes the quadrants that are not to be split out of the list: all if an inner covering has as many cells as it may
+/// have, and those for which no pairs are left. An outer covering keeps their cells.
+fn leave_out<Q: Quadrant>(
+    kind: Kind,
+    most: usize,
+    left: &mut u64,
+    kept: &mut Vec<CellId>,
+    ahead: &mut Vec<Q>,
+) -> Result<(), AllocError>
+    requires { Sizes (is_outer kind) most 0 (length kept.old.items) (length ahead.old.items) }
+    ensures sizes { IfOk result (λ _.
+        Sizes (is_outer kind) most 0 (length kept.new.items) (length ahead.new.items)) }
+    ensures front { IfOk result (λ _. (o i : ℕ → Bool) (deepest k : ℕ)
+        → Front Q.id Q.sound Q.outer Q.inner (is_outer kind) o i deepest k (λ _. false) kept.old.items ahead.old.items
+        → Front Q.id Q.sound Q.outer Q.inner (is_outer kind) o i deepest k (λ _. false) kept.new.items
+        ahead.new.items) }
+{
+    let count = if is_full(kind, most, kept) {
+        0
+    } else {
+        spend(left, ahead)
+    };
+    let mut rest = ahead.split_off(count)?;
+    close(kind, &mut rest, kept)?;
+    Ok(())
+}
+
+/// Whether an inner covering has as many cells as it may have: what comes later would be cut off again.
+fn is_full(kind: Kind, most: usize, kept: &Vec<CellId>) -> bool {
+    match kind {
+        Kind::Outer => false,
+        Kind::Inner => most <= kept.len(),
     }
 }
 

@@ -33,6 +33,10 @@ impl<'a, R: Region> Quadrant for Within<'a, R> {
         self.placed.cell
     }
 
+    fn size(&self) -> usize {
+        1
+    }
+
     fn part(&self) -> Part {
         self.region.part_of_placed(&self.placed)
     }
@@ -51,6 +55,10 @@ impl<'a, R: Region> Quartered for Walked<'a, R> {
     ghost inner = { λ w. R.holds w.region.now };
 
     type At = Within<'a, R>;
+
+    fn size(&self) -> usize {
+        1
+    }
 
     fn face(&self, _alloc: Global, face: u8) -> Result<Within<'a, R>, AllocError> {
         Ok(Within {

@@ -15,6 +15,9 @@ impl Polygon {
     /// An outer covering of at most `most` cells, or 6 if that is more, none of them deeper than the level `deepest`.
     /// No outer leaf is missing, and each cell has one. Fails only if there is no memory.
     ///
+    /// Cells are split for at most 2^20 + 32 (edges + `most`) pairs of a cell and an edge that meets it, so that edges
+    /// that run to and fro cost time and memory as others do. With more the covering is coarser, which no error tells.
+    ///
     /// S2: `GetCovering` of an `S2Polygon` with `max_cells` and `max_level`.
     pub fn outer_up_to(
         &self,
@@ -35,6 +38,9 @@ impl Polygon {
 
     /// An inner covering of at most `most` cells, none of them deeper than the level `deepest`. Its leaves are inner
     /// ones. Fails only if there is no memory.
+    ///
+    /// Ends when it has `most` cells. Cells are split for no more pairs than by `outer_up_to`; with more it has fewer
+    /// cells, which no error tells.
     ///
     /// S2: `GetInteriorCovering` of an `S2Polygon` with `max_cells` and `max_level`.
     pub fn inner_up_to(

@@ -154,6 +154,11 @@ impl Polygon {
         )
     }
 
+    /// How many edges there are.
+    pub(crate) fn size(&self) -> usize {
+        self.edges.len()
+    }
+
     /// What is known of a face.
     pub(crate) fn known_face(&self, alloc: Global, face: u8) -> Result<Known, AllocError>
         requires { face < 6 }

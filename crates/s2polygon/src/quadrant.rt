@@ -93,6 +93,10 @@ impl<'a> Quadrant for PolygonCell<'a> {
         self.placed.cell
     }
 
+    fn size(&self) -> usize {
+        self.known.edges.len()
+    }
+
     fn part(&self) -> Part {
         part_of(is_bare(&self.known), self.known.odd)
     }
@@ -115,6 +119,10 @@ impl<'a> Quartered for Walked<'a> {
     ghost inner = { λ w. inner_leaf w.polygon.now };
 
     type At = PolygonCell<'a>;
+
+    fn size(&self) -> usize {
+        self.polygon.size()
+    }
 
     fn face(&self, alloc: Global, face: u8) -> Result<PolygonCell<'a>, AllocError> {
         let known = self.polygon.known_face(alloc, face)?;

@@ -66,9 +66,9 @@
 /** The minor version of this file. */
 #define S2U_VERSION_MINOR 4
 /** The third number of the version of this file. */
-#define S2U_VERSION_PATCH 0
+#define S2U_VERSION_PATCH 1
 /** The version of this file as a text. */
-#define S2U_VERSION_TEXT "1.4.0"
+#define S2U_VERSION_TEXT "1.4.1"
 /** The version of this file as a number, 10203 of 1.2.3. */
 #define S2U_VERSION (S2U_VERSION_MAJOR * 10000 + S2U_VERSION_MINOR * 100 + S2U_VERSION_PATCH)
 
@@ -967,6 +967,9 @@ int32_t s2u_polygon_inner(const s2u_direction* corners, size_t n, const size_t* 
 /** Few cells that have all outer leaves of a polygon: S2's GetCovering with max_cells and max_level.
  * There are at most `cells` cells, or 6 if that is more, none deeper than `deepest`, each with an outer leaf. Then
  * those of levels below `least` are cut, so that the result may have more cells; it is normalized if `least` is 0.
+ * Time and memory are bounded: cells are split for at most 2^20 + 32 (n + cells) pairs of a cell and an edge that meets
+ * it. With more, the result is coarser, which no status tells. Countries, provinces and coasts have a third of that
+ * or less.
  * @param corners,n the corners, ring after ring, and how many they are; the first of a ring follows its last
  * @param ends,lists how many corners there are up to the end of each ring, and how many rings
  * @param outside a leaf that lies outside the polygon
@@ -992,7 +995,7 @@ int32_t s2u_polygon_outer_up_to(const s2u_direction* corners, size_t n, const si
 
 /** Few cells that have inner leaves of a polygon alone: S2's GetInteriorCovering with max_cells and max_level.
  * There are at most `cells` cells, none deeper than `deepest`. Then those of levels below `least` are cut; as
- * s2u_polygon_outer_up_to.
+ * s2u_polygon_outer_up_to, whose bound of work holds here too: cells that aren't split then are left out.
  * @param corners,n the corners, ring after ring, and how many they are; the first of a ring follows its last
  * @param ends,lists how many corners there are up to the end of each ring, and how many rings
  * @param outside a leaf that lies outside the polygon

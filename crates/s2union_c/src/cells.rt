@@ -27,9 +27,9 @@ pub struct Square {
 /// The version of the library: 10,000 times the major number, 100 times the minor one and the patch.
 #[unsafe(no_mangle)]
 pub extern "C" fn s2u_version() -> u32
-    ensures { result ≡ 10400 }
+    ensures { result ≡ 10401 }
 {
-    10400
+    10401
 }
 
 /// Whether the number is the identifier of a cell.

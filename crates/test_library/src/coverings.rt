@@ -5,13 +5,15 @@ ghost use Rattle.s2cover.specs.declared.TheConstants.{MOST_COVERING};
 
 use crate::even::Even;
 use crate::texts::{add_cells, coordinate, cut, numbers_of, small, union_of};
+use crate::weighed::Weighed;
 use s2cell::GREATEST_LEVEL;
 use s2cover::{
-    Clip, CoverFault, FaceRect, Looks, MOST_COVERING, Region, clip_inner, clip_outer, inner, outer,
-    rect_inner, rect_outer,
+    Clip, CoverFault, FaceRect, Looks, MOST_COVERING, Region, clip_inner, clip_outer, inner,
+    inner_up_to, outer, outer_up_to, rect_inner, rect_outer,
 };
 use s2union::CellUnion;
 use std::alloc::{AllocError, Global};
+use std::cell::Cell;
 use test_table::add_line;
 
 /// Which covering.
@@ -88,7 +90,8 @@ fn cover<R: Region>(alloc: Global, region: &R, wanted: &Wanted) -> Result<CellUn
 }
 
 /// Adds the covering of a rectangle, `FACE I0 I1 J0 J1 / ..`: as a region (`rectangle`), or as a region that clips a
-/// union (`clip`, followed by `CELLS`), or by the calls that count their looks (`grid`, and `clipped` for a union, both
+/// union (`clip`, followed by `CELLS`), or by few cells, with how many children of cells are asked for (`few`, followed
+/// by the size that each cell says), or by the calls that count their looks (`grid`, and `clipped` for a union, both
 /// followed by `LEAST MOST`).
 fn add_of_rect(
     alloc: Global,
@@ -112,6 +115,10 @@ fn add_of_rect(
         };
         return add_covering(found, cover(alloc, &clip, wanted));
     }
+    if region == "few" {
+        let [size, ..] = numbers_of(rest);
+        return add_few(alloc, &rect, size as usize, wanted, found);
+    }
     let (bounds, cells) = cut(rest);
     let mut looks = Looks::default();
     let made = if region == "grid" {
@@ -121,6 +128,30 @@ fn add_of_rect(
     };
     add_covering(found, made)?;
     add_looks(alloc, bounds, looks.count, found)
+}
+
+/// Adds the covering of a rectangle by few cells, and how many children of cells are asked for, if each cell has this
+/// size.
+fn add_few(
+    alloc: Global,
+    rect: &FaceRect,
+    size: usize,
+    wanted: &Wanted,
+    found: &mut Vec<u8>,
+) -> Result<(), AllocError> {
+    let asked = Cell::new(0u64);
+    let weighed = Weighed {
+        region: rect,
+        size,
+        asked: &asked,
+    };
+    let cells = match wanted.kind {
+        Kind::Outer => outer_up_to(alloc, &weighed, wanted.level, wanted.most)?,
+        Kind::Inner => inner_up_to(alloc, &weighed, wanted.level, wanted.most)?,
+    };
+    add_cells(found, cells.cells())?;
+    let count = asked.get();
+    add_line(found, &format!(in alloc; "children {count}")?)
 }
 
 /// The rectangle `FACE I0 I1 J0 J1`.

@@ -3,9 +3,9 @@
 //!
 //! Modules, by what is called: `cells` (of `s2cell`), `unions` (`s2union`), `counted` (`s2union`, `s2list` and
 //! `s2room`), `coverings` (`s2cover`), `polygons` (`s2polygon`), `files` (`s2file`), `shelves` (`s2shelf`), `edits`,
-//! `changes` and `sessions` (`s2edit` and `s2session`). `even` is a region of its own. `curve`, `rectangles` and
-//! `differing` compare calls with other calls, or with plain readings that stand here as test code. `table` has a row
-//! answered, and `texts` reads and writes the words of calls.
+//! `changes` and `sessions` (`s2edit` and `s2session`). `even` and `weighed` are regions of its own. `curve`,
+//! `rectangles` and `differing` compare calls with other calls, or with plain readings that stand here as test code.
+//! `table` has a row answered, and `texts` reads and writes the words of calls.
 #![tactic(auto)]
 
 mod cells;
@@ -24,6 +24,7 @@ mod shelves;
 mod table;
 mod texts;
 mod unions;
+mod weighed;
 
 use s2shelf::DirShelf;
 use std::{fs, io};

@@ -12,14 +12,19 @@ loop-level-init g c = trimmed g.R.At.Quadrant.id g.R.At.Quadrant.sound g.R.At.Qu
     (is_outer c.args.kind) c.args.most c.trim.new.kept.items c.trim.ensures.outer c.trim.ensures.inner
     c.in_ok-enter.ensures.few (c.in_ok-enter.ensures.front (is_outer c.args.kind) c.args.deepest)
 
+pub leave_out-requires : goal.leave_out-requires
+leave_out-requires g c = c.loop-level.invariant.0
+
 pub split-requires : goal.split-requires
 split-requires g c =
+    let r = c.args.region.now in
     let below : c.loop-level.level < 30 = (let t = c.loop-level-test.true in let l = c.requires.level in omega arith) in
     record {
       ahead = ready g.R.At.Quadrant.id g.R.At.Quadrant.sound g.R.At.Quadrant.outer g.R.At.Quadrant.inner
-          c.loop-level.ahead.items below c.loop-level.invariant.1;
+          c.leave_out.new.ahead.items below (c.in_ok-leave_out.ensures.front (g.R.Quartered.outer r)
+          (g.R.Quartered.inner r) c.args.deepest c.loop-level.level c.loop-level.invariant.1);
       most = c.requires.most;
-      sizes = c.loop-level.invariant.0;
+      sizes = c.in_ok-leave_out.ensures.sizes;
     }
 
 pub loop-level-preserved : goal.loop-level-preserved
@@ -28,7 +33,8 @@ loop-level-preserved g c =
     let next : c.loop-level.level + 1 ≤ c.args.deepest = (let t = c.loop-level-test.true in omega arith) in (
       c.in_ok-split.ensures.sizes,
       c.in_ok-split.ensures.front (g.R.Quartered.outer r) (g.R.Quartered.inner r)
-          c.args.deepest c.loop-level.level next c.loop-level.invariant.1,
+          c.args.deepest c.loop-level.level next (c.in_ok-leave_out.ensures.front (g.R.Quartered.outer r)
+          (g.R.Quartered.inner r) c.args.deepest c.loop-level.level c.loop-level.invariant.1),
     )
 
 pub returns-clause-all : goal.returns-clause-all
