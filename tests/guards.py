@@ -109,6 +109,8 @@ MISTAKES = [
       for page, old, new in OTHER_NUMBERS),
     Mistake("another constant than that of a page", figures.wrong_figures, "crates/s2polygon/src/counting.rt",
             swapped("MOST_TOUCHED: usize = 4_000_000;", "MOST_TOUCHED: usize = 5_000_000;")),
+    Mistake("a link that a package lacks", pages.lost_in_packages, "docs/HEADLINE.md",
+            ended_by("\n[`settled`](../crates/s2union_c/src/polygons.rt)\n")),
     Mistake("a crate on the layer of one that it uses", pages.wrong_layers, "docs/ARCHITECTURE.md",
             swapped("| 6 | [`s2union_c`]", "| 5 | [`s2union_c`]")),
     Mistake("another kit on a page", pages.other_kits, "docs/PROOF.md", ended_by(f"\n`{'rattle-kit-'}0`\n")),

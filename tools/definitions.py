@@ -1,5 +1,6 @@
 """The definitions of crates/NAME/specs, the contracts of the public items of crates/NAME/src, and which of the former
 the latter need. A definition that a public contract needs, itself or through others, belongs to the statement."""
+import functools
 import re
 from dataclasses import dataclass, field
 from pathlib import Path
@@ -109,8 +110,14 @@ def uses_of(text, name, names, aliases, own):
     return list(dict.fromkeys(found))
 
 
+@functools.cache
+def crate_of_file(file):
+    return file.relative_to(ROOT / "crates").parts[0]
+
+
+@functools.cache
 def spec_module(file):
-    crate = file.relative_to(ROOT / "crates").parts[0]
+    crate = crate_of_file(file)
     inner = file.relative_to(ROOT / "crates" / crate / "specs").with_suffix("")
     return ".".join(["Rattle", crate, "specs", *inner.parts])
 

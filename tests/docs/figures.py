@@ -79,6 +79,7 @@ def figures():
         (headline, r"on (N) random cases", just(cases)),
         (headline, r"on (N) random rings", just(rings)),
         (headline, r"product of (N) bits", just(128)),
+        ("docs/FAQ.md", r"with (N) random cases beside S2", just(cases)),
         (proof, r"at most (N) KiB, waited", just(constant("s2calc/src/limits.rt", "MOST_WAITING") // 1024)),
         (proof, r"`IsPlaceOf`\), by (N) levels", just(constant("s2cell/src/lib.rt", "GREATEST_LEVEL"))),
         (proof, r"on (N) random cases", just(cases)),

@@ -21,6 +21,7 @@ import importlib.util
 import re
 import subprocess
 import sys
+import tempfile
 from pathlib import Path
 
 ROOT = Path(__file__).resolve().parents[2]
@@ -340,6 +341,23 @@ def is_command(file):
         return "." not in file.name and it.read(2) == b"#!"
 
 
+def lost_in_packages():
+    """The links of docs/HEADLINE.md to definitions and contracts, and those that don't lead in a package to the line of
+    the statement that has the name. `main` isn't public."""
+    page = ROOT / "docs" / "HEADLINE.md"
+    wanted = re.findall(r"\[`(?:\w+::)?(?!main`)(\w+)`[^\]]*\]\(\.\./crates/[^)]*\.(?:antt|rt)\)", page.read_text())
+    subprocess.run([ROOT / "tools" / "statement", "--texts"], check=True)
+    with tempfile.TemporaryDirectory() as folder:
+        names = [f"docs/{name}" for name in (page.name, "STATEMENT.txt", "STATEMENT.rt")]
+        subprocess.run([sys.executable, ROOT / "tools/packaging/documents.py", "--beside", folder, *names], check=True)
+        text = (Path(folder) / page.name).read_text()
+        for name, file, number in re.findall(r"\[`(?:\w+::)?(\w+)`[^\]]*\]\((STATEMENT\.\w+)#L(\d+)\)", text):
+            line = (Path(folder) / file).read_text().splitlines()[int(number) - 1]
+            if name in wanted and re.search(rf"(?:\b|_){name}(?:\b|_)", line):
+                wanted.remove(name)
+    return len(LINK.findall(text)), wanted
+
+
 def wrong_layers():
     """The crates in the table of docs/ARCHITECTURE.md, and those that use one of their own layer or a higher one."""
     page = (ROOT / "docs" / "ARCHITECTURE.md").read_text()
@@ -367,6 +385,7 @@ CHECKS = {
     "the table of levels": wrong_levels,
     "a number that isn't what it counts": wrong_figures,
     "another kit": other_kits,
+    "no line of the statement in a package": lost_in_packages,
     "a crate that uses one of no lower layer": wrong_layers,
     "a contract that isn't in the sources": changed_contracts,
     "CHANGELOG.md says twice": said_twice,

@@ -3,9 +3,12 @@
 repository.
 
 Each goes below the folder by its path; with --beside, what is in docs/ goes beside README.md, and its index becomes
-INDEX.md. A link to another of these files leads to it there, one into the web stays, and any other becomes its text,
-since a package lacks what it leads to.
+INDEX.md. A link to another of these files leads to it there, and one into the web stays. If docs/STATEMENT.txt and
+docs/STATEMENT.rt are among the files, a link to a definition or a contract of crates/ leads to its line there: the one
+that has the first name in the link's text, or that where the texts of the source begin. Any other link becomes its
+text, since a package lacks what it leads to.
 """
+import functools
 import os
 import re
 import sys
@@ -13,6 +16,41 @@ from pathlib import Path
 
 TOP = Path(__file__).resolve().parents[2]
 LINK = re.compile(r"(!?)\[((?:[^\[\]]|\[[^\[\]]*\])*)\]\((?!https?://|#)([^)#\s]+)(#[^)\s]+)?\)")
+SOURCE = re.compile(r"crates/(\w+)/(specs|src)/([\w/]+)\.(?:antt|rt)")
+DEFINITIONS, CONTRACTS = "docs/STATEMENT.txt", "docs/STATEMENT.rt"
+SECTION = re.compile(r"-- (\w+, \w+)|mod (\w+) \{")
+
+
+@functools.cache
+def sections(name):
+    """The lines of a text of the statement, each with its number, by their section: the file of a crate."""
+    found, section = {}, ""
+    for number, line in enumerate((TOP / name).read_text(encoding="utf-8").splitlines(), 1):
+        begins = SECTION.fullmatch(line)
+        section = begins[1] or begins[2] if begins else section
+        found.setdefault(section, []).append((number, line))
+    return found
+
+
+def in_statement(path, words):
+    """The text of the statement that has what a link with these words leads to in crates/, and the number of its line;
+    or None."""
+    source = SOURCE.fullmatch(path)
+    if not source:
+        return None
+    crate, folder, module = source.groups()
+    if folder == "specs":
+        name, section = DEFINITIONS, f"{crate}, {module.rpartition('/')[2]}"
+        form = r" *(?:[a-z]+ )*{}(?:_in_\w+)?(?:-is)? "
+    else:
+        name, section = CONTRACTS, f"{crate}_{module.replace('/', '_')}"
+        form = r" *(?:pub )?fn (?:\w+_)?{}\b"
+    lines = sections(name).get(section)
+    if not lines:
+        return None
+    named = re.search(r"`(?:\w+::)?(\w+)`", words)
+    defines = re.compile(form.format(named[1])) if named else re.compile("")
+    return name, next((number for number, line in lines if defines.match(line)), lines[0][0])
 
 
 def page(text, name, places):
@@ -21,7 +59,10 @@ def page(text, name, places):
 
     def link(match):
         picture, words, path, heading = match.groups()
-        there = places.get(os.path.normpath(os.path.join(os.path.dirname(name), path)))
+        leads = os.path.normpath(os.path.join(os.path.dirname(name), path))
+        there = places.get(leads)
+        if there is None and {DEFINITIONS, CONTRACTS} <= places.keys() and (found := in_statement(leads, words)):
+            there, heading = places[found[0]], f"#L{found[1]}"
         if there is None:
             return f"({words})" if picture else words
         return f"{picture}[{words}]({os.path.relpath(there, here or '.')}{heading or ''})"
