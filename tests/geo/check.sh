@@ -43,6 +43,7 @@ if [ "${1:-}" = --costs ]; then
 fi
 pages() { (cd "$top/tests/geo" && timeout 7200 /usr/bin/python3 -m pytest "$@"); }
 step "exact joins in PostgreSQL" pages test_joins.py
+step "the extension for PostGIS" pages test_postgis.py
 each_way() { # of the benchmark, which compares all pairs
   local map=/usr/share/qgis/resources/data/world_map.gpkg
   mkdir "$work/joins" && chmod 755 "$work/joins" && PYTHONPATH=$PYTHONPATH:$top/bench PGDATABASE=postgres \

@@ -62,6 +62,7 @@ step "what strangers have made is neither run nor taken for a type" tests test_s
 step "dump and restore" tests DumpAndRestore
 step "a session's memory limited in steps" tests MemoryLimits
 step "a large question is kept once for sixty parts of a table" tests test_kept.py::Memory
+step "errors leave no cells behind" tests test_kept.py::Errors
 step "indexes, ANALYZE and shapes are cancelled" tests test_kept.py::Cancels
 page() { # PAGE DATABASE: its examples, in a database of their own, without notices
   createdb "$2" && S2UNION_FIRST=$work/data S2UNION_SHARD=$work/shard PGOPTIONS="-c client_min_messages=warning" \

@@ -7,10 +7,11 @@ import math
 import unittest
 
 from model import unions as model
-from test_postgres import ROUNDS, Tests, array, psql, seconds_of, tokens, u, wkb_of
+from test_postgres import ROUNDS, Tests, array, psql, seconds_of, tokens, u, wkb_of, wkb_of_polygons
 
-# The most memory that a session has had, in MB.
-PEAK = "SELECT (regexp_match(pg_read_file('/proc/self/status'), 'VmHWM:\\s*(\\d+)'))[1]::int / 1024;"
+# The memory that a session has, and the most that it has had, in MB.
+SIZE, PEAK = (f"SELECT (regexp_match(pg_read_file('/proc/self/status'), '{name}:\\s*(\\d+)'))[1]::int / 1024;"
+              for name in ("VmRSS", "VmHWM"))
 
 
 class AroundACall(Tests):
@@ -222,6 +223,31 @@ class Memory(Tests):
         """)
         self.assertEqual(said[1], "t|16384|t")
         self.assertLess(int(said[2]) - int(said[0]), 30)
+
+
+class Errors(Tests):
+    """What is made before an error is found, in memory that is not the server's."""
+
+    def test_coverings_of_a_polygon_before_the_one_that_is_wrong(self):
+        """Both coverings of the first of two polygons are there when the second is refused, 150 times."""
+        large = [[(-180, -60), (0, -60), (-90, 60), (-180, -60)]]
+        wrong = [[(-179, -90), (181, -90), (181, 90), (-179, 90), (-179, -90)],
+                 [(10, 10), (10 + 1e-9, 10), (10, 10 + 1e-9), (10, 10)]]  # only this hole is outside
+        errors = f"""
+            SET s2.times = {{}};
+            DO $$ BEGIN
+                FOR k IN 1 .. current_setting('s2.times')::int LOOP
+                    BEGIN
+                        PERFORM s2_coverings({wkb_of_polygons(large, wrong)}, 10000, 9);
+                        RAISE 'it is covered';
+                    EXCEPTION WHEN invalid_parameter_value THEN NULL;
+                    END;
+                END LOOP;
+            END $$;
+        """
+        psql("SET client_min_messages = error; CREATE EXTENSION IF NOT EXISTS s2union_geo;")
+        first, last = map(int, psql(f"{errors.format(30)} {SIZE} {errors.format(150)} {SIZE}"))
+        self.assertLess(last - first, 2)  # the inner cells alone would be 3
 
 
 class Cancels(Tests):

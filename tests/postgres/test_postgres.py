@@ -1399,6 +1399,12 @@ def wkb_of(*rings):
     return f"'\\x{b''.join(parts).hex()}'::bytea"
 
 
+def wkb_of_polygons(*polygons):
+    """A MultiPolygon as the text of a bytea with its WKB."""
+    head = struct.pack("<BII", 1, 6, len(polygons)).hex()
+    return "'\\x" + head + "".join(wkb_of(*rings)[3:-8] for rings in polygons) + "'::bytea"
+
+
 def polygons_in(wkb):
     """The rings of each polygon of a MultiPolygon in WKB."""
     def parts_of(kind, at):

@@ -33,15 +33,15 @@ BEFORE = {
             "CREATE FUNCTION trap.has(bigint, bigint) RETURNS bool LANGUAGE sql RETURN true; "
             "CREATE OPERATOR trap.@> (LEFTARG = bigint, RIGHTARG = bigint, FUNCTION = trap.has)"],
 }
-# A schema that has all functions and operators of PostgreSQL once more, with the same types, but those that only C can
-# take. Each is an error.
+# A schema that has all functions of PostgreSQL, and of PostGIS if it is there, and PostgreSQL's operators once more,
+# with the same types, those left out that only C can take. Each is an error.
 TWINS = """
     CREATE SCHEMA twins;
     DO $$
     DECLARE each record; made int := 0;
     BEGIN
         FOR each IN SELECT oid, proname, pg_get_function_identity_arguments(oid) AS types FROM pg_proc
-            WHERE pronamespace = 'pg_catalog'::regnamespace AND prokind = 'f'
+            WHERE pronamespace IN ('pg_catalog'::regnamespace, 'public'::regnamespace) AND prokind = 'f'
                 AND NOT proargtypes::oid[] && '{internal,cstring,"\\"any\\""}'::regtype[]::oid[]
         LOOP
             BEGIN
