@@ -351,7 +351,8 @@ static void crosses(void) {
   double positions[20];
   const s2u_cover_ring rings[] = {{5, 0}, {10, 1}};
   for (int k = 0; k < 3 * 9; k++) {
-    const double x = (const double[]){-170, 20, 181.5}[k / 9], up = x + 360 * (k % 3 - 1), flat = x + 360 * (k / 3 % 3 - 1);
+    const double x = (const double[]){-170, 20, 181.5}[k / 9];
+    const double up = x + 360 * (k % 3 - 1), flat = x + 360 * (k / 3 % 3 - 1);
     if (fabs(up) > 530 || fabs(flat) > 530) continue;
     box_of(up - 1, -5, up + 1, 5, positions);
     box_of(flat - 8, -1, flat + 8, 1, positions + 10);
@@ -561,7 +562,8 @@ static void geodesic(void) {
 
 /* The eighth of the sphere between the axes: the area of the side that a place isn't on, from each of its corners. */
 static void areas(void) {
-  const s2u_direction eighth[] = {{9, 0, 0}, {0, 9, 0}, {0, 0, 9}, {9, 0, 0}, {0, 9, 0}, {0, 0, 9}, {9, 0, 0}, {0, 9, 0}};
+  const s2u_direction eighth[] = {{9, 0, 0}, {0, 9, 0}, {0, 0, 9}, {9, 0, 0},
+                                  {0, 9, 0}, {0, 0, 9}, {9, 0, 0}, {0, 9, 0}};
   const s2u_direction back[] = {{0, 0, 9}, {0, 9, 0}, {9, 0, 0}};
   const s2u_cover_vector inside = s2u_cover_unit(1, 2, 3), outside = s2u_cover_unit(-3, 1, -2);
   for (int k = 0; k < 3; k++) {
@@ -584,8 +586,8 @@ static void few_for_all_faces(void) {
   s2u_cover_free(&cells);
 }
 
-/* Rings with the inside on the left that run out and back on themselves have no place inside: they are covered as lines,
- * by the same cells as with any place outside. */
+/* Rings with the inside on the left that run out and back on themselves have no place inside: they are covered as
+ * lines, by the same cells as with any place outside. */
 static void out_and_back(void) {
   static const double rings[][12] = {
       {20, 10, 20, 10, 20, 40, 20, 40, 20, 10},           /* boxes of no width, of no height, and of neither */
@@ -610,7 +612,8 @@ static void out_and_back(void) {
     drop(&left);
     drop(&geodesic);
   }
-  double both[24] = {-180, 80, 180, 80, 180, 90, -180, 90, -180, 80, -180, -90, 180, -90, 180, -80, -180, -80, -180, -90};
+  double both[20] = {-180, 80,  180, 80,  180, 90,  -180, 90,  -180, 80,
+                     -180, -90, 180, -90, 180, -80, -180, -80, -180, -90};
   const s2u_cover_ring caps[] = {{5, 0}, {10, 1}}, turned[] = {{5, 0}, {10, 0}};
   s2u_cover_options options = at_most(500);
   options.edges = S2U_COVER_LEFT;
