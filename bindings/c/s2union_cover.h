@@ -955,8 +955,8 @@ static inline int s2u_cover_is_on_circle(const int64_t* normal, const s2u_direct
   return last == 0 && fabs(about) < 1e15;
 }
 
-/* Whether rings have no area, as they run out and back on themselves: a ring lies on a circle, or the sum of all normals
- * is 0. */
+/* Whether rings have no area, as they run out and back on themselves: each lies on a circle, or the sum of the others'
+ * normals is 0. */
 static inline int s2u_cover_run_back(const s2u_cover_build* build) {
   const s2u_direction* corners = (const s2u_direction*)build->corners.at;
   const size_t* ends = (const size_t*)build->ends.at;
@@ -975,8 +975,8 @@ static inline int s2u_cover_run_back(const s2u_cover_build* build) {
   return all[0] == 0 && all[1] == 0 && all[2] == 0;
 }
 
-/* A leaf to the right of geodesic rings, or anywhere if these run out and back; 0 if none was found beside some of their
- * edges. */
+/* A leaf to the right of geodesic rings, or anywhere if these run out and back; 0 if none was found beside some of
+ * their edges. */
 static inline uint64_t s2u_cover_outside_on_the_right(const s2u_cover_build* build) {
   const s2u_direction* corners = (const s2u_direction*)build->corners.at;
   const size_t* ends = (const size_t*)build->ends.at;

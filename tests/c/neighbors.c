@@ -151,6 +151,19 @@ static void corners(void) {
   }
 }
 
+/* Cells and those around them may be as many as the bound, and no more: with leaves around, cells that are 2^k leaves
+ * wide are bounded by 4 * 2^k + 5 together, and these by 4 * (1,000,000 + 8) + 5 * 8. */
+static void as_many_as_allowed(void) {
+  const uint32_t levels[] = {11, 12, 13, 14, 16, 21, 24, 27};
+  uint64_t ids[9];
+  s2u_cover_cells found;
+  for (uint64_t k = 0; k < 8; k++) ids[k] = s2u_parent(s2u_from_face_ij(0, (uint32_t)k << 25, 0), levels[k]);
+  CHECK(s2u_cover_expanded(ids, 8, 30, &found) == S2U_OK && found.count > 8);
+  s2u_cover_free(&found);
+  ids[8] = s2u_parent(s2u_from_face_ij(0, 9u << 25, 0), 29);
+  CHECK(s2u_cover_expanded(ids, 9, 30, &found) == S2U_MANY && !found.ids);
+}
+
 static void refused(void) {
   const uint64_t face = nth_cell(0, 0), leaf = nth_cell(30, 5), none[2] = {face, 2};
   uint64_t four[4];
@@ -191,6 +204,7 @@ int main(void) {
   expanded();
   boxes();
   corners();
+  as_many_as_allowed();
   refused();
   return report();
 }

@@ -48,6 +48,8 @@ int main(void) {
   check_rings(s2u_geo_outline, ids, 0, 0, 0);
   check_rings(s2u_geo_outline, sphere, 6, 1, 1);
   check_rings(s2u_geo_boundary, sphere, 6, 0, 0);
+  CHECK(s2u_geo_boundary(sphere, 1, &rings) == S2U_OK && rings.rings == 1 && rings.ring_ends[0] == 5);
+  s2u_geo_free(&rings); /* four sides: a face is cut on the map alone */
   check_rings(s2u_geo_outline, sphere + 2, 1, 1, 1); /* around a pole */
   check_rings(s2u_geo_outline, sphere + 3, 1, 2, 2); /* on the date line */
   check_rings(s2u_geo_outline, sphere + 1, 5, 1, 2);

@@ -158,12 +158,32 @@ static void bends(void) {
   CHECK(closest > 0.9);
 }
 
-/* ---- the date line and the poles */
-
 static void box_of(double west, double south, double east, double north, double* positions) {
   double corners[] = {west, south, east, south, east, north, west, north, west, south};
   memcpy(positions, corners, sizeof corners);
 }
+
+/* Edges are cut into no more pieces than the cells of the answer need. */
+static void pieces(void) {
+  double positions[10];
+  const s2u_cover_ring ring = {5, 0};
+  const s2u_cover_shape shape = {positions, &ring, 1};
+  const size_t first = 0;
+  const s2u_cover_part part = {&shape, &first, 1};
+  box_of(0, 40, 20, 60, positions);
+  for (int k = 0; k < 3; k++) { /* by few cells, by cells that aren't deep, and by many */
+    const s2u_cover_options options = {k == 0 ? 8 : S2U_COVER_MOST_CELLS, 0, k == 1 ? 3 : 30, S2U_COVER_MAP, 0};
+    const double length = s2u_cover_length(&part);
+    const s2u_cover_wanted wanted = {&options, length, s2u_cover_size(length, &options), NULL, NULL};
+    s2u_cover_build build;
+    CHECK(s2u_cover_build_within(&build, &part, &wanted) == S2U_OK);
+    CHECK(k < 2 ? build.corners.count < 50 : build.corners.count > 1000);
+    s2u_cover_let_go(&build);
+  }
+}
+
+/* ---- the date line and the poles */
+
 
 static void date_line(void) {
   double positions[20];
@@ -325,6 +345,31 @@ static void crossings(void) {
   drop(&it);
 }
 
+/* Two bars, upright and level, that make a cross on any two turns of the map, of which neither has a corner of the
+ * other: the places of either are inside. */
+static void crosses(void) {
+  double positions[20];
+  const s2u_cover_ring rings[] = {{5, 0}, {10, 1}};
+  for (int k = 0; k < 3 * 9; k++) {
+    const double x = (const double[]){-170, 20, 181.5}[k / 9];
+    const double up = x + 360 * (k % 3 - 1), flat = x + 360 * (k / 3 % 3 - 1);
+    if (fabs(up) > 530 || fabs(flat) > 530) continue;
+    box_of(up - 1, -5, up + 1, 5, positions);
+    box_of(flat - 8, -1, flat + 8, 1, positions + 10);
+    for (int turned = 0; turned < 2; turned++) {
+      answer it = cover(positions, rings, 2, at_most(2000));
+      INSIDE(it, x, 0);
+      INSIDE(it, x + 0.9, 4.9);
+      INSIDE(it, x - 0.9, -0.9);
+      INSIDE(it, x - 7.9, 0.9);
+      OUTSIDE(it, x + 1.1, 1.1);
+      drop(&it);
+      box_of(flat - 8, -1, flat + 8, 1, positions);
+      box_of(up - 1, -5, up + 1, 5, positions + 10);
+    }
+  }
+}
+
 /* A small polygon that overlaps with a large one, over the middle of a face, doesn't make its covering a face. */
 static void small_beside_large(void) {
   double positions[20];
@@ -383,6 +428,10 @@ static void lines(void) {
   it.status = s2u_cover_corridor(positions, 3, 20000, &wide, &it.outer, &it.fault);
   CHECK(it.status == S2U_OK && has(&it.outer, 5.03, 2.43) && has(&it.outer, 0, -0.089) && !has(&it.outer, 5, 2.3));
   s2u_cover_free(&it.outer);
+  wide.margin = 50000; /* which is added to half of the width */
+  it.status = s2u_cover_corridor(positions, 3, 20000, &wide, &it.outer, &it.fault);
+  CHECK(it.status == S2U_OK && has(&it.outer, 0, -0.53) && !has(&it.outer, 0, -0.8));
+  s2u_cover_free(&it.outer);
 }
 
 static double meters_between(double x, double y, double to_x, double to_y) {
@@ -423,6 +472,14 @@ static void margins(void) {
   CHECK(!has(&it.outer, 0.5, 60 - 2.5 * degrees) && !has(&it.inner, 0.5, 60 + 0.999 * degrees));
   CHECK(has(&it.inner, 0.5, 60.5));
   drop(&it);
+  for (int k = 0; k < 4; k++) { /* from a face to the next: there a margin is widest on it, at their border */
+    const double turn = 90 * k - 180, line[] = {turn, 0, turn + 80, 0, turn + 90, 0};
+    options.edges = S2U_COVER_GEODESIC, options.margin = 300000;
+    it.status = s2u_cover_corridor(line, 3, 0, &options, &it.outer, &it.fault);
+    for (double x = 0; x < 90; x++)
+      CHECK(has(&it.outer, turn + x, 59.9 * degrees) && has(&it.outer, turn + x, -59.9 * degrees));
+    s2u_cover_free(&it.outer);
+  }
   CHECK(s2u_cover_level_within(1e9) == 0 && s2u_cover_level_within(1) == 24 && s2u_cover_level_within(0) == 30);
 }
 
@@ -503,8 +560,34 @@ static void geodesic(void) {
   drop(&it);
 }
 
-/* Rings with the inside on the left that run out and back on themselves have no place inside: they are covered as lines,
- * by the same cells as with any place outside. */
+/* The eighth of the sphere between the axes: the area of the side that a place isn't on, from each of its corners. */
+static void areas(void) {
+  const s2u_direction eighth[] = {{9, 0, 0}, {0, 9, 0}, {0, 0, 9}, {9, 0, 0},
+                                  {0, 9, 0}, {0, 0, 9}, {9, 0, 0}, {0, 9, 0}};
+  const s2u_direction back[] = {{0, 0, 9}, {0, 9, 0}, {9, 0, 0}};
+  const s2u_cover_vector inside = s2u_cover_unit(1, 2, 3), outside = s2u_cover_unit(-3, 1, -2);
+  for (int k = 0; k < 3; k++) {
+    CHECK(fabs(s2u_cover_area_beside(eighth + k, 3, &outside) - S2U_GEO_PI / 2) < 1e-9);
+    CHECK(fabs(s2u_cover_area_beside(eighth + k, 3, &inside) + 3.5 * S2U_GEO_PI) < 1e-9);
+    CHECK(fabs(s2u_cover_area_beside(eighth + k, 6, &outside) - S2U_GEO_PI) < 1e-9); /* twice around */
+  }
+  CHECK(fabs(s2u_cover_area_beside(back, 3, &outside) + S2U_GEO_PI / 2) < 1e-9);
+}
+
+/* Cells of which no six have all but the faces: these come, and not an error. */
+static void few_for_all_faces(void) {
+  const s2u_cover_options options = at_most(4);
+  s2u_cover_cells cells = {NULL, 0};
+  CHECK(s2u_cover_resize(&cells, 12));
+  for (uint32_t k = 0; k < 12; k++) /* two on each face, in two cells of level 1 */
+    cells.ids[cells.count++] = s2u_parent(s2u_from_face_ij(k / 2, k % 2 ? S2U_GEO_SIDE - 1 : 0, 0), 3);
+  CHECK(s2u_cover_unite(&cells, &options, 1) == S2U_OK && cells.count == 6);
+  for (size_t k = 0; k < cells.count; k++) CHECK(s2u_level(cells.ids[k]) == 0);
+  s2u_cover_free(&cells);
+}
+
+/* Rings with the inside on the left that run out and back on themselves have no place inside: they are covered as
+ * lines, by the same cells as with any place outside. */
 static void out_and_back(void) {
   static const double rings[][12] = {
       {20, 10, 20, 10, 20, 40, 20, 40, 20, 10},           /* boxes of no width, of no height, and of neither */
@@ -529,7 +612,8 @@ static void out_and_back(void) {
     drop(&left);
     drop(&geodesic);
   }
-  double both[24] = {-180, 80, 180, 80, 180, 90, -180, 90, -180, 80, -180, -90, 180, -90, 180, -80, -180, -80, -180, -90};
+  double both[20] = {-180, 80,  180, 80,  180, 90,  -180, 90,  -180, 80,
+                     -180, -90, 180, -90, 180, -80, -180, -80, -180, -90};
   const s2u_cover_ring caps[] = {{5, 0}, {10, 1}}, turned[] = {{5, 0}, {10, 0}};
   s2u_cover_options options = at_most(500);
   options.edges = S2U_COVER_LEFT;
@@ -743,6 +827,7 @@ static void without_memory(void) {
 int main(void) {
   triangles();
   bends();
+  pieces();
   near_poles();
   date_line();
   boxes();
@@ -750,6 +835,7 @@ int main(void) {
   together_everywhere();
   around_twice();
   crossings();
+  crosses();
   small_beside_large();
   many_islands();
   lines();
@@ -757,6 +843,8 @@ int main(void) {
   margins();
   least_levels();
   geodesic();
+  areas();
+  few_for_all_faces();
   out_and_back();
   refused();
   wkb();
