@@ -383,8 +383,8 @@ static int is_cancelled(void* of) {
 /* Whether the call that runs in this thread is to end. */
 #define S2U_IS_CANCELLED() (watch && is_cancelled(watch))
 
-/* A call without the lock, whose status is S2U_MEMORY if it was cancelled; then an exception is raised already. A handler
- * may make another such call meanwhile. */
+/* A call without the lock, whose status is S2U_MEMORY if it was cancelled; then an exception is raised already. A
+ * handler may make another such call meanwhile. */
 #define CANCELLABLE(status, call) \
   do { \
     Watch this_watch = {PyEval_SaveThread(), 0, 0, false, false}, *outer_watch = watch; \
