@@ -13,9 +13,22 @@
 
 /* A call of the library takes memory again and again where its work grows, as a covering's does. To cancel it, give it
  * none: S2U_HOST_TAKE answers NULL from then on, the call ends with S2U_MEMORY, and nothing is lost. Statements with
- * calls that take none are cancelled between two of them. PIECE is the most bytes of a text, or cells, that one such call
- * is given. Cells that are gathered are normalized if there are more than GATHERED. */
+ * calls that take none are cancelled between two of them. PIECE is the most bytes of a text, or cells, that one such
+ * call is given. Cells that are gathered are normalized if there are more than GATHERED. */
 enum { S2U_HOST_PIECE = 65536, S2U_HOST_GATHERED = 100000, S2U_HOST_ALIGNMENT = 16 };
+
+/* Whether the call of a thread is to end: asked again and again, in the thread, and true from then on. */
+typedef struct s2u_heap_asked {
+  int (*is_cancelled)(void* of);
+  void* of;
+} s2u_heap_asked;
+
+#ifdef __cplusplus
+extern "C"
+#endif
+/* Of the library with its own heap: what is asked in this thread before a call is given memory, or NULL, until the next
+ * such call, which answers it. What `asked` has must last as long. On other systems than Linux nothing is asked. */
+const s2u_heap_asked* s2u_heap_ask(const s2u_heap_asked* asked);
 
 /* The cell that a text names, by its token or its debug text. */
 static inline int32_t s2u_host_cell_of_text(const char* text, size_t n, uint64_t* cell) {

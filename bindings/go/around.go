@@ -6,7 +6,10 @@ package s2union
 // #include <s2union_cover.h>
 import "C"
 
-import "unsafe"
+import (
+	"context"
+	"unsafe"
+)
 
 // EdgeNeighbors are the four cells of the cell's level that share an edge with it: the one below it on its face, and
 // then counterclockwise. Since 1.4.
@@ -39,10 +42,7 @@ func (id CellID) AllNeighbors(level int) (CellUnion, error) {
 // deeper are replaced by those of the level that have them. Errors are ErrArgument, ErrMany for more than 4,000,000
 // cells around it and nine for each of its own, and ErrMemory. Since 1.4.
 func (cu CellUnion) ExpandedAtLevel(level int) (CellUnion, error) {
-	var cells C.s2u_cover_cells
-	at, n := pointerTo(cu.ids)
-	status := C.s2u_cover_expanded(at, n, narrowed(level), &cells)
-	return taken(&cells), refused(status)
+	return cu.ExpandedAtLevelContext(context.Background(), level)
 }
 
 // RectBound is the narrowest box of degrees in which the union lies. East is less than West if it crosses the date

@@ -3,8 +3,27 @@ package s2union
 // #cgo CFLAGS: -std=c11
 // #cgo LDFLAGS: -lm
 // #pragma STDC FP_CONTRACT OFF
+// #include <s2union_host.h>
+// #if defined(__GLIBC__)
+// static __thread const int32_t* done __attribute__((tls_model("initial-exec")));
+// #elif defined(__linux__)
+// static __thread const int32_t* done;
+// #else
+// static const int32_t* done;
+// #endif
+// static int is_done(void* of) { return of && __atomic_load_n((const int32_t*)of, __ATOMIC_RELAXED); }
+// #define S2U_IS_CANCELLED() is_done((void*)done)
 // #include <s2union_cover.h>
 // #include <s2union_outline.h>
+//
+// // From now on, calls in this thread end soon after *flag isn't 0; or go on, if it is NULL.
+// static void end_when(s2u_heap_asked* asked, int32_t* flag) {
+// #ifdef __linux__
+//   asked->is_cancelled = is_done, asked->of = flag;
+//   done = flag;
+//   s2u_heap_ask(flag ? asked : NULL);
+// #endif
+// }
 //
 // static int32_t cover(const s2u_cover_options* options, const double* positions, const s2u_cover_ring* rings,
 //                      size_t count, s2u_cover_cells* outer, s2u_cover_cells* inner, s2u_cover_fault* fault) {
@@ -20,7 +39,10 @@ package s2union
 import "C"
 
 import (
+	"context"
 	"fmt"
+	"runtime"
+	"sync/atomic"
 	"unsafe"
 )
 
@@ -150,34 +172,88 @@ type Box struct {
 // ErrShapeOutside, ErrMany if the least level asks for more than 1,000,000 cells at the border, and a ShapeError. Since
 // 1.4.
 func (rc RegionCoverer) Covering(region Region) (CellUnion, error) {
+	return rc.CoveringContext(context.Background(), region)
+}
+
+// CoveringContext is Covering until a context is done, whose error it then answers within about a second; on other
+// systems than Linux when the work is done. Since 1.5.
+func (rc RegionCoverer) CoveringContext(ctx context.Context, region Region) (CellUnion, error) {
 	var outer C.s2u_cover_cells
-	err := rc.cover(region, &outer, nil)
+	err := rc.cover(ctx, region, &outer, nil)
 	return taken(&outer), err
 }
 
 // InteriorCovering is a union of cells that lie in the polygons, the circle or the box. Lines and points have nothing
 // inside. Errors are those of Covering. Since 1.4.
 func (rc RegionCoverer) InteriorCovering(region Region) (CellUnion, error) {
+	return rc.InteriorCoveringContext(context.Background(), region)
+}
+
+// InteriorCoveringContext is InteriorCovering until a context is done, as CoveringContext. Since 1.5.
+func (rc RegionCoverer) InteriorCoveringContext(ctx context.Context, region Region) (CellUnion, error) {
 	var inner C.s2u_cover_cells
-	err := rc.cover(region, nil, &inner)
+	err := rc.cover(ctx, region, nil, &inner)
 	return taken(&inner), err
 }
 
 // Coverings are both: Covering and InteriorCovering. Since 1.4.
 func (rc RegionCoverer) Coverings(region Region) (outer, inner CellUnion, err error) {
+	return rc.CoveringsContext(context.Background(), region)
+}
+
+// CoveringsContext are Coverings until a context is done, as CoveringContext. Since 1.5.
+func (rc RegionCoverer) CoveringsContext(ctx context.Context, region Region) (outer, inner CellUnion, err error) {
 	var outside, inside C.s2u_cover_cells
-	err = rc.cover(region, &outside, &inside)
+	err = rc.cover(ctx, region, &outside, &inside)
 	return taken(&outside), taken(&inside), err
 }
 
+// within makes a call of the library until a context is done. The calls of a goroutine are in one thread meanwhile,
+// which the library asks before it takes memory.
+func within(ctx context.Context, call func() C.int32_t) (status C.int32_t, err error) {
+	if ctx.Done() == nil {
+		return call(), nil
+	}
+	if err := ctx.Err(); err != nil {
+		return C.S2U_MEMORY, err
+	}
+	runtime.LockOSThread()
+	defer runtime.UnlockOSThread()
+	flag := (*C.int32_t)(C.calloc(1, C.sizeof_int32_t))
+	asked := (*C.s2u_heap_asked)(C.calloc(1, C.sizeof_s2u_heap_asked))
+	defer C.free(unsafe.Pointer(flag))
+	defer C.free(unsafe.Pointer(asked))
+	ended, watched := make(chan struct{}), make(chan struct{})
+	go func() {
+		defer close(watched)
+		select {
+		case <-ctx.Done():
+			atomic.StoreInt32((*int32)(flag), 1)
+		case <-ended:
+		}
+	}()
+	C.end_when(asked, flag)
+	status = call()
+	C.end_when(asked, nil)
+	close(ended)
+	<-watched
+	if status == C.S2U_MEMORY {
+		err = ctx.Err()
+	}
+	return status, err
+}
+
 // cover makes the coverings that are wanted. After an error there are none.
-func (rc RegionCoverer) cover(region Region, outer, inner *C.s2u_cover_cells) error {
+func (rc RegionCoverer) cover(ctx context.Context, region Region, outer, inner *C.s2u_cover_cells) error {
 	options, err := rc.options()
 	if err != nil {
 		return err
 	}
 	var fault C.s2u_cover_fault
-	status := region.cover(&options, outer, inner, &fault)
+	status, err := within(ctx, func() C.int32_t { return region.cover(&options, outer, inner, &fault) })
+	if err != nil {
+		return err
+	}
 	for _, cells := range []*C.s2u_cover_cells{outer, inner} {
 		if status != C.S2U_OK && cells != nil {
 			C.s2u_cover_free(cells)
@@ -282,7 +358,12 @@ func (box Box) cover(options *C.s2u_cover_options, outer, inner *C.s2u_cover_cel
 // then its holes, clockwise. The date line cuts polygons in two, and one with a pole goes along the map's edge. The one
 // error is ErrMemory. Since 1.4.
 func (cu CellUnion) Outline() (Shape, error) {
-	lines, ends, err := cu.rings(func(at *C.uint64_t, n C.size_t, rings *C.s2u_geo_rings) C.int32_t {
+	return cu.OutlineContext(context.Background())
+}
+
+// OutlineContext is Outline until a context is done, as CoveringContext of a RegionCoverer. Since 1.5.
+func (cu CellUnion) OutlineContext(ctx context.Context) (Shape, error) {
+	lines, ends, err := cu.rings(ctx, func(at *C.uint64_t, n C.size_t, rings *C.s2u_geo_rings) C.int32_t {
 		return C.s2u_geo_outline(at, n, rings)
 	})
 	var shape Shape
@@ -297,18 +378,23 @@ func (cu CellUnion) Outline() (Shape, error) {
 // Boundary is closed lines through corners of cells, with the union on their left: those of S2's
 // InitToCellUnionBorder. A line goes on beyond 180 or -180 degrees. The one error is ErrMemory. Since 1.4.
 func (cu CellUnion) Boundary() (Shape, error) {
-	lines, _, err := cu.rings(func(at *C.uint64_t, n C.size_t, rings *C.s2u_geo_rings) C.int32_t {
+	lines, _, err := cu.rings(context.Background(), func(at *C.uint64_t, n C.size_t, rings *C.s2u_geo_rings) C.int32_t {
 		return C.s2u_geo_boundary(at, n, rings)
 	})
 	return Shape{Lines: lines}, err
 }
 
 // rings are the lines that a call makes of the union, and how many there are up to the end of each polygon.
-func (cu CellUnion) rings(call func(*C.uint64_t, C.size_t, *C.s2u_geo_rings) C.int32_t) ([][]Position, []int, error) {
+func (cu CellUnion) rings(ctx context.Context,
+	call func(*C.uint64_t, C.size_t, *C.s2u_geo_rings) C.int32_t) ([][]Position, []int, error) {
 	var rings C.s2u_geo_rings
 	at, n := pointerTo(cu.ids)
-	if status := call(at, n, &rings); status != C.S2U_OK {
-		return nil, nil, Error(status)
+	status, err := within(ctx, func() C.int32_t { return call(at, n, &rings) })
+	if err == nil && status != C.S2U_OK {
+		err = Error(status)
+	}
+	if err != nil {
+		return nil, nil, err
 	}
 	defer C.s2u_geo_free(&rings)
 	lines, begin := make([][]Position, rings.rings), C.size_t(0)
@@ -322,4 +408,15 @@ func (cu CellUnion) rings(call func(*C.uint64_t, C.size_t, *C.s2u_geo_rings) C.i
 		ends[k] = int(end)
 	}
 	return lines, ends, nil
+}
+
+// ExpandedAtLevelContext is ExpandedAtLevel until a context is done, as CoveringContext of a RegionCoverer. Since 1.5.
+func (cu CellUnion) ExpandedAtLevelContext(ctx context.Context, level int) (CellUnion, error) {
+	var cells C.s2u_cover_cells
+	at, n := pointerTo(cu.ids)
+	status, err := within(ctx, func() C.int32_t { return C.s2u_cover_expanded(at, n, narrowed(level), &cells) })
+	if err == nil {
+		err = refused(status)
+	}
+	return taken(&cells), err
 }

@@ -75,6 +75,7 @@ tutorial() { # its first part, which needs no other package
 export S2CALC=${S2CALC:-$top/s2calc} S2CALC_QUIET=1
 step "with s2calc: docs/TUTORIAL.md, Part 1" tutorial
 step "s2union_geo, points, polygons and maps" python -m pytest test_geo.py
+step "signals inside a call" python -m pytest test_signals.py
 step "its index, and joins of files" python -m pytest test_index.py
 without_numpy() {
   python -c 'import sys, pytest

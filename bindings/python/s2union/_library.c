@@ -15,6 +15,11 @@
 #ifndef S2UNION_WITHIN
 #include <dlfcn.h>
 #endif
+#ifdef __linux__
+#include <sys/syscall.h>
+#include <sys/times.h>
+#include <unistd.h>
+#endif
 #include <inttypes.h>
 #include <stdarg.h>
 #include <stdbool.h>
@@ -22,6 +27,7 @@
 #include <string.h>
 
 #include <s2union.h>
+#include <s2union_host.h>
 
 /* Py_buffer, which has been the same in each Python from 3.3 on, and is in the limited API from 3.11 on. */
 typedef struct Buffer {
@@ -274,6 +280,7 @@ static bool is_cell(PyObject* module, uint64_t number);
 
 /* A refusal, and what was refused, if that is said. */
 static PyObject* refused(int32_t status, PyObject* what) {
+  if (status == S2U_MEMORY && PyErr_Occurred()) return NULL; /* of a signal, by which the call was cancelled */
   bool is_said = what && PyObject_IsTrue(what) == 1;
   const char *head = status == S2U_MEMORY ? "s2union: " : "", *text = s2u_status_text(status);
   return is_said ? raise_refusal(status, "%s%s: %S", head, text, what) : raise_refusal(status, "%s%s", head, text);
@@ -332,6 +339,66 @@ static PyObject* refused_word(const List* text, size_t place) {
     call; \
     PyEval_RestoreThread(unlocked); \
   } while (0)
+
+/* ---- Ctrl-C: a call that may take long is cancelled by what a handler of signals raises. Python runs handlers in the
+ * main thread alone, and needs its lock for that, so a call asks a few times a second, and only there. On other systems
+ * than Linux the signal waits for the call's end. */
+
+#ifdef __linux__
+enum { TICKS = 10, LOOKS = 64 }; /* asked after a tenth of a second, and the clock at each of so many looks */
+
+typedef struct Watch {
+  PyThreadState* unlocked;
+  clock_t next; /* the tick at which to ask; 0 at first */
+  unsigned looks;
+  bool is_cancelled, is_elsewhere;
+} Watch;
+
+#ifdef __GLIBC__ /* a place that no memory has to be taken for */
+static __thread Watch* watch __attribute__((tls_model("initial-exec")));
+#else
+static __thread Watch* watch;
+#endif
+static __typeof__(s2u_heap_ask)* heap_ask;
+
+static bool is_time(Watch* it) {
+  if (it->looks++ % LOOKS != 0) return false;
+  clock_t now = times(NULL), next = it->next;
+  if (next > 0 && now - next < 0) return false;
+  it->next = now + TICKS;
+  return next > 0;
+}
+
+static int is_cancelled(void* of) {
+  Watch* it = of;
+  if (it->is_cancelled || it->is_elsewhere || !is_time(it)) return it->is_cancelled;
+  it->is_elsewhere = syscall(SYS_gettid) != getpid();
+  if (it->is_elsewhere) return false;
+  PyEval_RestoreThread(it->unlocked);
+  it->is_cancelled = PyErr_CheckSignals() != 0;
+  it->unlocked = PyEval_SaveThread();
+  return it->is_cancelled;
+}
+
+/* Whether the call that runs in this thread is to end. */
+#define S2U_IS_CANCELLED() (watch && is_cancelled(watch))
+
+/* A call without the lock, whose status is S2U_MEMORY if it was cancelled; then an exception is raised already. A
+ * handler may make another such call meanwhile. */
+#define CANCELLABLE(status, call) \
+  do { \
+    Watch this_watch = {PyEval_SaveThread(), 0, 0, false, false}, *outer_watch = watch; \
+    const s2u_heap_asked* asked_before = heap_ask(&(s2u_heap_asked){is_cancelled, &this_watch}); \
+    watch = &this_watch; \
+    status = call; \
+    watch = outer_watch; \
+    heap_ask(asked_before); \
+    PyEval_RestoreThread(this_watch.unlocked); \
+    if (this_watch.is_cancelled) status = S2U_MEMORY; \
+  } while (0)
+#else
+#define CANCELLABLE(status, call) UNLOCKED(status = call)
+#endif
 
 /* A number of 0 or more. */
 static PyObject* counted(PyObject* module, int32_t answer, const uint64_t* cells, int n) {
@@ -581,20 +648,27 @@ static PyMethodDef methods[] = {
 static bool load_calls(Calls* calls) {
 #define OWN(name) calls->s2u_##name = s2u_##name;
   CALLS(OWN)
+#ifdef __linux__
+  heap_ask = s2u_heap_ask;
+#endif
   return true;
 }
 #else
 static bool find(Calls* calls, void* library, PyObject* path) {
   void* at;
-#define FIND(name) \
+#define FIND(name, call) \
   at = dlsym(library, "s2u_" #name); \
-  memcpy(&calls->s2u_##name, &at, sizeof at); \
+  memcpy(&call, &at, sizeof at); \
   if (!at) { \
     PyErr_Format(PyExc_ImportError, "s2union: the shared library %U has no call s2u_" #name "; " \
                  "it is of another version than the module", path); \
     return false; \
   }
-  CALLS(FIND)
+#define FIND_CALL(name) FIND(name, calls->s2u_##name)
+  CALLS(FIND_CALL)
+#ifdef __linux__
+  FIND(heap_ask, heap_ask)
+#endif
   return true;
 }
 

@@ -56,7 +56,7 @@ static PyObject* py_ancestors(PyObject* module, PyObject* words) {
     return NULL;
   int32_t status;
   do {
-    UNLOCKED(status = LIBRARY(ancestors)(ids.at, ids.n, out.at, out.n, &len));
+    CANCELLABLE(status, LIBRARY(ancestors)(ids.at, ids.n, out.at, out.n, &len));
   } while (is_larger_now(status, &out, len));
   return listed(module, status, &out, len, WORD(0), NULL, 0);
 }
@@ -106,7 +106,7 @@ static PyObject* py_complement(PyObject* module, PyObject* words) {
     return NULL;
   int32_t status;
   do {
-    UNLOCKED(status = LIBRARY(complement)(ids.at, ids.n, out.at, out.n, &len));
+    CANCELLABLE(status, LIBRARY(complement)(ids.at, ids.n, out.at, out.n, &len));
   } while (is_larger_now(status, &out, len));
   return listed(module, status, &out, len, WORD(0), NULL, 0);
 }
@@ -154,7 +154,7 @@ static PyObject* py_decode(PyObject* module, PyObject* words) {
     return NULL;
   int32_t status;
   do {
-    UNLOCKED(status = LIBRARY(decode)(bytes.at, bytes.n, out.at, out.n, &len));
+    CANCELLABLE(status, LIBRARY(decode)(bytes.at, bytes.n, out.at, out.n, &len));
   } while (is_larger_now(status, &out, len));
   return listed(module, status, &out, len, WORD(0), NULL, 0);
 }
@@ -171,7 +171,7 @@ static PyObject* py_denormalised(PyObject* module, PyObject* words) {
     return NULL;
   int32_t status;
   do {
-    UNLOCKED(status = LIBRARY(denormalised)(ids.at, ids.n, (uint32_t)min, (uint32_t)modulus, out.at, out.n, &len));
+    CANCELLABLE(status, LIBRARY(denormalised)(ids.at, ids.n, (uint32_t)min, (uint32_t)modulus, out.at, out.n, &len));
   } while (is_larger_now(status, &out, len));
   return listed(module, status, &out, len, WORD(0), NULL, 0);
 }
@@ -198,7 +198,7 @@ static PyObject* py_difference(PyObject* module, PyObject* words) {
     return NULL;
   int32_t status;
   do {
-    UNLOCKED(status = LIBRARY(difference)(xs.at, xs.n, ys.at, ys.n, out.at, out.n, &len));
+    CANCELLABLE(status, LIBRARY(difference)(xs.at, xs.n, ys.at, ys.n, out.at, out.n, &len));
   } while (is_larger_now(status, &out, len));
   return listed(module, status, &out, len, WORD(0), NULL, 0);
 }
@@ -213,7 +213,7 @@ static PyObject* py_encode(PyObject* module, PyObject* words) {
     return NULL;
   int32_t status;
   do {
-    UNLOCKED(status = LIBRARY(encode)(ids.at, ids.n, out.at, out.n, &len));
+    CANCELLABLE(status, LIBRARY(encode)(ids.at, ids.n, out.at, out.n, &len));
   } while (is_larger_now(status, &out, len));
   return listed(module, status, &out, len, WORD(0), NULL, 0);
 }
@@ -234,7 +234,7 @@ static PyObject* py_file_ancestors(PyObject* module, PyObject* words) {
     return NULL;
   int32_t status;
   do {
-    UNLOCKED(status = LIBRARY(file_ancestors)(bytes.at, bytes.n, out.at, out.n, &len));
+    CANCELLABLE(status, LIBRARY(file_ancestors)(bytes.at, bytes.n, out.at, out.n, &len));
   } while (is_larger_now(status, &out, len));
   return listed(module, status, &out, len, WORD(0), NULL, 0);
 }
@@ -362,7 +362,7 @@ static PyObject* py_inner(PyObject* module, PyObject* words) {
     return NULL;
   int32_t status;
   do {
-    UNLOCKED(status = LIBRARY(inner)(&bounds, (uint32_t)level, (size_t)most, out.at, out.n, &len));
+    CANCELLABLE(status, LIBRARY(inner)(&bounds, (uint32_t)level, (size_t)most, out.at, out.n, &len));
   } while (is_larger_now(status, &out, len));
   return listed(module, status, &out, len, WORD(0), NULL, 0);
 }
@@ -380,7 +380,7 @@ static PyObject* py_inner_in(PyObject* module, PyObject* words) {
     return NULL;
   int32_t status;
   do {
-    UNLOCKED(status = LIBRARY(inner_in)(ids.at, ids.n, &bounds, (uint32_t)level, (size_t)most, out.at, out.n, &len));
+    CANCELLABLE(status, LIBRARY(inner_in)(ids.at, ids.n, &bounds, (uint32_t)level, (size_t)most, out.at, out.n, &len));
   } while (is_larger_now(status, &out, len));
   return listed(module, status, &out, len, WORD(0), NULL, 0);
 }
@@ -397,7 +397,7 @@ static PyObject* py_inner_of(PyObject* module, PyObject* words) {
     return NULL;
   int32_t status;
   do {
-    UNLOCKED(status = LIBRARY(inner_of)(ids.at, ids.n, (uint32_t)level, (size_t)most, out.at, out.n, &len));
+    CANCELLABLE(status, LIBRARY(inner_of)(ids.at, ids.n, (uint32_t)level, (size_t)most, out.at, out.n, &len));
   } while (is_larger_now(status, &out, len));
   return listed(module, status, &out, len, WORD(0), NULL, 0);
 }
@@ -413,7 +413,7 @@ static PyObject* py_intersection(PyObject* module, PyObject* words) {
     return NULL;
   int32_t status;
   do {
-    UNLOCKED(status = LIBRARY(intersection)(xs.at, xs.n, ys.at, ys.n, out.at, out.n, &len));
+    CANCELLABLE(status, LIBRARY(intersection)(xs.at, xs.n, ys.at, ys.n, out.at, out.n, &len));
   } while (is_larger_now(status, &out, len));
   return listed(module, status, &out, len, WORD(0), NULL, 0);
 }
@@ -509,7 +509,7 @@ static PyObject* py_outer(PyObject* module, PyObject* words) {
     return NULL;
   int32_t status;
   do {
-    UNLOCKED(status = LIBRARY(outer)(&bounds, (uint32_t)level, (size_t)most, out.at, out.n, &len));
+    CANCELLABLE(status, LIBRARY(outer)(&bounds, (uint32_t)level, (size_t)most, out.at, out.n, &len));
   } while (is_larger_now(status, &out, len));
   return listed(module, status, &out, len, WORD(0), NULL, 0);
 }
@@ -527,7 +527,7 @@ static PyObject* py_outer_in(PyObject* module, PyObject* words) {
     return NULL;
   int32_t status;
   do {
-    UNLOCKED(status = LIBRARY(outer_in)(ids.at, ids.n, &bounds, (uint32_t)level, (size_t)most, out.at, out.n, &len));
+    CANCELLABLE(status, LIBRARY(outer_in)(ids.at, ids.n, &bounds, (uint32_t)level, (size_t)most, out.at, out.n, &len));
   } while (is_larger_now(status, &out, len));
   return listed(module, status, &out, len, WORD(0), NULL, 0);
 }
@@ -544,7 +544,7 @@ static PyObject* py_outer_of(PyObject* module, PyObject* words) {
     return NULL;
   int32_t status;
   do {
-    UNLOCKED(status = LIBRARY(outer_of)(ids.at, ids.n, (uint32_t)level, (size_t)most, out.at, out.n, &len));
+    CANCELLABLE(status, LIBRARY(outer_of)(ids.at, ids.n, (uint32_t)level, (size_t)most, out.at, out.n, &len));
   } while (is_larger_now(status, &out, len));
   return listed(module, status, &out, len, WORD(0), NULL, 0);
 }
@@ -586,8 +586,8 @@ static PyObject* py_polygon_inner(PyObject* module, PyObject* words) {
     return NULL;
   int32_t status;
   do {
-    UNLOCKED(status = LIBRARY(polygon_inner)(corners.at, corners.n, ends.at, ends.n, outside, margin, (uint32_t)level,
-        (size_t)most, out.at, out.n, &len));
+    CANCELLABLE(status, LIBRARY(polygon_inner)(corners.at, corners.n, ends.at, ends.n, outside, margin,
+        (uint32_t)level, (size_t)most, out.at, out.n, &len));
   } while (is_larger_now(status, &out, len));
   return listed(module, status, &out, len, WORD(0), (uint64_t[]){outside}, 1);
 }
@@ -607,7 +607,7 @@ static PyObject* py_polygon_inner_up_to(PyObject* module, PyObject* words) {
     return NULL;
   int32_t status;
   do {
-    UNLOCKED(status = LIBRARY(polygon_inner_up_to)(corners.at, corners.n, ends.at, ends.n, outside, margin,
+    CANCELLABLE(status, LIBRARY(polygon_inner_up_to)(corners.at, corners.n, ends.at, ends.n, outside, margin,
         (uint32_t)least, (uint32_t)deepest, (size_t)cells, out.at, out.n, &len));
   } while (is_larger_now(status, &out, len));
   return listed(module, status, &out, len, WORD(0), (uint64_t[]){outside}, 1);
@@ -627,8 +627,8 @@ static PyObject* py_polygon_outer(PyObject* module, PyObject* words) {
     return NULL;
   int32_t status;
   do {
-    UNLOCKED(status = LIBRARY(polygon_outer)(corners.at, corners.n, ends.at, ends.n, outside, margin, (uint32_t)level,
-        (size_t)most, out.at, out.n, &len));
+    CANCELLABLE(status, LIBRARY(polygon_outer)(corners.at, corners.n, ends.at, ends.n, outside, margin,
+        (uint32_t)level, (size_t)most, out.at, out.n, &len));
   } while (is_larger_now(status, &out, len));
   return listed(module, status, &out, len, WORD(0), (uint64_t[]){outside}, 1);
 }
@@ -648,7 +648,7 @@ static PyObject* py_polygon_outer_up_to(PyObject* module, PyObject* words) {
     return NULL;
   int32_t status;
   do {
-    UNLOCKED(status = LIBRARY(polygon_outer_up_to)(corners.at, corners.n, ends.at, ends.n, outside, margin,
+    CANCELLABLE(status, LIBRARY(polygon_outer_up_to)(corners.at, corners.n, ends.at, ends.n, outside, margin,
         (uint32_t)least, (uint32_t)deepest, (size_t)cells, out.at, out.n, &len));
   } while (is_larger_now(status, &out, len));
   return listed(module, status, &out, len, WORD(0), (uint64_t[]){outside}, 1);
@@ -669,7 +669,7 @@ static PyObject* py_range_(PyObject* module, PyObject* words) {
     return NULL;
   int32_t status;
   do {
-    UNLOCKED(status = LIBRARY(range)(first, last, out.at, out.n, &len));
+    CANCELLABLE(status, LIBRARY(range)(first, last, out.at, out.n, &len));
   } while (is_larger_now(status, &out, len));
   return listed(module, status, &out, len, WORD(0), (uint64_t[]){first, last}, 2);
 }
@@ -729,7 +729,7 @@ static PyObject* py_symmetric_difference(PyObject* module, PyObject* words) {
     return NULL;
   int32_t status;
   do {
-    UNLOCKED(status = LIBRARY(symmetric_difference)(xs.at, xs.n, ys.at, ys.n, out.at, out.n, &len));
+    CANCELLABLE(status, LIBRARY(symmetric_difference)(xs.at, xs.n, ys.at, ys.n, out.at, out.n, &len));
   } while (is_larger_now(status, &out, len));
   return listed(module, status, &out, len, WORD(0), NULL, 0);
 }
@@ -758,7 +758,7 @@ static PyObject* py_union(PyObject* module, PyObject* words) {
     return NULL;
   int32_t status;
   do {
-    UNLOCKED(status = LIBRARY(union)(xs.at, xs.n, ys.at, ys.n, out.at, out.n, &len));
+    CANCELLABLE(status, LIBRARY(union)(xs.at, xs.n, ys.at, ys.n, out.at, out.n, &len));
   } while (is_larger_now(status, &out, len));
   return listed(module, status, &out, len, WORD(0), NULL, 0);
 }

@@ -103,8 +103,11 @@ static PyObject* rings_of(PyObject* given, __typeof__(s2u_geo_outline)* call) {
   s2u_geo_rings rings;
   int32_t status;
   if (!as_list(given, sizeof(uint64_t), &cells)) return NULL;
-  UNLOCKED(status = call(cells.at, cells.n, &rings));
-  if (status != S2U_OK) return refused(status, NULL);
+  CANCELLABLE(status, call(cells.at, cells.n, &rings));
+  if (status != S2U_OK) {
+    s2u_geo_free(&rings);
+    return refused(status, NULL);
+  }
   size_t positions = rings.rings ? rings.ring_ends[rings.rings - 1] : 0;
   PyObject* found = Py_BuildValue("(y#y#y#)", rings.positions, (Py_ssize_t)(positions * 2 * sizeof(double)),
                                   rings.ring_ends, (Py_ssize_t)(rings.rings * sizeof(size_t)),
@@ -200,7 +203,7 @@ static PyObject* py_coverings(PyObject* module, PyObject* words) {
   s2u_cover_shape shape = {positions.at, rings.at, rings.n};
   for (size_t k = 0; k < rings.n; k++)
     if (shape.rings[k].end > positions.n) return raise_refusal(S2U_ARGUMENT, "a ring ends behind the positions");
-  UNLOCKED(it.status = s2u_cover(&shape, &options, outer, inner, &it.fault));
+  CANCELLABLE(it.status, s2u_cover(&shape, &options, outer, inner, &it.fault));
   return covered(&it);
 }
 
@@ -213,7 +216,7 @@ static PyObject* py_coverings_of_wkb(PyObject* module, PyObject* words) {
   if (!has(words, 3) || !as_options(WORD(1), &options) || !as_which(WORD(2), &it, &outer, &inner) ||
       !as_list(WORD(0), 1, &bytes))
     return NULL;
-  UNLOCKED(it.status = s2u_cover_wkb(bytes.at, bytes.n, &options, outer, inner, &it.fault));
+  CANCELLABLE(it.status, s2u_cover_wkb(bytes.at, bytes.n, &options, outer, inner, &it.fault));
   return covered(&it);
 }
 
@@ -226,7 +229,7 @@ static PyObject* py_coverings_of_circle(PyObject* module, PyObject* words) {
   if (!has(words, 5) || !as_meters(WORD(0), &longitude) || !as_meters(WORD(1), &latitude) ||
       !as_meters(WORD(2), &radius) || !as_options(WORD(3), &options) || !as_which(WORD(4), &it, &outer, &inner))
     return NULL;
-  UNLOCKED(it.status = s2u_cover_circle(longitude, latitude, radius, &options, outer, inner, &it.fault));
+  CANCELLABLE(it.status, s2u_cover_circle(longitude, latitude, radius, &options, outer, inner, &it.fault));
   return covered(&it);
 }
 
@@ -292,7 +295,7 @@ static PyObject* py_expanded(PyObject* module, PyObject* words) {
   (void)module;
   if (!has(words, 2) || !as_number(WORD(1), "level", 0, 30, &level) || !as_list(WORD(0), sizeof(uint64_t), &cells))
     return NULL;
-  UNLOCKED(status = s2u_cover_expanded(cells.at, cells.n, (uint32_t)level, &found));
+  CANCELLABLE(status, s2u_cover_expanded(cells.at, cells.n, (uint32_t)level, &found));
   return cells_of(status, &found, 0, level);
 }
 
@@ -303,7 +306,7 @@ static PyObject* py_rect_bound(PyObject* module, PyObject* given) {
   int32_t status;
   (void)module;
   if (!as_list(given, sizeof(uint64_t), &cells)) return NULL;
-  UNLOCKED(status = s2u_cover_rect_bound(cells.at, cells.n, &box));
+  CANCELLABLE(status, s2u_cover_rect_bound(cells.at, cells.n, &box));
   if (status != S2U_OK) return refused(status, NULL);
   return Py_BuildValue("(dddd)", box.west, box.south, box.east, box.north);
 }
