@@ -6,21 +6,36 @@ from typing import NamedTuple
 class Plan(NamedTuple):
     """How a call is proved. `file` has its contract, below crates. `cells` are the arguments that are looked at level
     by level. If `is_apart`, cells are known by facts alone. `lists` has the length up to which each list is looked at,
-    `rooms` what a result needs by the levels of `cells`, and `witnesses` the numbers for statements about some or all
-    numbers. `tier` is the first one that has it: quick, gate or full."""
+    `arrays` the lists of which any place is looked at, `rooms` what a result needs by the levels of `cells`, and
+    `witnesses` the numbers for statements about some or all numbers. What the functions of `named` answer has a name of
+    its own, and `turns` are the levels at which the curve's orientation has one. `tier` is the first one that has it:
+    quick, gate or full."""
 
     file: str = "s2union_c/src/cells.rt"
     cells: tuple = ()
     is_apart: bool = False
     lists: dict = {}
+    arrays: tuple = ()
     rooms: dict = {}
     witnesses: dict = {}
+    named: tuple = ()
+    turns: tuple = ()
     tier: str = "quick"
+
+
+def digits_of_token(levels):
+    """How many bytes the token of a cell of the level has."""
+    return (64 - 2 * (30 - levels["id"]) + 3) // 4 if levels else 0
+
+
+def bytes_of_debug(levels):
+    return levels["id"] + 2 if levels else 0
 
 
 CELL = Plan(cells=("id",))
 PAIR = Plan(is_apart=True, tier="gate")
 TEXTS = "s2union_c/src/texts.rt"
+FILES = "s2union_c/src/files.rt"
 PLANS = {
     "s2u_version": Plan(),
     "s2u_is_cell": CELL,
@@ -36,4 +51,15 @@ PLANS = {
     "s2u_cell_contains": PAIR,
     "s2u_cell_intersects": PAIR,
     "s2u_common_ancestor": PAIR,
+    "s2u_from_face_ij": Plan(named=("s2cell_tables_held_by", "s2cell_tables_next_shift"),
+                             turns=(29, 28, 24, 20, 16, 12, 8, 4, 0), tier="gate"),
+    "s2u_file_count": Plan(FILES, lists={"bytes": 9}, tier="gate"),
+    "s2u_file_cell": Plan(FILES, arrays=("bytes",), tier="gate"),
+    "s2u_token": Plan(TEXTS, cells=("id",), rooms={"text": digits_of_token}, tier="gate"),
+    "s2u_debug": Plan(TEXTS, cells=("id",), rooms={"text": bytes_of_debug}, tier="gate"),
+    "s2u_from_token": Plan(TEXTS, lists={"text": 16}, tier="gate", witnesses={
+        "n": "digits_value 16 text.now * 16 ^ (16 - length text.now)"}),
+    "s2u_from_debug": Plan(TEXTS, lists={"text": 32}, tier="full", witnesses={
+        "n": "id_at (length text.now - 2) ((slice_index text.now 0 - 48) * 4 ^ (length text.now - 2)"
+             " + digits_value 4 (drop 2 text.now))"}),
 }

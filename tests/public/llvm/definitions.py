@@ -13,6 +13,7 @@ import antt
 import natural as numbers
 from natural import Number, constant
 from solver import FALSE, TRUE, Undecided
+from text import Unknown
 
 
 @functools.cache
@@ -25,6 +26,41 @@ class Closure:
 
     def __init__(self, names, body, names_known, where):
         self.names, self.body, self.known, self.where = names, body, names_known, where
+
+
+class Partial:
+    """A word with the first of its arguments."""
+
+    def __init__(self, word, values):
+        self.word, self.values = word, values
+
+
+class Mapped:
+    """A list of what a function makes of the numbers from one on."""
+
+    def __init__(self, function, begin, count):
+        self.function, self.begin, self.count = function, begin, count
+
+    def length(self):
+        return self.count
+
+
+class Bytes:
+    """A list of bytes of any length: so many of an array from one on."""
+
+    def __init__(self, array, begin, count):
+        self.array, self.begin, self.count = array, begin, count
+
+    def length(self):
+        return self.count
+
+    def drop(self, number):
+        return Bytes(self.array, numbers.add(self.begin, number), numbers.subtract(self.count, number))
+
+    def at(self, index):
+        place = z3.Extract(63, 0, numbers.add(self.begin, index).bits)
+        return numbers.choice(z3.ULT(index.bits, self.count.bits), numbers.of_bits(z3.Select(self.array, place)),
+                              constant(0))
 
 
 class Listed:
@@ -50,6 +86,7 @@ class Words:
 
     def __init__(self, paths):
         self.definitions, self.records, self.forms, self.witnesses, self.where = {}, {}, {}, {}, "a clause"
+        self.premises = []  # of what is looked at
         for path in paths:
             for found in declarations(path):
                 if found["kind"] == "def":
@@ -58,7 +95,7 @@ class Words:
                     self.records[found["name"]] = found
 
     def unknown(self, what):
-        return Undecided(f"{self.where}: {what} isn't known")
+        return Unknown(f"{self.where}: {what} isn't known")
 
     # ---- statements
 
@@ -93,20 +130,31 @@ class Words:
         """`premise → conclusion`, or a statement about all numbers."""
         (names, kind, _), *others = groups
         if names == [None]:
-            premise = simple(self.holds(kind, known, not claimed))
+            premise = self.looked_at(kind, known, not claimed)
             if z3.is_false(premise):
                 return TRUE
         else:
             known, premise = self.some(names, kind, known, claimed)
-        then = self.follows(others, body, known, claimed) if others else self.holds(body, known, claimed)
+        self.premises.append(premise if claimed else TRUE)
+        try:
+            then = self.looked_at(("pi", others, body) if others else body, known, claimed)
+        finally:
+            self.premises.pop()
         return simple(z3.Implies(premise, then))
+
+    def looked_at(self, term, known, claimed):
+        """The formula for a statement; any one, which may hold or not, if it isn't decided what it is."""
+        try:
+            return simple(self.holds(term, known, claimed))
+        except Undecided:
+            return z3.Bool(f"undecided!{next(numbers.fresh)}")
 
     def all_hold(self, parts, known, claimed):
         """Statements that all hold; those with a name say that there is such a number."""
         formulas = []
         for name, kind in parts:
             if name is None:
-                formulas.append(simple(self.holds(kind, known, claimed)))
+                formulas.append(self.looked_at(kind, known, claimed))
             else:
                 known, condition = self.some([name], kind, known, not claimed)
                 formulas.append(condition)
@@ -134,7 +182,7 @@ class Words:
             same = self.same(self.value(arguments[0], known), self.value(arguments[1], known))
             return same if word == "◌≡◌" else z3.Not(same)
         if word == "◌⊎◌":
-            return z3.Or([self.holds(it, known, claimed) for it in arguments])
+            return z3.Or([self.looked_at(it, known, claimed) for it in arguments])
         if word in ("⊤", "⊥"):
             return TRUE if word == "⊤" else FALSE
         if word in ("◌<◌", "◌≤◌"):
@@ -188,12 +236,18 @@ class Words:
         return Closure([], term, known, self.where)
 
     def applied(self, function, values):
+        if isinstance(function, Partial):
+            return self.word(function.word, function.values + values)
         if isinstance(function, Closure) and len(function.names) == len(values):
             return self.value(function.body, {**function.known, **dict(zip(function.names, values))})
         raise self.unknown("a function that is applied")
 
     def word(self, word, values):
         """The value of a word, of a built-in one first."""
+        if word == "slice_index" and isinstance(values[0], Mapped):
+            xs, index = values
+            element = self.applied(xs.function, [numbers.add(xs.begin, index)])
+            return numbers.choice(z3.ULT(index.bits, xs.count.bits), element, constant(0))
         if word in BUILT_IN:
             return BUILT_IN[word](*values)
         if word in self.forms:
@@ -207,6 +261,8 @@ class Words:
     def defined(self, word, values, look):
         """What `look` makes of the clause of a definition that fits the values."""
         definition, outer = self.definitions[word], self.where
+        if len(values) < len(argument_kinds(definition["type"])):
+            return Partial(word, values)
         for patterns, body, _ in definition["clauses"]:
             patterns = [it for it in patterns if it[0] not in ("ipat", "many")]
             known = {}
@@ -282,8 +338,14 @@ def decided(value):
 
 # ---- words of the kit whose meaning is here
 
+def dropped(count, xs):
+    return xs.drop(count if isinstance(xs, Bytes) else decided(count))
+
+
 def looked_up(xs, index):
     """`slice_index`: the element, or 0 where there is none."""
+    if isinstance(xs, Bytes):
+        return xs.at(index)
     if index.literal is not None and index.literal < len(xs.front):
         return xs.front[index.literal]
     if xs.rest:
@@ -309,7 +371,9 @@ BUILT_IN = {
     "count_trailing_zeros": lambda bits, n: numbers.trailing_zeros(decided(bits), n),
     "[]": lambda: Listed([]), "◌∷◌": lambda x, xs: Listed([x, *xs.front], xs.rest),
     "◌++◌": lambda xs, ys: joined(xs, ys), "length": lambda xs: xs.length(),
-    "drop": lambda count, xs: xs.drop(decided(count)), "slice_index": looked_up,
+    "range_with_len": lambda begin, count: Mapped(None, begin, count),
+    "map": lambda function, xs: Mapped(function, xs.begin, xs.count),
+    "drop": dropped, "slice_index": looked_up,
 }
 
 

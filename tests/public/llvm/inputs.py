@@ -9,7 +9,7 @@ import itertools
 import z3
 
 import natural as numbers
-from definitions import Listed
+from definitions import Bytes, Listed
 from memory import UNWRITTEN, Pointer, State, Thing
 from natural import BITS, Number, constant, of_bits
 from solver import Undecided
@@ -25,6 +25,7 @@ class Case:
 
     def __init__(self):
         self.state, self.values, self.known, self.later, self.levels, self.names = State(), [], {}, [], {}, []
+        self.is_empty = False
 
     def after(self, state, result, kind):
         """The names of the clauses when the function has ended."""
@@ -46,7 +47,8 @@ def cases(contract, plan, structures):
         for name, add in chosen:
             case.names.append(name)
             add(case)
-        yield case
+        if not case.is_empty:
+            yield case
 
 
 def choices_of(name, kind, plan, structures):
@@ -55,6 +57,8 @@ def choices_of(name, kind, plan, structures):
         return number_choices(name, 8 * BYTES[kind], name in plan.cells)
     if kind in ("&mut usize", "&mut u64"):
         return [(name, lambda case: add_number(case, name))]
+    if kind == "&[u8]" and name in plan.arrays:
+        return [(f"{name} null", lambda case: add_null(case, name, "now")), (name, lambda case: add_array(case, name))]
     if kind == "&[u8]" and name in plan.lists:
         return list_choices(name, plan.lists[name])
     if kind == "&mut [u8]" and name in plan.rooms:
@@ -153,10 +157,23 @@ def add_list(case, name, length):
 
 
 def add_longer(case, name, most):
+    """A list that is longer, of which so many elements are known."""
     length = z3.BitVec(f"{name}_length", 64)
     case.state.given += [z3.UGT(length, most), z3.ULE(length, MOST_BYTES)]
-    case.values += [case.state.add(Thing(name, length)), length]
-    case.known[name] = {"now": Listed([], (name, of_bits(length)))}
+    elements = [z3.BitVec(f"{name}_{index}", 8) for index in range(most)]
+    thing = Thing(name, length)
+    thing.chunks = {index: (1, element) for index, element in enumerate(elements)}
+    case.values += [case.state.add(thing), length]
+    rest = (name, numbers.subtract(of_bits(length), constant(most)))
+    case.known[name] = {"now": Listed(map(of_bits, elements), rest)}
+
+
+def add_array(case, name):
+    """A list of any length, all of whose bytes are known by their places."""
+    length, array = z3.BitVec(f"{name}_length", 64), z3.Array(name, z3.BitVecSort(64), z3.BitVecSort(8))
+    case.state.given.append(z3.ULE(length, MOST_BYTES))
+    case.values += [case.state.add(Thing(name, length, array=array)), length]
+    case.known[name] = {"now": Bytes(array, constant(0), of_bits(length))}
 
 
 def room_choices(name, needed):
@@ -173,6 +190,7 @@ def add_no_room(case, name):
 
 
 def add_room(case, name, needed, is_enough):
+    case.is_empty = not needed and not is_enough
     length = z3.BitVec(f"{name}_length", 64)
     case.state.given += [z3.UGE(length, needed) if is_enough else z3.ULT(length, needed), z3.ULE(length, MOST_BYTES)]
     front = [z3.BitVec(f"{name}_{index}", 8) for index in range(needed if is_enough else 0)]

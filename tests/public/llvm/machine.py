@@ -5,11 +5,13 @@ after an access out of bounds or not aligned, a shift too far, a division by 0, 
 `!range` or bytes under `!noundef` that were never written, Z3 has to prove that it doesn't happen."""
 import z3
 
-from memory import UNWRITTEN, Memory, Pointer, State, Thing, as_bits, simple
+from memory import UNWRITTEN, Memory, Pointer, Thing, as_bits
+from natural import fresh
 from solver import Refuted, Undecided, is_possible, literal, prove
 from text import CASE, Unknown, arguments_of, fields_of, size_of, width
 
 MOST_STEPS = 2_000_000
+SHAPES = ((0, 2), (4, 2), (0, 8))
 COMPARISONS = {
     "eq": lambda a, b: a == b, "ne": lambda a, b: a != b, "ult": z3.ULT, "ule": z3.ULE, "ugt": z3.UGT, "uge": z3.UGE,
     "slt": lambda a, b: a < b, "sle": lambda a, b: a <= b, "sgt": lambda a, b: a > b, "sge": lambda a, b: a >= b,
@@ -22,11 +24,11 @@ OPERATIONS = {
 
 
 class Machine(Memory):
-    """Runs functions of a text. It counts the instructions, the ways and what it had to prove. `watch`, if there is
-    one, is given each number that is stored in a local variable, and answers what is stored in its place."""
+    """Runs functions of a text. It counts the instructions, and what it had to prove. What a function among `named`
+    answers has a name of its own from then on, so that no formula has more than one step of a long way."""
 
-    def __init__(self, text, watch=None):
-        self.text, self.watch = text, watch
+    def __init__(self, text, named=()):
+        self.text, self.named = text, named
         self.steps = self.proved = 0
 
     def must(self, state, claim, what):
@@ -44,10 +46,28 @@ class Machine(Memory):
             try:
                 others, answer = way.follow()
             except (Refuted, Undecided, Unknown) as error:
-                raise type(error)(f"{self.text.path}:{way.line}: {error}") from error
+                is_placed = str(error).startswith(self.text.path)
+                raise error if is_placed else type(error)(f"{self.text.path}:{way.line}: {error}") from error
             todo += others
             if answer is not None:
                 yield answer
+
+
+    def give_name(self, state, value):
+        """A name for the bits of a number that may be ones: the lowest two, the two above four zeros, or eight."""
+        for zeros, bits in SHAPES:
+            part = z3.simplify(z3.Extract(zeros + bits - 1, zeros, value))
+            step = z3.BitVec(f"step!{next(fresh)}", bits)
+            is_whole = padded(part, zeros, value.size()) == value
+            if literal(value) is None and not is_possible(z3.Not(is_whole), *state.known()):
+                state.steps.append((step, part, zeros))
+                return padded(step, zeros, value.size())
+        return value
+
+
+def padded(part, zeros, size):
+    part = z3.Concat(part, z3.BitVecVal(0, zeros)) if zeros else part
+    return z3.simplify(z3.ZeroExt(size - part.size(), part))
 
 
 class Way:
@@ -131,8 +151,6 @@ class Way:
             return
         if z3.is_bv(value) and value.size() < 8:
             value = z3.ZeroExt(8 - value.size(), value)
-        if self.machine.watch and z3.is_bv(value):
-            value = self.machine.watch(self.state, self.name, place, value)
         self.machine.store(self.state, pointer, size_of(kind), int(align), value)
 
     def place(self, target, is_inbounds, base, kind, word):
@@ -248,6 +266,8 @@ class Way:
             names = {**self.names, target: value} if target else dict(self.names)
             self.others.append((state, names, self.label, self.at, tuple(self.locals)))
         self.state, value = ways[0]
+        if callee in self.machine.named:
+            value = self.machine.give_name(self.state, value)
         if target:
             self.names[target] = value
 
@@ -272,9 +292,20 @@ def plain(how, a, b):
     power = literal(b)
     if how in ("udiv", "urem") and power and power & (power - 1) == 0:
         return z3.LShR(a, power.bit_length() - 1) if how == "udiv" else a & (power - 1)
+    if how == "mul":
+        for factor, other in ((a, b), (b, a)):
+            power = literal(factor)
+            if power and power & (power - 1) == 0:
+                return shifted(other, power.bit_length() - 1)
     if how == "add":
         return joined_bits(a, b)
     return OPERATIONS[how](a, b)
+
+
+def shifted(value, zeros):
+    if not zeros:
+        return value
+    return z3.Concat(z3.Extract(value.size() - 1 - zeros, 0, value), z3.BitVecVal(0, zeros))
 
 
 def joined_bits(a, b):

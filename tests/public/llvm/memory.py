@@ -1,4 +1,5 @@
 """The memory of a run on symbols: objects of bytes, and pointers into them."""
+import functools
 from typing import NamedTuple
 
 import z3
@@ -79,10 +80,12 @@ def part(value, index):
 
 
 class State:
-    """What is known on one way through a function: the memory, what is given, and the conditions of the way."""
+    """What is known on one way through a function: the memory, what is given, and the conditions of the way. `steps`
+    has the numbers that were given a name of their own on the way, each with what it is."""
 
     def __init__(self):
         self.things, self.given, self.conditions, self.addresses, self.count = {}, [], [], {}, 0
+        self.steps = []
 
     def known(self):
         return self.given + self.conditions
@@ -91,7 +94,7 @@ class State:
         other = State()
         other.things = {number: thing.copy() for number, thing in self.things.items()}
         other.given, other.conditions = list(self.given), list(self.conditions)
-        other.addresses, other.count = dict(self.addresses), self.count
+        other.addresses, other.count, other.steps = dict(self.addresses), self.count, list(self.steps)
         return other
 
     def add(self, thing):
@@ -152,8 +155,10 @@ class Memory:
             if is_defined:
                 raise Refuted(f"bytes of {thing.name} are loaded that were never written")
             return value
-        if isinstance(value, Pointer) != (kind == "ptr"):
-            raise Undecided(f"a pointer made of bytes, or taken for a number, in {thing.name}")
+        if kind == "ptr" and not isinstance(value, Pointer):
+            return Pointer(0, simple(value))  # a number that nothing lies at, null if it is 0
+        if kind != "ptr" and isinstance(value, Pointer):
+            raise Undecided(f"a pointer is taken for a number in {thing.name}")
         if kind == "ptr" or value.size() == width(kind):
             return value
         return z3.simplify(z3.Extract(width(kind) - 1, 0, value))
@@ -241,12 +246,18 @@ def loaded(thing, at, count):
 
 
 def from_table(content, offset, count):
-    """The number at an offset in a constant table, as a tree of choices by the bits of the offset. That it is aligned
-    is proved before."""
-    low = (count - 1).bit_length()
+    """The number at an offset in a constant table. That it is aligned is proved before."""
+    place, number = table(content, count)
+    return z3.simplify(z3.substitute(number, (place, offset)))
+
+
+@functools.cache
+def table(content, count):
+    """A variable for an offset in a table, and the number there: a tree of choices by the bits of the offset."""
     if len(content) % count or count & (count - 1):
         raise Unknown(f"a table of {len(content)} bytes, looked up by {count}")
     numbers = [int.from_bytes(content[at:at + count], "little") for at in range(0, len(content), count)]
+    place, low = z3.BitVec("place", 64), (count - 1).bit_length()
 
     def tree(begin, end, bit):
         if end - begin == 1 or bit < 0:
@@ -254,7 +265,7 @@ def from_table(content, offset, count):
         middle = begin + (1 << bit)
         if middle >= end:
             return tree(begin, end, bit - 1)
-        above = z3.Extract(bit + low, bit + low, offset) == 1
+        above = z3.Extract(bit + low, bit + low, place) == 1
         return z3.If(above, tree(middle, end, bit - 1), tree(begin, middle, bit - 1))
 
-    return z3.simplify(tree(0, len(numbers), max(0, (len(numbers) - 1).bit_length() - 1)))
+    return place, tree(0, len(numbers), max(0, (len(numbers) - 1).bit_length() - 1))

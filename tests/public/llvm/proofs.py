@@ -10,12 +10,13 @@ sys.path += [str(TOP / "tests" / "public"), str(TOP / "tests" / "public" / "llvm
 from clauses import contracts, structures  # noqa: E402
 from inputs import cases  # noqa: E402
 from machine import Machine  # noqa: E402
-from solver import Undecided, is_possible, prove  # noqa: E402
+from solver import Undecided, is_possible, prove, use  # noqa: E402
 from words import CellWords  # noqa: E402
 
 DEFINITIONS = ["s2cell/specs/Cell", "s2cell/specs/Curve", "s2cell/specs/Neighbours", "s2cell/specs/Square",
                "s2cell/specs/Text", "s2cell/specs/Token", "s2cell/specs/Debug", "s2union_c/specs/Status",
-               "s2union_c/specs/Results"]
+               "s2union_c/specs/Results", "s2union_c/specs/Files", "s2list/specs/Numbers", "s2file/specs/File",
+               "s2file/specs/Numbers"]
 
 
 class Proved:
@@ -41,10 +42,11 @@ def contract_of(crates, name, plan):
 def prove_call(text, crates, name, plan):
     """Proves all clauses of a call, in all cases."""
     contract, fields = contract_of(crates, name, plan)
+    use("QF_AUFBV" if plan.arrays else "QF_BV")
     done = Proved([clause.name for clause in contract.ensures])
     for case in cases(contract, plan, fields):
         begun = time.monotonic()
-        machine = Machine(text)
+        machine = Machine(text, plan.named)
         if not is_possible(*case.state.given):
             raise Undecided(f"{name}: nothing fits the case {', '.join(case.names)}")
         given = list(case.state.given)
@@ -69,6 +71,8 @@ def prove_all_ways(name, given, ways):
 def prove_clause(crates, name, plan, contract, clause, case, ways):
     for state, result in ways:
         words = words_of(crates, plan.is_apart)
+        if plan.turns:
+            words.go_by_steps(state, plan.turns)
         words.where, words.witnesses = f"{contract.path}:{clause.line}", plan.witnesses
         claim = words.holds(clause.term, case.after(state, result, contract.result), True)
         prove(claim, f"{contract.path}:{clause.line}: {name}, clause {clause.name}, {', '.join(case.names)}",

@@ -2,7 +2,14 @@
 import z3
 
 MILLISECONDS = 600_000
+logic = "QF_BV"  # noqa: the one of what is proved now
 TRUE, FALSE = z3.BoolVal(True), z3.BoolVal(False)
+
+
+def use(name):
+    """From now on Z3 is asked in this logic: of bits, or of bits and arrays of them."""
+    global logic  # noqa: PLW0603
+    logic = name
 
 
 class Refuted(Exception):
@@ -18,7 +25,7 @@ def model_of(*claims):
     claims = [claim for claim in map(z3.simplify, claims) if not z3.is_true(claim)]
     if any(map(z3.is_false, claims)):
         return None
-    solver = z3.SolverFor("QF_BV")
+    solver = z3.SolverFor(logic)
     solver.set("timeout", MILLISECONDS)
     solver.add(*claims)
     found = solver.check()

@@ -8,7 +8,7 @@ import antt
 import natural as numbers
 from definitions import Words
 from natural import BITS, Number, constant, of_bits
-from solver import Refuted, prove
+from solver import TRUE, Refuted, prove
 
 LEVELS = range(31)
 END = 6 * 2**61  # above all cells
@@ -122,6 +122,31 @@ class CellWords(Words):
         fields = self.record_holds("IsCommonAncestor", [one, other, found], True, ("cell", "first", "second"))
         return z3.And(fields, z3.Implies(contains, z3.ULE(levels[0].bits, levels[1].bits)))
 
+    # ---- the curve
+
+    def go_by_steps(self, state, levels):
+        """From now on `At` is proved where it is claimed: level by level, and at these levels with the orientations
+        that the text has after its steps."""
+        turns = dict(zip(levels, (step for step, _, zeros in state.steps if zeros)))
+        self.forms["At"] = lambda *values: self.prove_level(state, turns, *values)
+
+    def prove_level(self, state, turns, level, orientation, leaf, x, y):
+        """`At`, of this level and those below."""
+        turn = turns.get(level.literal)
+        if turn is not None:
+            self.prove_step(state, orientation.bits == of_bits(turn).bits, f"the orientation at level {level.literal}")
+            orientation = of_bits(turn)
+        values = [level, orientation, leaf, x, y]
+        here = self.defined("At", values, lambda body, names: self.holds(body, names, True))
+        self.prove_step(state, here, f"the place at level {level.literal}")
+        return TRUE
+
+    def prove_step(self, state, claim, what):
+        """Proves what follows from the premises and from the steps whose names stand in it, each by what it is."""
+        names = {str(it) for it in variables_of(claim)}
+        steps = [step == part for step, part, _ in state.steps if str(step) in names]
+        prove(claim, what, *state.known(), *self.premises, *steps)
+
     # ---- the proofs
 
     def prove_forms(self):
@@ -166,6 +191,19 @@ class CellWords(Words):
         for fact in facts:
             prove(fact, "a fact about cells", condition)
         return 3 + len(facts)
+
+
+def variables_of(formula):
+    """The variables of a formula."""
+    found, todo, seen = [], [formula], set()
+    while todo:
+        formula = todo.pop()
+        if formula.get_id() not in seen:
+            seen.add(formula.get_id())
+            todo += formula.children()
+            if z3.is_const(formula) and formula.decl().kind() == z3.Z3_OP_UNINTERPRETED:
+                found.append(formula)
+    return found
 
 
 def prove_intervals():
