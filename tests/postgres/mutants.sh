@@ -16,8 +16,8 @@ survives() { # NAME: without one it notes how long the tests may take, which is 
     dropdb --if-exists --force mutant && createdb mutant &&
     psql -qXd mutant -c "LOAD 's2union'" || return 2 # all that it calls is there
   PGDATABASE=mutant refuse AgainstTheModel WhatIsRefused Aggregates Guarded test_kept.py::AroundACall \
-    test_catalogue.py::Catalogue test_catalogue.py::Updates Indexes Exclusion Planner Points Shapes test_wkb.py ||
-    return
+    test_catalogue.py::Catalogue test_catalogue.py::Updates Indexes Exclusion Planner Points Shapes test_wkb.py \
+    test_join_table.py || return
   whole || return 1
   [ -n "$1" ] || SECONDS_OF_TESTS=$((120 + 4 * (SECONDS - begun)))
 }
