@@ -146,7 +146,7 @@ class Joins(unittest.TestCase):
                             ("ST_Transform(ST_SetSRID(ST_Point(9, 9), 4326), 3857)", "a longitude is a number from")):
             self.assertIn(said, psql("SELECT * FROM zones_at(ST_SetSRID(ST_Point(1, 1), 4326)) AS there,"
                                      f" zones_at({place})", status=3))
-        for call, said in (("s2_join_table('keyless')", "s2union: table keyless has no primary key"),
+        for call, said in (("s2_join_table('keyless')", "s2union: table public.keyless has no primary key"),
                            ("s2_join_table('other')", "s2union: table public.other_tiles is there, and not made by"),
                            ("s2_join_table('zones', 'shape')", 'column "shape" does not exist'),
                            ("s2_join_table('zones', level => 31)", "s2union: argument out of range: 31"),

@@ -51,6 +51,7 @@ step "indexes: 2,000 questions by GIN, GiST and by a scan" tests Indexes
 step "no two regions overlap" tests Exclusion
 step "s2union_geo: points and shapes, and what is refused" tests Points Shapes
 step "exact joins of points with polygons in WKB" tests test_wkb.py
+step "tiles of joins: rights, and what is kept in step" tests test_join_table.py
 step "plans: the index where values are large and where few rows are found" tests Planner
 step "large questions end before they have taken twice their timeout" tests LargeQuestions
 step "the aggregate, in parallel" tests Aggregates

@@ -17,8 +17,7 @@ survives() { # NAME: without one it notes how long the tests may take, which is 
     psql -qXd mutant -c "LOAD 's2union'" || return 2 # all that it calls is there
   PGDATABASE=mutant refuse AgainstTheModel WhatIsRefused Aggregates Guarded test_kept.py::AroundACall \
     test_catalogue.py::Catalogue test_catalogue.py::Updates Indexes Exclusion Planner Points Shapes test_wkb.py \
-    test_strangers.py test_kept.py::Errors ||
-    return
+    test_strangers.py test_kept.py::Errors test_join_table.py || return
   whole || return 1
   [ -n "$1" ] || SECONDS_OF_TESTS=$((120 + 4 * (SECONDS - begun)))
 }

@@ -17,7 +17,7 @@ MEMBERS = """
     SELECT d.classid, d.objid, pg_describe_object(d.classid, d.objid, 0) AS object FROM pg_depend d
     JOIN pg_extension e ON e.oid = d.refobjid AND e.extname IN ('s2union', 's2union_geo') WHERE d.deptype = 'e'
 """
-# Functions that make a table of a table, which test_wkb.py asks: they are not of values.
+# Functions that make a table of a table, which test_join_table.py asks: they are not of values.
 OF_TABLES = "'regclass'::regtype = ANY (p.proargtypes)"
 # All that the extension has in the catalogue, a line for each: functions, aggregates, operators, classes with their
 # members, casts, the type, and comments. Numbers of objects are their names here.
@@ -162,7 +162,8 @@ class Catalogue(Tests):
         self.assertEqual(said, ["s2_version|s"])
         said = psql(f"SELECT proname, provolatile, proparallel, proisstrict, prosecdef FROM pg_proc p"
                     f" JOIN ({MEMBERS}) m ON m.objid = p.oid WHERE {OF_TABLES}")
-        self.assertEqual(said, ["s2_join_table|v|u|f|f"])
+        self.assertEqual(sorted(said), ["s2_join_drop|v|u|t|f", "s2_join_table|v|u|f|f", "s2union_join_locked|v|u|t|f",
+                                        "s2union_join_made|s|u|t|f"])
 
     def test_each_function_that_takes_a_cell_takes_a_text(self):
         """In place of each bigint; but no text beside a union, where an untyped literal is a union."""
