@@ -83,7 +83,7 @@ export function circle(longitude: number, latitude: number, radius: number,
                        options?: Omit<CoveringOptions, "edges">): Coverings;
 /**
  * Both coverings of the places between two meridians and two parallels. A box that ends west of where it begins crosses
- * the date line; one that ends south of where it begins is refused. S2: S2LatLngRect. Since 1.5.
+ * the date line; one that ends south of where it begins is refused. S2: S2LatLngRect. Since 1.4.1.
  * @throws RangeError, TypeError, Refusal -2, -5, -6
  */
 export function box(west: number, south: number, east: number, north: number, options?: CoveringOptions): Coverings;
@@ -95,7 +95,7 @@ export function box(west: number, south: number, east: number, north: number, op
 export function outline(union: CellUnion): {type: "MultiPolygon"; coordinates: [number, number][][][]};
 /**
  * The boundary of a union as a MultiLineString of GeoJSON: closed lines through corners of cells, with the union on
- * their left, which go on beyond 180 or -180 degrees. S2: S2Polygon::InitToCellUnionBorder. Since 1.5.
+ * their left, which go on beyond 180 or -180 degrees. S2: S2Polygon::InitToCellUnionBorder. Since 1.4.1.
  * @throws Refusal -2
  */
 export function boundary(union: CellUnion): {type: "MultiLineString"; coordinates: [number, number][][]};
@@ -116,30 +116,30 @@ export function fromGeoJSON(geojson: object | string, atBorder?: number): CellUn
 
 /**
  * The cells of a level that touch a cell, at an edge or a corner: of its own level, which is usual, eight, seven at a
- * corner of the cube, and four of a face. S2: S2CellId::AppendAllNeighbors. Since 1.5.
+ * corner of the cube, and four of a face. S2: S2CellId::AppendAllNeighbors. Since 1.4.1.
  * @throws Refusal -3, -5 for a level above that of the cell or beyond 30, -6 for more than 1,000,000 cells, -2
  */
 export function neighbors(cell: Cell, level?: number): CellUnion;
 /**
  * The four cells of a cell's level that share an edge with it: the one below it on its face, and then counterclockwise.
- * S2: S2CellId::GetEdgeNeighbors. Since 1.5. @throws Refusal -3
+ * S2: S2CellId::GetEdgeNeighbors. Since 1.4.1. @throws Refusal -3
  */
 export function edgeNeighbors(cell: Cell): BigUint64Array;
 /**
  * The cells of a level around the corner that is nearest to a cell, of those of its ancestor there: four, or three at a
- * corner of the cube. The first has the cell. S2: S2CellId::AppendVertexNeighbors. Since 1.5.
+ * corner of the cube. The first has the cell. S2: S2CellId::AppendVertexNeighbors. Since 1.4.1.
  * @throws Refusal -3, -5 for a level that is not above that of the cell
  */
 export function vertexNeighbors(cell: Cell, level: number): BigUint64Array;
 /**
  * A union with each cell of a level that touches one of its cells. Of its cells that are deeper, those of the level
- * that have them are taken. S2: S2CellUnion::Expand. Since 1.5.
+ * that have them are taken. S2: S2CellUnion::Expand. Since 1.4.1.
  * @throws Refusal -5 for a level out of range, -6 for more than 4,000,000 cells around it and nine for each of its, -2
  */
 export function expanded(union: CellUnion, level: number): CellUnion;
 /**
  * The box of degrees in which a union lies, as `bbox` of GeoJSON has it: west, south, east, north. It goes over the
  * date line if the east is less than the west; with a pole, or where there is no gap, it has all longitudes, from -180
- * to 180. Null of the union without cells. S2: S2CellUnion::GetRectBound. Since 1.5. @throws Refusal -2
+ * to 180. Null of the union without cells. S2: S2CellUnion::GetRectBound. Since 1.4.1. @throws Refusal -2
  */
 export function bounds(union: CellUnion): [west: number, south: number, east: number, north: number] | null;

@@ -576,7 +576,7 @@ public final class CellId {
    * @return a union: of its own level eight cells, seven at a corner of the cube, and four of a face
    * @throws Refusal {@link Refusal.Kind#NO_CELL} if the number is no cell, {@link Refusal.Kind#ARGUMENT} if the level
    *     is above that of the cell or beyond 30, or {@link Refusal.Kind#MANY} if there are more than 1,000,000
-   * @since 1.5
+   * @since 1.4.1
    */
   public static CellUnion neighbors(long id, int level) {
     return CellUnion.holding(Calls.around(Calls.NEIGHBORS, level, id));
@@ -593,7 +593,7 @@ public final class CellId {
    * @param id a cell
    * @return the one below it on its face, and then counterclockwise
    * @throws Refusal {@link Refusal.Kind#NO_CELL} if the number is no cell
-   * @since 1.5
+   * @since 1.4.1
    */
   public static long[] edgeNeighbors(long id) {
     return Calls.around(Calls.EDGE_NEIGHBORS, 0, id);
@@ -612,7 +612,7 @@ public final class CellId {
    * @return four cells, or three at a corner of the cube; the first has the cell
    * @throws Refusal {@link Refusal.Kind#NO_CELL} if the number is no cell, or {@link Refusal.Kind#ARGUMENT} if the
    *     level is not above that of the cell
-   * @since 1.5
+   * @since 1.4.1
    */
   public static long[] vertexNeighbors(long id, int level) {
     return Calls.around(Calls.VERTEX_NEIGHBORS, level, id);

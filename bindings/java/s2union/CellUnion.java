@@ -689,7 +689,7 @@ public final class CellUnion implements Comparable<CellUnion> {
    * @return the union
    * @throws Refusal {@link Refusal.Kind#ARGUMENT} if the level is out of range, or {@link Refusal.Kind#MANY} if there
    *     are more than 4,000,000 cells around it, and nine for each of its own
-   * @since 1.5
+   * @since 1.4.1
    */
   public CellUnion expanded(int level) {
     return holding(Calls.around(Calls.EXPANDED, level, ids));
@@ -705,7 +705,7 @@ public final class CellUnion implements Comparable<CellUnion> {
    *
    * @return the west, south, east and north. It goes over the date line if the east is less than the west; with a pole,
    *     or where there is no gap, it has all longitudes, from -180 to 180. Without cells nothing: an array of length 0
-   * @since 1.5
+   * @since 1.4.1
    */
   public double[] bounds() {
     double[] sides = new double[4];

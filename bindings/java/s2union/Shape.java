@@ -106,7 +106,7 @@ public final class Shape {
    * @param lines lines of positions, as {@code lines} takes them
    * @return the shape
    * @throws Refusal {@link Refusal.Kind#ARGUMENT} if a latitude is missing; the place is that of the ring or line
-   * @since 1.5
+   * @since 1.4.1
    */
   public static Shape collection(double[][][] polygons, double[][] lines) {
     Stream<double[]> rings = Arrays.stream(polygons).flatMap(Arrays::stream);

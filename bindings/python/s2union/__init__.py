@@ -64,7 +64,7 @@ __all__ = ["CellUnion", "Union", "UnionFile", "version", "is_cell", "level", "fa
            "OutOfMemoryError", "UnionFileError", "FileShortError", "FileVersionError", "FileTrailingError",
            "FileCellError", "CornerError", "RingError", "UnknownStatusError"]
 
-__version__ = "1.4.0"
+__version__ = "1.4.1"
 
 def _refuse(status: int, what: str = "") -> NoReturn:
     _library.refuse(status, what)

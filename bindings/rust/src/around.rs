@@ -9,7 +9,7 @@ use crate::union::CellUnion;
 /// The cells around it.
 impl CellId {
     /// The cells of a level that touch the cell, at an edge or a corner, each once: of its own level eight, seven at a
-    /// corner of the cube, and four of a face. S2's `AppendAllNeighbors`. Since 1.5.
+    /// corner of the cube, and four of a face. S2's `AppendAllNeighbors`. Since 1.4.1.
     ///
     /// # Errors
     ///
@@ -31,7 +31,7 @@ impl CellId {
     }
 
     /// The four cells of its level that share an edge with it: the one below it on its face, and then counterclockwise.
-    /// S2's `GetEdgeNeighbors`. Since 1.5.
+    /// S2's `GetEdgeNeighbors`. Since 1.4.1.
     ///
     /// # Examples
     ///
@@ -48,7 +48,7 @@ impl CellId {
     }
 
     /// The cells of a level around the corner that is nearest to the cell, of those of its ancestor there: four, or
-    /// three at a corner of the cube. The first has the cell. S2's `AppendVertexNeighbors`. Since 1.5.
+    /// three at a corner of the cube. The first has the cell. S2's `AppendVertexNeighbors`. Since 1.4.1.
     ///
     /// # Errors
     ///
@@ -73,7 +73,7 @@ impl CellId {
 /// What is around it.
 impl CellUnion {
     /// The union with each cell of a level that touches one of its cells. Of its cells that are deeper than the level,
-    /// those of the level that have them are taken. S2's `Expand`. Since 1.5.
+    /// those of the level that have them are taken. S2's `Expand`. Since 1.4.1.
     ///
     /// # Errors
     ///
@@ -97,7 +97,7 @@ impl CellUnion {
 
     /// A box of degrees in which the union lies, at most 1e-13 degrees wider on each side than the narrowest one: west,
     /// south, east and north. It goes over the date line if the east is less than the west. With a pole, or where there
-    /// is no gap, it has all longitudes, from -180 to 180. None of no cell. S2's `GetRectBound`. Since 1.5.
+    /// is no gap, it has all longitudes, from -180 to 180. None of no cell. S2's `GetRectBound`. Since 1.4.1.
     ///
     /// # Errors
     ///

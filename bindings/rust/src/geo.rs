@@ -140,7 +140,7 @@ impl<'a> Shape<'a> {
         Shape::collection::<&[R], R, R>(&[], lines)
     }
 
-    /// Polygons and lines together. Since 1.5.
+    /// Polygons and lines together. Since 1.4.1.
     ///
     /// # Examples
     ///
