@@ -337,11 +337,11 @@ COMMENT ON FUNCTION s2_join_drop(regclass)
 
 -- Whoever may connect could have the triggers' functions of 1.4.0 called with rows of his own, and so as their owner. A
 -- new call of s2_join_table replaces them. No function or operator here is looked up in a schema of the caller's path.
+SET LOCAL search_path = pg_catalog, pg_temp;
 DO $$
 DECLARE
   follower regprocedure;
 BEGIN
-  PERFORM pg_catalog.set_config('search_path', 'pg_catalog, pg_temp', true);
   FOR follower IN SELECT oid FROM pg_proc WHERE right(proname, 7) = '_follow' AND prosecdef
       AND prorettype = 'trigger'::regtype AND starts_with(prosrc, 'BEGIN IF TG_OP = ''TRUNCATE'' THEN TRUNCATE ')
       AND prosrc LIKE '%.s2\_join\_tiles(NEW.%' LOOP

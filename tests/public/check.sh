@@ -4,7 +4,7 @@
 #
 # Z3 proves that the text from which the library is compiled does what the contracts of its calls say. That text is
 # FILE, or the one of the library that this machine has proved, or src/s2union.ll of the source archive in dist/. With
-# CALLs only these are proved. Then, in all tiers except quick, Frama-C looks at the C of the headers that nothing proves.
+# CALLs only these are proved. In all tiers except quick, Frama-C then looks at C of the headers that nothing proves.
 # The last line is 'N passed, M failed'.
 . "$(dirname "$0")/../steps.sh"
 tier=gate text='' calls=()
@@ -58,5 +58,5 @@ counted() { # COMMAND..: what it says is shown, and its last line counts
 
 choose_text
 counted /usr/bin/python3 -B "$top/tests/public/llvm/prove.py" --tier "$tier" --text "$text" "${calls[@]}"
-[ "$tier" = quick ] || [ ${#calls[@]} -gt 0 ] || counted "$top/tests/public/headers/check.py"
+[ "$tier" = quick ] || [ ${#calls[@]} -gt 0 ] || counted /usr/bin/python3 "$top/tests/public/headers/check.py"
 finish

@@ -57,7 +57,8 @@ MISTAKES = (
     Mistake("a_position_after_the_last", "join_has", "s2union_join.h",
             "n < end; n++, a += 2)", "n <= end; n++, a += 2)"),
     Mistake("one_more_position_is_written", "join_put_shape", "s2union_join.h",
-            "s2u_cover_at(shape, begin), 16 * (size_t)count);", "s2u_cover_at(shape, begin), 16 * (size_t)count + 16);"),
+            "s2u_cover_at(shape, begin), 16 * (size_t)count);",
+            "s2u_cover_at(shape, begin), 16 * (size_t)count + 16);"),
 )
 
 
