@@ -7,6 +7,7 @@ use std::alloc::{AllocError, Global};
 use std::cell::Cell;
 
 /// A region, with the size that each cell has, and how many children of cells were asked for.
+#[derive(Drop)]
 pub struct Weighed<'a, R> {
     pub region: &'a R,
     pub size: usize,
@@ -14,6 +15,7 @@ pub struct Weighed<'a, R> {
 }
 
 /// A cell of it.
+#[derive(Drop)]
 pub struct WeighedCell<'a, R> {
     region: &'a R,
     size: usize,
