@@ -75,15 +75,17 @@ MADE_OF_UNION = """    ensures made { IsLocal xs.now → IsLocal ys.now
 MISSED = """        ensures missed { IfOk result (λ u. (x : ℕ) → x < LEAVES → outer_leaf self.now x ≡ true
             → has_leaf u.cells x ≡ true) }
 """
-# Numbers on pages, each with its text there and with another one.
+# Numbers on pages, each with its text there and with another one, and what is said then.
 OTHER_NUMBERS = [
-    ("docs/HEADLINE.md", "more than 4,000,000 cells", "more than 400,000 cells"),
-    ("docs/HEADLINE.md", "and 10,000 if it isn't given", "and 1,000 if it isn't given"),
-    ("docs/HEADLINE.md", "with 39 contracts of C functions", "with 33 contracts of C functions"),
-    ("docs/HEADLINE.md", "may have a plus", "may have 12,345 pluses"),
-    ("docs/PROOF.md", "at most 64 KiB, waited", "at most 32 KiB, waited"),
-    ("docs/PROOF.md", "axioms=39", "axioms=38"),
-    ("README.md", "[specs](crates/s2polygon/specs), 410", "[specs](crates/s2polygon/specs), 300"),
+    ("docs/HEADLINE.md", "more than 4,000,000 cells", "more than 400,000 cells", "more than 400,000 cells"),
+    ("docs/HEADLINE.md", "and 10,000 if it isn't given", "and 1,000 if it isn't given", "and 1,000 if it isn't given"),
+    ("docs/HEADLINE.md", "with 39 contracts of C functions", "with 33 contracts of C functions",
+     "with 33 contracts of C functions"),
+    ("docs/HEADLINE.md", "may have a plus", "may have 12,345 pluses", "nothing is known of 12,345"),
+    ("docs/PROOF.md", "at most 64 KiB, waited", "at most 32 KiB, waited", "at most 32 KiB, waited"),
+    ("docs/PROOF.md", "axioms=39", "axioms=38", "that 39 functions of the C library"),
+    ("README.md", "[specs](crates/s2polygon/specs), 410", "[specs](crates/s2polygon/specs), 300",
+     "[specs](crates/s2polygon/specs), 300"),
 ]
 MISTAKES = [
     Mistake("a link that leads nowhere", pages.broken_links, "README.md",
@@ -105,10 +107,10 @@ MISTAKES = [
     Mistake("a first page that is too long", pages.too_long, "README.md", ended_by("more\n" * 2000)),
     Mistake("a wrong number of cells of a level", pages.wrong_levels, "docs/CONCEPTS.md",
             swapped("| 5 | 291 km | 6,144 |", "| 5 | 291 km | 6,154 |")),
-    *(Mistake(f"another number on a page, {new}", figures.wrong_figures, page, swapped(old, new))
-      for page, old, new in OTHER_NUMBERS),
-    Mistake("another constant than that of a page", figures.wrong_figures, "crates/s2polygon/src/counting.rt",
-            swapped("MOST_TOUCHED: usize = 4_000_000;", "MOST_TOUCHED: usize = 5_000_000;")),
+    *(Mistake(f"another number on a page, {new}", figures.wrong_figures, page, swapped(old, new), said)
+      for page, old, new, said in OTHER_NUMBERS),
+    Mistake("another constant than that of a page", figures.wrong_figures, "crates/s2edit/src/lib.rt",
+            swapped("MOST_STATES: usize = 10_000;", "MOST_STATES: usize = 20_000;"), "DEPTH is from 1 to 10,000"),
     Mistake("a link that a package lacks", pages.lost_in_packages, "docs/HEADLINE.md",
             ended_by("\n[`settled`](../crates/s2union_c/src/polygons.rt)\n")),
     Mistake("a crate on the layer of one that it uses", pages.wrong_layers, "docs/ARCHITECTURE.md",
@@ -126,7 +128,8 @@ MISTAKES = [
             swapped('. "$(dirname "$0")/usage.sh"\n', "")),
     Mistake("a command that can't be run", pages.wrong_modes, "bench/run", None),
     Mistake("a definition that says another thing", statement, "crates/s2process/specs/Process.antt",
-            swapped("pub record RunsListed {V S : Type 0}", "pub record RunsListed {S V : Type 0}")),
+            swapped("pub record RunsListed {V S : Type 0}", "pub record RunsListed {S V : Type 0}"),
+            "s2process, Process RunsListed: another"),
     Mistake("checksums that aren't current", statement, "docs/statement.sums", ended_by("more\n")),
     Mistake("a clause of a call for C that is gone", statement, "crates/s2union_c/src/sets.rt",
             swapped(MADE_OF_UNION, ""), "s2union_c, sets s2u_union, clause made: gone"),
@@ -141,17 +144,19 @@ MISTAKES = [
     Mistake("a constant that a contract names", statement, "crates/s2polygon/src/counting.rt",
             lambda text: re.sub(r"(const MOST_TOUCHED: \w+ = )", r"\g<1>1 + ", text), "MOST_TOUCHED: another"),
     Mistake("a call for C that the statement leaves out", statement, "tools/compiled_contracts.py",
-            swapped('piece.name != "main" and', 'piece.name not in ("main", "s2u_union") and'),
-            "s2u_union: s2union.h declares it, and STATEMENT.rt has no contract of it"),
-    Mistake("a sentence above a definition", statement, "crates/s2polygon/specs/Counts.antt",
-            swapped("-- the edges touch more than `MOST_TOUCHED` cells", "-- the edges touch `MOST_TOUCHED` cells"),
-            "s2polygon: the sentences above its contracts or definitions are others"),
+            swapped('piece.name != "main" and', 'piece.name not in ("main", "s2u_contains") and'),
+            "s2u_contains: s2union.h declares it, and STATEMENT.rt has no contract of it"),
+    Mistake("a sentence above a definition", statement, "crates/s2room/specs/Ancestors.antt",
+            swapped("-- `c` is a cell of `u`, or an ancestor of one\n", "-- `c` is a cell of `u`\n"),
+            "s2room: the sentences above its contracts or definitions are others"),
     Mistake("a word of the kit that has no meaning", statement, "tools/kit_words.py",
-            swapped('"little_bytes": (', '"small_bytes": (')),
+            swapped('"little_bytes": (', '"small_bytes": ('), "no meaning of `little_bytes`"),
     Mistake("a definition that no public contract needs", statement, "crates/s2cell/specs/Cell.antt",
-            ended_by("\n-- One that was planted.\nabbrev pub planted : ℕ\nplanted = 0\n")),
+            ended_by("\n-- One that was planted.\nabbrev pub planted : ℕ\nplanted = 0\n"),
+            "no public contract needs it, so it belongs into specs/Working: crates/s2cell/specs/Cell.antt: planted"),
     Mistake("a definition without its sentence", statement, "crates/s2cell/specs/Working/Entries.antt",
-            ended_by("\nabbrev pub planted : ℕ\nplanted = 0\n")),
+            ended_by("\nabbrev pub planted : ℕ\nplanted = 0\n"),
+            "no sentence: crates/s2cell/specs/Working/Entries.antt: planted"),
     Mistake("a lemma that nobody cites", rot.uncited, "crates/s2cell/proofs/Ancestors.antt",
             ended_by("\nnobody_cites_it : 0 ≡ 0\nnobody_cites_it = refl\n")),
     Mistake("a name that is imported for nothing", rot.unused, "crates/s2cell/proofs/Ancestors.antt",
@@ -423,20 +428,32 @@ def mistakes(counts, room):
     for module in (figures, pages, prose, rot, schemas, texts):
         module.ROOT = room
     without = {}
-    for mistake in MISTAKES:
-        check, file = mistake.check, room / mistake.file
+    for some in at_once():
+        check = some[0].check
         if check not in without:
             without[check] = check()[1]
-        text, mode = file.read_text(encoding="utf-8"), file.stat().st_mode
+        files = {room / mistake.file for mistake in some}
+        before = {file: (file.read_text(encoding="utf-8"), file.stat().st_mode) for file in files}
         try:
-            make(mistake, file)
+            for mistake in some:
+                make(mistake, room / mistake.file)
             found = check()[1]
-            is_found = len(found) > len(without[check]) and mistake.said in "\n".join(found)
-            counts.tell(mistake.name, is_found, f"{check.__name__}: {found}")
+            for mistake in some:
+                is_found = len(found) > len(without[check]) and mistake.said in "\n".join(found)
+                counts.tell(mistake.name, is_found, f"{check.__name__}: {found}")
         except ValueError as why:
-            counts.tell(f"{mistake.name}: can't be made: {why}", False)
-        file.write_text(text, encoding="utf-8")
-        file.chmod(mode)
+            counts.tell(f"{', '.join(mistake.name for mistake in some)}: can't be made: {why}", False)
+        for file, (text, mode) in before.items():
+            file.write_text(text, encoding="utf-8")
+            file.chmod(mode)
+
+
+def at_once():
+    """The mistakes, each alone, but those of a check together of which it has to say something: it says it of each."""
+    together = {}
+    for number, mistake in enumerate(MISTAKES):
+        together.setdefault(mistake.check if mistake.said else number, []).append(mistake)
+    return together.values()
 
 
 def main():

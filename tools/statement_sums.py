@@ -51,12 +51,10 @@ class Sums:
             self.sentences[crate] += sentence
 
     def add_contract(self, call):
-        parts, _ = self.contracts.parts(call)
-        uses = self.contracts.rust_uses(call.source, ["".join(text for _, text in parts)])
-        (head, signature), *clauses = parts
+        parts = [(name, "\n".join([text, *self.contracts.rust_uses(call.source, [text])]))
+                 for name, text in self.contracts.parts(call)[0]]
         label = f"{source_module(call.source.file)} {call.name}"
-        self.put(call.source.crate, label, [(head, "\n".join([signature, *uses])), *clauses],
-                 comment_above(call.source.text, call.piece.start))
+        self.put(call.source.crate, label, parts, comment_above(call.source.text, call.piece.start))
 
     def add_definition(self, item, is_of_module):
         """Adds what isn't a function: that has its contract."""

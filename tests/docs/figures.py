@@ -61,6 +61,7 @@ def figures():
     limit, depth = (in_source("crates/s2calc/specs/CommandLine.antt", rf'{name} = chosen \(codes "(\d+)"\)')
                     for name in ("OfCells", "OfStates"))
     cases = in_source("tests/peer/s2.sh", r"bench/out/peer \"\$\{1:-(\d+)\}")
+    pairs = in_source("crates/s2cover/src/budget.rt", r"1 << (\d+);")
     scripts = in_source("tests/run", r"in_gate\(\"tests/peer/scripts.py (\d+)")
     rings = in_source("tests/peer/polygons.sh", r"beside_s2 \"\$\{1:-(\d+)\}\"")
     cells, to_c, polygons = (lines_of_specs(*crates) for crates in (CELLS, ["s2union_c"], ["s2polygon"]))
@@ -80,6 +81,7 @@ def figures():
         (headline, r"on (N) random rings", just(rings)),
         (headline, r"product of (N) bits", just(128)),
         ("docs/FAQ.md", r"with (N) random cases beside S2", just(cases)),
+        ("docs/DECISIONS.md", r"At most 2\^(N) \+ 32 \(edges", just(pairs)),
         (proof, r"at most (N) KiB, waited", just(constant("s2calc/src/limits.rt", "MOST_WAITING") // 1024)),
         (proof, r"`IsPlaceOf`\), by (N) levels", just(constant("s2cell/src/lib.rt", "GREATEST_LEVEL"))),
         (proof, r"on (N) random cases", just(cases)),
