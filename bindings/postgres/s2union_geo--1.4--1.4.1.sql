@@ -4,10 +4,11 @@
 \echo Use "ALTER EXTENSION s2union_geo UPDATE" to load this file. \quit
 
 -- A call here gives all arguments: a function of fewer in the schema, somebody's own, would be taken before a default.
+-- It isn't STRICT, so that it becomes part of the query that calls it; what it calls is, so NULL has no tiles.
 CREATE OR REPLACE FUNCTION s2_join_tiles(shape bytea, level integer, max_cells integer DEFAULT 50, OUT tile bigint,
   OUT part s2union, OUT sure s2union, OUT clip bytea)
 RETURNS SETOF record
-LANGUAGE SQL IMMUTABLE STRICT PARALLEL SAFE ROWS 10
+LANGUAGE SQL IMMUTABLE PARALLEL SAFE ROWS 10
 BEGIN ATOMIC
   SELECT t.tile, t.part, t.part & pair.interior, CASE WHEN NOT pair.interior @> t.part THEN s2_clip(shape, t.tile) END
   FROM s2_coverings(shape, max_cells, 30) AS pair, s2_tiles(pair.covering, level) AS t;
@@ -93,6 +94,8 @@ DECLARE
     WHERE deptype = 'e' AND refclassid = 'pg_extension'::regclass AND classid = 'pg_proc'::regclass
       AND extname IN ('s2union_geo', 's2union_postgis') AND proname = 's2_join_tiles' AND proargtypes[0] = kind);
   gis text := (SELECT typnamespace::regnamespace FROM pg_type WHERE oid = kind); -- where a geometry has its functions
+  wkb text := format(CASE kind WHEN 'bytea'::regtype THEN 'z.%3$I' ELSE '%s.ST_AsBinary(%s.s2_degrees(z.%3$I))' END,
+    gis, own, shape); -- of a zone
   space text; table_name text; tiles text; finder text; follower text; key text; cutter text; remark text; role text;
   made text[]; -- by an earlier call
   keys text; typed text; columns text; of_zones text; of_tiles text; of_row text; old_row text; new_row text;
@@ -224,8 +227,8 @@ BEGIN
   EXECUTE format('ALTER TABLE %s OWNER TO %s', tiles, role);
   EXECUTE format('COMMENT ON TABLE %s IS %L', tiles, remark);
   EXECUTE format('TRUNCATE %s', tiles);
-  EXECUTE format('INSERT INTO %s SELECT %s, t.* FROM ONLY %s AS z, %s.s2_join_tiles(z.%I, %s, %s) AS t', tiles,
-    of_zones, table_name, own, shape, deep, max_cells);
+  EXECUTE format('INSERT INTO %s SELECT %s, t.* FROM ONLY %s AS z, %s.s2_join_tiles(%s, %s, %s) AS t', tiles,
+    of_zones, table_name, geo, wkb, deep, max_cells);
   EXECUTE format('ANALYZE %s', tiles);
 
   -- The functions hold on to columns, tables and operators by number, which no change of a name loses. The condition
@@ -240,8 +243,8 @@ BEGIN
   EXECUTE format('CREATE OR REPLACE FUNCTION %s(zone %s) RETURNS TABLE (%s, %I %s) LANGUAGE SQL STABLE PARALLEL SAFE '
     'ROWS 1 BEGIN ATOMIC SELECT %s, (zone).%4$I; END', key, table_name, typed, shape, kind, of_row);
   EXECUTE format('CREATE OR REPLACE FUNCTION %s(zone %s) RETURNS TABLE (%s) LANGUAGE SQL STABLE PARALLEL SAFE ROWS 10 '
-    'BEGIN ATOMIC SELECT %s, t.* FROM ONLY %s AS z, %s.s2_join_tiles(z.%I, %s, %s) AS t WHERE %s; END', cutter,
-    table_name, columns, of_zones, table_name, own, shape, deep, max_cells, same_zone);
+    'BEGIN ATOMIC SELECT %s, t.* FROM ONLY %s AS z, %s.s2_join_tiles(%s, %s, %s) AS t WHERE %s; END', cutter,
+    table_name, columns, of_zones, table_name, geo, wkb, deep, max_cells, same_zone);
 
   -- What changes the tiles has the rights of the zones' owner, whoever changes a zone. So it is called by nobody, and
   -- looks whether the table and the tiles are still those for which it was made, and his; and, for a transaction of
@@ -254,9 +257,9 @@ BEGIN
   IF NOT EXISTS (SELECT FROM pg_class AS z JOIN pg_class AS t ON t.relowner = z.relowner
       JOIN pg_proc AS k ON k.proowner = z.relowner AND k.pronamespace = t.relnamespace
     WHERE z.oid = TG_RELID AND pg_get_userbyid(z.relowner) = current_user
+      AND NOT (z.relhassubclass AND EXISTS (SELECT FROM pg_inherits WHERE inhparent = z.oid))
       AND t.oid = to_regclass(%1$L) AND t.relfilenode = pg_relation_filenode(t.oid)
-      AND t.relpersistence = z.relpersistence AND k.proname = %2$L AND k.proargtypes[0] = z.reltype
-      AND NOT EXISTS (SELECT FROM pg_inherits WHERE inhparent = z.oid)) THEN
+      AND t.relpersistence = z.relpersistence AND k.proname = %2$L AND k.proargtypes[0] = z.reltype) THEN
     RAISE 's2union: table %% and its tiles %% no longer fit', TG_RELID::regclass, %1$L
       USING ERRCODE = 'object_not_in_prerequisite_state', DETAIL = 'One of them, or its schema, has another name or '
       'owner, or is stored otherwise; or a table inherits; or the tiles were made anew since this transaction began.',

@@ -157,9 +157,9 @@ class Catalogue(Tests):
         said = psql(f"""
             SELECT proname, provolatile FROM pg_proc p JOIN ({MEMBERS}) m ON m.objid = p.oid
             WHERE starts_with(proname, 's2_') AND NOT {OF_TABLES}
-                AND (provolatile, proparallel, proisstrict OR prokind = 'a') <> ('i', 's', true);
+                AND (provolatile, proparallel, proisstrict OR prokind = 'a') <> ('i', 's', true) ORDER BY 1;
         """)
-        self.assertEqual(said, ["s2_version|s"])
+        self.assertEqual(said, ["s2_join_tiles|i", "s2_version|s"])  # which isn't STRICT, so that a query takes it in
         said = psql(f"SELECT proname, provolatile, proparallel, proisstrict, prosecdef FROM pg_proc p"
                     f" JOIN ({MEMBERS}) m ON m.objid = p.oid WHERE {OF_TABLES}")
         self.assertEqual(sorted(said), ["s2_join_drop|v|u|t|f", "s2_join_table|v|u|f|f", "s2union_join_locked|v|u|t|f",

@@ -93,3 +93,5 @@ class Wkb(Tests):
             psql("INSERT INTO wkb_zones VALUES (900, 'x')")
         self.assertEqual(psql("SELECT count(*) FROM wkb_zones WHERE id = 900"), ["0"])
         self.assertEqual(psql("SELECT s2_covers(NULL, 1, 1) IS NULL, s2_clip(NULL, 1) IS NULL"), ["t|t"])
+        for numbers in "NULL, 3, 50", f"{wkb_of(SQUARE)}, NULL, 50", f"{wkb_of(SQUARE)}, 3, NULL":
+            self.assertEqual(psql(f"SELECT count(*) FROM s2_join_tiles({numbers})"), ["0"])
