@@ -32,12 +32,11 @@ CATALOGUE = """
 """
 # Without ST_Transform, in which PostGIS asks its table in the path of the caller.
 CALLS = [f"SELECT own.{call}" for call in (
-    "s2_degrees(public.ST_Point(2, 48))", "s2_covering(public.ST_Point(2, 48))", "s2_interior('POLYGON((2 48, 3 48, 3 49, 2 48))'::public.geometry, 9)",
-    "s2_coverings(public.ST_Point(2, 48))",
-    "s2_covering('POINT(2 48)')", "s2_interior('POINT(2 48)', 9, 12)",
-    "s2_geometry('04')", "s2_geometry('04', true)", "s2_geojson('04')", "s2_geojson('04', true)", "s2_envelope(1)",
-    "s2_join_tiles(public.ST_Point(2, 48), 3)", "s2_has_degrees(public.ST_Point(2, 48))",
-    "s2_has_degrees(public.ST_Point(2, 48, 3857))", "s2_has_degrees(4258)")]
+    "s2_degrees(public.ST_Point(2, 48))", "s2_covering(public.ST_Point(2, 48))", "s2_covering('POINT(2 48)')",
+    "s2_interior('POLYGON((2 48, 3 48, 3 49, 2 48))'::public.geometry, 9)", "s2_interior('POINT(2 48)', 9, 12)",
+    "s2_coverings(public.ST_Point(2, 48))", "s2_geometry('04')", "s2_geometry('04', true)", "s2_geojson('04')",
+    "s2_geojson('04', true)", "s2_envelope(1)", "s2_join_tiles(public.ST_Point(2, 48), 3)",
+    "s2_has_degrees(public.ST_Point(2, 48))", "s2_has_degrees(public.ST_Point(2, 48, 3857))", "s2_has_degrees(4258)")]
 
 
 def psql(script, *options):
