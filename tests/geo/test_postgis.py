@@ -94,7 +94,7 @@ class PostGIS(unittest.TestCase):
         self.said("CREATE EXTENSION s2union_postgis SCHEMA own CASCADE")
         self.said(TWINS)
         said = [psql(f"SET search_path = {path};\n" + ";\n".join(CALLS)) for path in
-                ("pg_catalog, own, public", "twins, pg_catalog, own, public")]
+                ("pg_catalog", "twins, pg_catalog")]
         self.assertEqual(*(run.stdout for run in said))
         self.assertEqual(*(run.stderr for run in said))
         self.assertEqual(said[0].stderr.count("ERROR"), 2)  # of the last two calls
