@@ -32,11 +32,11 @@ CATALOGUE = """
 """
 # Without ST_Transform, in which PostGIS asks its table in the path of the caller.
 CALLS = [f"SELECT own.{call}" for call in (
-    "s2_degrees(public.ST_Point(2, 48))", "s2_covering(public.ST_Point(2, 48))", "s2_interior('POLYGON((2 48, 3 48, 3 49, 2 48))'::public.geometry, 9)",
-    "s2_coverings(public.ST_Point(2, 48))", "s2_covering('POINT(2 48)')", "s2_interior('POINT(2 48)', 9, 12)",
-    "s2_geometry('04')", "s2_geometry('04', true)", "s2_geojson('04')", "s2_geojson('04', true)", "s2_envelope(1)",
-    "s2_join_tiles(public.ST_Point(2, 48), 3)", "s2_has_degrees(public.ST_Point(2, 48))",
-    "s2_has_degrees(public.ST_Point(2, 48, 3857))", "s2_has_degrees(4258)")]
+    "s2_degrees(public.ST_Point(2, 48))", "s2_covering(public.ST_Point(2, 48))", "s2_covering('POINT(2 48)')",
+    "s2_interior('POLYGON((2 48, 3 48, 3 49, 2 48))'::public.geometry, 9)", "s2_interior('POINT(2 48)', 9, 12)",
+    "s2_coverings(public.ST_Point(2, 48))", "s2_geometry('04')", "s2_geometry('04', true)", "s2_geojson('04')",
+    "s2_geojson('04', true)", "s2_envelope(1)", "s2_join_tiles(public.ST_Point(2, 48), 3)",
+    "s2_has_degrees(public.ST_Point(2, 48))", "s2_has_degrees(public.ST_Point(2, 48, 3857))", "s2_has_degrees(4258)")]
 
 
 def psql(script, *options):
@@ -79,7 +79,7 @@ class PostGIS(unittest.TestCase):
         whole = self.said(CATALOGUE)
         folder = Path(os.environ["EXTENSIONS"])
         text = (folder / "s2union_postgis--1.4.1.sql").read_text()
-        begin, end = (text.index(it) for it in ("CREATE OR REPLACE FUNCTION s2_has_degrees(srid", "\n-- The end of each"))
+        begin = text.index("CREATE OR REPLACE FUNCTION s2_has_degrees(srid")
         script = folder / "s2union_postgis--1.4.sql"
         script.write_text(text[:begin] + DEGREES_1_4)
         self.addCleanup(script.unlink)
@@ -89,13 +89,12 @@ class PostGIS(unittest.TestCase):
         self.said("ALTER EXTENSION s2union_postgis UPDATE")
         self.assertEqual(self.said(CATALOGUE), whole)
         self.assertEqual(self.said("SELECT it FROM asked"), ["t"])
-        self.assertGreater(len(text[begin:end]), 500)
 
     def test_no_function_of_the_callers_path_is_called(self):
         self.said("CREATE EXTENSION s2union_postgis SCHEMA own CASCADE")
         self.said(TWINS)
         said = [psql(f"SET search_path = {path};\n" + ";\n".join(CALLS)) for path in
-                ("pg_catalog, own, public", "twins, pg_catalog, own, public")]
+                ("pg_catalog", "twins, pg_catalog")]
         self.assertEqual(*(run.stdout for run in said))
         self.assertEqual(*(run.stderr for run in said))
         self.assertEqual(said[0].stderr.count("ERROR"), 2)  # of the last two calls

@@ -6,7 +6,7 @@ import subprocess
 import unittest
 
 from test_catalogue import MEMBERS, OF_TABLES, OTHER, RIGHT
-from test_postgres import PSQL, psql
+from test_postgres import PSQL, psql, wkb_of
 
 # As the owner of a database: a schema whose functions and operators give him all rights if a script runs them. They
 # fit better than those of PostgreSQL, which take other types or any.
@@ -180,16 +180,41 @@ class Paths(unittest.TestCase):
             else:
                 yield f"SELECT {'* FROM ' * (rows == 't')}own.{name}({', '.join(values)})"
 
+    def said(self, script):
+        """What the server says of a script, for a caller who has the twins in the path and one who hasn't. Neither has the
+        schema of the extensions there."""
+        said = [subprocess.run([*PSQL[:2], "-d", "strange"], input=f"SET search_path = {path};\n{script}",
+                               capture_output=True, text=True, check=False)
+                for path in ("pg_catalog", "twins, pg_catalog")]
+        self.assertEqual(*(run.stdout for run in said))
+        self.assertEqual(*(run.stderr for run in said))
+        return said[0]
+
     def test_no_function_of_the_callers_path_is_called(self):
         calls = list(self.calls())
         self.assertGreater(len(calls), 100)
-        script = "".join(f"{call};\n" for call in calls)
-        said = [subprocess.run([*PSQL[:3], "-d", "strange"], input=f"SET search_path = {path};\n{script}",
-                               capture_output=True, text=True, check=False)
-                for path in ("pg_catalog, own", "twins, pg_catalog, own")]
-        self.assertEqual(*(run.stdout for run in said))
-        self.assertEqual(*(run.stderr for run in said))
-        self.assertGreater(len(said[0].stdout.splitlines()), 100)
-        self.assertNotIn("does not exist", said[0].stderr)
+        said = self.said("".join(f"{call};\n" for call in calls))
+        self.assertGreater(len(said.stdout.splitlines()), 100)
+        self.assertNotIn("does not exist", said.stderr)
         for twin in ("SELECT 1 + 1", "SELECT lower('A')", "SELECT unnest('{1}'::bigint[])"):
             self.assertIn("twin", error_of(f"SET search_path = twins, pg_catalog; {twin}"))
+
+    def test_joins_call_none_either(self):
+        """The tiles of a table are made, asked, kept in step and taken away."""
+        triangle, other = (wkb_of([(x, 48), (x + 2, 48), (x, 50), (x, 48)]) for x in (2, 4))
+        at = "SELECT * FROM public.zones_at(2.1, 48.1); SELECT * FROM public.zones_at(4.1, 48.1);"
+        said = self.said(f"""
+            CREATE TABLE public.zones (id int PRIMARY KEY, geom bytea);
+            INSERT INTO public.zones VALUES (1, {triangle});
+            SELECT own.s2_join_table('public.zones'); {at}
+            INSERT INTO public.zones VALUES (2, {other}); {at}
+            UPDATE public.zones SET geom = {other}; {at}
+            DELETE FROM public.zones; {at}
+            INSERT INTO public.zones VALUES (1, {triangle}); {at}
+            SELECT own.s2_join_table('public.zones', 'geom', 5, 20); {at}
+            TRUNCATE public.zones; {at}
+            SELECT own.s2_join_drop('public.zones');
+            DROP TABLE public.zones;
+        """)
+        self.assertEqual(said.stderr, "")
+        self.assertEqual(sorted(line for line in said.stdout.split() if line.isdigit()), [*"1111122"])
