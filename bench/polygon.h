@@ -1,5 +1,6 @@
 // What hand-written C++ reaches on the leaves of a polygon, in whole numbers: the definition that docs/STATEMENT.md
-// has, the same coverings, and no proof.
+// has, the same coverings of one level, and no proof. Its coverings of few cells mostly have other cells than the
+// library's, as it splits cells in another order.
 #pragma once
 #include <numeric>
 

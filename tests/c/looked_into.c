@@ -95,9 +95,25 @@ static void check_edges_that_run_to_and_fro(void) {
   }
 }
 
+/* They are counted to the end also where some cell lies inside, of a small triangle that comes before a line. */
+static void check_what_edges_touch_beside_a_cell_inside(void) {
+  static const s2u_direction rings[] = {{2000000000, -1800000000, -1800000000}, {2000000000, -1799980000, -1800000000},
+                                        {2000000000, -1800000000, -1799980000}, {10, 1, 1}, {1, 10, 1}, {11, 11, 2}};
+  const size_t ends[] = {3, 6};
+  CHECK(s2u_polygon_inner(rings, 6, ends, 2, UINT64_C(0x7000000000000001), 0, 20, 1000, out, ROOM, &len) == S2U_OK);
+  CHECK(len > 0);
+  for (uint32_t level = 22; level <= 24; level++) {
+    len = 77;
+    CHECK(s2u_polygon_inner(rings, 6, ends, 2, UINT64_C(0x7000000000000001), 0, level, 1000, out, ROOM, &len) ==
+          S2U_MANY);
+    CHECK(len == 0);
+  }
+}
+
 int main(void) {
   check_the_cells_that_are_looked_into();
   check_edges_that_run_to_and_fro();
+  check_what_edges_touch_beside_a_cell_inside();
   check_as_many_as_edges_may_touch();
   return report();
 }
