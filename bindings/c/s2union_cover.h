@@ -622,10 +622,10 @@ static inline int32_t s2u_cover_add_shortest(s2u_cover_build* build, s2u_cover_l
 /* Adds the pieces of an edge after its beginning. */
 static inline int32_t s2u_cover_add_edge(s2u_cover_build* build, s2u_cover_list* to, size_t begin, const double* a,
                                        const double* b) {
+  if (S2U_IS_CANCELLED()) return S2U_MEMORY;
   if (!build->is_on_map) return s2u_cover_add_shortest(build, to, begin, a, b);
   double bend = s2u_cover_bend(a, b, build->tolerance / 4), pieces = s2u_cover_pieces(a, b, bend, build->tolerance);
   if (pieces > (double)(build->most - build->pieces)) return S2U_COVER_PIECES;
-  if (S2U_IS_CANCELLED()) return S2U_MEMORY;
   build->pieces += (uint64_t)pieces;
   build->bend = fmax(build->bend, bend / (pieces * pieces));
   for (double k = 1; k <= pieces; k++) {

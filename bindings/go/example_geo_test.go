@@ -1,10 +1,12 @@
 package s2union_test
 
 import (
+	"context"
 	"encoding/json"
 	"errors"
 	"fmt"
 	"strings"
+	"time"
 
 	s2union "s2union.example.org/s2union/bindings/go"
 )
@@ -58,6 +60,42 @@ func ExampleRegionCoverer_Covering() {
 	// Output:
 	// 47e66e04 47e66e1c 47e66e24 47e671d8c 47e671dd 47e671df 47e671e4 47e671fc <nil>
 	// true
+}
+
+func ExampleRegionCoverer_CoveringContext() {
+	ctx, cancel := context.WithTimeout(context.Background(), time.Minute)
+	circle := s2union.Circle{Center: s2union.Position{2.3522, 48.8566}, Radius: 1000}
+	fmt.Println(s2union.RegionCoverer{MaxCells: 4}.CoveringContext(ctx, circle))
+	cancel()
+	fmt.Println(s2union.RegionCoverer{MaxCells: 4}.CoveringContext(ctx, circle))
+	// Output:
+	// 47e66e1 47e66e24 47e671dc 47e671f <nil>
+	//  context canceled
+}
+
+func ExampleRegionCoverer_InteriorCoveringContext() {
+	box := s2union.Box{West: 2, South: 48, East: 3, North: 49}
+	fmt.Println(s2union.RegionCoverer{MaxCells: 4}.InteriorCoveringContext(context.Background(), box))
+	// Output: 47e5c 47e604 47e60c 47e674 <nil>
+}
+
+func ExampleRegionCoverer_CoveringsContext() {
+	box := s2union.Box{West: 2, South: 48, East: 3, North: 49}
+	fmt.Println(s2union.RegionCoverer{MaxCells: 4}.CoveringsContext(context.Background(), box))
+	// Output: 47e5 47e7 47e8b 47ef 47e5c 47e604 47e60c 47e674 <nil>
+}
+
+func ExampleCellUnion_OutlineContext() {
+	union, _ := s2union.CellUnionFromTokens("1")
+	shape, _ := union.OutlineContext(context.Background())
+	fmt.Printf("%.4f\n", shape.Polygons[0][0][:2])
+	// Output: [[-45.0000 -35.2644] [-22.6199 -42.7094]]
+}
+
+func ExampleCellUnion_ExpandedAtLevelContext() {
+	cells, _ := s2union.CellUnionFromTokens("3 9")
+	fmt.Println(cells.ExpandedAtLevelContext(context.Background(), 0))
+	// Output: 1 3 5 7 9 b <nil>
 }
 
 func ExampleRegionCoverer_InteriorCovering() {

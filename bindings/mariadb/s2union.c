@@ -2,12 +2,25 @@
  * BIGINT. docs/MARIADB.md says what each does. An argument of a wrong type is an error of the statement. A wrong value
  * answers NULL, since a user function can't end a statement once it has begun. */
 #include <mysql.h>
-#include <s2union.h>
-#include <s2union_cover.h>
 #include <s2union_host.h>
 #include <stdio.h>
 #include <stdlib.h>
 #include <string.h>
+
+/* Whether KILL or a limit of time has ended this thread's statement, as MariaDB says to its plugins; MySQL doesn't.
+ * While a covering is made, the library asks it before it takes memory, and the headers ask in their loops. */
+extern void* _current_thd(void) __attribute__((weak));
+extern int thd_killed(const void* thd) __attribute__((weak));
+extern void my_error(unsigned number, unsigned long flags, ...) __attribute__((weak));
+enum { QUERY_INTERRUPTED = 1317 };
+static int is_killed(void* of) {
+  const void* thd = of;
+  if (_current_thd && thd_killed && my_error) thd = _current_thd();
+  return thd && thd_killed(thd);
+}
+static const s2u_heap_asked killed = {is_killed, NULL};
+#define S2U_IS_CANCELLED() is_killed(NULL)
+#include <s2union_cover.h>
 
 typedef char flag; /* where the server hears whether the answer is NULL */
 
@@ -304,9 +317,15 @@ MAKER(s2_complement, "l", S2U_MOST_COMPLEMENT(a->n), s2u_complement(LIST_OF(0), 
 
 /* ---- coverings of shapes in WKB, at most 200 cells and of level 30 if nothing else is said */
 
+/* Whether a call had no error. If it was ended with the statement, that is an error, for NULL would be an answer. */
+static int is_made(int32_t status) {
+  if (status == S2U_MEMORY && is_killed(NULL)) my_error(QUERY_INTERRUPTED, 0);
+  return status == S2U_OK;
+}
+
 /* The file of cells, if their call had no error; they go. */
 static uint8_t* file_with(int32_t status, s2u_cover_cells* cells, size_t* len) {
-  uint8_t* file = status == S2U_OK ? file_of(cells->ids, cells->count, len) : NULL;
+  uint8_t* file = is_made(status) ? file_of(cells->ids, cells->count, len) : NULL;
   s2u_cover_free(cells);
   return file;
 }
@@ -315,8 +334,10 @@ static uint8_t* covering_of(const argument* a, unsigned count, int is_outer, siz
   const s2u_cover_options options = {count > 1 ? a[1].number : 200, 0, count > 2 ? a[2].number : 30, S2U_COVER_MAP, 0};
   s2u_cover_cells cells;
   s2u_cover_fault fault;
+  s2u_heap_ask(&killed);
   int32_t status = s2u_cover_wkb(a->bytes, a->size, &options, is_outer ? &cells : NULL, is_outer ? NULL : &cells,
                                  &fault);
+  s2u_heap_ask(NULL);
   return file_with(status, &cells, len);
 }
 
@@ -337,7 +358,7 @@ static uint8_t* expanded_of(const argument* a, size_t* len) {
 enum { LONGEST_BOX = 4 * LONGEST_DOUBLE + 8 };
 static char* bounds_of(const argument* a, size_t* len) {
   s2u_cover_bounds box;
-  if (s2u_cover_rect_bound(LIST_OF(0), &box) != S2U_OK || box.south > box.north) return NULL;
+  if (!is_made(s2u_cover_rect_bound(LIST_OF(0), &box)) || box.south > box.north) return NULL;
   char* text = malloc(LONGEST_BOX);
   if (text)
     *len = (size_t)snprintf(text, LONGEST_BOX, "[%.17g,%.17g,%.17g,%.17g]", box.west, box.south, box.east, box.north);

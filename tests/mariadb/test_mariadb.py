@@ -233,6 +233,23 @@ class BesideSqlite(MariadbServer):
         self.assertEqual(said, self.ask(f"SELECT hex(concat({', '.join(calls)}))"))
         self.assertNotIn("NULL", said)
 
+    def test_a_statement_is_killed(self):
+        """Inside of a call: it has ended before another one has, which begins then and has a fifth of its work."""
+        ring = [(0, 0), (30, 5), (40, 40), (10, 30), (-5, 20), (0, 0)]
+        call = f"SELECT length(s2_covering({shown(wkb_of(of_polygons([ring])))}, {{1}})) AS {{0}}"
+        running = "FROM information_schema.processlist WHERE info LIKE 'SELECT length(%AS killed'"
+        killed = subprocess.Popen(self.client, stdin=subprocess.PIPE, stdout=subprocess.PIPE, stderr=subprocess.PIPE,
+                                  text=True)
+        killed.stdin.write(f"USE trial; {call.format('killed', 1000000)}; SELECT 'goes on';\n")
+        killed.stdin.close()
+        while self.ask(f"SELECT count(*) {running}") != "1\n":
+            self.assertIsNone(killed.poll())
+        left = self.ask(f"USE trial; SET @id = (SELECT id {running}); EXECUTE IMMEDIATE concat('KILL QUERY ', @id);"
+                        f" {call.format('other', 200000)}; SELECT count(*) {running}").split()
+        self.assertEqual((int(left[0]) > 100000, left[1]), (True, "0"))
+        self.assertIn("Query execution was interrupted", killed.stderr.read())
+        killed.stdout.close(), killed.stderr.close(), killed.wait()
+
     def test_memory_goes_back_after_each_row(self):
         many = list(range(1, 160001, 8))
         self.ask(f"""USE trial; CREATE TABLE large (u longblob, w longblob, t longtext);
