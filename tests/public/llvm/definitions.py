@@ -131,10 +131,12 @@ class Words:
         (names, kind, _), *others = groups
         if names == [None]:
             premise = self.looked_at(kind, known, not claimed)
-            if z3.is_false(premise):
-                return TRUE
-        else:
-            known, premise = self.some(names, kind, known, claimed)
+            return TRUE if z3.is_false(premise) else self.then(premise, others, body, known, claimed)
+        ways = self.any_numbers(names, kind, known) if claimed else [(self.witnessed(names, kind, known), TRUE)]
+        return simple(z3.And([self.then(premise, others, body, names, claimed) for names, premise in ways]))
+
+    def then(self, premise, others, body, known, claimed):
+        """What follows from a premise."""
         self.premises.append(premise if claimed else TRUE)
         try:
             then = self.looked_at(("pi", others, body) if others else body, known, claimed)
@@ -152,29 +154,42 @@ class Words:
     def all_hold(self, parts, known, claimed):
         """Statements that all hold; those with a name say that there is such a number."""
         formulas = []
-        for name, kind in parts:
+        for place, (name, kind) in enumerate(parts):
             if name is None:
                 formulas.append(self.looked_at(kind, known, claimed))
+            elif claimed:
+                known = self.witnessed([name], kind, known)
             else:
-                known, condition = self.some([name], kind, known, not claimed)
-                formulas.append(condition)
-            if z3.is_false(formulas[-1]):
+                ways = self.any_numbers([name], kind, known)
+                formulas.append(z3.Or([z3.And(condition, self.all_hold(parts[place + 1:], names, claimed))
+                                       for names, condition in ways]))
+                break
+            if formulas and z3.is_false(formulas[-1]):
                 return FALSE
         return simple(z3.And(*formulas))
 
-    def some(self, names, kind, known, is_any):
-        """The names with numbers: any ones, or their witnesses; and what is known of these."""
+    def any_numbers(self, names, kind, known):
+        """The names with any numbers: one of 64 bits, or a greater one of which nothing else is known."""
         if kind != ("var", "ℕ"):
             raise self.unknown(f"a quantifier over {kind}")
-        known = dict(known)
+        ways = [(known, TRUE)]
         for name in names:
-            if is_any:
-                known[name] = numbers.variable(name, numbers.TOP)[0]
-            elif name in self.witnesses:
-                known[name] = self.value(antt.term(self.witnesses[name]), known)
-            else:
+            small, is_small = numbers.variable(name, 2**64 - 1)
+            great, _ = numbers.variable(name, numbers.TOP)
+            is_great = z3.UGE(great.bits, z3.BitVecVal(2**64, numbers.BITS))
+            ways = [({**others, name: number}, z3.And(condition, is_it)) for others, condition in ways
+                    for number, is_it in ((small, is_small), (great, is_great))]
+        return ways
+
+    def witnessed(self, names, kind, known):
+        """The names with their witnesses."""
+        if kind != ("var", "ℕ"):
+            raise self.unknown(f"a quantifier over {kind}")
+        for name in names:
+            if name not in self.witnesses:
                 raise self.unknown(f"a witness for {name}")
-        return known, TRUE
+            known = {**known, name: self.value(antt.term(self.witnesses[name]), known)}
+        return known
 
     def word_holds(self, word, arguments, known, claimed):
         """The formula for a word that makes a statement of its arguments."""

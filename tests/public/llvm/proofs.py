@@ -45,7 +45,7 @@ def prove_call(text, crates, name, plan):
     use("QF_AUFBV" if plan.arrays else "QF_BV")
     done = Proved([clause.name for clause in contract.ensures])
     for case in cases(contract, plan, fields):
-        begun = time.monotonic()
+        begun = time.process_time()
         machine = Machine(text, plan.named)
         if not is_possible(*case.state.given):
             raise Undecided(f"{name}: nothing fits the case {', '.join(case.names)}")
@@ -56,8 +56,8 @@ def prove_call(text, crates, name, plan):
         done.steps, done.obligations = done.steps + machine.steps, done.obligations + machine.proved
         for clause in contract.ensures:
             prove_clause(crates, name, plan, contract, clause, case, ways)
-            done.seconds[clause.name] += time.monotonic() - begun
-            begun = time.monotonic()
+            done.seconds[clause.name] += time.process_time() - begun
+            begun = time.process_time()
     return done
 
 

@@ -14,6 +14,12 @@ LEVELS = range(31)
 END = 6 * 2**61  # above all cells
 # What a definition makes of a number of 64 bits, and at most.
 APART = {"first_leaf": 2**63, "size_of": 4**30, "level_of": 30, "face_of": 2**63}
+# What is known of a cell by what a definition makes of it.
+CELL_FACTS = {
+    "size_of": lambda cell, size: size.bits == lowest(cell),
+    "first_leaf": lambda cell, first: first.bits + first.bits == cell.bits - lowest(cell),
+    "face_of": lambda cell, face: face.bits == z3.LShR(cell.bits, 61),
+}
 CELL_DEFINITIONS = {
     "IsCell": "(k : ℕ) × (m : ℕ) × IsCellAt k m n",
     "IsInside": "(x : ℕ) → covers b x ≡ true → covers a x ≡ true",
@@ -26,6 +32,12 @@ GREATEST = "(d : ℕ) → IsCell d → IsInside a d → IsInside b d → level_o
 def lowest(number):
     """The lowest bit of a number that is one."""
     return number.bits & -number.bits
+
+
+def same_order(level, other_level, size, other_size):
+    """The higher of two levels has the smaller cells."""
+    return z3.And(z3.ULE(level.bits, other_level.bits) == z3.UGE(size.bits, other_size.bits),
+                  z3.UGE(level.bits, other_level.bits) == z3.ULE(size.bits, other_size.bits))
 
 
 def is_cell(number):
@@ -66,34 +78,25 @@ class CellWords(Words):
 
     def set_apart(self, word):
         """A form of the word: a number that is known by the facts about its cell alone."""
-        return lambda number: self.numbers_of(number)[word]
+        return lambda number: self.number_of(word, number)
 
-    def numbers_of(self, number):
-        """What the words of APART make of a number of 64 bits, with the facts that are then known."""
-        key = str(number.bits)
-        if key not in self.apart:
-            found = {word: numbers.variable(word, most) for word, most in APART.items()}
-            of = {word: it for word, (it, _) in found.items()}
-            self.facts += [condition for _, condition in found.values()]
-            self.facts.append(z3.Implies(is_cell(number), z3.And(self.cell_facts(number, of))))
-            self.facts += [z3.Implies(z3.And(is_cell(number), is_cell(another)),
-                                      z3.And(self.order_fact(of, its), self.order_fact(its, of)))
-                           for another, its in self.apart.values()]
-            self.apart[key] = number, of
-        return self.apart[key][1]
+    def number_of(self, word, number):
+        """What the word makes of a number of 64 bits. The facts about it are then known."""
+        found = self.apart.setdefault(str(number.bits), (number, {}))[1]
+        if word not in found:
+            found[word], condition = numbers.variable(word, APART[word])
+            self.facts += [condition, z3.Implies(is_cell(number), self.fact(word, number, found))]
+        return found[word]
 
-    @staticmethod
-    def cell_facts(number, of):
-        """What is known of a cell, by the numbers that the words stand for."""
-        first, size, face = of["first_leaf"], of["size_of"], of["face_of"]
-        return [size.bits == lowest(number), first.bits + first.bits + size.bits == number.bits,
-                face.bits == z3.LShR(number.bits, 61)]
-
-    @staticmethod
-    def order_fact(one, other):
-        """The higher of two levels has the smaller cells."""
-        is_higher = z3.ULE(one["level_of"].bits, other["level_of"].bits)
-        return is_higher == z3.UGE(one["size_of"].bits, other["size_of"].bits)
+    def fact(self, word, number, of):
+        """What is known of a cell by a word."""
+        if word == "level_of":
+            others = [(another, self.number_of("size_of", another), its["level_of"])
+                      for another, its in self.apart.values() if another is not number and "level_of" in its]
+            size = self.number_of("size_of", number)
+            return z3.And([z3.Implies(is_cell(another), same_order(of[word], level, size, other_size))
+                           for another, other_size, level in others])
+        return CELL_FACTS[word](number, of[word])
 
     # ---- the forms
 
@@ -159,8 +162,8 @@ class CellWords(Words):
             prove(z3.ULE(self.word(word, [number]).bits, most), f"the greatest {word}")
             count += 1
         for level, other in itertools.product(LEVELS, LEVELS):
-            one, another = ({"level_of": constant(it), "size_of": constant(4 ** (30 - it))} for it in (level, other))
-            prove(self.order_fact(one, another), "the order of levels")
+            sizes = [constant(4 ** (30 - it)) for it in (level, other)]
+            prove(same_order(constant(level), constant(other), *sizes), "the order of levels")
             count += 1
         return count + prove_intervals()
 
@@ -185,8 +188,9 @@ class CellWords(Words):
         prove(is_cell(cell), "each number of the form is a cell", condition)
         witnesses = [self.word("level_of", [cell]), self.word("place_of", [cell])]
         prove(self.record_holds("IsCellAt", [*witnesses, cell], True), "the form is that of a cell", condition)
-        of = {word: self.word(word, [cell]) for word in ("first_leaf", "size_of", "level_of", "face_of")}
-        facts = [*self.cell_facts(cell, of), of["level_of"].bits == level, of["size_of"].bits == 4 ** (30 - level),
+        of = {word: self.word(word, [cell]) for word in APART}
+        facts = [*(fact(cell, of[word]) for word, fact in CELL_FACTS.items()), of["level_of"].bits == level,
+                 of["size_of"].bits == 4 ** (30 - level),
                  z3.ULE(of["first_leaf"].bits + of["size_of"].bits, 6 * 4**30)]
         for fact in facts:
             prove(fact, "a fact about cells", condition)
