@@ -1311,7 +1311,8 @@ static inline int32_t s2u_cover_check_opposite(const s2u_cover_shape* shape, s2u
   return S2U_OK;
 }
 
-/* The outer and the inner covering of a shape; either may be NULL. The caller frees their cells by s2u_cover_free, also
+/* The outer and the inner covering of a shape; either may be NULL. If both are, it is looked whether the shape is one, in
+ * time by its positions. The caller frees their cells by s2u_cover_free, also
  * after an error. Statuses are those above and of s2union.h; the fault says where what is wrong stands. */
 static inline int32_t s2u_cover(const s2u_cover_shape* shape, const s2u_cover_options* options, s2u_cover_cells* outer,
                                     s2u_cover_cells* inner, s2u_cover_fault* fault) {
@@ -1323,7 +1324,7 @@ static inline int32_t s2u_cover(const s2u_cover_shape* shape, const s2u_cover_op
   int32_t status = s2u_cover_check_options(options);
   if (status == S2U_OK) status = s2u_cover_check(shape, fault);
   if (status == S2U_OK && options->edges != S2U_COVER_MAP) status = s2u_cover_check_opposite(shape, fault);
-  if (status != S2U_OK || !shape->count) return status;
+  if (status != S2U_OK || !shape->count || (!outer && !inner)) return status;
   size_t* rings = (size_t*)calloc(2 * shape->count, sizeof(size_t));
   s2u_cover_polygon* polygons = (s2u_cover_polygon*)calloc(shape->count, sizeof *polygons);
   if (rings && polygons) {

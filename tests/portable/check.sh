@@ -167,8 +167,13 @@ step "Windows on ARM: compiled, not run" compiled_for aarch64-w64-windows-gnu ""
 
 # ---- wheels, and the library of the jar
 
+of_its_owner() { # WHEEL: no file in it is others' to write
+  /usr/bin/python3 -c 'import sys, zipfile
+sys.exit(any(it.external_attr >> 16 & 0o022 for it in zipfile.ZipFile(sys.argv[1]).infolist()))' "$1"
+}
 wheel() { # PLATFORM: unpacked, as $work/PLATFORM, with one module in it
-  mkdir "$work/$1" && /usr/bin/python3 -m zipfile -e "$made"/s2union-*-abi3-"$1".whl "$work/$1" &&
+  mkdir "$work/$1" && of_its_owner "$made"/s2union-*-abi3-"$1".whl &&
+    /usr/bin/python3 -m zipfile -e "$made"/s2union-*-abi3-"$1".whl "$work/$1" &&
     modules=("$work/$1"/s2union/_library.*[od]) && [ ${#modules[@]} = 1 ] && [ -s "${modules[0]}" ]
 }
 entry() { # COMMAND..: what it says of the module is its entry point alone

@@ -704,6 +704,7 @@ class Maps(unittest.TestCase):
         for words, text, wanted in ((("leaves",), "2 3\n\n2,35 4\n", "line 3 has no longitude .*: '2,35 4'\n"),
                                     (("leaves",), "7\n", "s2union_geo: line 1 has no longitude and latitude at .*'7'"),
                                     (("leaves",), "1 91\n", r"s2union_geo: line 1: a latitude .*comes first\): 91.0\n"),
+                                    (("leaves",), "1 1_0\n", "s2union_geo: line 1 has no longitude and .*'1 1_0'"),
                                     (("leaves",), "\nnan 1\n", "line 2: a longitude is from -540 to 540: nan\n"),
                                     (("geojson", "none"), "", "s2union_geo: .*'none'\n"), ((), "", "Points, polygons"),
                                     (("leaves", "more"), "", "Points, polygons")):

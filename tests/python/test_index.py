@@ -8,6 +8,9 @@ import json
 import os
 import pty
 import random
+import re
+import stat
+import struct
 import subprocess
 import sys
 import tempfile
@@ -18,7 +21,7 @@ import numpy
 import pytest
 import s2union_geo
 from s2union_geo import Index, index, tables
-from s2union_geo.__main__ import main
+from s2union_geo.__main__ import COMMANDS, main
 
 import docstrings
 from model import borders
@@ -267,6 +270,74 @@ class Files(unittest.TestCase):
             Index.load(self.path)
         self.assertRaises(OSError, Index.load, self.path + "none")
 
+    def test_a_strangers_shapes(self):
+        """What `Index` refuses of a shape, or its own files don't have, is refused before anything reads it further."""
+        def with_shape(shape):
+            Index([polygon(box(0, 0, 1, 1)), polygon(box(2, 2, 3, 3))], ["a", "b"]).save(self.path)
+            arrays = dict(numpy.load(self.path))
+            begin = arrays["ends"][0]
+            arrays["shape"] = numpy.concatenate([arrays["shape"][:begin], numpy.frombuffer(shape, "uint8")])
+            arrays["ends"][1] = begin + len(shape)
+            with open(self.path, "wb") as it:
+                numpy.savez(it, **arrays)
+
+        nested = struct.pack("<BII", 1, 7, 1)
+        point = struct.pack("<BIdd", 1, 1, 2.5, 2.5)
+        ring = struct.pack("<BIII8d", 1, 3, 1, 4, 0, 0, 1, 0, 1, 1, 0, 0)
+        numbers = numpy.frombuffer(ring[13:], "<f8")
+        no_polygon = "it has no polygons as `save` writes them"
+        for shape, reason in (
+                (nested * 50_000 + point, no_polygon), (nested + ring, no_polygon), (point, no_polygon),
+                (b"", no_polygon), (b"\0" + struct.pack(">II", 6, 0), no_polygon), (ring[:4], no_polygon),
+                (struct.pack("<BIII", 1, 3 | 1 << 29, 4326, 0), no_polygon), (struct.pack("<BII", 1, 1003, 0), no_polygon),
+                (struct.pack("<BII", 1, 6, 1) + nested * 50_000 + point, "the bytes are no WKB"),
+                (ring[:-1], "the bytes are no WKB"), (ring + b"x", "the bytes are no WKB"),
+                (ring[:13] + (numbers[:-2]).tobytes() + struct.pack("<dd", 0, 1), "a ring is open"),
+                (ring[:13] + (numbers * 541).tobytes(), "a longitude is from -540 to 540"),
+                (ring[:13] + (numbers * numpy.nan).tobytes(), "a longitude is from -540 to 540")):
+            with_shape(shape)
+            with self.assertRaises(ValueError) as found:
+                Index.load(self.path)
+            self.assertRegex(str(found.exception), f"^{re.escape(self.path)} is no index: zone 'b': {reason}")
+            status, out, error = said("join", "-", self.path, text=b"2.5,2.5\n")
+            self.assertEqual((status, out, error), (1, "", f"s2union_geo: {found.exception}\n"))
+        with_shape(ring)
+        self.assertEqual(Index.load(self.path).find(0.5, 0.5), ["a"])
+
+    def test_what_is_no_regular_file(self):
+        """A file that a link leads to is replaced, and the link stays; a pipe gets the bytes; else nothing is changed."""
+        made, folder = Index([polygon(box(0, 0, 1, 1))], ["a"]), os.path.dirname(self.path)
+        os.mkdir(os.path.join(folder, "there"))
+        for target in "there/zones", "there/zones", os.path.join(folder, "there", "others"):  # the second is there
+            with contextlib.suppress(FileNotFoundError):
+                os.remove(self.path)
+            os.symlink(target, self.path)
+            made.save(self.path)
+            self.assertEqual((os.readlink(self.path), Index.load(self.path).names), (target, ["a"]))
+        self.assertEqual(sorted(os.listdir(os.path.join(folder, "there"))), ["others", "zones"])
+        os.remove(self.path)
+        os.mkfifo(self.path)
+        with open(self.path, "r+b", 0) as pipe:
+            made.save(self.path)
+            wanted = os.read(pipe.fileno(), 65536)
+        self.assertTrue(stat.S_ISFIFO(os.stat(self.path).st_mode))
+        self.assertRaisesRegex(IsADirectoryError, "there", made.save, os.path.join(folder, "there"))
+        self.assertEqual(sorted(os.listdir(folder)), ["there", "zones"])
+        os.remove(self.path)
+        with open(self.path, "wb") as it:
+            it.write(wanted)
+        self.assertEqual(Index.load(self.path).names, ["a"])
+        zones, number = zones_file(folder), os.stat("/dev/null").st_rdev
+        for path, reason in ("/dev/null", None), ("/dev/full", "No space left on device"):
+            if reason is None:
+                made.save(path)
+            else:
+                self.assertRaisesRegex(OSError, reason, made.save, path)
+        self.assertEqual(os.stat("/dev/null").st_rdev, number)
+        done = subprocess.run([sys.executable, "-m", "s2union_geo", "index", zones, "/dev/stdout"], capture_output=True,
+                              check=False)
+        self.assertEqual((done.returncode, done.stdout[:2], done.stdout[-8:]), (0, b"PK", b"2 zones\n"))
+
     def test_objects_of_python_are_not_made(self):
         """What a file says to call is not called."""
         made = self.path + ".made"
@@ -373,14 +444,21 @@ def test_an_index_as_zones(zones, tmp_path):
         0, "caf\udce9,lon,lat,zone\n\udcff,1,1,a\n")
 
 
+POINT = '{"type": "Feature", "geometry": {"type": "Point", "coordinates": [2, 3]}'
 WRONG = [
     ("id,lon,lat\n1,2,3\n4,x,3\n", "line 3 has no degrees: 'x' and '3'"),
     ("id,lon,lat\n1,2,3\n4,,\n", "line 3 has no degrees: '' and ''"),
     ("id,lon,lat\n1,2,3\n\n5,3,99\n", "line 4: a latitude is from -90 to 90 (the longitude comes first): 99"),
     ("id,lon,lat\n1,2,3\n5,nan,9\n", "line 3: a longitude is from -540 to 540: nan"),
+    ("id,lon,lat\n1,2,3\n5,1_0,9\n", "line 3 has no degrees: '1_0' and '9'"),
+    ("id,lon,lat\n1,2, 3\u00a0\n5,1,\u0663\n", "line 3 has no degrees: '1' and '\u0663'"),
     ("id,lon,lat\n1,2,3\n5,\"3\n3\"\n", "line 4 has 2 columns, and the first has 3"),
     ('{"type": "FeatureCollection", "features": [{"type": "Feature", "properties": {"lon": 5}, "geometry": '
      '{"type": "Point", "coordinates": [2, 3]}}, {"type": "Feature", "geometry": null}]}', "feature 1 has no point"),
+    (f'{POINT}, "properties": {{"k": "\\ud83d\\ude00"}}}}\n{POINT}, "properties": {{"k": "\\ud800"}}}}',
+     "line 2 has a property with half of a pair of surrogates"),
+    (f'{POINT}}}\n{POINT}, "properties": {{"k": ["\\udc80"], "l": "\\udc80"}}}}',
+     "line 2 has a property with half of a pair of surrogates"),
     ('\x1e{"type": "Feature", "geometry": null}\n'
      '\x1e{"type": "Feature", "geometry": {"type": "Point", "coordinates": [2, 3]}}\n', "line 1 has no point"),
 ]
@@ -393,6 +471,26 @@ def test_rows_that_are_wrong(zones, text, wanted):
     assert (status, error) == (1, f"s2union_geo: {wanted}; --skip leaves it out\n")
     status, out, error = said("join", "-", zones, "--skip", text=text.encode())
     assert (status, error, out.count("\n")) == (0, f"s2union_geo: left out: {wanted}\n", 2)
+
+
+def test_half_of_a_pair_of_surrogates(tmp_path, zones):
+    """In a name it ends the command, with the place; no file in UTF-8 has it."""
+    half = "half of a pair of surrogates"
+    features = '{"type": "Feature", "geometry": null, "properties": {"k": "a"}}\n'
+    path, kept = tmp_path / "halves", tmp_path / "kept"
+    path.write_text(features + features.replace("a\"}", "\\ud800\"}"))
+    Index([None], ["\ud800"]).save(kept)
+    for words, text, reason in ((["-", zones], f'{POINT}, "properties": {{"\\ud800": 1}}}}', f"line 1 has {half} in the "
+                                 "name of a property: '\\ud800'"),
+                                (["-", str(path), "--name", "k"], "1,1\n", f"line 2 of the zones has {half} in its "
+                                 "property 'k': '\\ud800'"),
+                                (["-", str(kept)], "1,1\n", f"{kept}: a zone has {half} in its name: '\\ud800'")):
+        assert said("join", *words, "--skip", text=text.encode()) == (1, "", f"s2union_geo: {reason}\n")
+
+
+def test_a_command_without_memory(monkeypatch):
+    monkeypatch.setitem(COMMANDS, "geojson", lambda files, dissolve: [0] * sys.maxsize)
+    assert main(["geojson", "x"]) == "s2union_geo: there is no memory"
 
 
 def test_what_a_terminal_shows(zones):

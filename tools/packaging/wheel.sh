@@ -26,4 +26,11 @@ chmod -R u=rwX,go=rX "$work"/s2union*
 chmod 644 "$work"/s2union*/*
 printf '[bdist_wheel]\nplat_name = %s\npy_limited_api = %s\n' "$platform" "$python" >"$work/setup.cfg"
 /usr/bin/python3 -m build --wheel --no-isolation --skip-dependency-check --outdir "$work/dist" "$work"
+python3 - "$work"/dist/*.whl <<'PYTHON' # as all its files, RECORD isn't its group's to write
+import sys, zipfile
+with zipfile.ZipFile(sys.argv[1], "a") as wheel:
+    for it in wheel.infolist():
+        it.external_attr &= ~(0o022 << 16)
+    wheel.comment = wheel.comment  # so that the list of files is written again
+PYTHON
 mv "$work"/dist/*.whl "$folder/"

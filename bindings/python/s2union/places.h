@@ -180,13 +180,13 @@ static PyObject* covered(Covered* it) {
   return answer;
 }
 
-/* Which coverings are wanted: 1 the outer, 2 the inner, 3 both. */
+/* Which coverings are wanted: 1 the outer, 2 the inner, 3 both; of 0 the shape is looked at. */
 static bool as_which(PyObject* given, Covered* it, s2u_cover_cells** outer, s2u_cover_cells** inner) {
   uint64_t which;
   memset(it, 0, sizeof *it);
-  if (!as_number(given, "which", 1, 3, &which)) return false;
-  *outer = which != 2 ? &it->outer : NULL;
-  *inner = which != 1 ? &it->inner : NULL;
+  if (!as_number(given, "which", 0, 3, &which)) return false;
+  *outer = which & 1 ? &it->outer : NULL;
+  *inner = which & 2 ? &it->inner : NULL;
   return true;
 }
 

@@ -46,7 +46,7 @@ from s2union import CellUnion, tokens
 
 from . import Index, coverings, leaves, read_geojson, to_geojson
 from .places import MOST, range_of
-from .tables import Options, features_of, read_points
+from .tables import Options, features_of, is_text, number_in, read_points
 
 # Two words with a comma between them and a comma after them, if anything; or with blanks there.
 POINT = re.compile(r"\s*([^\s,]+)(?:\s*,\s*([^\s,]+)\s*(?:,|$)|\s+([^\s,]+)(?:\s|$))")
@@ -57,7 +57,7 @@ def point_of(line, number):
     """The longitude and the latitude with which a line begins."""
     found = POINT.match(line)
     try:
-        longitude, latitude = (float(word) for word in found.groups() if word is not None)
+        longitude, latitude = (number_in(word) for word in found.groups() if word is not None)
     except (AttributeError, ValueError):
         raise ValueError(f"line {number} has no longitude and latitude at its beginning, with a comma or a blank "
                          f"between them: {line.strip()[:99]!r}") from None
@@ -182,7 +182,11 @@ def read_zones(path, name, max_cells, wrong):
     """The index of a file of zones, or one that is a file already."""
     with opened(path) as file:
         if file.peek(2)[:2] == b"PK" and path != "-":
-            return Index.load(path)
+            made = Index.load(path)
+            bad = next((name for name in made.names if not is_text(str(name))), None)
+            if bad is not None:
+                raise ValueError(f"{path}: a zone has half of a pair of surrogates in its name: {bad!r}")
+            return made
         text = io.TextIOWrapper(file, "utf-8-sig")
         try:
             features = list(features_of(text.readline(), text))
@@ -200,6 +204,8 @@ def name_of(where, feature, name):
     found = properties.get(name) if isinstance(properties, dict) else None
     if not isinstance(found, (str, int, float)):
         raise ValueError(f"{where} of the zones has no property {name!r} that is a text or a number")
+    if not is_text(str(found)):
+        raise ValueError(f"{where} of the zones has half of a pair of surrogates in its property {name!r}: {found!r}")
     return found
 
 
@@ -294,6 +300,8 @@ def main(words):
     except BrokenPipeError:  # the reader of the pipe has ended
         os.dup2(os.open(os.devnull, os.O_WRONLY), sys.stdout.fileno())
         return 141  # as of a program that SIGPIPE ends
+    except MemoryError:
+        return "s2union_geo: there is no memory"
     except (OSError, ValueError, KeyError, TypeError, ImportError) as error:
         return f"s2union_geo: {error}"
 

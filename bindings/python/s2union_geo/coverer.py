@@ -13,7 +13,7 @@ from .reading import Shape, said_of, shape_of, wkb_of
 MOST_CELLS = 1_000_000
 USUAL = 200
 EDGES = {"map": 0, "geodesic": 1, "left": 2}
-OUTER, INNER, BOTH = 1, 2, 3
+NONE, OUTER, INNER, BOTH = 0, 1, 2, 3
 
 
 def covering(shape: Any, max_cells: int | None = None, max_level: int = 30, *, min_level: int = 0,
@@ -240,6 +240,13 @@ def circle(longitude: float, latitude: float, radius: float, max_cells: int | No
     return _unions(_library.coverings_of_circle(*place, meters, options, BOTH), None)
 
 
+def look_at_wkb(wkb: bytes) -> None:
+    """An error if `covering` would refuse these bytes, in time by their number."""
+    answer = _library.coverings_of_wkb(wkb, _USUAL_OPTIONS, NONE)
+    if len(answer) > 2:
+        _unions(answer, None)
+
+
 def _options(max_cells: int | None, max_level: int, min_level: int, within: float | None, margin: float,
              edges: str) -> Any:
     deepest = _number(max_level, 30, "max_level")
@@ -259,6 +266,9 @@ def _options(max_cells: int | None, max_level: int, min_level: int, within: floa
     usual = USUAL if within is None else MOST_CELLS
     most = usual if max_cells is None else _number(max_cells, MOST_CELLS, "max_cells")
     return most, least, deepest, EDGES[edges], meters
+
+
+_USUAL_OPTIONS = (USUAL, 0, 30, EDGES["map"], 0.0)
 
 
 def _number(value: Any, most: int, what: str) -> int:

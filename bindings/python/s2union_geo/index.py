@@ -3,6 +3,7 @@
 from __future__ import annotations
 
 import functools
+import io
 import json
 import math
 import os
@@ -13,7 +14,7 @@ from typing import Any, Iterator
 import numpy
 from s2union import CellUnion, range_maxes, range_mins
 
-from .coverer import covering, interior
+from .coverer import covering, interior, look_at_wkb
 from .places import MOST, leaf
 from .reading import parsed, polygons_of, wkb_of
 from .sphere import leaves
@@ -330,7 +331,8 @@ class Index:
         Parameters
         ----------
         path : str or path
-            A file. One that is there is replaced when the new one is whole.
+            A file. One that is there is replaced when the new one is whole, also where a link leads to it. A pipe or a
+            device is written into.
 
         Raises
         ------
@@ -359,7 +361,13 @@ class Index:
                   "shape": numpy.frombuffer(b"".join(self._shapes), "uint8"),
                   "ends": numpy.cumsum([len(shape) for shape in self._shapes], dtype="int64"),
                   "names": numpy.frombuffer(text, "uint8")}
-        written = f"{os.fspath(path)}.{os.urandom(8).hex()}.new"
+        if os.path.exists(path) and not os.path.isfile(path):
+            numpy.savez(whole := io.BytesIO(), **arrays)
+            with open(path, "wb") as file:
+                file.write(whole.getbuffer())
+            return
+        path = os.path.realpath(path)  # a link stays
+        written = f"{path}.{os.urandom(8).hex()}.new"
         try:
             with open(written, "xb") as file:
                 numpy.savez(file, **arrays)
@@ -399,7 +407,7 @@ class Index:
         Raises
         ------
         ValueError
-            The file is no index.
+            The file is no index, or `Index` would refuse a shape in it.
         OSError
             The file can't be read.
 
@@ -435,6 +443,8 @@ class Index:
         text = shape.tobytes()
         self._spans = spans.reshape(-1, 2)
         self._shapes = [text[a:b] for a, b in zip([0, *ends.tolist()], ends.tolist())]
+        for name, wkb in zip(names, self._shapes):
+            _look_at(wkb, name)
         self._arrange(cell, begin.astype("int64"), zone.astype("int64"), sure, None)
         return self
 
@@ -519,6 +529,17 @@ def _span_of(wkb: bytes) -> tuple[float, float]:
             longitudes.append(numpy.frombuffer(wkb, "<f8", numbers * corners, at + 4)[::numbers])
             at += 4 + 8 * numbers * corners
     return (min(it.min() for it in longitudes), max(it.max() for it in longitudes)) if longitudes else (0, 0)
+
+
+def _look_at(wkb: bytes, name: Any) -> None:
+    """An error if these bytes of a file aren't polygons in such binary."""
+    kind, = struct.unpack_from("<I", wkb, 1) if len(wkb) > 4 else (0,)
+    if wkb[:1] != b"\1" or kind & 0x3fffffff not in (3, 6):  # of 3D and more, the first two bits
+        raise ValueError(f"zone {name!r}: it has no polygons as `save` writes them")
+    try:
+        look_at_wkb(wkb)
+    except ValueError as error:
+        raise ValueError(f"zone {name!r}: {error}") from None
 
 
 def _check(predicate: str) -> None:

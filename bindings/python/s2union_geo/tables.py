@@ -161,9 +161,25 @@ def _columns(names: list[str], options: Options) -> tuple[int, int]:
     return found[0], found[1]
 
 
+def number_in(word: str) -> float:
+    """A number of a text, which has digits of ASCII alone and nothing between them."""
+    word = word.strip()
+    if "_" in word or not word.isascii():
+        raise ValueError(f"{word!r} is no number")
+    return float(word)
+
+
 def _number(word: str) -> float:
-    """A number of a text, which may have a comma for its point."""
-    return float(word if "," not in word or "." in word else word.replace(",", "."))
+    """The same, which may have a comma for its point."""
+    return number_in(word if "," not in word or "." in word else word.replace(",", "."))
+
+
+def is_text(text: str) -> bool:
+    """Whether a text can be written. JSON may have one half of a pair of surrogates, which can't."""
+    try:
+        return text.encode() is not None
+    except UnicodeEncodeError:
+        return False
 
 
 def _parts(rows: Any, columns: tuple[int, int], wrong: Callable[[str], None]) -> Iterator[Part]:
@@ -197,6 +213,10 @@ def _of_features(features: Any, wrong: Callable[[str], None]) -> Any:
     begin = [next(features, None) for _ in range(AT_ONCE)]
     begin = [it for it in begin if it is not None]
     names = list(dict.fromkeys(name for _, feature in begin for name in _properties(feature)))
+    bad = next((name for name in names if not is_text(name)), None)
+    if bad is not None:
+        where = next(where for where, feature in begin if bad in _properties(feature))
+        raise ValueError(f"{where} has half of a pair of surrogates in the name of a property: {bad!r}")
     rows = _rows_of(chain(begin, features), names, wrong)
     return ["longitude", "latitude", *names], _parts(rows, (0, 1), wrong)
 
@@ -218,7 +238,11 @@ def _rows_of(features: Any, names: list[str], wrong: Callable[[str], None]) -> I
         if not properties.keys() <= known:
             wrong(f"{where} has a property that no earlier one has: {min(properties.keys() - known)!r}")
             continue
-        yield where, [*map(repr, place[:2]), *(_text(properties.get(name)) for name in names)]
+        row = [*map(repr, place[:2]), *(_text(properties.get(name)) for name in names)]
+        if not is_text("".join(row)):
+            wrong(f"{where} has a property with half of a pair of surrogates")
+            continue
+        yield where, row
 
 
 def _text(value: Any) -> str:
