@@ -176,7 +176,7 @@ func (rc RegionCoverer) Covering(region Region) (CellUnion, error) {
 }
 
 // CoveringContext is Covering until a context is done, whose error it then answers within about a second; on other
-// systems than Linux when the work is done. Since 1.5.
+// systems than Linux when the work is done. Since 1.4.1.
 func (rc RegionCoverer) CoveringContext(ctx context.Context, region Region) (CellUnion, error) {
 	var outer C.s2u_cover_cells
 	err := rc.cover(ctx, region, &outer, nil)
@@ -189,7 +189,7 @@ func (rc RegionCoverer) InteriorCovering(region Region) (CellUnion, error) {
 	return rc.InteriorCoveringContext(context.Background(), region)
 }
 
-// InteriorCoveringContext is InteriorCovering until a context is done, as CoveringContext. Since 1.5.
+// InteriorCoveringContext is InteriorCovering until a context is done, as CoveringContext. Since 1.4.1.
 func (rc RegionCoverer) InteriorCoveringContext(ctx context.Context, region Region) (CellUnion, error) {
 	var inner C.s2u_cover_cells
 	err := rc.cover(ctx, region, nil, &inner)
@@ -201,7 +201,7 @@ func (rc RegionCoverer) Coverings(region Region) (outer, inner CellUnion, err er
 	return rc.CoveringsContext(context.Background(), region)
 }
 
-// CoveringsContext are Coverings until a context is done, as CoveringContext. Since 1.5.
+// CoveringsContext are Coverings until a context is done, as CoveringContext. Since 1.4.1.
 func (rc RegionCoverer) CoveringsContext(ctx context.Context, region Region) (outer, inner CellUnion, err error) {
 	var outside, inside C.s2u_cover_cells
 	err = rc.cover(ctx, region, &outside, &inside)
@@ -361,7 +361,7 @@ func (cu CellUnion) Outline() (Shape, error) {
 	return cu.OutlineContext(context.Background())
 }
 
-// OutlineContext is Outline until a context is done, as CoveringContext of a RegionCoverer. Since 1.5.
+// OutlineContext is Outline until a context is done, as CoveringContext of a RegionCoverer. Since 1.4.1.
 func (cu CellUnion) OutlineContext(ctx context.Context) (Shape, error) {
 	lines, ends, err := cu.rings(ctx, func(at *C.uint64_t, n C.size_t, rings *C.s2u_geo_rings) C.int32_t {
 		return C.s2u_geo_outline(at, n, rings)
@@ -410,7 +410,7 @@ func (cu CellUnion) rings(ctx context.Context,
 	return lines, ends, nil
 }
 
-// ExpandedAtLevelContext is ExpandedAtLevel until a context is done, as CoveringContext of a RegionCoverer. Since 1.5.
+// ExpandedAtLevelContext is ExpandedAtLevel until a context is done, as CoveringContext of a RegionCoverer. Since 1.4.1.
 func (cu CellUnion) ExpandedAtLevelContext(ctx context.Context, level int) (CellUnion, error) {
 	var cells C.s2u_cover_cells
 	at, n := pointerTo(cu.ids)

@@ -136,7 +136,7 @@ class Frame:
         .. versionadded:: 1.2
         .. versionchanged:: 1.4
             An `Index` that was made before.
-        .. versionchanged:: 1.5
+        .. versionchanged:: 1.4.1
             ``predicate``.
 
         Parameters

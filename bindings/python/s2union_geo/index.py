@@ -138,7 +138,7 @@ class Index:
         """The names of the zones that contain a point.
 
         .. versionadded:: 1.4
-        .. versionchanged:: 1.5
+        .. versionchanged:: 1.4.1
            ``predicate``.
 
         Parameters
@@ -189,7 +189,7 @@ class Index:
         """Each pair of a point and a zone that contains it.
 
         .. versionadded:: 1.4
-        .. versionchanged:: 1.5
+        .. versionchanged:: 1.4.1
            ``predicate``.
 
         Parameters
