@@ -25,6 +25,11 @@ def signature_of(head):
     return head[:min([found.start() for found in CLAUSE.finditer(head)], default=len(head))]
 
 
+def name_of(clause):
+    """The name of a clause; what it is, if it has none."""
+    return clause[0].rstrip("{ ").removeprefix("ensures ")
+
+
 @dataclass
 class Call:
     """A public function, or a method of a public type."""
@@ -193,8 +198,7 @@ class Contracts:
         for clause in CLAUSE.finditer(call.head):
             end = closing(call.head, clause.end() - 1)
             inner = SELF.sub("this", call.head[clause.end():end - 1])
-            name = clause[0].rstrip("{ ").removeprefix("ensures ")
-            found.append((name, f"\n    {clause[0]}{self.clause(call.source, inner, bound, keys)}}}"))
+            found.append((name_of(clause), f"\n    {clause[0]}{self.clause(call.source, inner, bound, keys)}}}"))
         return [("head", text), *found], keys
 
     def words(self):

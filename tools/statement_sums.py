@@ -3,12 +3,13 @@
 For each crate a line has the number of its public contracts, of the definitions that public contracts need, and a
 checksum of all these with the sentences above them. Then each contract has a line with the checksum of its head and of
 each clause, and each definition one with its own. A definition is one of specs/, a type, a trait or a constant, or what
-a type is as one of a trait. tools/statement writes the file, and compares it.
+a type is as one of a trait, with the clauses of its methods. tools/statement writes the file, and compares it.
 """
 import hashlib
 import re
 
-from definitions import comment_above, source_module, without_parameters
+from compiled_contracts import name_of
+from definitions import CLAUSE, closing, comment_above, source_module, without_parameters
 
 HEAD = """\
 # Made by tools/statement: of each crate the public contracts, each with the checksums of its head and of its clauses,
@@ -30,18 +31,28 @@ class Sums:
         for call in contracts.calls:
             self.add_contract(call)
         of_module = {item.key: item for item in self.compiled.items}
-        keys = {**self.house.closure(self.house.public_roots()), **dict.fromkeys([*given, *self.impls()])}
-        for key in keys:
-            self.add_definition(self.house.items[key], key in of_module)
+        impls = {key: impl for key, *impl in self.impls()}
+        for key in {**self.house.closure(self.house.public_roots()), **dict.fromkeys(given), **impls}:
+            self.add_definition(self.house.items[key], key in of_module, self.of_methods(*impls.get(key, ())))
 
     def impls(self):
-        """The keys of what exported types are as those of a trait, of the kit or of a crate that hands it out."""
+        """What exported types are as those of a trait, of the kit or of a crate that hands it out: the key of each
+        impl, and where it stands."""
         for crate in self.promises:
             for source in self.house.sources[crate]:
                 for piece in source.pieces:
                     named = re.search(r"(\w+)(?:<[^{]*>)? for (\w+)", without_parameters(piece.head))
                     if piece.kind == "impl" and named and named[1] != "Model" and self.house.shows(source, piece):
-                        yield (crate, "impl", f"{named[1]} for {named[2]}")
+                        yield (crate, "impl", f"{named[1]} for {named[2]}"), source, piece
+
+    @staticmethod
+    def of_methods(source=None, impl=None):
+        """The clauses of the methods of an impl, by the method and their name."""
+        for method in [inner for inner in impl.inner if inner.kind == "fn"] if impl else []:
+            for clause in CLAUSE.finditer(source.blank, method.start, method.body):
+                text = source.text[clause.start():closing(source.blank, clause.end() - 1)]
+                uses = sorted(map(str, source.uses(text)))
+                yield f"{method.name} {name_of(clause)}", "\n".join([text, *uses])
 
     def put(self, crate, label, parts, sentence):
         if crate in self.promises:
@@ -56,8 +67,8 @@ class Sums:
         label = f"{source_module(call.source.file)} {call.name}"
         self.put(call.source.crate, label, parts, comment_above(call.source.text, call.piece.start))
 
-    def add_definition(self, item, is_of_module):
-        """Adds what isn't a function: that has its contract."""
+    def add_definition(self, item, is_of_module, clauses):
+        """Adds what isn't a function: that has its contract. An impl may have clauses."""
         crate, kind, name = item.key if len(item.key) == 3 else (item.key[0].split(".")[1], "", item.key[1])
         if kind == "fn":
             return
@@ -68,7 +79,7 @@ class Sums:
             uses = sorted(map(str, item.uses))
             text = "\n".join([self.house.value_of(item.key) or re.sub(r" *//[^\n]*", "", item.text), *uses])
             label = f"{source_module(item.file) if kind else item.key[0].partition('.specs.')[2]} {name}"
-        self.put(crate, label, [("", text)], item.sentence)
+        self.put(crate, label, [("", text), *clauses], item.sentence)
 
     def text(self):
         """The text of docs/statement.sums."""
