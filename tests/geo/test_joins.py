@@ -1,9 +1,11 @@
 """Exact joins in PostgreSQL by `s2_join_table`, beside a plain loop over edges and PostGIS, on the server of PGHOST."""
 import json
 import random
+import re
 import subprocess
 import unittest
 
+from model.changes import random_changes
 from model.zones import box, plain_pairs, polygon, some_points, some_zones
 
 
@@ -160,3 +162,35 @@ class Joins(unittest.TestCase):
                               " GROUP BY x ORDER BY x; ROLLBACK"),  # which crosses itself at (4.5, 4.5)
                          [f"{x}|{int(x in (1, 2, 7, 8))}" for x in range(1, 9)])
         self.assertEqual(pairs_of(ZONES), self.wanted)  # what failed has changed nothing
+
+    def test_7_random_changes_by_four_transactions(self):
+        """At once on a table and on a partition. Then ST_Covers finds the same zones of places off their borders."""
+        psql("""
+            CREATE TABLE plain (id int PRIMARY KEY, x float8, y float8, geom geometry GENERATED ALWAYS AS
+                (ST_Buffer(ST_SetSRID(ST_MakePoint(x, y), 4326), 1 + x / 9, 5)) STORED);
+            CREATE TABLE whole (LIKE plain INCLUDING ALL) PARTITION BY RANGE (id);
+            CREATE TABLE part PARTITION OF whole FOR VALUES FROM (0) TO (50);
+            CREATE TABLE rest PARTITION OF whole DEFAULT;
+            SELECT s2_join_table('plain', level => 9), s2_join_table('part'), s2_join_table('rest', level => 5);
+        """)
+        chance = random.Random(1130)
+        scripts = [random_changes(chance, 100, ("plain", "whole"), {"whole": ("part", 0, 50)}, "geom")
+                   for _ in range(4)]
+        sessions = [subprocess.Popen(["psql", "-XAqt", "-d", "joins"], stdin=subprocess.PIPE, text=True,
+                                     stdout=subprocess.DEVNULL, stderr=subprocess.PIPE) for _ in scripts]
+        for session, script in zip(sessions, scripts):
+            session.stdin.write(script)
+            session.stdin.close()
+        said = [line for session in sessions for line in session.stderr]
+        self.assertEqual({session.wait() for session in sessions}, {0})
+        expected = "deadlock|duplicate key|could not serialize|constraint|partition|aborted|no longer fit"
+        self.assertEqual([line for line in said if "ERROR" in line and not re.search(expected, line)], [])
+        places = ("(SELECT ST_SetSRID(ST_Point(i * 0.371, j * 0.413), 4326) AS at"
+                  " FROM generate_series(-5, 35) AS i, generate_series(-5, 30) AS j) AS p")
+        for table in "plain", "part", "rest":
+            found = pairs = f"SELECT ST_X(at), ST_Y(at), z.id FROM {places}"
+            found += f", {table}_at(at) AS z"
+            pairs += f" JOIN {table} AS z ON ST_Covers(geom, at)"
+            self.assertEqual(psql(f"SELECT count(*) FROM (({found}) EXCEPT ALL ({pairs})) AS d;"
+                                  f"SELECT count(*) FROM (({pairs}) EXCEPT ALL ({found})) AS d"), ["0", "0"], table)
+        self.assertGreater(int(psql(f"SELECT count(*) FROM {places}, plain_at(at)")[0]), 100)

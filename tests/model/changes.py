@@ -14,10 +14,10 @@ def random_change(chance, table):
         " ON CONFLICT DO NOTHING"])
 
 
-def random_changes(chance, rounds, tables, partitions):
+def random_changes(chance, rounds, tables, partitions, shape="shape"):
     """Transactions of one to four of them on some tables, a third undone. Some empty a table, or a partition of it, of
     which `partitions` has the name, the least key and the first that it doesn't have; or take that partition away for a
-    moment; or make the tiles anew."""
+    moment; or make the tiles of the column `shape` anew."""
     script = []
     for _ in range(rounds):
         level = chance.choice(["READ COMMITTED", "READ COMMITTED", "REPEATABLE READ"])
@@ -36,7 +36,7 @@ def random_changes(chance, rounds, tables, partitions):
                 f"ALTER TABLE {table} ATTACH PARTITION {partition} FOR VALUES FROM ({least}) TO ({end})"]
         elif rare in (5, 6):
             level = "READ COMMITTED"
-            changes = [f"SELECT s2_join_table('{partition or table}', 'shape')"]
+            changes = [f"SELECT s2_join_table('{partition or table}', '{shape}')"]
         end_of_it = chance.choice(["COMMIT", "COMMIT", "ROLLBACK"])
         script += [f"BEGIN ISOLATION LEVEL {level}", *changes, end_of_it]
     return ";\n".join(script) + ";\n"

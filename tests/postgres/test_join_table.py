@@ -381,6 +381,9 @@ class InStep(Joined):
         self.assertEqual(self.at(1), ["1", "3"])
         ask("REASSIGN OWNED BY guest TO clerk; INSERT INTO maps.zones VALUES (4, rectangle(1, 5))")
         self.assertEqual(self.at(1), ["1", "3", "4"])
+        for each in "TABLE maps.zones", "TABLE maps.zones_tiles", "FUNCTION maps.zones_key":
+            ask(f"ALTER {each} OWNER TO keeper")  # all but the triggers' function, whose rights clerk gave away else
+            self.assert_refused("INSERT INTO maps.zones VALUES (5, rectangle(1, 5))", "no longer fit")
 
     def test_other_triggers_and_keys_that_change_places(self):
         self.zones(key="int", keys=(1, 2))
