@@ -181,8 +181,8 @@ class Paths(unittest.TestCase):
                 yield f"SELECT {'* FROM ' * (rows == 't')}own.{name}({', '.join(values)})"
 
     def said(self, script):
-        """What the server says of a script, for a caller who has the twins in the path and one who hasn't. Neither has the
-        schema of the extensions there."""
+        """What the server says of a script, for a caller who has the twins in the path and one who hasn't. Neither has
+        the schema of the extensions there."""
         said = [subprocess.run([*PSQL[:2], "-d", "strange"], input=f"SET search_path = {path};\n{script}",
                                capture_output=True, text=True, check=False)
                 for path in ("pg_catalog", "twins, pg_catalog")]
