@@ -7,7 +7,7 @@ import z3
 
 from memory import UNWRITTEN, Memory, Pointer, Thing, as_bits
 from natural import fresh
-from solver import Refuted, Undecided, is_possible, literal, prove
+from solver import Refuted, Undecided, is_possible, literal, lowest_one, prove
 from text import CASE, Unknown, arguments_of, fields_of, size_of, width
 
 MOST_STEPS = 2_000_000
@@ -352,7 +352,9 @@ def zeros_at_front(value):
 
 def zeros(value, is_at_end):
     """How many zeros a number ends in, or begins with."""
-    bits = value.size()
+    bits, seen = value.size(), lowest_one(value) if is_at_end else None
+    if seen is not None:
+        return z3.BitVecVal(seen, bits)
     count = z3.BitVecVal(bits, bits)
     for bit in range(bits - 1, -1, -1) if is_at_end else range(bits):
         here = z3.BitVecVal(bit if is_at_end else bits - 1 - bit, bits)

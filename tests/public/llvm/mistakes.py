@@ -14,9 +14,11 @@ OTHER = {"add": "sub", "sub": "add", "mul": "add", "udiv": "urem", "urem": "udiv
 LINE = re.compile(r"  %r\d+ = (?:(?:add|sub|mul|udiv|urem|and|or|xor|shl|lshr) |icmp \w+ )i\d+ [^,]+, \S+$"
                   r"|  store i\d+ -?\d+, .*|  ret i\d+ -?\d+$")
 NUMBER = re.compile(r"(?<=, )\d+$|(?<=i8 )-?\d+(?=,)|(?<=i32 )-?\d+(?=,)|(?<=i64 )-?\d+(?=,)")
-# Mistakes that change nothing, each with its reason: the old line, and what is in its place.
+# Mistakes that change nothing, each with its reason: the old line, what is in its place, and in which calls.
 SAME = {
-    ("icmp ule i32 %r, 60", "icmp ule i32 %r, 61"): "the zeros at the end of a cell are even, so never 61",
+    ("icmp ule i32 %r, 60", "icmp ule i32 %r, 61"): ("the zeros at the end of a cell are even, so never 61", None),
+    ("store i64 0, ptr %r, align 1", "store i64 1, ptr %r, align 1"): (
+        "any other number than a cell is then taken for 0, of which the answer is 0", ("s2u_next", "s2u_size")),
 }
 
 
@@ -29,11 +31,11 @@ class Mistake:
     def __str__(self):
         return f"line {self.at + 1}: {self.new.strip()} in place of {self.old.strip()}"
 
-    def reason(self):
-        """Why the program is the same with it, if it is."""
-        plain = tuple(re.sub(r"^%r\d+ = ", "", re.sub(r"%r\d+(?=[,)])", "%r", line.strip())) for line in
-                      (self.old, self.new))
-        return SAME.get(plain)
+    def reason(self, call):
+        """Why the call is the same with it, if it is."""
+        plain = tuple(re.sub(r"%r\d+", "%r", re.sub(r"^%r\d+ = ", "", line.strip())) for line in (self.old, self.new))
+        reason, calls = SAME.get(plain, (None, None))
+        return reason if calls is None or call in calls else None
 
     def text(self, text):
         lines = list(text.lines)

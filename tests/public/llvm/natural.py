@@ -7,7 +7,7 @@ import itertools
 
 import z3
 
-from solver import Undecided, literal
+from solver import Undecided, literal, lowest_one
 
 BITS = 128
 TOP = 2**BITS - 1
@@ -118,6 +118,9 @@ def choice(condition, a, b):
 
 def trailing_zeros(bits, number):
     """How many of this many lowest bits are zeros, from the lowest on."""
+    seen = lowest_one(number.bits)
+    if seen is not None:
+        return constant(min(seen, bits))
     count = z3.BitVecVal(bits, BITS)
     for bit in range(bits - 1, -1, -1):
         count = z3.If(z3.Extract(bit, bit, number.bits) == 1, z3.BitVecVal(bit, BITS), count)

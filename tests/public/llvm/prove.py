@@ -70,7 +70,7 @@ def refuse_mistakes(text, crates, name, count):
     for mistake in mistakes(text, name, 3 * MISTAKES):
         if refuted == MISTAKES:
             break
-        found, reason = verdict(mistake.text(text), crates, name), mistake.reason()
+        found, reason = verdict(mistake.text(text), crates, name), mistake.reason(name)
         if reason:
             count.check(found == "proved", f"{name:22} {mistake}: {found}, the same since {reason}")
         else:
