@@ -1,6 +1,6 @@
-/* The heap of the page's module and its product of 128 bits, which bindings/js/module.c has, compiled for this system and
- * beside plain ones: the processor's product, and blocks that each have a pattern of their own. The last line is
- * 'N passed, M failed'. */
+/* The heap of the page's module and its product of 128 bits, which bindings/js/module.c has, compiled for this system:
+ * the product beside the processor's, and blocks that each have a pattern of their own. The last line is 'N passed, M
+ * failed'. */
 #define _GNU_SOURCE
 #include <math.h>
 #include <setjmp.h>
