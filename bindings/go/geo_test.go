@@ -215,6 +215,8 @@ var square = Shape{Polygons: [][][]Position{{{{2, 48}, {3, 48}, {3, 49}, {2, 49}
 func TestUsualOptions(t *testing.T) {
 	usual := must(RegionCoverer{}.Covering(square))
 	check(t, usual.Equal(must(RegionCoverer{MaxCells: 200, MaxLevel: 30}.Covering(square))), "200 cells, and level 30")
+	point := Shape{Points: []Position{{2.5, 48.5}}} // whose cells are as deep as may be
+	check(t, must(RegionCoverer{}.Covering(point)).Equal(must(RegionCoverer{MaxLevel: 30}.Covering(point))), "level 30")
 	within := must(RegionCoverer{Within: 500}.Covering(square))
 	check(t, within.Equal(must(RegionCoverer{MaxCells: 1000000, Within: 500}.Covering(square))) && within.Len() > 200,
 		"many cells within some meters")

@@ -25,6 +25,11 @@ step "questions" questions
 step "against the model" node "$tests/vectors.mjs" "$module" "$work/vectors"
 step "what is refused, and what stays" node "$tests/refusals.mjs" "$module" "$version" "$cells"
 step "the page's own code, without a browser" node "$tests/page.mjs" "$top"
+heap() {
+  gcc -std=gnu11 -O2 -Wall -Wextra -Werror -I"$top/bindings/js" -I"$top/bindings/c" -I"$work/usr/include" \
+    "$tests/heap.c" "$work/usr/lib/libs2union.a" -lm -o "$work/heap" && "$work/heap"
+}
+step "the heap of its module, and the product of 128 bits" heap
 
 places() { PYTHONPATH=$top/tests /usr/bin/python3 -B -c 'from model.places import POINTS
 for place in POINTS: print(*place)' >"$work/places"; }

@@ -126,6 +126,14 @@ const tests = {
     assert.throws(() => geo.expanded(new CellUnion([1n]), 31), Refusal);
     assert.equal(geo.covering(polygon, {maxCells: 0}).size, 1);
   },
+  "what is usual": () => {
+    const square = {type: "Polygon", coordinates: [[[2, 48], [3, 48], [3, 49], [2, 49], [2, 48]]]};
+    const within = geo.covering(square, {within: 500});
+    assert.ok(geo.covering(square).equals(geo.covering(square, {maxCells: 200, minLevel: 0, maxLevel: 30})));
+    assert.ok(within.size > 200 && within.equals(geo.covering(square, {within: 500, maxCells: 1_000_000})));
+    assert.ok(geo.fromGeoJSON(square).equals(geo.fromGeoJSON(square, 10_000)));
+    assert.ok(!geo.fromGeoJSON(square).equals(geo.fromGeoJSON(square, 1000)));
+  },
   "shapes that a few bytes make are covered soon": () => {
     const long = Array.from({length: 20_000}, (_, k) => [k % 2 ? 540 : -540, (k % 180) - 90]);
     const nested = `${'{"type":"GeometryCollection","geometries":['.repeat(5000)}${"]}".repeat(5000)}`;

@@ -92,7 +92,8 @@ def test_help_that_nobody_reads(line):
     """It ends as answers do."""
     reader, writer = os.pipe()
     os.close(reader)
-    for out, wanted in (writer, (128 + signal.SIGPIPE, b"")), (os.open("/dev/full", os.O_WRONLY), (2, b"s2calc: output")):
+    full = os.open("/dev/full", os.O_WRONLY)
+    for out, wanted in (writer, (128 + signal.SIGPIPE, b"")), (full, (2, b"s2calc: output")):
         with open(out, "wb") as file:
             done = subprocess.run([LAUNCHER, *line.split()], env=ENVIRONMENT, stdout=file, stderr=subprocess.PIPE,
                                   timeout=SECONDS, check=False)

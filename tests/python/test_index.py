@@ -289,7 +289,8 @@ class Files(unittest.TestCase):
         for shape, reason in (
                 (nested * 50_000 + point, no_polygon), (nested + ring, no_polygon), (point, no_polygon),
                 (b"", no_polygon), (b"\0" + struct.pack(">II", 6, 0), no_polygon), (ring[:4], no_polygon),
-                (struct.pack("<BIII", 1, 3 | 1 << 29, 4326, 0), no_polygon), (struct.pack("<BII", 1, 1003, 0), no_polygon),
+                (struct.pack("<BIII", 1, 3 | 1 << 29, 4326, 0), no_polygon),
+                (struct.pack("<BII", 1, 1003, 0), no_polygon),
                 (struct.pack("<BII", 1, 6, 1) + nested * 50_000 + point, "the bytes are no WKB"),
                 (ring[:-1], "the bytes are no WKB"), (ring + b"x", "the bytes are no WKB"),
                 (ring[:13] + (numbers[:-2]).tobytes() + struct.pack("<dd", 0, 1), "a ring is open"),
@@ -305,7 +306,7 @@ class Files(unittest.TestCase):
         self.assertEqual(Index.load(self.path).find(0.5, 0.5), ["a"])
 
     def test_what_is_no_regular_file(self):
-        """A file that a link leads to is replaced, and the link stays; a pipe gets the bytes; else nothing is changed."""
+        """A link stays, and the file that it leads to is replaced; a pipe or a device gets the bytes."""
         made, folder = Index([polygon(box(0, 0, 1, 1))], ["a"]), os.path.dirname(self.path)
         os.mkdir(os.path.join(folder, "there"))
         for target in "there/zones", "there/zones", os.path.join(folder, "there", "others"):  # the second is there
@@ -480,11 +481,12 @@ def test_half_of_a_pair_of_surrogates(tmp_path, zones):
     path, kept = tmp_path / "halves", tmp_path / "kept"
     path.write_text(features + features.replace("a\"}", "\\ud800\"}"))
     Index([None], ["\ud800"]).save(kept)
-    for words, text, reason in ((["-", zones], f'{POINT}, "properties": {{"\\ud800": 1}}}}', f"line 1 has {half} in the "
-                                 "name of a property: '\\ud800'"),
-                                (["-", str(path), "--name", "k"], "1,1\n", f"line 2 of the zones has {half} in its "
-                                 "property 'k': '\\ud800'"),
-                                (["-", str(kept)], "1,1\n", f"{kept}: a zone has {half} in its name: '\\ud800'")):
+    for words, text, reason in (
+            (["-", zones], f'{POINT}, "properties": {{"\\ud800": 1}}}}',
+             f"line 1 has {half} in the name of a property: '\\ud800'"),
+            (["-", str(path), "--name", "k"], "1,1\n",
+             f"line 2 of the zones has {half} in its property 'k': '\\ud800'"),
+            (["-", str(kept)], "1,1\n", f"{kept}: a zone has {half} in its name: '\\ud800'")):
         assert said("join", *words, "--skip", text=text.encode()) == (1, "", f"s2union_geo: {reason}\n")
 
 

@@ -52,8 +52,9 @@ def test_bytes_that_the_heap_has_no_room_for():
     """They have a length, and there is no pointer to them. The limit is the process's, so one of its own has it."""
     bytes_ = "zeroblob(100000000)"
     calls = [f"s2_covers({bytes_}, 1, 2)", f"s2_covering({bytes_})", f"s2_interior({bytes_}, 8, 9)",
-             f"s2_clip({bytes_}, 1)", f"s2_join_tiles({bytes_}, 3)", f"s2_expanded({bytes_}, 3)", f"s2_bounds({bytes_})",
-             f"s2_union({bytes_}, 1)", f"s2_tokens({bytes_})", f"s2_contains({bytes_}, 1)", f"s2_is_union({bytes_})",
+             f"s2_clip({bytes_}, 1)", f"s2_join_tiles({bytes_}, 3)", f"s2_expanded({bytes_}, 3)",
+             f"s2_bounds({bytes_})", f"s2_union({bytes_}, 1)", f"s2_tokens({bytes_})", f"s2_contains({bytes_}, 1)",
+             f"s2_is_union({bytes_})",
              f"s2_tiles({bytes_}, 3)", f"s2_union_agg({bytes_})"]
     done = subprocess.run([sys.executable, "-c", WITHOUT_ROOM, EXTENSION, os.environ["S2UNION_SQLITE"], *calls],
                           capture_output=True, text=True, check=False)

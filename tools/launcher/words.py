@@ -3,10 +3,10 @@
     words.py PROGRAM WORD..
 
 The launcher itself says `--prompt OPTION..` for a run at a terminal, `--notes SCRIPT OPTION..` for one whose reasons
-are to be shown with the script's name, and `--unread FILE WORD..` for a script that can't be read. `cell` takes several cells with commas
-between them, decimal identifiers and --explain; `check` and `draw` take paths of files that lie in one folder. Where
-one of them has an error, standard error says why. A picture goes out only if it is whole. Help is the program's, with
-what stands beside it after it; and a word that is no command may mean one.
+are to be shown with the script's name, and `--unread FILE WORD..` for a script that can't be read. `cell` takes several
+cells with commas between them, decimal identifiers and --explain; `check` and `draw` take paths of files that lie in
+one folder. Where one of them has an error, standard error says why. A picture goes out only if it is whole. Help is the
+program's, with what stands beside it after it; and a word that is no command may mean one.
 """
 import signal
 
@@ -94,7 +94,8 @@ def noted(program, script, *options):
     def ends_with_this():
         ctypes.CDLL(None).prctl(1, signal.SIGKILL)  # PR_SET_PDEATHSIG: whatever ends this process ends the program
 
-    with subprocess.Popen([program.path, "run", *options], stderr=subprocess.PIPE, preexec_fn=ends_with_this) as process:
+    with subprocess.Popen([program.path, "run", *options], stderr=subprocess.PIPE,
+                          preexec_fn=ends_with_this) as process:
         for line in process.stderr:
             if line != b"s2calc: output\n" or not is_pipe(1):
                 os.write(2, os.fsencode(f"{script}: ") + line if line.startswith(b"line") else line)
