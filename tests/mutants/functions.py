@@ -9,6 +9,8 @@ names no function, with the whole crate. The next check of the copy begins with 
 `.ci/run` tries the gravest, which say so. --all tries all. First their functions have to be proved without them, and
 with the same holes: otherwise the holes would be what is refused. The last line is 'N passed, M failed'. A mutant whose
 check was killed, or judged nothing, was not tried: that is another thing than one that isn't refused, and fails too.
+Those that are refused by a written proof alone are counted apart: what is written no longer fits the body, or names what
+isn't there any more, and whether the clauses would let the mistake pass is not known. Others have an open goal.
 That a mutant was refused, and that its functions are proved without it, is kept on this machine, by the sources of its
 crate and of those below it, the kit and what is here; it isn't tried again if all of this is the same, unless it is
 named.
@@ -43,11 +45,13 @@ pub {name}_spec : {{M : Type 1}} → statement M
 SAID = re.compile(r"^fn \w+::(\S+): (.*)")
 DEPENDS = "depends on a hole"
 OPEN = re.compile(r"^fn \S+: (?:not proved|no proof)\b")
+GOAL = re.compile(r"no proof: expected answers in .*`search` did not prove ")
 # What is said of a text of src/ or specs/ that the prover can't read, so that it judges nothing by it. `rt must-fail`
 # calls such a mutant a bad edit.
 UNREAD = re.compile(r"(?:\./)?(?:src|specs)/\S+?:\d+:\d+: error: (?:(?!`[^`]*`: )|.*(?:is not in scope|has no field|"
                     r"is no name|operand is missing|expected the end|cannot continue))")
-REFUSED, NOT_REFUSED, NOT_TRIED = "refused", "NOT REFUSED", "NOT TRIED"
+REFUSED, BY_PROOF, NOT_REFUSED, NOT_TRIED = "refused", "refused by a written proof", "NOT REFUSED", "NOT TRIED"
+ALL_REFUSED = (REFUSED, BY_PROOF)
 # What tries a mutant, whose verdict is another's if it changes.
 TRIED_BY = [Path(__file__), Path(__file__).with_name("mutant_texts.py"), Path(TOP, "tools", "over_gate.py")]
 
@@ -61,14 +65,21 @@ class Mutant:
 
     def says(self, verdict, more=""):
         print(f"{self.crate}/{self.name}: {verdict}{more}", flush=True)
-        if verdict == REFUSED:
+        if verdict in ALL_REFUSED:
             verdicts.keep(self.verdict)
+        if verdict == BY_PROOF:
+            verdicts.keep(self.by_proof)
         return verdict
 
     @functools.cached_property
     def verdict(self):
         """The name of the verdict that it is refused."""
         return verdicts.name_of(TRIED_BY, self.text, self.crate, sources_of(self.crate))
+
+    @functools.cached_property
+    def by_proof(self):
+        """The name of the verdict that a written proof alone refuses it."""
+        return verdicts.name_of(TRIED_BY, BY_PROOF, self.text, self.crate, sources_of(self.crate))
 
     @functools.cached_property
     def control(self):
@@ -114,9 +125,9 @@ class Copy:
         waiting = [it for it in waiting if it not in broken]
         found, is_more = [it.says(NOT_TRIED, ": not proved without it") for it in broken], True
         while is_more:
-            refused = [it for together in rounds([it for it in waiting if it.functions])
-                       for it in self.refused(together)]
-            found += [it.says(REFUSED) for it in refused]
+            refused = {it: verdict for together in rounds([it for it in waiting if it.functions])
+                       for it, verdict in self.refused(together)}
+            found += [it.says(verdict) for it, verdict in refused.items()]
             waiting = [it for it in waiting if it not in refused]
             is_more = bool(refused)
         return found + [self.by_itself(mutant) for mutant in waiting]
@@ -127,7 +138,7 @@ class Copy:
         same = [(mutant, it) for mutant, it in same if it.functions and not self.is_kept(it)]
         asked = [it for _, it in same]
         lines = asked and (self.over_holes(asked) or self.checked(asked))
-        broken = [mutant for mutant, it in same if not lines or verdict_on(it, lines) == REFUSED]
+        broken = [mutant for mutant, it in same if not lines or verdict_on(it, lines) in ALL_REFUSED]
         for mutant, it in same:
             if mutant not in broken and verdict_on(it, lines) == NOT_REFUSED:
                 verdicts.keep(it.control)
@@ -146,9 +157,11 @@ class Copy:
         return same
 
     def refused(self, together):
-        """Those of these mutants of different functions that are refused if what these call is taken as proved."""
+        """Those of these mutants of different functions that are refused if what these call is taken as proved, each
+        with its verdict."""
         lines = self.over_holes(together)
-        return [mutant for mutant in together if verdict_on(mutant, lines) == REFUSED]
+        said = [(mutant, verdict_on(mutant, lines)) for mutant in together]
+        return [(mutant, verdict) for mutant, verdict in said if verdict in ALL_REFUSED]
 
     def over_holes(self, together):
         """What a check says of the functions of mutants if what these call is taken as proved; no lines if it came to
@@ -185,7 +198,7 @@ class Copy:
         """What was found of a mutant, first with the functions that those which it changes call."""
         if mutant.functions:
             verdict = verdict_on(mutant, self.checked([mutant]))
-            if verdict == REFUSED or mutant.is_named:
+            if verdict in ALL_REFUSED or mutant.is_named:
                 return mutant.says(verdict)
         return self.alone(mutant)
 
@@ -247,7 +260,9 @@ def verdict_on(mutant, lines):
     said = [match[1] for line in lines if (match := re.match(rf"^fn (?:\S*::)?(?:{names}): (.*)", line))]
     wrong = [it for it in said if it.startswith(("not proved", "no proof"))]
     if wrong:
-        return NOT_TRIED if all(it.startswith("no proof: it calls") for it in wrong) else REFUSED
+        if all(it.startswith("no proof: it calls") for it in wrong):
+            return NOT_TRIED
+        return REFUSED if any(map(GOAL.match, wrong)) else BY_PROOF
     return NOT_REFUSED if said and all(it.startswith(("proved", DEPENDS)) for it in said) else NOT_TRIED
 
 
@@ -268,7 +283,8 @@ def tried(chosen, takes_kept=True):
     crates, found = collections.defaultdict(list), []
     for mutant in chosen:
         if takes_kept and verdicts.is_kept(mutant.verdict):
-            found.append(mutant.says(REFUSED, ", as is known of the same sources"))
+            verdict = BY_PROOF if verdicts.is_kept(mutant.by_proof) else REFUSED
+            found.append(mutant.says(verdict, ", as is known of the same sources"))
         elif why := misfit(mutant.text, mutant.folder):
             found.append(mutant.says(NOT_TRIED, f": {why}"))
         else:
@@ -307,9 +323,10 @@ def main():
     else:
         found = tried([it for it in mutants() if it.is_grave])
     failed = found[NOT_REFUSED] + found[NOT_TRIED]
-    print(f"{found[REFUSED]} refused, {found[NOT_REFUSED]} not refused, {found[NOT_TRIED]} not tried,"
-          f" in {processor_time() / 60:.0f} minutes of processor time")
-    print(f"{found[REFUSED]} passed, {failed} failed")
+    refused = found[REFUSED] + found[BY_PROOF]
+    print(f"{refused} refused, {found[BY_PROOF]} of them by a written proof alone, {found[NOT_REFUSED]} not refused,"
+          f" {found[NOT_TRIED]} not tried, in {processor_time() / 60:.0f} minutes of processor time")
+    print(f"{refused} passed, {failed} failed")
     return failed > 0 or not found
 
 
