@@ -27,7 +27,7 @@ class Proved:
 
 
 def words_of(crates, is_apart=False):
-    paths = [TOP / "tests" / "public" / "kit.antt", *(crates / f"{name}.antt" for name in DEFINITIONS)]
+    paths = [TOP / "tests" / "public" / "kit.txt", *(crates / f"{name}.antt" for name in DEFINITIONS)]
     return CellWords([str(path) for path in paths], is_apart)
 
 
