@@ -1312,8 +1312,8 @@ static inline int32_t s2u_cover_check_opposite(const s2u_cover_shape* shape, s2u
 }
 
 /* The outer and the inner covering of a shape; either may be NULL. If both are, the shape is looked at alone, in time
- * by its positions. The caller frees their cells by s2u_cover_free, also after an error. Statuses are those above and of
- * s2union.h; the fault says where what is wrong stands. */
+ * by its positions. The caller frees their cells by s2u_cover_free, also after an error. Statuses are those above and
+ * of s2union.h; the fault says where what is wrong stands. */
 static inline int32_t s2u_cover(const s2u_cover_shape* shape, const s2u_cover_options* options, s2u_cover_cells* outer,
                                     s2u_cover_cells* inner, s2u_cover_fault* fault) {
   s2u_cover_wanted wanted = {options, 0, 0, outer, inner};

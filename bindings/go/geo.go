@@ -410,7 +410,8 @@ func (cu CellUnion) rings(ctx context.Context,
 	return lines, ends, nil
 }
 
-// ExpandedAtLevelContext is ExpandedAtLevel until a context is done, as CoveringContext of a RegionCoverer. Since 1.4.1.
+// ExpandedAtLevelContext is ExpandedAtLevel until a context is done, as CoveringContext of a RegionCoverer. Since
+// 1.4.1.
 func (cu CellUnion) ExpandedAtLevelContext(ctx context.Context, level int) (CellUnion, error) {
 	var cells C.s2u_cover_cells
 	at, n := pointerTo(cu.ids)

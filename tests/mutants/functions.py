@@ -9,8 +9,8 @@ names no function, with the whole crate. The next check of the copy begins with 
 `.ci/run` tries the gravest, which say so. --all tries all. First their functions have to be proved without them, and
 with the same holes: otherwise the holes would be what is refused. The last line is 'N passed, M failed'. A mutant whose
 check was killed, or judged nothing, was not tried: that is another thing than one that isn't refused, and fails too.
-Those that are refused by a written proof alone are counted apart: what is written no longer fits the body, or names what
-isn't there any more, and whether the clauses would let the mistake pass is not known. Others have an open goal.
+Those that are refused by a written proof alone are counted apart: what is written no longer fits the body, or names
+what isn't there any more, and whether the clauses would let the mistake pass is not known. Others have an open goal.
 That a mutant was refused, and that its functions are proved without it, is kept on this machine, by the sources of its
 crate and of those below it, the kit and what is here; it isn't tried again if all of this is the same, unless it is
 named.
