@@ -76,9 +76,9 @@ class Wkb(Tests):
 
     def test_4_what_is_refused(self):
         psql("CREATE TABLE wkb_others (id int PRIMARY KEY, name text, shape bytea)")
-        for call, said in (("s2_join_table('wkb_others', 'name')", 'column "name" of table public.wkb_others is of type text'),
+        for call, said in (("s2_join_table('wkb_others', 'name')", '"name" of table public.wkb_others is of type text'),
                            ("s2_join_table('wkb_others')", 'column "geom" does not exist in table public.wkb_others'),
-                           ("s2_join_table('wkb_points', 'x')", 'column "x" of table public.wkb_points is of type double'),
+                           ("s2_join_table('wkb_points', 'x')", '"x" of table public.wkb_points is of type double'),
                            (f"s2_covers({wkb_of(SQUARE)}, 541, 0)", "a longitude is a number from -540 to 540: 541"),
                            (f"s2_covers({wkb_of(SQUARE)}, 0, 'NaN')", "a latitude is a number from -90 to 90: NaN"),
                            ("s2_covers('', 0, 0)", "the bytes are no WKB: at byte 0"),
