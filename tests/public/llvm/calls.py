@@ -35,6 +35,7 @@ def bytes_of_debug(levels):
 CELL = Plan(cells=("id",))
 PAIR = Plan(is_apart=True, tier="gate")
 TEXTS = "s2union_c/src/texts.rt"
+DIGITS = ("core_convert_U64FromU8_from",)
 FILES = "s2union_c/src/files.rt"
 PLANS = {
     "s2u_version": Plan(),
@@ -57,9 +58,6 @@ PLANS = {
     "s2u_file_cell": Plan(FILES, arrays=("bytes",), tier="gate"),
     "s2u_token": Plan(TEXTS, cells=("id",), rooms={"text": digits_of_token}, tier="gate"),
     "s2u_debug": Plan(TEXTS, cells=("id",), rooms={"text": bytes_of_debug}, tier="gate"),
-    "s2u_from_token": Plan(TEXTS, lists={"text": 16}, tier="gate", witnesses={
+    "s2u_from_token": Plan(TEXTS, lists={"text": 16}, named=DIGITS, tier="gate", witnesses={
         "n": "digits_value 16 text.now * 16 ^ (16 - length text.now)"}),
-    "s2u_from_debug": Plan(TEXTS, lists={"text": 32}, tier="full", witnesses={
-        "n": "id_at (length text.now - 2) ((slice_index text.now 0 - 48) * 4 ^ (length text.now - 2)"
-             " + digits_value 4 (drop 2 text.now))"}),
 }

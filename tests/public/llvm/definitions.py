@@ -11,8 +11,9 @@ import z3
 
 import antt
 import natural as numbers
+from bits import variables_of
 from natural import Number, constant
-from solver import FALSE, TRUE, Undecided
+from solver import FALSE, TRUE, Undecided, model_of
 from text import Unknown
 
 
@@ -87,6 +88,7 @@ class Words:
     def __init__(self, paths):
         self.definitions, self.records, self.forms, self.witnesses, self.where = {}, {}, {}, {}, "a clause"
         self.premises = []  # of what is looked at
+        self.given = []  # if any: what is known, by which statements that can't hold are seen
         for path in paths:
             for found in declarations(path):
                 if found["kind"] == "def":
@@ -164,9 +166,16 @@ class Words:
                 formulas.append(z3.Or([z3.And(condition, self.all_hold(parts[place + 1:], names, claimed))
                                        for names, condition in ways]))
                 break
-            if formulas and z3.is_false(formulas[-1]):
+            if formulas and (z3.is_false(formulas[-1]) or not claimed and self.is_impossible(formulas[-1])):
                 return FALSE
         return simple(z3.And(*formulas))
+
+    def is_impossible(self, formula):
+        """Whether a statement contradicts what is given of the same variables."""
+        if not self.given or z3.is_true(formula):
+            return False
+        names = variables_of(formula)
+        return model_of(formula, *(it for it in self.given if variables_of(it) & names)) is None
 
     def any_numbers(self, names, kind, known):
         """The names with any numbers: one of 64 bits, or a greater one of which nothing else is known."""

@@ -7,11 +7,12 @@ import z3
 
 from memory import UNWRITTEN, Memory, Pointer, Thing, as_bits
 from natural import fresh
-from solver import Refuted, Undecided, is_possible, literal, lowest_one, prove
+from bits import joined_bits, lowest_one, shifted
+from solver import Refuted, Undecided, is_possible, literal, prove
 from text import CASE, Unknown, arguments_of, fields_of, size_of, width
 
 MOST_STEPS = 2_000_000
-SHAPES = ((0, 2), (4, 2), (0, 8))
+SHAPES = ((0, 2), (0, 4), (4, 2), (0, 8))
 COMPARISONS = {
     "eq": lambda a, b: a == b, "ne": lambda a, b: a != b, "ult": z3.ULT, "ule": z3.ULE, "ugt": z3.UGT, "uge": z3.UGE,
     "slt": lambda a, b: a < b, "sle": lambda a, b: a <= b, "sgt": lambda a, b: a > b, "sge": lambda a, b: a >= b,
@@ -54,7 +55,7 @@ class Machine(Memory):
 
 
     def give_name(self, state, value):
-        """A name for the bits of a number that may be ones: the lowest two, the two above four zeros, or eight."""
+        """A name for the bits of a number that may be ones: the lowest two or four, the two above four, or eight."""
         for zeros, bits in SHAPES:
             part = z3.simplify(z3.Extract(zeros + bits - 1, zeros, value))
             step = z3.BitVec(f"step!{next(fresh)}", bits)
@@ -300,54 +301,6 @@ def plain(how, a, b):
     if how == "add":
         return joined_bits(a, b)
     return OPERATIONS[how](a, b)
-
-
-def shifted(value, zeros):
-    if not zeros:
-        return value
-    return z3.Concat(z3.Extract(value.size() - 1 - zeros, 0, value), z3.BitVecVal(0, zeros))
-
-
-def joined_bits(a, b):
-    """The sum of two numbers: their bits side by side, if one has zeros wherever the other may have ones."""
-    for high, low in ((a, b), (b, a)):
-        count = zeros_at_end(high)
-        if count and zeros_at_front(low) >= low.size() - count:
-            if count >= high.size():
-                return low
-            return z3.Concat(z3.Extract(high.size() - 1, count, high), z3.Extract(count - 1, 0, low))
-    return a + b
-
-
-def zeros_at_end(value):
-    """How many of the lowest bits are seen to be zeros."""
-    if z3.is_bv_value(value):
-        number = value.as_long()
-        return (number & -number).bit_length() - 1 if number else value.size()
-    if value.decl().kind() == z3.Z3_OP_CONCAT:
-        count = 0
-        for part in reversed(value.children()):
-            more = zeros_at_end(part)
-            count += more
-            if more < part.size():
-                break
-        return count
-    return 0
-
-
-def zeros_at_front(value):
-    """How many of the highest bits are seen to be zeros."""
-    if z3.is_bv_value(value):
-        return value.size() - value.as_long().bit_length()
-    if value.decl().kind() == z3.Z3_OP_CONCAT:
-        count = 0
-        for part in value.children():
-            more = zeros_at_front(part)
-            count += more
-            if more < part.size():
-                break
-        return count
-    return 0
 
 
 def zeros(value, is_at_end):

@@ -7,7 +7,8 @@ import itertools
 
 import z3
 
-from solver import Undecided, literal, lowest_one
+from bits import joined_bits, lowest_one
+from solver import Undecided, literal
 
 BITS = 128
 TOP = 2**BITS - 1
@@ -65,7 +66,7 @@ def power_of_two(exponent):
 def add(a, b):
     if a.most + b.most >= LIMIT:
         return unknown()
-    return made(a.bits + b.bits, a.most + b.most)
+    return made(joined_bits(a.bits, b.bits), a.most + b.most)
 
 
 def subtract(a, b):

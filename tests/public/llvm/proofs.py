@@ -71,9 +71,10 @@ def prove_all_ways(name, given, ways):
 def prove_clause(crates, name, plan, contract, clause, case, ways):
     for state, result in ways:
         words = words_of(crates, plan.is_apart)
-        if plan.turns:
+        if plan.named:
             words.go_by_steps(state, plan.turns)
+            words.know_digits(state)
         words.where, words.witnesses = f"{contract.path}:{clause.line}", plan.witnesses
         claim = words.holds(clause.term, case.after(state, result, contract.result), True)
         prove(claim, f"{contract.path}:{clause.line}: {name}, clause {clause.name}, {', '.join(case.names)}",
-              *state.known(), *words.facts)
+              *state.known(), *words.facts, *words.steps_of(state, claim))

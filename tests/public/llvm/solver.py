@@ -55,17 +55,3 @@ def literal(value):
     if isinstance(value, int):
         return value
     return value.as_long() if z3.is_bv_value(value) else None
-
-
-def lowest_one(value):
-    """How many zeros a formula ends in, if its lowest one is seen; else nothing."""
-    zeros = 0
-    parts = value.children() if z3.is_app_of(value, z3.Z3_OP_CONCAT) else [value]
-    for part in reversed(parts):
-        number = literal(part)
-        if number is None:
-            return None
-        if number:
-            return zeros + (number & -number).bit_length() - 1
-        zeros += part.size()
-    return None

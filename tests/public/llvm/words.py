@@ -6,9 +6,10 @@ import z3
 
 import antt
 import natural as numbers
+from bits import variables_of
 from definitions import Words
 from natural import BITS, Number, constant, of_bits
-from solver import TRUE, Refuted, prove
+from solver import TRUE, Refuted, model_of, prove
 
 LEVELS = range(31)
 END = 6 * 2**61  # above all cells
@@ -67,7 +68,7 @@ class CellWords(Words):
 
     def __init__(self, paths, is_apart=False):
         super().__init__(paths)
-        self.facts, self.apart = [], {}
+        self.facts, self.apart, self.digits, self.linked = [], {}, {}, set()
         self.forms["IsCell"] = is_cell
         self.forms["IsInside"] = self.is_inside
         self.forms["ShareLeaf"] = self.share_leaf
@@ -144,11 +145,31 @@ class CellWords(Words):
         self.prove_step(state, here, f"the place at level {level.literal}")
         return TRUE
 
+    def know_digits(self, state):
+        """From now on the value of a digit is what the text has a name for, if that is proved to be the same."""
+        self.forms["digit_value"] = lambda digit: self.named_digit(state, digit)
+        self.given = state.known()
+
+    def named_digit(self, state, digit):
+        names = variables_of(digit.bits)
+        if names not in self.digits:
+            value = self.defined("digit_value", [digit], self.value)
+            given = [it for it in state.known() if variables_of(it) & names]
+            same = (step for step, part, _ in state.steps if variables_of(part) == names and
+                    model_of(of_bits(step).bits != value.bits, step == part, *given) is None)
+            step = next(same, None)
+            self.digits[names] = value if step is None else of_bits(step)
+            self.linked |= {str(step)}
+        return self.digits[names]
+
+    def steps_of(self, state, claim):
+        """What the steps are whose names stand in a claim or in what is known, if no digit is known to be them."""
+        names = variables_of(claim).union(*map(variables_of, state.conditions))
+        return [step == part for step, part, _ in state.steps if str(step) in names - self.linked]
+
     def prove_step(self, state, claim, what):
         """Proves what follows from the premises and from the steps whose names stand in it, each by what it is."""
-        names = {str(it) for it in variables_of(claim)}
-        steps = [step == part for step, part, _ in state.steps if str(step) in names]
-        prove(claim, what, *state.known(), *self.premises, *steps)
+        prove(claim, what, *state.known(), *self.premises, *self.steps_of(state, claim))
 
     # ---- the proofs
 
@@ -195,19 +216,6 @@ class CellWords(Words):
         for fact in facts:
             prove(fact, "a fact about cells", condition)
         return 3 + len(facts)
-
-
-def variables_of(formula):
-    """The variables of a formula."""
-    found, todo, seen = [], [formula], set()
-    while todo:
-        formula = todo.pop()
-        if formula.get_id() not in seen:
-            seen.add(formula.get_id())
-            todo += formula.children()
-            if z3.is_const(formula) and formula.decl().kind() == z3.Z3_OP_UNINTERPRETED:
-                found.append(formula)
-    return found
 
 
 def prove_intervals():
