@@ -51,7 +51,7 @@ PLANS = {
     "s2u_prev": Plan(cells=("id",), tier="gate"),
     "s2u_cell_contains": PAIR,
     "s2u_cell_intersects": PAIR,
-    "s2u_common_ancestor": PAIR,
+    "s2u_common_ancestor": Plan(is_apart=True, tier="full"),
     "s2u_from_face_ij": Plan(named=("s2cell_tables_held_by", "s2cell_tables_next_shift"),
                              turns=(29, 28, 24, 20, 16, 12, 8, 4, 0), tier="gate"),
     "s2u_file_count": Plan(FILES, lists={"bytes": 9}, tier="gate"),

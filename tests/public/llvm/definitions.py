@@ -91,6 +91,8 @@ class Words:
         self.given = []  # if any: what is known, by which statements that can't hold are seen
         for path in paths:
             for found in declarations(path):
+                if found.get("name") in self.definitions or found.get("name") in self.records:
+                    raise Unknown(f"{path}:{found['line']}: {found['name']} is defined in two files")
                 if found["kind"] == "def":
                     self.definitions[found["name"]] = found
                 elif found["kind"] == "record":

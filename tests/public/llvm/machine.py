@@ -249,6 +249,8 @@ class Way:
         if what != "void":
             kind, _, word = what.rpartition(" ")
             value = self.value(kind, word)
+        if value is UNWRITTEN and self.function.is_defined:
+            raise Refuted(f"{self.name} answers bytes that were never written")
         for number in self.locals:
             del self.state.things[number]
             self.state.addresses.pop(number, None)
@@ -260,6 +262,9 @@ class Way:
         if callee.startswith("llvm."):
             ways = [(self.state, self.built_in(callee, values))]
         else:
+            defined = self.machine.text.function(callee).defined
+            if any(value is UNWRITTEN and has_to for value, has_to in zip(values, defined)):
+                raise Refuted(f"{callee} is given bytes that were never written")
             ways = list(self.machine.run(self.state, callee, values))
         if not ways:
             raise Undecided(f"{callee} ends on no way")

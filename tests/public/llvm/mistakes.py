@@ -58,7 +58,7 @@ def mistakes(text, name, count):
 
 
 def lines_of(text, function):
-    _, begin, end = text.heads[function]
+    *_, begin, end = text.heads[function]
     return [(at, text.lines[at]) for at in range(begin + 1, end) if LINE.fullmatch(text.lines[at])]
 
 

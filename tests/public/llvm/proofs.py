@@ -1,4 +1,6 @@
 """Proves the clauses of a call's contract of the text that the library is compiled from."""
+import functools
+import re
 import sys
 import time
 from pathlib import Path
@@ -10,6 +12,7 @@ sys.path += [str(TOP / "tests" / "public"), str(TOP / "tests" / "public" / "llvm
 from clauses import contracts, structures  # noqa: E402
 from inputs import cases  # noqa: E402
 from machine import Machine  # noqa: E402
+from natural import constant  # noqa: E402
 from solver import Undecided, is_possible, prove, use  # noqa: E402
 from words import CellWords  # noqa: E402
 
@@ -27,8 +30,25 @@ class Proved:
 
 
 def words_of(crates, is_apart=False):
+<<<<<<< HEAD
     paths = [TOP / "tests" / "public" / "kit.txt", *(crates / f"{name}.antt" for name in DEFINITIONS)]
     return CellWords([str(path) for path in paths], is_apart)
+=======
+    paths = [TOP / "tests" / "public" / "kit.antt", *(crates / f"{name}.antt" for name in DEFINITIONS)]
+    words = CellWords([str(path) for path in paths], is_apart)
+    words.side = side(TOP / "crates" / "s2cell" / "src" / "lib.rt")
+    return words
+
+
+@functools.cache
+def side(path):
+    """The constant of that name, 2 to the power of the greatest level."""
+    text = path.read_text(encoding="utf-8")
+    found = re.findall(r"^pub const GREATEST_LEVEL: u8 = (\d+);$", text, re.M)
+    if len(found) != 1 or text.count("\npub const SIDE: u32 = 1 << GREATEST_LEVEL;\n") != 1:
+        raise Undecided(f"{path}: SIDE isn't what it was")
+    return constant(2 ** int(found[0]))
+>>>>>>> 30e9c85d9e8ccb265a1bc406375e4b71d46c9365
 
 
 def contract_of(crates, name, plan):

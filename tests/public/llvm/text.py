@@ -27,7 +27,7 @@ FORMS = [(name, re.compile(form)) for name, form in (
     ("never", r"(unreachable)"),
 )]
 CASE = re.compile(r"i\d+ (-?\d+), label %([\w.]+)")
-FUNCTION = re.compile(r"define .*?@([\w.$]+)\((.*)\) (?:#\d+|nounwind) \{")
+FUNCTION = re.compile(r"define (.*?)@([\w.$]+)\((.*)\) (?:#\d+|nounwind) \{")
 CONSTANT = re.compile(r'@([\w.]+) = private unnamed_addr constant \[(\d+) x i8\] c"(.*)", align (\d+)')
 RANGE = re.compile(r"(!\d+) = !\{i(\d+) (-?\d+), i\d+ (-?\d+)\}")
 # Lines outside functions that say nothing about what a function answers.
@@ -47,9 +47,12 @@ class Instruction(NamedTuple):
 
 
 class Function(NamedTuple):
-    """A function: the names of its arguments and its blocks, by their labels."""
+    """A function: the names of its arguments, which of them have to be defined, and whether its answer has, and its
+    blocks, by their labels."""
 
     parameters: list
+    defined: list
+    is_defined: bool
     blocks: dict
 
 
@@ -80,7 +83,7 @@ class Text:
         line = self.lines[at]
         if found := FUNCTION.fullmatch(line):
             end = self.lines.index("}", at)
-            self.heads[found[1]] = (found[2], at, end)
+            self.heads[found[2]] = (found[1], found[3], at, end)
             return end + 1
         if found := CONSTANT.fullmatch(line):
             content = bytes_of(found[3])
@@ -98,9 +101,11 @@ class Text:
         if name not in self.heads:
             raise Unknown(f"{self.path}: no function {name}")
         if name not in self.read:
-            arguments, begin, end = self.heads[name]
-            names = [re.findall(NAME, argument)[-1] for argument in arguments.split(",") if argument]
-            self.read[name] = Function(names, self.blocks(begin + 1, end))
+            marks, arguments, begin, end = self.heads[name]
+            arguments = [argument for argument in arguments.split(",") if argument]
+            names = [re.findall(NAME, argument)[-1] for argument in arguments]
+            defined = ["noundef" in argument for argument in arguments]
+            self.read[name] = Function(names, defined, "noundef" in marks, self.blocks(begin + 1, end))
         return self.read[name]
 
     def blocks(self, at, end):

@@ -68,11 +68,12 @@ class CellWords(Words):
 
     def __init__(self, paths, is_apart=False):
         super().__init__(paths)
+        self.side = None
         self.facts, self.apart, self.digits, self.linked = [], {}, {}, set()
         self.forms["IsCell"] = is_cell
         self.forms["IsInside"] = self.is_inside
         self.forms["ShareLeaf"] = self.share_leaf
-        self.forms["SIDE"] = lambda: constant(2**30)
+        self.forms["SIDE"] = lambda: self.side
         if is_apart:
             self.forms["IsCommonAncestor"] = self.is_common_ancestor
             self.forms.update({word: self.set_apart(word) for word in APART})
@@ -83,7 +84,7 @@ class CellWords(Words):
 
     def number_of(self, word, number):
         """What the word makes of a number of 64 bits. The facts about it are then known."""
-        found = self.apart.setdefault(str(number.bits), (number, {}))[1]
+        found = self.apart.setdefault(number.bits.sexpr(), (number, {}))[1]
         if word not in found:
             found[word], condition = numbers.variable(word, APART[word])
             self.facts += [condition, z3.Implies(is_cell(number), self.fact(word, number, found))]
@@ -151,16 +152,16 @@ class CellWords(Words):
         self.given = state.known()
 
     def named_digit(self, state, digit):
-        names = variables_of(digit.bits)
-        if names not in self.digits:
+        names, key = variables_of(digit.bits), digit.bits.sexpr()
+        if key not in self.digits:
             value = self.defined("digit_value", [digit], self.value)
             given = [it for it in state.known() if variables_of(it) & names]
             same = (step for step, part, _ in state.steps if variables_of(part) == names and
                     model_of(of_bits(step).bits != value.bits, step == part, *given) is None)
             step = next(same, None)
-            self.digits[names] = value if step is None else of_bits(step)
-            self.linked |= {str(step)}
-        return self.digits[names]
+            self.digits[key] = value if step is None else of_bits(step)
+            self.linked.add(str(step))
+        return self.digits[key]
 
     def steps_of(self, state, claim):
         """What the steps are whose names stand in a claim or in what is known, if no digit is known to be them."""
@@ -179,6 +180,10 @@ class CellWords(Words):
         for level in LEVELS:
             bits, condition = cell_of_level("n", level)
             count += self.prove_cell(level, of_bits(bits), condition)
+        number = of_bits(z3.BitVec("n", 64))
+        tails = [z3.Extract(2 * zeros, 0, number.bits) == 1 << 2 * zeros for zeros in LEVELS]
+        faces = z3.ULT(z3.Extract(63, 61, number.bits), 6)
+        prove(is_cell(number) == z3.And(faces, z3.Or(tails)), "the cells of all levels are all cells")
         for number, (word, most) in itertools.product(numbers_by_zeros("n"), APART.items()):
             prove(z3.ULE(self.word(word, [number]).bits, most), f"the greatest {word}")
             count += 1
@@ -186,7 +191,7 @@ class CellWords(Words):
             sizes = [constant(4 ** (30 - it)) for it in (level, other)]
             prove(same_order(constant(level), constant(other), *sizes), "the order of levels")
             count += 1
-        return count + prove_intervals()
+        return count + 1 + prove_intervals()
 
     def prove_texts(self):
         """The definitions that the forms stand for are those that they were written for."""
