@@ -31,6 +31,7 @@ class Machine(Memory):
     def __init__(self, text, named=()):
         self.text, self.named = text, named
         self.steps = self.proved = 0
+        self.lines = set()  # of the text that were run
 
     def must(self, state, claim, what):
         self.proved += 1
@@ -88,6 +89,7 @@ class Way:
             if self.machine.steps > MOST_STEPS:
                 raise Undecided("more instructions than are run here")
             self.line = instruction.line
+            self.machine.lines.add(self.line)
             getattr(self, instruction.form)(*instruction.parts)
         return self.others, self.answer
 

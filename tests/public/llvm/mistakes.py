@@ -14,19 +14,20 @@ OTHER = {"add": "sub", "sub": "add", "mul": "add", "udiv": "urem", "urem": "udiv
 LINE = re.compile(r"  %r\d+ = (?:(?:add|sub|mul|udiv|urem|and|or|xor|shl|lshr) |icmp \w+ )i\d+ [^,]+, \S+$"
                   r"|  store i\d+ -?\d+, .*|  ret i\d+ -?\d+$")
 NUMBER = re.compile(r"(?<=, )\d+$|(?<=i8 )-?\d+(?=,)|(?<=i32 )-?\d+(?=,)|(?<=i64 )-?\d+(?=,)")
-# Mistakes that change nothing, each with its reason: the old line, what is in its place, and in which calls.
+# Mistakes that change nothing: the function, the line and what is in its place; why, and in which calls, if not in all.
 SAME = {
-    ("icmp ule i32 %r, 60", "icmp ule i32 %r, 61"): ("the zeros at the end of a cell are even, so never 61", None),
-    ("store i64 0, ptr %r, align 1", "store i64 1, ptr %r, align 1"): (
+    ("s2cell_cell_CellId_from_id", "icmp ule i32 %r, 60", "icmp ule i32 %r, 61"): (
+        "the zeros at the end of a cell are even, so never 61", None),
+    ("s2cell_cell_CellId_from_id", "store i64 0, ptr %r, align 1", "store i64 1, ptr %r, align 1"): (
         "any other number than a cell is then taken for 0, of which the answer is 0", ("s2u_next", "s2u_size")),
 }
 
 
 class Mistake:
-    """A line of the text, and what is in its place."""
+    """A line of a function, and what is in its place."""
 
-    def __init__(self, at, old, new):
-        self.at, self.old, self.new = at, old, new
+    def __init__(self, function, at, old, new):
+        self.function, self.at, self.old, self.new = function, at, old, new
 
     def __str__(self):
         return f"line {self.at + 1}: {self.new.strip()} in place of {self.old.strip()}"
@@ -34,7 +35,7 @@ class Mistake:
     def reason(self, call):
         """Why the call is the same with it, if it is."""
         plain = tuple(re.sub(r"%r\d+", "%r", re.sub(r"^%r\d+ = ", "", line.strip())) for line in (self.old, self.new))
-        reason, calls = SAME.get(plain, (None, None))
+        reason, calls = SAME.get((self.function, *plain), (None, None))
         return reason if calls is None or call in calls else None
 
     def text(self, text):
@@ -43,18 +44,18 @@ class Mistake:
         return Text(text.path, "\n".join(lines))
 
 
-def mistakes(text, name, count):
-    """So many mistakes in a call and what it calls, always the same ones, no two in one line if there are enough."""
+def mistakes(text, name, lines):
+    """Mistakes in these lines of a call and of what it calls, always the same ones, at most one in a line."""
     chooser = random.Random(name)
-    spots = [(at, line) for function in text.reached(name) for at, line in lines_of(text, function)]
+    spots = [(function, *spot) for function in text.reached(name) for spot in lines_of(text, function)]
     chooser.shuffle(spots)
-    found = []
-    while len(found) < count and spots:
-        at, line = spots.pop()
+    while spots:
+        function, at, line = spots.pop()
         changed = [new for new in changes(line) if new != line]
         if changed:
-            found.append(Mistake(at, line, chooser.choice(changed)))
-    return found
+            new = chooser.choice(changed)
+            if at + 1 in lines:
+                yield Mistake(function, at, line, new)
 
 
 def lines_of(text, function):

@@ -23,10 +23,11 @@ DEFINITIONS = ["s2cell/specs/Cell", "s2cell/specs/Curve", "s2cell/specs/Neighbou
 
 
 class Proved:
-    """What was proved of a call: each clause with the seconds that it took, the cases and the ways."""
+    """What was proved of a call: each clause with the seconds that it took, the cases and the ways, and which lines of
+    the text were run."""
 
     def __init__(self, names):
-        self.seconds, self.cases, self.ways, self.steps, self.obligations = dict.fromkeys(names, 0.0), 0, 0, 0, 0
+        self.seconds, self.cases, self.ways, self.lines = dict.fromkeys(names, 0.0), 0, 0, set()
 
 
 def words_of(crates, is_apart=False):
@@ -73,7 +74,7 @@ def prove_call(text, crates, name, plan):
         ways = list(machine.run(case.state, name, case.values))
         prove_all_ways(name, given, ways)
         done.cases, done.ways = done.cases + 1, done.ways + len(ways)
-        done.steps, done.obligations = done.steps + machine.steps, done.obligations + machine.proved
+        done.lines |= machine.lines
         for clause in contract.ensures:
             prove_clause(crates, name, plan, contract, clause, case, ways)
             done.seconds[clause.name] += time.process_time() - begun

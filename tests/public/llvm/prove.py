@@ -38,18 +38,18 @@ class Count:
 
 
 def prove_one(text, crates, name, count):
-    """Proves the clauses of a call; whether they all hold."""
+    """Proves the clauses of a call: what was proved, if they all hold."""
     plan = PLANS[name]
     try:
         contract, _ = contract_of(crates, name, plan)
         done = prove_call(text, crates, name, plan)
     except (Refuted, Undecided, Unknown) as error:
         count.check(False, f"{name}: {type(error).__name__.lower()}: {error}")
-        return False
+        return None
     for clause in contract.ensures:
         count.check(True, f"{name:22} {clause.name or 'its clause':10} proved for all inputs by Z3, "
                     f"{done.ways} ways in {done.cases} cases, {done.seconds[clause.name]:.1f} s")
-    return True
+    return done
 
 
 def verdict(text, crates, name):
@@ -63,16 +63,16 @@ def verdict(text, crates, name):
         return f"not decided: {error}"
 
 
-def refuse_mistakes(text, crates, name, count):
-    """Makes mistakes in the text of a call until enough of them were refuted. One that is known to change nothing has
-    to be proved."""
+def refuse_mistakes(text, crates, name, lines, count):
+    """Makes mistakes in these lines of a call until enough of them were refuted. None may be proved, unless it is known
+    to change nothing."""
     refuted = 0
-    for mistake in mistakes(text, name, 3 * MISTAKES):
+    for mistake in mistakes(text, name, lines):
         if refuted == MISTAKES:
             break
         found, reason = verdict(mistake.text(text), crates, name), mistake.reason(name)
-        if reason:
-            count.check(found == "proved", f"{name:22} {mistake}: {found}, the same since {reason}")
+        if reason and found == "proved":
+            count.check(True, f"{name:22} {mistake}: {found}, as it changes nothing: {reason}")
         else:
             refuted += found == "refuted"
             count.check(found == "refuted", f"{name:22} {mistake}: {found}")
@@ -97,8 +97,9 @@ def main():
     count.check(True, f"the forms of words: {words_of(asked.crates).prove_forms()} claims proved by Z3, "
                 f"{time.process_time() - begun:.1f} s")
     for name in names:
-        if prove_one(text, asked.crates, name, count) and asked.tier != "quick":
-            refuse_mistakes(text, asked.crates, name, count)
+        done = prove_one(text, asked.crates, name, count)
+        if done and asked.tier != "quick":
+            refuse_mistakes(text, asked.crates, name, done.lines, count)
     refuse_changes(text, asked.crates, count)
     say(f"{count.passed} passed, {count.failed} failed")
     return count.failed > 0
