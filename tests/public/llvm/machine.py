@@ -11,7 +11,7 @@ from bits import joined_bits, lowest_one, shifted
 from solver import Refuted, Undecided, is_possible, literal, prove
 from text import CASE, Unknown, arguments_of, fields_of, size_of, width
 
-MOST_STEPS = 2_000_000
+MOST_STEPS = 200_000
 SHAPES = ((0, 2), (0, 4), (4, 2), (0, 8))
 COMPARISONS = {
     "eq": lambda a, b: a == b, "ne": lambda a, b: a != b, "ult": z3.ULT, "ule": z3.ULE, "ugt": z3.UGT, "uge": z3.UGE,
@@ -87,7 +87,7 @@ class Way:
             self.at += 1
             self.machine.steps += 1
             if self.machine.steps > MOST_STEPS:
-                raise Undecided("more instructions than are run here")
+                raise Refuted(f"it doesn't end within {MOST_STEPS} instructions")
             self.line = instruction.line
             self.machine.lines.add(self.line)
             getattr(self, instruction.form)(*instruction.parts)

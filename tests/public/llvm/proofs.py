@@ -31,11 +31,7 @@ class Proved:
 
 
 def words_of(crates, is_apart=False):
-<<<<<<< HEAD
     paths = [TOP / "tests" / "public" / "kit.txt", *(crates / f"{name}.antt" for name in DEFINITIONS)]
-    return CellWords([str(path) for path in paths], is_apart)
-=======
-    paths = [TOP / "tests" / "public" / "kit.antt", *(crates / f"{name}.antt" for name in DEFINITIONS)]
     words = CellWords([str(path) for path in paths], is_apart)
     words.side = side(TOP / "crates" / "s2cell" / "src" / "lib.rt")
     return words
@@ -49,7 +45,6 @@ def side(path):
     if len(found) != 1 or text.count("\npub const SIDE: u32 = 1 << GREATEST_LEVEL;\n") != 1:
         raise Undecided(f"{path}: SIDE isn't what it was")
     return constant(2 ** int(found[0]))
->>>>>>> 30e9c85d9e8ccb265a1bc406375e4b71d46c9365
 
 
 def contract_of(crates, name, plan):

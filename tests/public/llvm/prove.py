@@ -1,5 +1,5 @@
 """Proves by Z3, for all inputs, that the text from which the library is compiled does what the contracts of its calls
-say: tests/public/llvm/prove.py [--tier quick|gate|full] [--text FILE] [--crates FOLDER] [CALL..].
+say: tests/public/llvm/prove.py --text FILE [--tier quick|gate|full] [--crates FOLDER] [--except CALL] [CALL..].
 
 FILE is s2union.ll, of the source archive in dist, or of one that tools/portable made. FOLDER is crates, which has the
 contracts and the definitions that they cite. A line tells for each clause that it was proved, with the seconds that it
@@ -91,8 +91,8 @@ def main():
     asked = words()
     count = Count()
     text = Text(asked.text)
-    names = asked.calls or [name for name, plan in PLANS.items()
-                            if TIERS.index(plan.tier) <= TIERS.index(asked.tier)]
+    names = asked.calls or [name for name, plan in PLANS.items() if name != asked.left_out
+                            and TIERS.index(plan.tier) <= TIERS.index(asked.tier)]
     begun = time.process_time()
     count.check(True, f"the forms of words: {words_of(asked.crates).prove_forms()} claims proved by Z3, "
                 f"{time.process_time() - begun:.1f} s")
@@ -110,6 +110,7 @@ def words():
     parser.add_argument("--tier", choices=TIERS, default="gate")
     parser.add_argument("--text", required=True)
     parser.add_argument("--crates", type=Path, default=TOP / "crates")
+    parser.add_argument("--except", dest="left_out", choices=list(PLANS), metavar="CALL")
     parser.add_argument("calls", nargs="*", metavar="CALL")
     asked = parser.parse_args()
     if unknown := sorted(set(asked.calls) - set(PLANS)):
