@@ -185,8 +185,8 @@ static bool as_which(PyObject* given, Covered* it, s2u_cover_cells** outer, s2u_
   uint64_t which;
   memset(it, 0, sizeof *it);
   if (!as_number(given, "which", 0, 3, &which)) return false;
-  *outer = which & 1 ? &it->outer : NULL;
-  *inner = which & 2 ? &it->inner : NULL;
+  *outer = which == 1 || which == 3 ? &it->outer : NULL;
+  *inner = which == 2 || which == 3 ? &it->inner : NULL;
   return true;
 }
 
