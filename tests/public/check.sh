@@ -5,6 +5,7 @@
 # Z3 proves that the text from which the library is compiled does what the contracts of its calls say. That text is
 # FILE, or the one of the library that this machine has proved, or src/s2union.ll of the source archive in dist/. With
 # CALLs only these are proved. In all tiers except quick, Frama-C then looks at C of the headers that nothing proves.
+# Coq checks the laws of lists by their proofs in crates, and a checker that it proved looks at answers of the library.
 # The last line is 'N passed, M failed'.
 . "$(dirname "$0")/../steps.sh"
 tier=gate text='' calls=() others=()
@@ -20,7 +21,12 @@ done
 need_file /usr/bin/python3 python3
 need_modules z3 python3-z3
 need xz xz-utils
-[ "$tier" = quick ] || need frama-c frama-c-base
+if [ "$tier" != quick ]; then
+  need frama-c frama-c-base
+  need coqc coq
+  need ocamlopt ocaml
+  need_installed libcoq-equations libzarith-ocaml-dev
+fi
 need_packages
 
 of_this_machine() { # the text of the library that was proved here
@@ -62,8 +68,19 @@ counted() { # COMMAND..: what it says is shown, and its last line counts
   fi
 }
 
+choose_library_file() { # $library: the one that is installed for this run, or else the release's
+  library=${S2UNION_PREFIX:+$S2UNION_PREFIX/lib/libs2union.so.1}
+  [ -n "$library" ] && return
+  dpkg -x "$(echo "$top"/dist/libs2union1_*_amd64.deb)" "$work/package"
+  library=$work/package/usr/lib/x86_64-linux-gnu/libs2union.so.1
+}
+
 choose_text
 counted /usr/bin/python3 -B "$top/tests/public/llvm/prove.py" --tier "$tier" --text "$text" "${others[@]}" \
   "${calls[@]}"
-[ "$tier" = quick ] || [ ${#calls[@]} -gt 0 ] || counted /usr/bin/python3 "$top/tests/public/headers/check.py"
+if [ "$tier" != quick ] && [ ${#calls[@]} -eq 0 ]; then
+  counted /usr/bin/python3 "$top/tests/public/headers/check.py"
+  choose_library_file
+  counted /usr/bin/python3 -B "$top/tests/public/coq/check.py" --tier "$tier" --library "$library"
+fi
 finish

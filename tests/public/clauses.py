@@ -60,7 +60,7 @@ def contract(path, lines, at):
 def clause_texts(lines, at):
     """The clauses that stand before the body, each on one line, and the number of its first line."""
     found = []
-    while lines[at] != "{":
+    while not lines[at].startswith("{"):
         if re.match(r"    \w", lines[at]):
             found.append((at + 1, lines[at].strip()))
         else:
