@@ -29,8 +29,8 @@ if [ "$tier" != quick ]; then
 fi
 need_packages
 
-of_this_machine() { # the text of the library that was proved here
-  PYTHONPATH=$top/tools /usr/bin/python3 -Bc \
+of_this_machine() { # the text of the library that was proved here, which is kept
+  "$top/tools/archive" && PYTHONPATH=$top/tools /usr/bin/python3 -Bc \
     'import portable_text; print(portable_text.text_of(portable_text.BITCODE), end="")' >"$work/s2union.ll"
 }
 
