@@ -1,4 +1,4 @@
-"""The declarations in crates/*/specs and crates/*/proofs: read(path) gives a list of them. What it doesn't know is an
+"""The declarations in crates/*/specs and crates/*/proofs: read(path) gives a list of them. A word unknown to it is an
 error with the file and the line.
 
 A declaration is a dict with its `kind`, the `line` where it begins, and

@@ -7,9 +7,9 @@ class Plan(NamedTuple):
     """How a call is proved. `file` has its contract, below crates. `cells` are the arguments that are looked at level
     by level. If `is_apart`, cells are known by facts alone. `lists` has the length up to which each list is looked at,
     `arrays` the lists of which any place is looked at, `rooms` what a result needs by the levels of `cells`, and
-    `witnesses` the numbers for statements about some or all numbers. What the functions of `named` answer has a name of
-    its own, and `turns` are the levels at which the curve's orientation has one. `tier` is the first one that has it:
-    quick, gate or full."""
+    `witnesses` the numbers for statements about some or all numbers. An answer of the functions of `named` has a name
+    of its own, and `turns` are the levels at which the curve's orientation has one. `tier` is the first one that has
+    it: quick, gate or full."""
 
     file: str = "s2union_c/src/cells.rt"
     cells: tuple = ()

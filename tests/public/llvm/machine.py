@@ -25,8 +25,8 @@ OPERATIONS = {
 
 
 class Machine(Memory):
-    """Runs functions of a text. It counts the instructions, and what it had to prove. What a function among `named`
-    answers has a name of its own from then on, so that no formula has more than one step of a long way."""
+    """Runs functions of a text. It counts the instructions, and what it had to prove. The answer of a function among
+    `named` has a name of its own from then on, so that no formula has more than one step of a long way."""
 
     def __init__(self, text, named=()):
         self.text, self.named = text, named

@@ -246,7 +246,7 @@ def loaded(thing, at, count):
 
 
 def from_table(content, offset, count):
-    """The number at an offset in a constant table. That it is aligned is proved before."""
+    """The number at an offset in a constant table. Its alignment is proved before."""
     place, number = table(content, count)
     return z3.simplify(z3.substitute(number, (place, offset)))
 
