@@ -73,8 +73,8 @@ def entries():
 
 def alarms(entry, file, headers):
     """How many alarms there are, and what is said of them; None if the analysis didn't end well."""
-    command = ["frama-c", *OPTIONS, *OF_FILE[file], "-main", entry, f"-cpp-extra-args=-I{headers} -I{INCLUDED}", file]
-    done = subprocess.run(command, cwd=HERE, capture_output=True, encoding="utf-8", check=False)
+    command = ["frama-c", *OPTIONS, *OF_FILE[file], "-main", entry, f"-cpp-extra-args=-I{headers} -I{INCLUDED}"]
+    done = subprocess.run([*command, os.path.join(HERE, file)], capture_output=True, encoding="utf-8", check=False)
     counted = ALARMS.search(done.stdout)
     if done.returncode != 0 or counted is None:
         return None, done.stdout[-2000:] + done.stderr[-2000:]
