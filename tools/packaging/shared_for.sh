@@ -51,7 +51,7 @@ for word; do case $word in *.c) files+=("$word") ;; *) flags+=("$word") ;; esac;
 case $system in
   *-musl)
     by_kit "${system%-musl}-linux-musl" -fPIC $([ "$system" = x86_64-musl ] || echo -mno-outline-atomics)
-    wants_only "sincos|_GLOBAL_OFFSET_TABLE_|$of_python"
+    wants_only "sincos|_GLOBAL_OFFSET_TABLE_|__tls_get_addr|getpid|times|$of_python"
     printf '{ global: %s; local: *; };\n' \
       "$(named --defined-only --extern-only | grep -xE "$entry" | paste -sd';')" >"$work/map"
     of_kit ld.lld -shared --hash-style=gnu -z relro -z now -z noexecstack --version-script="$work/map" --strip-all \

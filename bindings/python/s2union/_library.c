@@ -16,7 +16,6 @@
 #include <dlfcn.h>
 #endif
 #ifdef __linux__
-#include <sys/syscall.h>
 #include <sys/times.h>
 #include <unistd.h>
 #endif
@@ -372,7 +371,7 @@ static bool is_time(Watch* it) {
 static int is_cancelled(void* of) {
   Watch* it = of;
   if (it->is_cancelled || it->is_elsewhere || !is_time(it)) return it->is_cancelled;
-  it->is_elsewhere = syscall(SYS_gettid) != getpid();
+  it->is_elsewhere = PyThread_get_thread_native_id() != (unsigned long)getpid();
   if (it->is_elsewhere) return false;
   PyEval_RestoreThread(it->unlocked);
   it->is_cancelled = PyErr_CheckSignals() != 0;
