@@ -109,8 +109,8 @@ class Release(unittest.TestCase):
             self.assertEqual(self.refused("--check")[:len(wanted)], wanted, name)
         self.release({**FILES, "README.md": PAGE.replace("1" * 40, "1" * 39)})
         self.assertEqual(self.refused("--check"), ["dist/README.md names version, commit, kit and sources"])
-        self.release({**FILES, "s2union-7.8.9.html": "x" * 10_500_000})
-        self.assertEqual(self.refused("--check"), ["at most 10500000 bytes"])
+        self.release({**FILES, "s2union-7.8.9.html": "x" * 10_700_000})
+        self.assertEqual(self.refused("--check"), ["at most 10700000 bytes"])
 
     def test_a_version_without_its_date(self):
         for head in "## 7.8.9", "## 7.8.8 (2026-11-28)", "## 7.8.9 (soon)":
