@@ -25,7 +25,7 @@ export S2UNION_SHAPES=$work/shapes
 
 program_of() { # PAGE LANGUAGE FILE: writes the page's program to a file
   block "$1" "$2" >"$3"
-  [ -s "$3" ] || { echo "docs/$1 has no program in $2"; return 1; }
+  [ -s "$3" ] || { echo "$1 has no program in $2"; return 1; }
 }
 says() { # PAGE LANGUAGE COMMAND..: whether a program says what the page says that it does
   block "$1" "text $2" >"$work/want-$2"
@@ -34,10 +34,10 @@ says() { # PAGE LANGUAGE COMMAND..: whether a program says what the page says th
 documented() { # LANGUAGE COMPILER..
   local language=$1
   shift
-  program_of C.md "$language" "$work/x.$language" || return 1
+  program_of docs/C.md "$language" "$work/x.$language" || return 1
   (
     cd "$work" && export PATH=/usr/bin:/bin # where no kit is
     "$@" "${strict[@]}" "x.$language" $(pkg-config --cflags --libs s2union) -o "x-$language" \
-      && says C.md "$language" "./x-$language"
+      && says docs/C.md "$language" "./x-$language"
   )
 }

@@ -172,8 +172,8 @@ no_arithmetic() { # FILE
   /usr/bin/python3 "$top/tests/no_arithmetic.py" "$1"
 }
 
-block() { # PAGE FENCE: the first block of a page of docs that begins with this fence
-  awk -v start="\`\`\`$2" '$0 == start && !done { on = 1; next } /^```/ { if (on) done = 1; on = 0 } on' "$top/docs/$1"
+block() { # PAGE FENCE: the first block of a page, by its path from the top, that begins with this fence
+  awk -v start="\`\`\`$2" '$0 == start && !done { on = 1; next } /^```/ { if (on) done = 1; on = 0 } on' "$top/$1"
 }
 
 # ---- mutants, in the form of tests/mutants/mutant_texts.py

@@ -81,8 +81,8 @@ in_python() (
   cd "$top/tests/python" && PYTHONPATH=$arm/lib/python:$top/tests:$tests python_on_arm "${by_qemu[@]}" test_library.py
 )
 step "Python: against the model, and the module" in_python
-page() { (cd "$top/tests/python" && PYTHONPATH=$arm/lib/python python_on_arm -m doctest "$top/docs/$1"); }
-step "Python: docs/PYTHON.md" page PYTHON.md
+page() { (cd "$top/tests/python" && PYTHONPATH=$arm/lib/python python_on_arm -m doctest "$top/$1"); }
+step "Python: docs/PYTHON.md" page docs/PYTHON.md
 
 extension() { # FOLDER FLAGS..
   cp -r "$top/bindings/sqlite" "$work/$1" && # all anew: what lies there may be for x86-64

@@ -7,8 +7,8 @@ path in backticks is there; the files that docs/ARCHITECTURE.md walks through ha
 crate uses only those of lower layers there; each language has what docs/FROM_S2.md says it has; the numbers on
 docs/HEADLINE.md and others are what they count (tests/docs/figures.py); docs/TROUBLESHOOTING.md has each error that the
 sources make, and no others; docs/CONCEPTS.md has the edges and numbers of cells of all levels; docs/MARIADB.md lists
-the functions of install.sql; docs/README.md leads to each page; README.md has fewer than 10,000 bytes; a page that
-names the kit names the one of the file KIT; CHANGELOG.md says nothing twice; each part that a text names after
+the functions of install.sql; docs/README.md leads to each page for users; README.md has fewer than 10,000 bytes; a page
+that names the kit names the one of the file KIT; CHANGELOG.md says nothing twice; each part that a text names after
 `tests/run` is one, and has beside it the Debian packages that its script installs; each command of tools/ and bench/
 prints its usage with --help, and does nothing else; and what is a command, a file whose name has no ending and which
 names its interpreter, is executable, and no other file is. The last line is 'N passed, M failed', where N counts the
@@ -18,6 +18,7 @@ the commands and the files. A check that has nothing to look at fails.
 import functools
 import importlib.machinery
 import importlib.util
+import os
 import re
 import subprocess
 import sys
@@ -25,7 +26,8 @@ import tempfile
 from pathlib import Path
 
 ROOT = Path(__file__).resolve().parents[2]
-sys.path += [str(ROOT / "tests"), str(ROOT / "tests" / "mutants")]
+sys.path += [str(ROOT / "tests"), str(ROOT / "tests" / "mutants"), str(ROOT / "tools" / "packaging")]
+import documents  # noqa: E402
 from checks import has_wrong, tracked  # noqa: E402
 from figures import wrong_figures  # noqa: E402
 from mutant_texts import mutants_of  # noqa: E402
@@ -226,18 +228,19 @@ def functions_of_mariadb():
     """The functions of install.sql, and what docs/MARIADB.md has more or less, or docs/SQLITE.md under no such name,
     where a question about a cell is one about a union."""
     installed = set(re.findall(r"FUNCTION (\w+)", (ROOT / "bindings" / "mariadb" / "install.sql").read_text()))
-    table = "".join(re.findall(r"^\|.*", (ROOT / "docs" / "MARIADB.md").read_text(), re.M))
+    table = "".join(re.findall(r"^\|.*", (ROOT / "docs/MARIADB.md").read_text(), re.M))
     others = installed ^ set(re.findall(r"\bs2_\w+", table))
-    known = set(re.findall(r"`(s2_\w+)\(", (ROOT / "docs" / "SQLITE.md").read_text()))
+    known = set(re.findall(r"`(s2_\w+)\(", (ROOT / "docs/SQLITE.md").read_text()))
     return len(installed), sorted(others | {name for name in installed if name not in known
                                             and name.removesuffix("_cell") not in known})
 
 
 def unlisted():
-    """The number of pages in docs/, and those to which their index doesn't lead."""
-    names = [page.name for page in pages() if page.parent == ROOT / "docs"]
-    links = {link for link, _ in LINK.findall((ROOT / "docs" / "README.md").read_text())}
-    return len(names), [name for name in names if name not in links | {"README.md"}]
+    """The number of pages for users, and those to which their index doesn't lead."""
+    index = "docs/README.md"
+    names = tracked(ROOT, *documents.PAGES)
+    links = {os.path.normpath(f"docs/{link}") for link, _ in LINK.findall((ROOT / index).read_text())}
+    return len(names), [name for name in names if name not in links | {index}]
 
 
 def too_long():

@@ -1,7 +1,7 @@
 """Habits that make pages hard to read, counted: python3 tests/docs/prose.py [PAGE..] lists the sentences that have one.
 
-The pages are README.md and those of docs/, without code, tables and headings. HABITS has the most that
-may stand of each habit, which only falls; tests/docs/rot.py asks it.
+The pages are README.md and those for users, without code, tables and headings. HABITS has the most that may stand of
+each habit, which only falls; tests/docs/rot.py asks it.
 """
 import re
 import sys
@@ -9,7 +9,8 @@ from pathlib import Path
 from typing import Callable, NamedTuple
 
 ROOT = Path(__file__).resolve().parents[2]
-sys.path.append(str(ROOT / "tests"))
+sys.path += [str(ROOT / "tests"), str(ROOT / "tools" / "packaging")]
+import documents  # noqa: E402
 from checks import tracked  # noqa: E402
 
 FENCED = re.compile(r"^ *```.*?^ *```", re.S | re.M)
@@ -61,7 +62,7 @@ def sentences(text):
 
 
 def pages():
-    return tracked(ROOT, "README.md", "docs/*.md")
+    return tracked(ROOT, "README.md", *documents.PAGES)
 
 
 def found_in(name):

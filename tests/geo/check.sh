@@ -66,7 +66,7 @@ by_node() { # PROGRAM: the driver's own modules Node finds by the variable alone
   (cd "$work/node" && PGDATABASE=first NODE_PATH=$modules node "$1")
 }
 node_page() {
-  block JS.md "js pg" >"$work/node/page.mjs" && by_node page.mjs | diff <(block JS.md "text js pg") -
+  block docs/JS.md "js pg" >"$work/node/page.mjs" && by_node page.mjs | diff <(block docs/JS.md "text js pg") -
 }
 step "Debian's driver of Node" driver_of_node
 step "the driver of Node: pg" by_node drivers.mjs

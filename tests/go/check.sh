@@ -15,9 +15,9 @@ for_go() (
   cd "$top/bindings/go" && [ -z "$(gofmt -l .)" ] && go vet . && timeout 7200 go test -count=1 .
 )
 by_go() ( # the page's program, in a module of its own
-  mkdir -p "$work/by-go" && cd "$work/by-go" && program_of GO.md go main.go && [ -z "$(gofmt -l .)" ] &&
+  mkdir -p "$work/by-go" && cd "$work/by-go" && program_of docs/GO.md go main.go && [ -z "$(gofmt -l .)" ] &&
     go mod init program && go mod edit -require "$path@v0.0.0" -replace "$path=$top/bindings/go" &&
-    go build -o program && says GO.md go ./program
+    go build -o program && says docs/GO.md go ./program
 )
 step "against the model, the edges, what is refused, and the examples" for_go
 step "docs/GO.md" by_go
@@ -30,11 +30,11 @@ with zipfile.ZipFile(sys.argv[1], "w") as made:
         made.write(name, f"{sys.argv[2]}@v1.0.0/{name}")' "$at/v1.0.0.zip" "$path" * &&
     cd "$work/got-by-go" && cp "$work/by-go/main.go" . && go mod init program &&
     GOPROXY=file://$work/proxy GONOSUMDB=* go get "$path@v1.0.0" && go vet . && go build -o program &&
-    says GO.md go ./program
+    says docs/GO.md go ./program
 )
 step "docs/GO.md, by go get" got_by_go
 static_go() (
-  cd "$work/by-go" && CGO_LDFLAGS=-static go build -o alone && ! ldd alone && says GO.md go env -i ./alone
+  cd "$work/by-go" && CGO_LDFLAGS=-static go build -o alone && ! ldd alone && says docs/GO.md go env -i ./alone
 )
 step "docs/GO.md, without a shared library" static_go
 

@@ -33,7 +33,7 @@ unpacked() { # libraries, each for its processor
 }
 step "the library for each processor is in it" unpacked
 compiled() { # with the class of the page
-  block JAVA.md "java region" >"$work/Region.java" &&
+  block docs/JAVA.md "java region" >"$work/Region.java" &&
     javac -Xlint:all -Werror -cp "$jar" -d "$work/tests" "$tests"/*.java "$work/Region.java"
 }
 step "compile the tests" compiled
@@ -81,7 +81,8 @@ without_memory() { # by the interpreter, which takes no memory itself during a c
 }
 step "each allocation refused in turn, and what calls keep" without_memory
 by_page() {
-  block JAVA.md java >"$work/Program.java" && block JAVA.md "text java" >"$work/wanted" && [ -s "$work/wanted" ] &&
+  block docs/JAVA.md java >"$work/Program.java" && block docs/JAVA.md "text java" >"$work/wanted" &&
+    [ -s "$work/wanted" ] &&
     by_java "$@" "$work/Program.java" >"$work/printed" && diff "$work/wanted" "$work/printed"
 }
 step "docs/JAVA.md" by_page -cp "$jar"

@@ -46,7 +46,7 @@ step "coverings and outlines are those of Python" node "$tests/shapes.mjs" "$pac
 
 by_name() { # NAME: a program of the page, in a package that has ours
   mkdir -p "$work/program/node_modules" && cp -rT "$package" "$work/program/node_modules/s2union" &&
-    block JS.md "js$1" >"$work/program/program.mjs" && block JS.md "text js$1" >"$work/program/wanted" &&
+    block docs/JS.md "js$1" >"$work/program/program.mjs" && block docs/JS.md "text js$1" >"$work/program/wanted" &&
     [ -s "$work/program/wanted" ] && node "$work/program/program.mjs" >"$work/program/said" &&
     diff "$work/program/wanted" "$work/program/said"
 }

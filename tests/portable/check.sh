@@ -142,7 +142,8 @@ step "CMake for Windows" by_cmake for-windows -DCMAKE_SYSTEM_NAME=Windows -DBUIL
   -DCMAKE_C_COMPILER=x86_64-w64-mingw32-gcc -DCMAKE_CROSSCOMPILING_EMULATOR=/usr/lib/wine/wine64
 
 go_for_windows() ( # the program of docs/GO.md
-  mkdir "$work/go" && cd "$work/go" && block GO.md go >main.go && block GO.md "text go" >wanted && [ -s wanted ] &&
+  mkdir "$work/go" && cd "$work/go" && block docs/GO.md go >main.go && block docs/GO.md "text go" >wanted &&
+    [ -s wanted ] &&
     export GOPATH=$work/gopath GOCACHE=$work/go-cache GOFLAGS=-mod=mod GOPROXY=off GOTOOLCHAIN=local &&
     module=$(sed -n 's/^module //p' "$work/source/go/go.mod") && go mod init x &&
     go mod edit -require "$module@v0.0.0" -replace "$module=$work/source/go" &&
@@ -255,11 +256,11 @@ step "the natives for macOS on ARM: looked at, not run" natives_for_macos aarch6
 of_debian=gcc,libc6-dev,make,cargo,golang-go,python3-venv,python3-dev,python3-setuptools,python3-wheel
 of_debian+=,sqlite3,libsqlite3-dev,postgresql-15,postgresql-client-15
 trial=$work/trial
-mkdir -p "$trial/tests" "$trial/docs"
+mkdir -p "$trial/tests"
 cp "$top/tests/steps.sh" "$trial/tests/"
 cp "$tests/trial.sh" "$trial/run"
 cp "$made"/s2union-*.tar.gz "$trial/"
-for page in RUST GO PYTHON; do cp "$top/docs/$page.md" "$trial/docs/"; done
+(cd "$top" && cp --parents docs/RUST.md docs/GO.md docs/PYTHON.md "$trial")
 cp -r "$work/source" "$trial/source"
 export PATH=/usr/sbin:/usr/bin:/sbin:/bin
 step "what a new system builds of it" bash "$top/tools/packaging/in_new_system.sh" "$of_debian" "$trial"

@@ -21,13 +21,13 @@ program() { # PAGE FENCE FILE: the page's program, and beside it what it prints
     [ -s "$work/$3" ] && [ -s "$work/$3.wanted" ]
 }
 in_rust() (
-  program RUST.md rust rust/src/main.rs && cd "$work/rust" && export CARGO_HOME=$work/cargo &&
+  program docs/RUST.md rust rust/src/main.rs && cd "$work/rust" && export CARGO_HOME=$work/cargo &&
     printf '%s\n' '[package]' 'name = "x"' 'version = "1.0.0"' 'edition = "2021"' >Cargo.toml &&
     cargo add --offline --path "$source/rust" && cargo build --quiet --offline &&
     target/debug/x | diff src/main.rs.wanted -
 )
 in_go() (
-  program GO.md go go/main.go && cd "$work/go" && export GOFLAGS=-mod=mod GOPROXY=off GOCACHE=$work/go-cache &&
+  program docs/GO.md go go/main.go && cd "$work/go" && export GOFLAGS=-mod=mod GOPROXY=off GOCACHE=$work/go-cache &&
     export GOPATH=$work/gopath && module=$(sed -n 's/^module //p' "$source/go/go.mod") && go mod init x &&
     go mod edit -require "$module@v0.0.0" -replace "$module=$source/go" && go build -o x . &&
     ./x | diff main.go.wanted -

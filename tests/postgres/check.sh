@@ -67,11 +67,11 @@ step "errors leave no cells behind" tests test_kept.py::Errors
 step "indexes, ANALYZE and shapes are cancelled" tests test_kept.py::Cancels
 page() { # PAGE DATABASE: its examples, in a database of their own, without notices
   createdb "$2" && S2UNION_FIRST=$work/data S2UNION_SHARD=$work/shard PGOPTIONS="-c client_min_messages=warning" \
-    /usr/bin/python3 "$top/tests/docs/documented.py" "$top/docs/$1" psql -XAqt -d "$2"
+    /usr/bin/python3 "$top/tests/docs/documented.py" "$top/$1" psql -XAqt -d "$2"
 }
-step "README.md" page ../README.md readme
-step "docs/COOKBOOK.md" page COOKBOOK.md cookbook
-step "docs/POSTGRES.md" page POSTGRES.md page
+step "README.md" page README.md readme
+step "docs/COOKBOOK.md" page docs/COOKBOOK.md cookbook
+step "docs/POSTGRES.md" page docs/POSTGRES.md page
 export PYTHONPATH=$work/usr/lib/python
 step "drivers of Python" tests test_drivers.py
 from_python() { # what the page shows of psycopg, in the page's database
@@ -111,8 +111,8 @@ if command -v javac >/dev/null && [ -e /usr/share/java/postgresql.jar ]; then
 else
   echo "       left out: the driver of Java (openjdk-17-jdk-headless, libpostgresql-jdbc-java)"
 fi
-step "docs/SCALE.md" page SCALE.md scale
-step "docs/ENGINES.md, without the extension" page ENGINES.md engines
+step "docs/SCALE.md" page docs/SCALE.md scale
+step "docs/ENGINES.md, without the extension" page docs/ENGINES.md engines
 step "its joins by tile, beside loops over all pairs" tests Tiles
 step "200 questions over two servers" tests Servers
 

@@ -33,7 +33,7 @@ step "build" built build COPT=-Werror
 [ "$failed" -eq 0 ] || finish
 step "install" make -C "$work/build" PREFIX="$work/usr" PG_CONFIG="$config" install DESTDIR="$copy"
 
-{ echo "local all all trust" && block SERVERS.md "text hba"; } >"$work/hba"
+{ echo "local all all trust" && block docs/SERVERS.md "text hba"; } >"$work/hba"
 settings=("listen_addresses = '*'" "hba_file = '$work/hba'" "log_lock_waits = on")
 on() { # NAME: what the functions below run as
   as_postgres=(ip netns exec "$NET-$1" runuser -u postgres --)
@@ -49,7 +49,7 @@ replicated() {
     rm -f "$folder"/{.s.PGSQL.5432.lock,log} &&
     echo "unix_socket_directories = '$folder'" >>"$folder/postgresql.conf" &&
     "${as_postgres[@]}" "$bin/pg_ctl" -D "$folder" -l "$folder/log" -w start &&
-    block SERVERS.md "sql replica" | psql -Xq -v ON_ERROR_STOP=1 -h "$work/third"
+    block docs/SERVERS.md "sql replica" | psql -Xq -v ON_ERROR_STOP=1 -h "$work/third"
 }
 for name in first second third; do step "the $name server" placed "$name"; done
 step "a replica of the third" replicated

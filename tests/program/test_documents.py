@@ -1,4 +1,4 @@
-"""The program answers what README.md and docs/ show; and the script s2calc at the top runs it."""
+"""The program answers what README.md and the pages for users show; and the script s2calc at the top runs it."""
 import hashlib
 import os
 import re
@@ -11,8 +11,12 @@ import unittest
 
 import pytest
 
+from checks import tracked
 from model import calculator as model
 from process import LAUNCHER, PROGRAM, SECONDS, TOP, launched, ran
+
+sys.path.append(os.path.join(TOP, "tools", "packaging"))
+import documents  # noqa: E402
 
 
 def has_gnu_parallel():
@@ -246,7 +250,7 @@ def text_of(name):
         return it.read()
 
 
-PAGES = ["README.md", *(f"docs/{name}" for name in sorted(os.listdir(os.path.join(TOP, "docs"))) if name[-3:] == ".md")]
+PAGES = tracked(TOP, "README.md", *documents.PAGES)
 TRANSCRIPT = re.compile(r"```text\n\$ \./s2calc run <<'SCRIPT'\n(.*?)SCRIPT\n(.*?)```", re.S)
 TRANSCRIPTS = [pytest.param(*shown, id=f"{page}: {place}") for page in PAGES
                for place, shown in enumerate(TRANSCRIPT.findall(text_of(page)), 1)]
@@ -295,7 +299,7 @@ def test_the_page_has_what_is_looked_for():
 
 
 class Documents(unittest.TestCase):
-    """The program answers what README.md and docs/ show."""
+    """The program answers what the pages show."""
 
     def setUp(self):
         self.texts = {page: text_of(page) for page in PAGES}

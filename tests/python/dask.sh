@@ -24,14 +24,14 @@ export WORLD=$work/world/countries WORK=$work
 export DASK_DISTRIBUTED__COMM__TIMEOUTS__CONNECT=600s # on a machine with much else to do
 
 page() {
-  block DASK.md text >"$work/wanted" && [ -s "$work/wanted" ] &&
+  block docs/DASK.md text >"$work/wanted" && [ -s "$work/wanted" ] &&
     (cd "$work" && timeout 3600 /usr/bin/python3 dask_page.py) >"$work/said" && diff "$work/wanted" "$work/said"
 }
 tests() { # FILE::CLASS
   (cd "$work" && timeout 3600 /usr/bin/python3 -m pytest -s "$top/tests/python/$1")
 }
 blocks() {
-  block DASK.md python >"$work/dask_page.py" && block ENGINES.md python >"$work/engines.py" &&
+  block docs/DASK.md python >"$work/dask_page.py" && block docs/ENGINES.md python >"$work/engines.py" &&
     [ -s "$work/dask_page.py" ] && [ -s "$work/engines.py" ]
 }
 step "the Python of docs/DASK.md and docs/ENGINES.md" blocks
@@ -65,7 +65,7 @@ pairs_by() ( # PAGE FENCE ENDING COMMAND..: a program of a page
   cd "$work" && block "$1" "$2" >"pairs.$3" && { [ "$3" != cs ] || mcs pairs.cs; } &&
     "${@:4}" tokens "$WORLD"/*.outer >said && diff pairs said
 )
-by_ffi() { pairs_by FFI.md "$@"; }
+by_ffi() { pairs_by docs/FFI.md "$@"; }
 step "docs/FFI.md: C#" by_ffi csharp cs mono pairs.exe
 step "docs/FFI.md: PHP" by_ffi php php php -d ffi.enable=1 pairs.php
 step "docs/FFI.md: Ruby" by_ffi ruby rb ruby pairs.rb
@@ -151,14 +151,14 @@ cat(asked, "passed, 0 failed\n")
 R
 )
 page_of_r() (
-  cd "$work" && block R.md r >first.R && block R.md "text r" >wanted && [ -s wanted ] && Rscript first.R >said &&
-    diff wanted said
+  cd "$work" && block docs/R.md r >first.R && block docs/R.md "text r" >wanted && [ -s wanted ] &&
+    Rscript first.R >said && diff wanted said
 )
 step "the package for R: R CMD check, with its tests beside S2's own operations" for_r
 step "the package for R: no text that is longer than R's" long_text_of_r
 step "the package for R: the cells of shapes, beside Python" shapes_of_r
 step "docs/R.md" page_of_r
-step "docs/R.md: all pairs" pairs_by R.md "r pairs" R Rscript pairs.R
+step "docs/R.md: all pairs" pairs_by docs/R.md "r pairs" R Rscript pairs.R
 
 step "ten million cells on 1, 2 and 4 workers, and with one that is killed" tests test_dask.py::OnACluster
 grep -E '^one process|^[0-9] worker|^a worker' "$work/log" | sed 's/^/       /'

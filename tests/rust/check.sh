@@ -19,10 +19,10 @@ for_rust() ( # in a copy, since cargo writes beside the sources
     RUSTFLAGS=-Dwarnings CARGO_TARGET_DIR=$work/target timeout 7200 cargo test -q --offline
 )
 by_rust() (
-  mkdir -p "$work/by-rust/src" && cd "$work/by-rust" && program_of RUST.md rust src/main.rs &&
+  mkdir -p "$work/by-rust/src" && cd "$work/by-rust" && program_of docs/RUST.md rust src/main.rs &&
     printf '%s\n' "[package]" 'name = "program"' 'version = "0.0.0"' 'edition = "2021"' "[dependencies]" \
       "s2union = { path = \"$work/for-rust\" }" >Cargo.toml &&
-    CARGO_TARGET_DIR=$work/target cargo build -q --offline && says RUST.md rust "$work/target/debug/program"
+    CARGO_TARGET_DIR=$work/target cargo build -q --offline && says docs/RUST.md rust "$work/target/debug/program"
 )
 with_serde() ( # by Debian's sources of serde, in place of a registry
   cd "$work/for-rust/serde" && RUSTFLAGS=-Dwarnings CARGO_TARGET_DIR=$work/target timeout 7200 cargo \

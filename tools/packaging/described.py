@@ -1,15 +1,16 @@
 #!/usr/bin/env python3
-"""Puts beside the sources of a package what a registry asks for: described FOLDER PAGE. FOLDER gets the page of docs/
-as README.md, and LICENSE. Its manifest (Cargo.toml, package.json, pyproject.toml or pom.xml) gets the address of the
-repository, which stands in CITATION.cff alone, as `repository-code`; the pom also gets the version, and the name of a
-group that the owner of the address has: the parts of its host, the other way round.
+"""Puts beside the sources of a package what a registry asks for: described FOLDER PAGE. FOLDER gets LICENSE, and the
+page, by its path from the top of the repository, as README.md. Its manifest (Cargo.toml, package.json, pyproject.toml
+or pom.xml) gets the address of the repository, which stands in CITATION.cff alone, as `repository-code`; the pom also
+gets the version, and the name of a group that the owner of the address has: the parts of its host, the other way round.
 """
 import json
 import re
 import shutil
-import subprocess
 import sys
 from pathlib import Path
+
+import documents
 
 TOP = Path(__file__).resolve().parents[2]
 
@@ -45,13 +46,12 @@ MANIFESTS = {"Cargo.toml": in_cargo, "package.json": in_json, "pyproject.toml": 
 
 
 def main(folder, page):
-    folder, page = Path(folder), Path(page)
+    folder = Path(folder)
     for name in MANIFESTS.keys() & {path.name for path in folder.iterdir()}:
         manifest = folder / name
         manifest.write_text(MANIFESTS[name](manifest.read_text()))
-    documents = TOP / "tools" / "packaging" / "documents.py"
-    subprocess.run([sys.executable, documents, "--beside", folder, page], cwd=TOP, check=True)
-    (folder / page.name).rename(folder / "README.md")
+    documents.main(["--beside", folder, page])
+    (folder / documents.beside(page)).rename(folder / "README.md")
     shutil.copyfile(TOP / "LICENSE", folder / "LICENSE")
 
 

@@ -1,20 +1,25 @@
 #!/usr/bin/env python3
 """Copies pages as a package has them: documents [--beside] FOLDER FILE.., files by their paths from the top of the
-repository.
+repository; or prints the paths of all pages for users, which PAGES names: documents --pages.
 
-Each goes below the folder by its path; with --beside, what is in docs/ goes beside README.md, and its index becomes
-INDEX.md. A link to another of these files leads to it there, and one into the web stays. If docs/STATEMENT.txt and
-docs/STATEMENT.rt are among the files, a link to a definition or a contract of crates/ leads to its line there: the one
-that has the first name in the link's text, or that where the texts of the source begin. Any other link becomes its
-text, since a package lacks what it leads to.
+Each goes below the folder by its path, and the page of a language, bindings/NAME/README.md, as docs/NAME.md, in
+capitals. With --beside, what is in docs/ goes beside README.md, and its index becomes INDEX.md. A link to another of
+these files leads to it there, and one into the web stays. If docs/STATEMENT.txt and docs/STATEMENT.rt are among the
+files, a link to a definition or a contract of crates/ leads to its line there: the one that has the first name in the
+link's text, or that where the texts of the source begin. Any other link becomes its text, since a package lacks what it
+leads to.
 """
 import functools
 import os
 import re
+import subprocess
 import sys
 from pathlib import Path
 
 TOP = Path(__file__).resolve().parents[2]
+# The pages for users, as git finds them. The page of a language or a system stands beside its code.
+PAGES = (":(glob)docs/*.md", ":(glob)bindings/*/README.md", ":!bindings/source", "page/README.md")
+BESIDE_CODE = re.compile(r"(?:bindings/(\w+)|(page))/README\.md")
 LINK = re.compile(r"(!?)\[((?:[^\[\]]|\[[^\[\]]*\])*)\]\((?!https?://|#)([^)#\s]+)(#[^)\s]+)?\)")
 SOURCE = re.compile(r"crates/(\w+)/(specs|src)/([\w/]+)\.(?:antt|rt)")
 DEFINITIONS, CONTRACTS = "docs/STATEMENT.txt", "docs/STATEMENT.rt"
@@ -70,15 +75,24 @@ def page(text, name, places):
     return LINK.sub(link, text)
 
 
+def below(name):
+    """Where a file goes in a package that keeps the folder docs/."""
+    found = BESIDE_CODE.fullmatch(name)
+    return f"docs/{(found[1] or found[2]).upper()}.md" if found else name
+
+
 def beside(name):
     """Where a file goes that stands beside README.md."""
-    return "INDEX.md" if name == "docs/README.md" else name.removeprefix("docs/")
+    return "INDEX.md" if name == "docs/README.md" else below(name).removeprefix("docs/")
 
 
 def main(words):
+    if words == ["--pages"]:
+        subprocess.run(["git", "ls-files", *PAGES], cwd=TOP, check=True)
+        return
     is_beside = words[0] == "--beside"
     folder, *names = words[is_beside:]
-    places = {name: beside(name) if is_beside else name for name in names}
+    places = {name: beside(name) if is_beside else below(name) for name in names}
     for name, place in places.items():
         content = (TOP / name).read_bytes()
         to = Path(folder, place)
