@@ -102,8 +102,8 @@ need_linker() { # what tools/library links with
   [ ! -x /usr/bin/python3 ] || need_headers
 }
 
-# Which library is asked: where it was not proved and no kit is, the release's. Then tools/library and tools/java are
-# given what $released has.
+# Which library is asked: where it was not proved and no kit is, the release's. Then tools/library and
+# bindings/java/package are given what $released has.
 released=()
 choose_library() { # [--target PROCESSOR]
   ! command -v rt >/dev/null && ! "$top/tools/archive" --is-kept "$@" || return 0

@@ -9,11 +9,11 @@ docs/HEADLINE.md and others are what they count (tests/docs/figures.py); docs/TR
 sources make, and no others; docs/CONCEPTS.md has the edges and numbers of cells of all levels; docs/MARIADB.md lists
 the functions of install.sql; docs/README.md leads to each page for users; README.md has fewer than 10,000 bytes; a page
 that names the kit names the one of the file KIT; CHANGELOG.md says nothing twice; each part that a text names after
-`tests/run` is one, and has beside it the Debian packages that its script installs; each command of tools/ and bench/
-prints its usage with --help, and does nothing else; and what is a command, a file whose name has no ending and which
-names its interpreter, is executable, and no other file is. The last line is 'N passed, M failed', where N counts the
-definitions, the links, the paths, the names, the calls, the errors, the levels, the changes, the parts, their packages,
-the commands and the files. A check that has nothing to look at fails.
+`tests/run` is one, and has beside it the Debian packages that its script installs; each command of tools/, bench/ and
+bindings/ prints its usage with --help, and does nothing else; and what is a command, a file whose name has no ending
+and which names its interpreter, is executable, and no other file is. The last line is 'N passed, M failed', where N
+counts the definitions, the links, the paths, the names, the calls, the errors, the levels, the changes, the parts,
+their packages, the commands and the files. A check that has nothing to look at fails.
 """
 import functools
 import importlib.machinery
@@ -312,8 +312,9 @@ def words_of(text):
 
 
 def without_usage():
-    """The number of commands of tools/ and bench/, and those that don't answer --help by the text at their head."""
-    commands = [path for folder in ("tools", "bench") for path in sorted((ROOT / folder).iterdir())
+    """The number of commands of tools/, bench/ and bindings/, and those that don't answer --help by the text at their
+    head."""
+    commands = [path for folder in ("tools", "bench", "bindings/*") for path in sorted(ROOT.glob(f"{folder}/*"))
                 if path.is_file() and not path.suffix and path.read_bytes().startswith(b"#!")]
     return len(commands), [str(path.relative_to(ROOT)) for path in commands if not prints_usage(path)]
 

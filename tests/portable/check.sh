@@ -226,7 +226,8 @@ loaded() ( # over a python3.dll that has the names of Python's, and does nothing
 step "the wheel for Windows: its module is loaded" loaded
 jar() { # that of the release has the natives for macOS too, but calls of its own time
   local given=$work/java/s2union.jar
-  PATH=$with_kit "$top/tools/java" "$work/java" --target x86_64 --source "$archive" "${released[@]}" || return 1
+  PATH=$with_kit "$top/bindings/java/package" "$work/java" --target x86_64 --source "$archive" "${released[@]}" ||
+    return 1
   mkdir "$work/hosted" "$work/given" && /usr/bin/python3 -m zipfile -e "$given" "$work/hosted" || return 1
   [ "$made" != "$top/dist" ] || given=$(echo "$made"/s2union-*.jar)
   /usr/bin/python3 -m zipfile -e "$given" "$work/given"
@@ -237,7 +238,7 @@ asked_as_java_does() { # on Linux and in Windows: one sum
   java=$(dirname "$(dirname "$(realpath "$(command -v javac)")")")
   flags=(-std=gnu11 -O2 -Wall -Wextra -Werror -I"$java/include" -I"$top/bindings/java")
   cd "$work/hosted" && gcc "${flags[@]}" -I"$java/include/linux" "$file" -ldl -o here &&
-    x86_64-w64-mingw32-gcc "${flags[@]}" -I"$top/tools/packaging/windows" "$file" -o there.exe &&
+    x86_64-w64-mingw32-gcc "${flags[@]}" -I"$top/bindings/java/windows" "$file" -o there.exe &&
     ./here s2union/amd64/libs2union_java.so "$rounds" >wanted && grep '^sum ' wanted &&
     in_windows ./there.exe s2union/windows-amd64/libs2union_java.dll "$rounds" | tr -d '\r' | diff wanted -
 }

@@ -131,7 +131,7 @@ class Release(unittest.TestCase):
         whose logic the file KIT names."""
         version = ran("--version")[1].decode().split()[-1]
         for name, text in (("tools/package", PACKAGE), ("tools/packaging/glibc.sh", ""),
-                           ("tools/java", 'mkdir "$1" && python3 -m zipfile -c "$1/s2union.jar" VERSION'),
+                           ("bindings/java/package", 'mkdir "$1" && python3 -m zipfile -c "$1/s2union.jar" VERSION'),
                            ("tools/portable", 'mkdir "$1" && touch "$1/s2union-$(cat VERSION)-source.tar.xz"'),
                            ("bin/rt", "echo a-kit-3 logic 5"),
                            *((f"bin/{tool}", "") for tool in ("javac", "aarch64-linux-gnu-gcc", "musl-gcc",

@@ -54,9 +54,9 @@ without_kit() ( # in that copy, which has no archive and no program: what needs 
 step ".ci/run, tests/run, tools/package: nothing is installed without the kit" without_kit
 unknown_words() { # and nothing is written for them
   local words
-  for words in "calls --chek" "statement --chek" "prove --chek" "library $work/none --chek" \
-    "java $work/none --chek" "package $work/none --chek" "portable $work/none --chek"; do
-    ! "$top/tools/"$words >"$work/refused" 2>&1 && grep -q "tools/.* has no option --chek" "$work/refused" ||
+  for words in "tools/calls --chek" "tools/statement --chek" "tools/prove --chek" "tools/library $work/none --chek" \
+    "bindings/java/package $work/none --chek" "tools/package $work/none --chek" "tools/portable $work/none --chek"; do
+    ! "$top/"$words >"$work/refused" 2>&1 && grep -q "${words%% *} has no option --chek" "$work/refused" ||
       { echo "$words" && cat "$work/refused" && return 1; }
   done
   [ ! -e "$work/none" ]

@@ -1,8 +1,8 @@
 #!/usr/bin/env bash
 # The package for Java: tests/run java. With --short it is asked for x86-64 alone, without the cross compiler. It
 # installs the Debian packages that it needs. Its last line is 'N passed, M failed'; the status is 1 if any failed.
-. "$(dirname "$0")/../steps.sh"
-tests=$top/tests/java
+. "$(dirname "$0")/../../../tests/steps.sh"
+tests=$top/bindings/java/tests
 processors="amd64:x86-64 aarch64:AArch64" target=()
 [ "${1:-}" != --short ] || processors=amd64:x86-64 target=(--target x86_64)
 
@@ -13,10 +13,12 @@ need_packages
 need_library
 
 step "no arithmetic on cells" no_arithmetic "$top/bindings/java/s2union.c"
-step "tools/java" "$top/tools/java" "$work/java" "${target[@]}" "${released[@]}"
+step "bindings/java/package" "$top/bindings/java/package" "$work/java" "${target[@]}" "${released[@]}"
 [ "$failed" -eq 0 ] || finish
 jar=$work/java/s2union.jar
-again() { "$top/tools/java" "$work/again" "${target[@]}" "${released[@]}" && diff -r "$work/java" "$work/again"; }
+again() {
+  "$top/bindings/java/package" "$work/again" "${target[@]}" "${released[@]}" && diff -r "$work/java" "$work/again"
+}
 step "the same bytes a second time" again
 beside_it() { # what a registry of Java asks for, without a word that is not filled in
   jar --describe-module --file "$jar" | grep "^s2union.* automatic" && [ -s "$work/java/s2union-javadoc.jar" ] &&
