@@ -1,6 +1,6 @@
 // Unions for C++ beside S2's own: bench/run cpp [WORD [ROUNDS]]. Each side is given two S2CellUnions, and makes one or
-// answers. By 'lists' it is the calls on the lists as they are, which check both; by 'unions' those of CellUnionOf,
-// where the lists were made unions before; by 'converted' both ways.
+// answers. By 'theirs' it is the calls on S2CellUnions as they are; by 'lists' on their lists, which these check; by
+// 'unions' those of CellUnionOf, where the lists were made unions before; by 'converted' both ways.
 #include <s2union.hpp>
 
 #include "sides.h"
@@ -24,6 +24,7 @@ class Pair {
       Side peer_side{[&] { theirs = peer(x_, y_); }, [&] { return sum_of(theirs); }};
       table_.row({name.c_str(), x_.size() + y_.size(), 0}, peer_side, {work, [&] { return sum_of(made); }});
     };
+    row("theirs", [&] { made = lists(x_, y_); });
     row("lists", [&] { made = S2CellUnion::FromNormalized(lists(x_.cell_ids(), y_.cell_ids())); });
     row("converted", [&] { made = S2CellUnion(unions(Ours(x_), Ours(y_))); });
     const std::string name = std::string(call) + "_unions_" + name_;
@@ -40,6 +41,7 @@ class Pair {
       Side peer_side{[&] { theirs = peer(x_, y_); }, [&] { return Sum().add(theirs).value(); }};
       table_.row({name.c_str(), x_.size() + y_.size(), 0}, peer_side, {work, [&] { return Sum().add(ours).value(); }});
     };
+    row("theirs", [&] { ours = lists(x_, y_); });
     row("lists", [&] { ours = lists(x_.cell_ids(), y_.cell_ids()); });
     row("unions", [&] { ours = unions(a_, b_); });
   }

@@ -8,9 +8,10 @@
  *     CellUnion ours = theirs;               // from an S2CellUnion, normalized if it wasn't
  *     S2CellUnion again(ours.Union(ours));   // and back, to S2's regions, indexes and areas
  *
- * LISTS. s2union::Difference(x.cell_ids(), y.cell_ids()) and the like take S2's lists as they are, and answer lists.
- * Each call checks its lists, in as many steps as they have cells, and refuses one that isn't normalized. A CellUnion
- * was checked when it was made: so make one of what is asked often.
+ * S2'S UNIONS. s2union::Difference(x, y), Contains(x, y) and the like take S2CellUnions as they are, and make one. As in
+ * S2 an assertion alone looks whether they are normalized. Of lists, such as x.cell_ids(), these calls make lists, and
+ * check them each time, in as many steps as they have cells: one that isn't normalized is refused. A CellUnion was
+ * checked when it was made.
  *
  * WHAT DIFFERS. A CellUnion is always normalized: there is no FromVerbatim, and IsValid and IsNormalized are true. What
  * S2 only requires, and looks at in debug builds, is always checked here, and refused if it isn't so. Decode makes its
@@ -36,6 +37,7 @@
 
 #include <algorithm>
 #include <array>
+#include <cassert>
 #include <cmath>
 #include <cstdlib>
 #include <functional>
@@ -244,10 +246,28 @@ int32_t normalized(std::vector<Id>* cells) {
   return found;
 }
 
-/// Whether the cells of a list are those of a union: S2U_OK or S2U_NO_UNION. A union is not asked.
+/// The list that another class of unions, such as S2CellUnion, keeps its cells in.
+template <class Theirs>
+using ListOf = std::decay_t<decltype(std::declval<const Theirs&>().cell_ids())>;
+
+/// Whether a class is one of unions by its type: it has cell_ids(), and is made of normalized cells by FromNormalized,
+/// as S2CellUnion.
+template <class X, class = void>
+constexpr bool is_class_of_unions = false;
+template <class X>
+constexpr bool is_class_of_unions<X, std::void_t<decltype(X::FromNormalized(std::declval<ListOf<X>>()))>> = true;
+
+/// Whether the cells of a list are those of a union: S2U_OK or S2U_NO_UNION. A union of ours is not asked, and of one
+/// of another class an assertion asks.
 template <class Id>
 int32_t checked(const std::vector<Id>& cells) {
   return is_union(cells) ? S2U_OK : S2U_NO_UNION;
+}
+template <class Theirs, class = std::enable_if_t<is_class_of_unions<Theirs>>>
+int32_t checked(const Theirs& theirs) {
+  assert(is_union(theirs.cell_ids()) && "the union isn't normalized");
+  (void)theirs;
+  return S2U_OK;
 }
 template <class Id>
 int32_t checked(const CellUnionOf<Id>&) {
@@ -257,14 +277,33 @@ template <class Id>
 const std::vector<Id>& list_of(const std::vector<Id>& cells) {
   return cells;
 }
-template <class Id>
-const std::vector<Id>& list_of(const CellUnionOf<Id>& cells) {
+template <class Union, class = std::enable_if_t<is_class_of_unions<Union>>>
+const ListOf<Union>& list_of(const Union& cells) {
   return cells.cell_ids();
 }
 
-/// The cells that a list or a union has.
+/// The cells that a list or a union has, as a list; and a cell of it.
 template <class X>
-using CellsOf = std::vector<typename X::value_type>;
+using CellsOf = std::decay_t<decltype(list_of(std::declval<const X&>()))>;
+template <class X>
+using CellOf = typename CellsOf<X>::value_type;
+
+/// What a call makes whose first argument is an X: a union of this class, if it is one of unions and not ours; else a
+/// list.
+template <class X>
+constexpr bool is_ours = false;
+template <class Id>
+constexpr bool is_ours<CellUnionOf<Id>> = true;
+template <class X>
+using MadeOf = std::conditional_t<is_class_of_unions<X> && !is_ours<X>, X, CellsOf<X>>;
+template <class X>
+MadeOf<X> made_as(CellsOf<X>&& cells) {
+  if constexpr (std::is_same_v<MadeOf<X>, CellsOf<X>>) {
+    return std::move(cells);
+  } else {
+    return X::FromNormalized(std::move(cells));
+  }
+}
 
 /// The list that a call makes of two, each a list or a union.
 template <class Call, class X, class Y>
@@ -298,10 +337,6 @@ bool answer(const X& x, const Y& y, int32_t* status, Call call) {
     return checked(y) == S2U_OK ? call(xs, n, numbers(ys), ys.size()) : S2U_NO_UNION;
   });
 }
-
-/// The list that another class of unions, such as S2CellUnion, keeps its cells in.
-template <class Theirs>
-using ListOf = std::decay_t<decltype(std::declval<const Theirs&>().cell_ids())>;
 
 template <class Id>
 uint64_t number_of(Id id) {
@@ -685,7 +720,8 @@ class CellUnionOf {
   }
 
   /// The polygon of an S2Polygon or an S2Loop, of the same corners to within 1.5 mm along each axis. Its leaf outside
-  /// is one that S2 says is outside, 10 cm and more from each edge. An empty or a full one has no edge, and a polygon
+  /// lies opposite the cap around it that S2 knows, for which S2 makes no index; if the cap is nearly the sphere, it is
+  /// one that S2 says is outside, 10 cm and more from each edge. An empty or a full one has no edge, and a polygon
   /// with hardly any outside no such leaf: of these the calls below say S2U_RING or S2U_ARGUMENT. @since 1.4
   /// @snippet examples.cc PolygonOf
   template <class Region>
@@ -693,6 +729,7 @@ class CellUnionOf {
     using Point = typename std::decay<decltype(VertexOf(region, 0))>::type;
     Polygon polygon;
     AddLoops(region, polygon, 0);
+    if (!polygon.ends.empty()) polygon.outside = Opposite(region, 0);
     const size_t places = polygon.ends.empty() ? 0 : 129 + std::min<size_t>(2 * polygon.corners.size(), 512);
     for (size_t k = 0; k < places && polygon.outside == 0; k++) {
       const std::array<double, 3> at = PlaceBeside(polygon.corners, k);
@@ -996,6 +1033,17 @@ class CellUnionOf {
     if (ring.size() >= 3) polygon.AddRing(ring);
   }
 
+  // The leaf opposite the cap around a region of S2, if that leaves a degree of the sphere free; else 0.
+  template <class Region>
+  static auto Opposite(const Region& region, int) -> decltype((void)region.GetCapBound(), uint64_t()) {
+    const auto cap = region.GetCapBound();
+    return cap.GetRadius().radians() < 3.12 ? Id(-cap.center()).id() : 0;
+  }
+  template <class Region>
+  static uint64_t Opposite(const Region&, long) {
+    return 0;
+  }
+
   // Places that may lie outside of a polygon, as directions: the one opposite its corners, 128 that lie as the seeds of
   // a sunflower, and then both sides of each edge, 6 m away.
   static std::array<double, 3> PlaceBeside(const std::vector<s2u_direction>& corners, size_t k) {
@@ -1057,14 +1105,16 @@ class CellUnionOf {
   std::vector<Id> cell_ids_;
 };
 
-// ---- calls on lists as they are, such as S2CellUnion::cell_ids(): none is copied. Each of X and Y is a std::vector of
-// cells or a CellUnionOf. A list is checked by each call, a step for each cell: S2U_NO_UNION if it isn't normalized. A
-// CellUnionOf isn't checked again. So make one of a union that you ask often.
+// ---- calls on unions and lists as they are: none is copied. Each of X and Y is a std::vector of cells, a CellUnionOf,
+// or another class of unions: one with cell_ids() and FromNormalized, such as S2CellUnion, of which a call makes an X.
+// Each call checks a vector, a step for each cell: S2U_NO_UNION if it isn't normalized. A CellUnionOf was checked when
+// it was made. What another class has is looked at by an assertion alone, as S2 does: with NDEBUG the answer about
+// cells that aren't normalized means nothing, but nothing outside of them is read or written.
 
 /// Whether all leaves of the cell are in the union. S2U_NO_CELL, S2U_NO_UNION. @since 1.4
 /// @snippet examples.cc ContainsCell
 template <class X>
-bool ContainsCell(const X& x, typename X::value_type id, int32_t* status = nullptr) {
+bool ContainsCell(const X& x, internal::CellOf<X> id, int32_t* status = nullptr) {
   return internal::answer(x, status, [id](const uint64_t* xs, size_t n) {
     return s2u_contains_cell(xs, n, internal::number_of(id));
   });
@@ -1072,7 +1122,7 @@ bool ContainsCell(const X& x, typename X::value_type id, int32_t* status = nullp
 /// Whether the union has a leaf of the cell. S2U_NO_CELL, S2U_NO_UNION. @since 1.4
 /// @snippet examples.cc IntersectsCell
 template <class X>
-bool IntersectsCell(const X& x, typename X::value_type id, int32_t* status = nullptr) {
+bool IntersectsCell(const X& x, internal::CellOf<X> id, int32_t* status = nullptr) {
   return internal::answer(x, status, [id](const uint64_t* xs, size_t n) {
     return s2u_intersects_cell(xs, n, internal::number_of(id));
   });
@@ -1089,29 +1139,31 @@ template <class X, class Y>
 bool Intersects(const X& x, const Y& y, int32_t* status = nullptr) {
   return internal::answer(x, y, status, s2u_intersects);
 }
-/// The leaves of both, as the list of their union. S2U_NO_UNION, S2U_MEMORY. @since 1.4
+/// The leaves of both: a list, or an X if that is a class of unions as S2CellUnion is. S2U_NO_UNION, S2U_MEMORY.
+/// @since 1.4
 /// @snippet examples.cc Union of lists
 template <class X, class Y>
-internal::CellsOf<X> Union(const X& x, const Y& y, int32_t* status = nullptr) {
-  return internal::made_of(s2u_union, internal::rooms::of_union, x, y, status);
+internal::MadeOf<X> Union(const X& x, const Y& y, int32_t* status = nullptr) {
+  return internal::made_as<X>(internal::made_of(s2u_union, internal::rooms::of_union, x, y, status));
 }
 /// The leaves that both have. S2U_NO_UNION, S2U_MEMORY. @since 1.4
 /// @snippet examples.cc Intersection of lists
 template <class X, class Y>
-internal::CellsOf<X> Intersection(const X& x, const Y& y, int32_t* status = nullptr) {
-  return internal::made_of(s2u_intersection, internal::rooms::of_intersection, x, y, status);
+internal::MadeOf<X> Intersection(const X& x, const Y& y, int32_t* status = nullptr) {
+  return internal::made_as<X>(internal::made_of(s2u_intersection, internal::rooms::of_intersection, x, y, status));
 }
 /// The leaves of x that y doesn't have. S2U_NO_UNION, S2U_MEMORY. @since 1.4
 /// @snippet examples.cc Difference of lists
 template <class X, class Y>
-internal::CellsOf<X> Difference(const X& x, const Y& y, int32_t* status = nullptr) {
-  return internal::made_of(s2u_difference, internal::rooms::of_difference, x, y, status);
+internal::MadeOf<X> Difference(const X& x, const Y& y, int32_t* status = nullptr) {
+  return internal::made_as<X>(internal::made_of(s2u_difference, internal::rooms::of_difference, x, y, status));
 }
 /// The leaves that exactly one of them has. S2U_NO_UNION, S2U_MEMORY. @since 1.4
 /// @snippet examples.cc SymmetricDifference of lists
 template <class X, class Y>
-internal::CellsOf<X> SymmetricDifference(const X& x, const Y& y, int32_t* status = nullptr) {
-  return internal::made_of(s2u_symmetric_difference, internal::rooms::of_symmetric_difference, x, y, status);
+internal::MadeOf<X> SymmetricDifference(const X& x, const Y& y, int32_t* status = nullptr) {
+  return internal::made_as<X>(
+      internal::made_of(s2u_symmetric_difference, internal::rooms::of_symmetric_difference, x, y, status));
 }
 
 /// The bytes of a union file, which answer questions in place, as in a mapped file or a row of a table: nothing is

@@ -14,6 +14,7 @@
 class Place {
  public:
   Place(double x, double y, double z) : at_{x, y, z} {}
+  Place operator-() const { return {-at_[0], -at_[1], -at_[2]}; }
   double x() const { return at_[0]; }
   double y() const { return at_[1]; }
   double z() const { return at_[2]; }
@@ -56,6 +57,27 @@ struct Loops {
   bool Contains(const Place& p) const { return only.Contains(p); }
   Loop::Angle GetDistance(const Place& p) const { return only.GetDistance(p); }
   Loop only;
+};
+
+/// A loop that knows a cap around it, as those of S2 do: about a place of the octant.
+class Capped {
+ public:
+  Capped(Loop loop, double radius) : loop_(std::move(loop)), radius_(radius) {}
+  int num_vertices() const { return loop_.num_vertices(); }
+  const Place& vertex(int k) const { return loop_.vertex(k); }
+  bool Contains(const Place& p) const { return asked++, loop_.Contains(p); }
+  Loop::Angle GetDistance(const Place& p) const { return loop_.GetDistance(p); }
+  struct Cap {
+    Place center() const { return {1, 0.5, 0.5}; }
+    Loop::Angle GetRadius() const { return {radius}; }
+    double radius;
+  };
+  Cap GetCapBound() const { return {radius_}; }
+  static inline int asked = 0;  // what only an index knows
+
+ private:
+  Loop loop_;
+  double radius_;
 };
 
 /// A cell as S2CellId is one: a class of 64 bits, not aligned, that is made from a number only where that is written.

@@ -4,6 +4,8 @@
 #include "../c/tests.h"
 #include <s2union.hpp>
 #include <set>
+#include <sys/wait.h>
+#include <unistd.h>
 #include <unordered_set>
 
 static bool has_memory = true;
@@ -286,6 +288,42 @@ static void lists() {
   CHECK(Union(theirs) == x.Union(y) && Union(static_cast<Theirs>(x)) == x);
 }
 
+/// Calls on another class of unions, beside those of ours: they make that class, and an assertion alone looks at it.
+static void classes_of_unions() {
+  using Union = s2union::CellUnionOf<Cell>;
+  const uint64_t first = s2u_child(kFace, 0), inside = s2u_child(first, 1);
+  const Theirs face(cells<Cell>({kFace})), two(cells<Cell>({first, s2u_child(kFace, 1)})), part(cells<Cell>({inside}));
+  const Union x = two;
+  CHECK(s2union::ContainsCell(two, Cell(inside)) && s2union::IntersectsCell(part, Cell(first)));
+  CHECK(s2union::Contains(face, two) && !s2union::Contains(x, face) && s2union::Contains(face, x.cell_ids()));
+  CHECK(s2union::Intersects(two, part) && !s2union::Intersects(part, s2union::Difference(two, part)));
+  const Theirs rest = s2union::Difference(face, two), all = s2union::Union(rest, two);
+  CHECK(rest.cell_ids() == Union(face).Difference(x).cell_ids() && all.cell_ids() == face.cell_ids());
+  const Theirs shared = s2union::Intersection(two, part.cell_ids()), other = s2union::SymmetricDifference(face, x);
+  CHECK(shared.cell_ids() == part.cell_ids() && other.cell_ids() == rest.cell_ids());
+  const std::vector<Cell> list = s2union::Union(x, part), of_list = s2union::Union(part.cell_ids(), two);
+  CHECK(list == x.cell_ids() && of_list == list);
+  const std::vector<Cell> wrong = cells<Cell>({s2u_child(kFace, 1), first});
+  REFUSES(S2U_NO_UNION, s2union::Union(two, wrong, status));
+  REFUSES(S2U_NO_CELL, s2union::ContainsCell(two, Cell(0), status));
+  int32_t status = S2U_OK;
+  CHECK(s2union::Difference(two, wrong, &status).cell_ids().empty() && status == S2U_NO_UNION);
+#ifdef NDEBUG
+  s2union::Union(Theirs(wrong), two, &status);
+  CHECK(status == S2U_OK);  // as S2: nobody looked
+#else
+  fflush(nullptr);
+  const pid_t child = fork();
+  if (child == 0) {
+    close(2);
+    s2union::Contains(Theirs(wrong), two);
+    _exit(0);
+  }
+  int ended = 0;
+  CHECK(waitpid(child, &ended, 0) == child && WIFSIGNALED(ended) && WTERMSIG(ended) == SIGABRT);
+#endif
+}
+
 /// Results and lists of many sizes, about where room is taken from the heap, or once more.
 template <class Id>
 static void rooms() {
@@ -464,6 +502,10 @@ static void collections() {
   CHECK(one.corners.size() == 3 && one.corners[1].y == 2147483647 && one.ends == std::vector<size_t>{3});
   CHECK(one.outside == s2u_from_face_ij(3, 1u << 29, 1u << 29) && most.outside >> 61 == 0);
   CHECK(OfCells::PolygonOf(Loops{Loop(octant)}).corners.size() == 3);
+  Capped::asked = 0;
+  CHECK(OfCells::PolygonOf(Capped(Loop(octant), 1)).outside == one.outside && Capped::asked == 0);
+  CHECK(OfCells::PolygonOf(Capped(Loop(octant, true), 3.13)).outside == most.outside && Capped::asked > 0);
+  CHECK(OfCells::PolygonOf(Capped(Loop({{0, 0, 1}}), -1)).outside == 0);
   CHECK(OfCells::PolygonOf(Loop({{0, 0, 1}})).ends.empty());
   CHECK(OfCells::PolygonOf(Loop(octant, true, 1e-3)).outside == 0);
   CHECK(OfCells::PolygonOf(Loop({{1, 0, 0}, {1, 0, 0}, {0, 1, 0}, {0, 0, 1}}, true)).outside >> 61 == 0);
@@ -533,6 +575,7 @@ int main() {
   unions<Cell>();
   lists<uint64_t>();
   lists<Cell>();
+  classes_of_unions();
   rooms<uint64_t>();
   rooms<Cell>();
   room_that_is_kept<uint64_t>();

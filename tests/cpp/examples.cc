@@ -498,50 +498,52 @@ int main() {
   {
     // [ContainsCell]
     const S2CellUnion land({S2CellId(0x0400000000000000), S2CellId(0x1400000000000000)});
-    check(s2union::ContainsCell(land.cell_ids(), S2CellId(1)));
+    check(s2union::ContainsCell(land, S2CellId(1)));
     // [ContainsCell]
   }
   {
     // [IntersectsCell]
     const S2CellUnion land({S2CellId(0x0400000000000000), S2CellId(0x1400000000000000)});
-    check(s2union::IntersectsCell(land.cell_ids(), S2CellId(0x1000000000000000)));
+    check(s2union::IntersectsCell(land, S2CellId(0x1000000000000000)));
     // [IntersectsCell]
   }
   {
     // [Contains of lists]
     const S2CellUnion face({S2CellId(0x1000000000000000)}), land({S2CellId(0x0400000000000000)});
-    check(s2union::Contains(face.cell_ids(), land.cell_ids()) && !s2union::Contains(land.cell_ids(), face.cell_ids()));
+    check(s2union::Contains(face, land) && !s2union::Contains(land.cell_ids(), face.cell_ids()));
     // [Contains of lists]
   }
   {
     // [Intersects of lists]
     const S2CellUnion face({S2CellId(0x1000000000000000)}), land({S2CellId(0x0400000000000000)});
-    check(s2union::Intersects(face.cell_ids(), land.cell_ids()));
+    check(s2union::Intersects(face, land));
     // [Intersects of lists]
   }
   {
     // [Union of lists]
     const S2CellUnion land({S2CellId(0x0400000000000000)}), sea({S2CellId(0x1400000000000000)});
-    const S2CellUnion both = S2CellUnion::FromNormalized(s2union::Union(land.cell_ids(), sea.cell_ids()));
+    const S2CellUnion both = s2union::Union(land, sea);
     check(both.cell_ids().size() == 2);
     // [Union of lists]
   }
   {
     // [Intersection of lists]
     const S2CellUnion face({S2CellId(0x1000000000000000)}), land({S2CellId(0x0400000000000000)});
-    check(s2union::Intersection(face.cell_ids(), land.cell_ids()) == land.cell_ids());
+    const S2CellUnion shared = s2union::Intersection(face, land);
+    check(shared.cell_ids() == land.cell_ids());
     // [Intersection of lists]
   }
   {
     // [Difference of lists]
     const S2CellUnion face({S2CellId(0x1000000000000000)}), land({S2CellId(0x0400000000000000)});
-    check(s2union::Difference(face.cell_ids(), land.cell_ids()).size() == 3);
+    const std::vector<S2CellId> rest = s2union::Difference(face.cell_ids(), land.cell_ids());
+    check(rest.size() == 3 && s2union::Difference(face, land).cell_ids() == rest);
     // [Difference of lists]
   }
   {
     // [SymmetricDifference of lists]
     const S2CellUnion land({S2CellId(0x0400000000000000)}), sea({S2CellId(0x1400000000000000)});
-    check(s2union::SymmetricDifference(land.cell_ids(), sea.cell_ids()).size() == 2);
+    check(s2union::SymmetricDifference(land, sea).cell_ids().size() == 2);
     // [SymmetricDifference of lists]
   }
   {
