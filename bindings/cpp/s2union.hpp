@@ -8,9 +8,9 @@
  *     CellUnion ours = theirs;               // from an S2CellUnion, normalized if it wasn't
  *     S2CellUnion again(ours.Union(ours));   // and back, to S2's regions, indexes and areas
  *
- * S2'S UNIONS. s2union::Difference(x, y), Contains(x, y) and the like take S2CellUnions as they are, and make one. As in
- * S2 an assertion alone looks whether they are normalized. Of lists, such as x.cell_ids(), these calls make lists, and
- * check them each time, in as many steps as they have cells: one that isn't normalized is refused. A CellUnion was
+ * S2'S UNIONS. s2union::Difference(x, y), Contains(x, y) and the like take S2CellUnions as they are, and make one. As
+ * in S2 an assertion alone looks whether they are normalized. Of lists, such as x.cell_ids(), these calls make lists,
+ * and check them each time, in as many steps as they have cells: one that isn't normalized is refused. A CellUnion was
  * checked when it was made.
  *
  * WHAT DIFFERS. A CellUnion is always normalized: there is no FromVerbatim, and IsValid and IsNormalized are true. What
