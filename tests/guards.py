@@ -98,7 +98,7 @@ MISTAKES = [
             swapped(WHOLE, WHOLE.replace("is_cell", "is_a_cell"))),
     Mistake("an error that no page explains", pages.unexplained, "crates/s2union_c/include/s2union.h",
             swapped("  S2U_MANY = -6, ", "  S2U_MUCH = -6, ")),
-    Mistake("a package that the list of parts lacks", pages.unnamed_packages, "tests/go/check.sh",
+    Mistake("a package that the list of parts lacks", pages.unnamed_packages, "bindings/go/tests/check.sh",
             swapped("need go golang-go\n", "need go golang-go gccgo\n")),
     Mistake("a function that MARIADB.md lacks", pages.functions_of_mariadb, "docs/MARIADB.md",
             swapped("`s2_count`, `s2_leaves`", "`s2_count`")),

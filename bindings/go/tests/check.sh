@@ -1,7 +1,7 @@
 #!/usr/bin/env bash
 # The tests of the package for Go, most of which are in bindings/go: tests/run go. It installs the Debian packages that
 # it needs. Its last line is 'N passed, M failed'; the status is 1 if any failed.
-. "$(dirname "$0")/../steps.sh"
+. "$(dirname "$0")/../../../tests/steps.sh"
 
 need gcc gcc libc6-dev
 need go golang-go
@@ -27,7 +27,7 @@ got_by_go() ( # the program with the module as a proxy of Go's hands it out
     echo '{"Version":"v1.0.0"}' >"$at/v1.0.0.info" && /usr/bin/python3 -c 'import sys, zipfile
 with zipfile.ZipFile(sys.argv[1], "w") as made:
     for name in sys.argv[3:]:
-        made.write(name, f"{sys.argv[2]}@v1.0.0/{name}")' "$at/v1.0.0.zip" "$path" * &&
+        made.write(name, f"{sys.argv[2]}@v1.0.0/{name}")' "$at/v1.0.0.zip" "$path" $(git ls-files . ':!bench') &&
     cd "$work/got-by-go" && cp "$work/by-go/main.go" . && go mod init program &&
     GOPROXY=file://$work/proxy GONOSUMDB=* go get "$path@v1.0.0" && go vet . && go build -o program &&
     says docs/GO.md go ./program
