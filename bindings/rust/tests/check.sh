@@ -1,7 +1,7 @@
 #!/usr/bin/env bash
 # The tests of the crate for Rust, most of which are in bindings/rust: tests/run rust. It installs the Debian packages
 # that it needs. Its last line is 'N passed, M failed'; the status is 1 if any failed.
-. "$(dirname "$0")/../steps.sh"
+. "$(dirname "$0")/../../../tests/steps.sh"
 
 need gcc gcc libc6-dev
 need cargo cargo
