@@ -32,11 +32,14 @@ def bytes_of_debug(levels):
     return levels["id"] + 2 if levels else 0
 
 
+STEPS = ("s2cell_tables_held_by", "s2cell_tables_next_shift")  # of the curve
+TURNS = (29, 28, 24, 20, 16, 12, 8, 4, 0)
 CELL = Plan(cells=("id",))
 PAIR = Plan(is_apart=True, tier="gate")
 TEXTS = "s2union_c/src/texts.rt"
-DIGITS = ("core_convert_U64FromU8_from",)
 FILES = "s2union_c/src/files.rt"
+DEBUGGED = """(2 * ((slice_index text.now 0 - 48) * 4 ^ (length text.now - 2) + digits_value 4 (drop 2 text.now)) + 1)
+    * 4 ^ (32 - length text.now)"""  # the number that a debug text says
 PLANS = {
     "s2u_version": Plan(),
     "s2u_is_cell": CELL,
@@ -52,12 +55,13 @@ PLANS = {
     "s2u_cell_contains": PAIR,
     "s2u_cell_intersects": PAIR,
     "s2u_common_ancestor": Plan(is_apart=True, tier="full"),
-    "s2u_from_face_ij": Plan(named=("s2cell_tables_held_by", "s2cell_tables_next_shift"),
-                             turns=(29, 28, 24, 20, 16, 12, 8, 4, 0), tier="gate"),
+    "s2u_from_face_ij": Plan(named=STEPS, turns=TURNS, tier="gate"),
+    "s2u_square_of": Plan(cells=("id",), named=STEPS, turns=TURNS, tier="gate"),
     "s2u_file_count": Plan(FILES, lists={"bytes": 9}, tier="gate"),
     "s2u_file_cell": Plan(FILES, arrays=("bytes",), tier="gate"),
     "s2u_token": Plan(TEXTS, cells=("id",), rooms={"text": digits_of_token}, tier="gate"),
     "s2u_debug": Plan(TEXTS, cells=("id",), rooms={"text": bytes_of_debug}, tier="gate"),
-    "s2u_from_token": Plan(TEXTS, lists={"text": 16}, named=DIGITS, tier="gate", witnesses={
+    "s2u_from_token": Plan(TEXTS, lists={"text": 16}, tier="gate", witnesses={
         "n": "digits_value 16 text.now * 16 ^ (16 - length text.now)"}),
+    "s2u_from_debug": Plan(TEXTS, lists={"text": 32}, tier="gate", witnesses={"n": DEBUGGED}),
 }

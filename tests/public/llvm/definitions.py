@@ -11,9 +11,8 @@ import z3
 
 import antt
 import natural as numbers
-from bits import variables_of
 from natural import Number, constant
-from solver import FALSE, TRUE, Undecided, model_of
+from solver import FALSE, TRUE, Undecided
 from text import Unknown
 
 
@@ -70,6 +69,9 @@ class Listed:
     def __init__(self, front, rest=None):
         self.front, self.rest = list(front), rest
 
+    def __repr__(self):
+        return f"{self.front} {self.rest}"
+
     def length(self):
         front = constant(len(self.front))
         return numbers.add(front, self.rest[1]) if self.rest else front
@@ -87,8 +89,8 @@ class Words:
 
     def __init__(self, paths):
         self.definitions, self.records, self.forms, self.witnesses, self.where = {}, {}, {}, {}, "a clause"
+        self.shown = {}  # forms from which a word follows: for where it is claimed alone
         self.premises = []  # of what is looked at
-        self.given = []  # if any: what is known, by which statements that can't hold are seen
         for path in paths:
             for found in declarations(path):
                 if found.get("name") in self.definitions or found.get("name") in self.records:
@@ -168,16 +170,9 @@ class Words:
                 formulas.append(z3.Or([z3.And(condition, self.all_hold(parts[place + 1:], names, claimed))
                                        for names, condition in ways]))
                 break
-            if formulas and (z3.is_false(formulas[-1]) or not claimed and self.is_impossible(formulas[-1])):
+            if formulas and z3.is_false(formulas[-1]):
                 return FALSE
         return simple(z3.And(*formulas))
-
-    def is_impossible(self, formula):
-        """Whether a statement contradicts what is given of the same variables."""
-        if not self.given or z3.is_true(formula):
-            return False
-        names = variables_of(formula)
-        return model_of(formula, *(it for it in self.given if variables_of(it) & names)) is None
 
     def any_numbers(self, names, kind, known):
         """The names with any numbers: one of 64 bits, or a greater one of which nothing else is known."""
@@ -214,8 +209,10 @@ class Words:
         if word in ("◌<◌", "◌≤◌"):
             left, right = (self.number(it, known) for it in arguments)
             return (z3.ULT if word == "◌<◌" else z3.ULE)(left.bits, right.bits)
-        if word in self.forms:
-            return self.forms[word](*[self.value(it, known) for it in arguments])
+        if word in self.shown and not claimed:
+            raise self.unknown(f"the word {word}, where it is given,")
+        if word in self.forms or word in self.shown:
+            return {**self.forms, **self.shown}[word](*[self.value(it, known) for it in arguments])
         if word in self.records:
             return self.record_holds(word, [self.value(it, known) for it in arguments], claimed)
         if word in self.definitions:

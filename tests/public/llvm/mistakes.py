@@ -5,6 +5,7 @@ import re
 import shutil
 from typing import NamedTuple
 
+from calls import PLANS
 from proofs import DEFINITIONS
 from text import Text
 
@@ -92,7 +93,7 @@ class Change(NamedTuple):
 
     def made(self, crates, room):
         """A copy of the contracts and the definitions with the change."""
-        for name in [*(f"{name}.antt" for name in DEFINITIONS), "s2union_c/src/cells.rt"]:
+        for name in [*(f"{name}.antt" for name in DEFINITIONS), *{plan.file for plan in PLANS.values()}]:
             (room / name).parent.mkdir(parents=True, exist_ok=True)
             shutil.copy(crates / name, room / name)
         text = (room / self.file).read_text(encoding="utf-8")
@@ -108,6 +109,9 @@ CHANGES = [
     Change("s2cell/specs/Cell.antt", "level_of n = 30 - ", "level_of n = 31 - ", "s2u_level"),
     Change("s2cell/specs/Cell.antt", "size_of n = 4 ^", "size_of n = 2 ^", "s2u_size"),
     Change("s2union_c/specs/Status.antt", "no_cell = negsuc 2", "no_cell = negsuc 3", "s2u_face"),
+    Change("s2cell/specs/Square.antt", "size ≡ 2 ^ (30 - level_of c)", "size ≡ 4 ^ (30 - level_of c)", "s2u_square_of"),
+    Change("s2cell/specs/Curve.antt", "1 ∷ 0 ∷ 0 ∷ 3 ∷ []", "1 ∷ 0 ∷ 0 ∷ 2 ∷ []", "s2u_square_of"),
+    Change("s2cell/specs/Debug.antt", "slice_index text 1 ≡ 47", "slice_index text 1 ≡ 46", "s2u_from_debug"),
     Change("s2union_c/src/cells.rt", "result ≡ size_of id", "result ≡ weight_of id", "s2u_size",
            "not decided: s2union_c/src/cells.rt:"),
 ]

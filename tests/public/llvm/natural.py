@@ -22,6 +22,9 @@ class Number:
     def __init__(self, bits, most, exponent=None):
         self.bits, self.most, self.exponent = bits, most, exponent
 
+    def __repr__(self):
+        return self.bits.sexpr()
+
     @property
     def literal(self):
         return literal(self.bits)

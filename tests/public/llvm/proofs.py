@@ -14,7 +14,7 @@ from inputs import cases  # noqa: E402
 from machine import Machine  # noqa: E402
 from natural import constant  # noqa: E402
 from solver import Undecided, is_possible, prove, use  # noqa: E402
-from words import CellWords  # noqa: E402
+from squares import SquareWords  # noqa: E402
 
 DEFINITIONS = ["s2cell/specs/Cell", "s2cell/specs/Curve", "s2cell/specs/Neighbours", "s2cell/specs/Square",
                "s2cell/specs/Text", "s2cell/specs/Token", "s2cell/specs/Debug", "s2union_c/specs/Status",
@@ -32,7 +32,7 @@ class Proved:
 
 def words_of(crates, is_apart=False):
     paths = [TOP / "tests" / "public" / "kit.txt", *(crates / f"{name}.antt" for name in DEFINITIONS)]
-    words = CellWords([str(path) for path in paths], is_apart)
+    words = SquareWords([str(path) for path in paths], is_apart)
     words.side = side(TOP / "crates" / "s2cell" / "src" / "lib.rt")
     return words
 
@@ -70,6 +70,7 @@ def prove_call(text, crates, name, plan):
         prove_all_ways(name, given, ways)
         done.cases, done.ways = done.cases + 1, done.ways + len(ways)
         done.lines |= machine.lines
+        ways = joined(ways, case)
         for clause in contract.ensures:
             prove_clause(crates, name, plan, contract, clause, case, ways)
             done.seconds[clause.name] += time.process_time() - begun
@@ -84,12 +85,30 @@ def prove_all_ways(name, given, ways):
     prove(z3.Or([z3.And(state.conditions) for state, _ in ways]), f"{name}: all ways are run", *given)
 
 
+def joined(ways, case):
+    """The ways, those with the same answers as one: on it what is known of each is known of any of them."""
+    groups = {}
+    for state, result in ways:
+        answers = result.sexpr() + "".join(repr(read(state)) for _, read in case.later)
+        groups.setdefault(answers, []).append((state, result))
+    return [(any_of([state for state, _ in group]), group[0][1]) for group in groups.values()]
+
+
+def any_of(states):
+    """A state of which this is known: it is one of these."""
+    found = states[0].fork()
+    if len(states) > 1:
+        found.given = [it for it in found.given if all(any(it.eq(other) for other in state.given) for state in states)]
+        found.conditions = [z3.Or([z3.And(state.known()) for state in states])]
+        found.steps = [step for state in states for step in state.steps]
+    return found
+
+
 def prove_clause(crates, name, plan, contract, clause, case, ways):
     for state, result in ways:
         words = words_of(crates, plan.is_apart)
         if plan.named:
             words.go_by_steps(state, plan.turns)
-            words.know_digits(state)
         words.where, words.witnesses = f"{contract.path}:{clause.line}", plan.witnesses
         claim = words.holds(clause.term, case.after(state, result, contract.result), True)
         prove(claim, f"{contract.path}:{clause.line}: {name}, clause {clause.name}, {', '.join(case.names)}",

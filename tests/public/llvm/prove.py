@@ -37,6 +37,11 @@ class Count:
         say(text if is_right else f"FAILED {text}")
 
 
+def prove_forms(what, proved, count):
+    begun = time.process_time()
+    count.check(True, f"{what}: {proved()} claims proved by Z3, {time.process_time() - begun:.1f} s")
+
+
 def prove_one(text, crates, name, count):
     """Proves the clauses of a call: what was proved, if they all hold."""
     plan = PLANS[name]
@@ -93,9 +98,9 @@ def main():
     text = Text(asked.text)
     names = asked.calls or [name for name, plan in PLANS.items() if name != asked.left_out
                             and TIERS.index(plan.tier) <= TIERS.index(asked.tier)]
-    begun = time.process_time()
-    count.check(True, f"the forms of words: {words_of(asked.crates).prove_forms()} claims proved by Z3, "
-                f"{time.process_time() - begun:.1f} s")
+    prove_forms("the forms of words", words_of(asked.crates).prove_forms, count)
+    if "s2u_square_of" in names:
+        prove_forms("the form of squares", words_of(asked.crates).prove_squares, count)
     for name in names:
         done = prove_one(text, asked.crates, name, count)
         if done and asked.tier != "quick":

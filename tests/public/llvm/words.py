@@ -9,7 +9,7 @@ import natural as numbers
 from bits import variables_of
 from definitions import Words
 from natural import BITS, Number, constant, of_bits
-from solver import TRUE, Refuted, model_of, prove
+from solver import TRUE, Refuted, prove
 
 LEVELS = range(31)
 END = 6 * 2**61  # above all cells
@@ -68,14 +68,14 @@ class CellWords(Words):
 
     def __init__(self, paths, is_apart=False):
         super().__init__(paths)
-        self.side = None
-        self.facts, self.apart, self.digits, self.linked = [], {}, {}, set()
+        self.side = self.bottom = None  # the level from which on `At` isn't claimed, if any
+        self.facts, self.apart = [], {}
         self.forms["IsCell"] = is_cell
         self.forms["IsInside"] = self.is_inside
         self.forms["ShareLeaf"] = self.share_leaf
         self.forms["SIDE"] = lambda: self.side
         if is_apart:
-            self.forms["IsCommonAncestor"] = self.is_common_ancestor
+            self.shown["IsCommonAncestor"] = self.is_common_ancestor
             self.forms.update({word: self.set_apart(word) for word in APART})
 
     def set_apart(self, word):
@@ -137,6 +137,8 @@ class CellWords(Words):
 
     def prove_level(self, state, turns, level, orientation, leaf, x, y):
         """`At`, of this level and those below."""
+        if level.literal == self.bottom:
+            return TRUE
         turn = turns.get(level.literal)
         if turn is not None:
             self.prove_step(state, orientation.bits == of_bits(turn).bits, f"the orientation at level {level.literal}")
@@ -146,27 +148,10 @@ class CellWords(Words):
         self.prove_step(state, here, f"the place at level {level.literal}")
         return TRUE
 
-    def know_digits(self, state):
-        """From now on the value of a digit is what the text has a name for, if that is proved to be the same."""
-        self.forms["digit_value"] = lambda digit: self.named_digit(state, digit)
-        self.given = state.known()
-
-    def named_digit(self, state, digit):
-        names, key = variables_of(digit.bits), digit.bits.sexpr()
-        if key not in self.digits:
-            value = self.defined("digit_value", [digit], self.value)
-            given = [it for it in state.known() if variables_of(it) & names]
-            same = (step for step, part, _ in state.steps if variables_of(part) == names and
-                    model_of(of_bits(step).bits != value.bits, step == part, *given) is None)
-            step = next(same, None)
-            self.digits[key] = value if step is None else of_bits(step)
-            self.linked.add(str(step))
-        return self.digits[key]
-
     def steps_of(self, state, claim):
-        """What the steps are whose names stand in a claim or in what is known, if no digit is known to be them."""
+        """What the steps are whose names stand in a claim or in what is known."""
         names = variables_of(claim).union(*map(variables_of, state.conditions))
-        return [step == part for step, part, _ in state.steps if str(step) in names - self.linked]
+        return [step == part for step, part, _ in state.steps if str(step) in names]
 
     def prove_step(self, state, claim, what):
         """Proves what follows from the premises and from the steps whose names stand in it, each by what it is."""
