@@ -201,7 +201,7 @@ final class Refusals extends Checks {
     }
   }
 
-  /** The class of docs/JAVA.md answers after Java's own serialization, as it did before. */
+  /** The class of bindings/java/README.md answers after Java's own serialization, as it did before. */
   private static void regions(CellUnion union) throws IOException, ClassNotFoundException {
     Region before = new Region(union);
     before.contains(FACE);

@@ -35,7 +35,7 @@ unpacked() { # libraries, each for its processor
 }
 step "the library for each processor is in it" unpacked
 compiled() { # with the class of the page
-  block docs/JAVA.md "java region" >"$work/Region.java" &&
+  block bindings/java/README.md "java region" >"$work/Region.java" &&
     javac -Xlint:all -Werror -cp "$jar" -d "$work/tests" "$tests"/*.java "$work/Region.java"
 }
 step "compile the tests" compiled
@@ -83,11 +83,11 @@ without_memory() { # by the interpreter, which takes no memory itself during a c
 }
 step "each allocation refused in turn, and what calls keep" without_memory
 by_page() {
-  block docs/JAVA.md java >"$work/Program.java" && block docs/JAVA.md "text java" >"$work/wanted" &&
-    [ -s "$work/wanted" ] &&
+  block bindings/java/README.md java >"$work/Program.java" &&
+    block bindings/java/README.md "text java" >"$work/wanted" && [ -s "$work/wanted" ] &&
     by_java "$@" "$work/Program.java" >"$work/printed" && diff "$work/wanted" "$work/printed"
 }
-step "docs/JAVA.md" by_page -cp "$jar"
+step "bindings/java/README.md" by_page -cp "$jar"
 by_property() ( # named from the root and from here, where the classes have none
   cd "$work" && mv classes/s2union/amd64/libs2union_java.so named.so &&
     by_page -cp classes -Ds2union.library="$work/named.so" && by_page -cp classes -Ds2union.library=named.so &&
