@@ -141,15 +141,15 @@ step "its shared library has the calls of the header alone" exports "$work/share
 step "CMake for Windows" by_cmake for-windows -DCMAKE_SYSTEM_NAME=Windows -DBUILD_SHARED_LIBS=ON \
   -DCMAKE_C_COMPILER=x86_64-w64-mingw32-gcc -DCMAKE_CROSSCOMPILING_EMULATOR=/usr/lib/wine/wine64
 
-go_for_windows() ( # the program of docs/GO.md
-  mkdir "$work/go" && cd "$work/go" && block docs/GO.md go >main.go && block docs/GO.md "text go" >wanted &&
-    [ -s wanted ] &&
+go_for_windows() ( # the program of bindings/go/README.md
+  mkdir "$work/go" && cd "$work/go" && block bindings/go/README.md go >main.go &&
+    block bindings/go/README.md "text go" >wanted && [ -s wanted ] &&
     export GOPATH=$work/gopath GOCACHE=$work/go-cache GOFLAGS=-mod=mod GOPROXY=off GOTOOLCHAIN=local &&
     module=$(sed -n 's/^module //p' "$work/source/go/go.mod") && go mod init x &&
     go mod edit -require "$module@v0.0.0" -replace "$module=$work/source/go" &&
     GOOS=windows CGO_ENABLED=1 CC=x86_64-w64-mingw32-gcc go build -o x.exe . && in_windows ./x.exe | diff wanted -
 )
-step "Go for Windows, and docs/GO.md" go_for_windows
+step "Go for Windows, and bindings/go/README.md" go_for_windows
 
 # ---- macOS and Windows on ARM: compiled, and looked at
 
@@ -261,7 +261,7 @@ mkdir -p "$trial/tests"
 cp "$top/tests/steps.sh" "$trial/tests/"
 cp "$tests/trial.sh" "$trial/run"
 cp "$made"/s2union-*.tar.gz "$trial/"
-(cd "$top" && cp --parents docs/RUST.md docs/GO.md docs/PYTHON.md "$trial")
+(cd "$top" && cp --parents docs/RUST.md bindings/go/README.md docs/PYTHON.md "$trial")
 cp -r "$work/source" "$trial/source"
 export PATH=/usr/sbin:/usr/bin:/sbin:/bin
 step "what a new system builds of it" bash "$top/tools/packaging/in_new_system.sh" "$of_debian" "$trial"

@@ -27,8 +27,9 @@ in_rust() (
     target/debug/x | diff src/main.rs.wanted -
 )
 in_go() (
-  program docs/GO.md go go/main.go && cd "$work/go" && export GOFLAGS=-mod=mod GOPROXY=off GOCACHE=$work/go-cache &&
-    export GOPATH=$work/gopath && module=$(sed -n 's/^module //p' "$source/go/go.mod") && go mod init x &&
+  program bindings/go/README.md go go/main.go && cd "$work/go" && export GOFLAGS=-mod=mod GOPROXY=off &&
+    export GOCACHE=$work/go-cache GOPATH=$work/gopath && module=$(sed -n 's/^module //p' "$source/go/go.mod") &&
+    go mod init x &&
     go mod edit -require "$module@v0.0.0" -replace "$module=$source/go" && go build -o x . &&
     ./x | diff main.go.wanted -
 )
@@ -38,7 +39,7 @@ in_python() (
     "$work/venv/bin/python" -m doctest /trial/docs/PYTHON.md
 )
 step "the crate, and docs/RUST.md" in_rust
-step "the package for Go, and docs/GO.md" in_go
+step "the package for Go, and bindings/go/README.md" in_go
 step "the module for Python by pip, and docs/PYTHON.md" in_python
 
 # ---- databases

@@ -6,6 +6,7 @@
 need gcc gcc libc6-dev
 need go golang-go
 . "$top/tests/library.sh"
+page=bindings/go/README.md
 
 step "questions and edges" questions
 step "shapes in degrees" shapes
@@ -15,12 +16,12 @@ for_go() (
   cd "$top/bindings/go" && [ -z "$(gofmt -l .)" ] && go vet . && timeout 7200 go test -count=1 .
 )
 by_go() ( # the page's program, in a module of its own
-  mkdir -p "$work/by-go" && cd "$work/by-go" && program_of docs/GO.md go main.go && [ -z "$(gofmt -l .)" ] &&
+  mkdir -p "$work/by-go" && cd "$work/by-go" && program_of $page go main.go && [ -z "$(gofmt -l .)" ] &&
     go mod init program && go mod edit -require "$path@v0.0.0" -replace "$path=$top/bindings/go" &&
-    go build -o program && says docs/GO.md go ./program
+    go build -o program && says $page go ./program
 )
 step "against the model, the edges, what is refused, and the examples" for_go
-step "docs/GO.md" by_go
+step "$page" by_go
 got_by_go() ( # the program with the module as a proxy of Go's hands it out
   local at=$work/proxy/$path/@v
   mkdir -p "$at" "$work/got-by-go" && cd "$top/bindings/go" && cp go.mod "$at/v1.0.0.mod" &&
@@ -30,12 +31,12 @@ with zipfile.ZipFile(sys.argv[1], "w") as made:
         made.write(name, f"{sys.argv[2]}@v1.0.0/{name}")' "$at/v1.0.0.zip" "$path" $(git ls-files . ':!bench') &&
     cd "$work/got-by-go" && cp "$work/by-go/main.go" . && go mod init program &&
     GOPROXY=file://$work/proxy GONOSUMDB=* go get "$path@v1.0.0" && go vet . && go build -o program &&
-    says docs/GO.md go ./program
+    says $page go ./program
 )
-step "docs/GO.md, by go get" got_by_go
+step "$page, by go get" got_by_go
 static_go() (
-  cd "$work/by-go" && CGO_LDFLAGS=-static go build -o alone && ! ldd alone && says docs/GO.md go env -i ./alone
+  cd "$work/by-go" && CGO_LDFLAGS=-static go build -o alone && ! ldd alone && says $page go env -i ./alone
 )
-step "docs/GO.md, without a shared library" static_go
+step "$page, without a shared library" static_go
 
 finish
