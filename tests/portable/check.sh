@@ -261,7 +261,7 @@ mkdir -p "$trial/tests"
 cp "$top/tests/steps.sh" "$trial/tests/"
 cp "$tests/trial.sh" "$trial/run"
 cp "$made"/s2union-*.tar.gz "$trial/"
-(cd "$top" && cp --parents docs/RUST.md bindings/go/README.md docs/PYTHON.md "$trial")
+(cd "$top" && cp --parents bindings/rust/README.md bindings/go/README.md docs/PYTHON.md "$trial")
 cp -r "$work/source" "$trial/source"
 export PATH=/usr/sbin:/usr/bin:/sbin:/bin
 step "what a new system builds of it" bash "$top/tools/packaging/in_new_system.sh" "$of_debian" "$trial"

@@ -21,7 +21,7 @@ program() { # PAGE FENCE FILE: the page's program, and beside it what it prints
     [ -s "$work/$3" ] && [ -s "$work/$3.wanted" ]
 }
 in_rust() (
-  program docs/RUST.md rust rust/src/main.rs && cd "$work/rust" && export CARGO_HOME=$work/cargo &&
+  program bindings/rust/README.md rust rust/src/main.rs && cd "$work/rust" && export CARGO_HOME=$work/cargo &&
     printf '%s\n' '[package]' 'name = "x"' 'version = "1.0.0"' 'edition = "2021"' >Cargo.toml &&
     cargo add --offline --path "$source/rust" && cargo build --quiet --offline &&
     target/debug/x | diff src/main.rs.wanted -
@@ -38,7 +38,7 @@ in_python() (
     "$work/venv/bin/pip" install --no-index --no-build-isolation /trial/s2union-*.tar.gz && cd / &&
     "$work/venv/bin/python" -m doctest /trial/docs/PYTHON.md
 )
-step "the crate, and docs/RUST.md" in_rust
+step "the crate, and bindings/rust/README.md" in_rust
 step "the package for Go, and bindings/go/README.md" in_go
 step "the module for Python by pip, and docs/PYTHON.md" in_python
 

@@ -11,6 +11,7 @@ need_file "$(compgen -G "$registry/serde_derive-1*")" librust-serde-derive-dev
 need_file "$(compgen -G "$registry/serde_json-1*")" librust-serde-json-dev
 need_file "$(compgen -G "$registry/bincode-1*")" librust-bincode-dev
 . "$top/tests/library.sh"
+page=bindings/rust/README.md
 
 step "questions and edges" questions
 step "shapes in degrees" shapes
@@ -19,10 +20,10 @@ for_rust() ( # in a copy, since cargo writes beside the sources
     RUSTFLAGS=-Dwarnings CARGO_TARGET_DIR=$work/target timeout 7200 cargo test -q --offline
 )
 by_rust() (
-  mkdir -p "$work/by-rust/src" && cd "$work/by-rust" && program_of docs/RUST.md rust src/main.rs &&
+  mkdir -p "$work/by-rust/src" && cd "$work/by-rust" && program_of $page rust src/main.rs &&
     printf '%s\n' "[package]" 'name = "program"' 'version = "0.0.0"' 'edition = "2021"' "[dependencies]" \
       "s2union = { path = \"$work/for-rust\" }" >Cargo.toml &&
-    CARGO_TARGET_DIR=$work/target cargo build -q --offline && says docs/RUST.md rust "$work/target/debug/program"
+    CARGO_TARGET_DIR=$work/target cargo build -q --offline && says $page rust "$work/target/debug/program"
 )
 with_serde() ( # by Debian's sources of serde, in place of a registry
   cd "$work/for-rust/serde" && RUSTFLAGS=-Dwarnings CARGO_TARGET_DIR=$work/target timeout 7200 cargo \
@@ -30,7 +31,7 @@ with_serde() ( # by Debian's sources of serde, in place of a registry
     --config 'source.debian.directory="/usr/share/cargo/registry"' test -q --offline
 )
 step "against the model, the edges, what is refused, and the examples" for_rust
-step "docs/RUST.md" by_rust
+step "$page" by_rust
 by_cargo() ( # COMMAND WORD..: in the program's folder
   cd "$work/by-rust" && CARGO_TARGET_DIR=$work/target "$@" 2>&1
 )
@@ -49,7 +50,7 @@ step "without the library" without_library
 step "with serde" with_serde
 packed_crate() ( # cargo package finds nothing missing
   cp -r "$top/bindings/rust" "$work/packed-crate" && rm -r "$work/packed-crate/serde" &&
-    python3 "$top/tools/packaging/described.py" "$work/packed-crate" docs/RUST.md && cd "$work/packed-crate" &&
+    python3 "$top/tools/packaging/described.py" "$work/packed-crate" $page && cd "$work/packed-crate" &&
     CARGO_TARGET_DIR=$work/target cargo package --offline --allow-dirty --no-verify >packed 2>&1 &&
     ! grep -i warning packed
 )
