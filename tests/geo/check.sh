@@ -66,11 +66,12 @@ by_node() { # PROGRAM: the driver's own modules Node finds by the variable alone
   (cd "$work/node" && PGDATABASE=first NODE_PATH=$modules node "$1")
 }
 node_page() {
-  block docs/JS.md "js pg" >"$work/node/page.mjs" && by_node page.mjs | diff <(block docs/JS.md "text js pg") -
+  local page=bindings/js/README.md
+  block $page "js pg" >"$work/node/page.mjs" && by_node page.mjs | diff <(block $page "text js pg") -
 }
 step "Debian's driver of Node" driver_of_node
 step "the driver of Node: pg" by_node drivers.mjs
-step "docs/JS.md, a region in PostgreSQL" node_page
+step "bindings/js/README.md, a region in PostgreSQL" node_page
 step "docs/GEO.md" pages test_geo.py
 step "docs/TUTORIAL.md" pages test_tutorial.py
 finish

@@ -5,6 +5,7 @@
 . "$(dirname "$0")/../steps.sh"
 tests=$top/tests/js
 package=$work/page/js
+page=bindings/js/README.md
 module=$package/s2union.js
 version=$(cat "$top/VERSION")
 
@@ -46,12 +47,12 @@ step "coverings and outlines are those of Python" node "$tests/shapes.mjs" "$pac
 
 by_name() { # NAME: a program of the page, in a package that has ours
   mkdir -p "$work/program/node_modules" && cp -rT "$package" "$work/program/node_modules/s2union" &&
-    block docs/JS.md "js$1" >"$work/program/program.mjs" && block docs/JS.md "text js$1" >"$work/program/wanted" &&
-    [ -s "$work/program/wanted" ] && node "$work/program/program.mjs" >"$work/program/said" &&
-    diff "$work/program/wanted" "$work/program/said"
+    block $page "js$1" >"$work/program/program.mjs" &&
+    block $page "text js$1" >"$work/program/wanted" && [ -s "$work/program/wanted" ] &&
+    node "$work/program/program.mjs" >"$work/program/said" && diff "$work/program/wanted" "$work/program/said"
 }
-step "docs/JS.md" by_name ""
-step "docs/JS.md: points and GeoJSON" by_name " geo"
+step "$page" by_name ""
+step "$page: points and GeoJSON" by_name " geo"
 by_comments() {
   /usr/bin/python3 "$top/tests/docs/examples.py" js "$package/s2union.d.ts" >"$work/examples.mjs" &&
     node "$work/examples.mjs" "$module"
@@ -69,15 +70,15 @@ packed() ( # npm finds no fault, and would pack these files
   cd "$work" && npm pack --offline --loglevel warn "$package" >packed 2>&1 && ! grep -i warn packed &&
     diff <(tar -tf "$tgz" | sort) <(tar -tf "$(tail -1 packed)" | sort)
 )
-installed() ( # by the line of docs/JS.md, into a package that has the page's program
+installed() ( # by the line of the page, into a package that has its program
   mkdir "$work/installed" && cd "$work/installed" && ln -s ../to-npm dist && echo '{"name": "x"}' >package.json &&
-    line=$(grep '^    npm install ./dist/' "$top/docs/JS.md") &&
+    line=$(grep '^    npm install ./dist/' "$top/$page") &&
     eval "npm_config_offline=true npm_config_audit=false ${line%%#*}" && cp "$work/program/program.mjs" . &&
     node program.mjs | diff "$work/program/wanted" -
 )
 if command -v npm >/dev/null; then
   step "npm pack" packed
-  step "npm install, and docs/JS.md" installed
+  step "npm install, and $page" installed
 else
   echo "       npm is not there: the package is not packed, nor its file installed"
 fi
