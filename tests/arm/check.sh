@@ -82,7 +82,7 @@ in_python() (
 )
 step "Python: against the model, and the module" in_python
 page() { (cd "$top/tests/python" && PYTHONPATH=$arm/lib/python python_on_arm -m doctest "$top/$1"); }
-step "Python: docs/PYTHON.md" page docs/PYTHON.md
+step "Python: bindings/python/README.md" page bindings/python/README.md
 
 extension() { # FOLDER FLAGS..
   cp -r "$top/bindings/sqlite" "$work/$1" && # all anew: what lies there may be for x86-64

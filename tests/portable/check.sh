@@ -186,11 +186,11 @@ for_musl() { # PROCESSOR: it names no other library, and of glibc nothing
 }
 by_python() ( # Debian's, since it asks nothing of a C library but what each has
   cd / && PYTHONDONTWRITEBYTECODE=1 PYTHONPATH=$work/musllinux_1_2_x86_64 /usr/bin/python3 -m doctest \
-    "$top/docs/PYTHON.md"
+    "$top/bindings/python/README.md"
 )
 step "the wheel for musl on x86-64" for_musl x86_64 X86-64
 step "the wheel for musl on ARM" for_musl aarch64 AArch64
-step "docs/PYTHON.md by the wheel for musl" by_python
+step "bindings/python/README.md by the wheel for musl" by_python
 picked() { # each wheel of the release on its system, by the line of docs/INSTALL.md
   local line wheel platform
   line=$(grep -o '`pip install --no-index [^`]*`' "$top/docs/INSTALL.md" | tr -d '`') && [ -n "$line" ] || return 1
@@ -261,7 +261,7 @@ mkdir -p "$trial/tests"
 cp "$top/tests/steps.sh" "$trial/tests/"
 cp "$tests/trial.sh" "$trial/run"
 cp "$made"/s2union-*.tar.gz "$trial/"
-(cd "$top" && cp --parents bindings/rust/README.md bindings/go/README.md docs/PYTHON.md "$trial")
+(cd "$top" && cp --parents bindings/rust/README.md bindings/go/README.md bindings/python/README.md "$trial")
 cp -r "$work/source" "$trial/source"
 export PATH=/usr/sbin:/usr/bin:/sbin:/bin
 step "what a new system builds of it" bash "$top/tools/packaging/in_new_system.sh" "$of_debian" "$trial"

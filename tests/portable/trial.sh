@@ -36,11 +36,11 @@ in_go() (
 in_python() (
   python3 -m venv --system-site-packages "$work/venv" &&
     "$work/venv/bin/pip" install --no-index --no-build-isolation /trial/s2union-*.tar.gz && cd / &&
-    "$work/venv/bin/python" -m doctest /trial/docs/PYTHON.md
+    "$work/venv/bin/python" -m doctest /trial/bindings/python/README.md
 )
 step "the crate, and bindings/rust/README.md" in_rust
 step "the package for Go, and bindings/go/README.md" in_go
-step "the module for Python by pip, and docs/PYTHON.md" in_python
+step "the module for Python by pip, and bindings/python/README.md" in_python
 
 # ---- databases
 

@@ -13,6 +13,7 @@ need_modules hypothesis python3-hypothesis
 need_modules pip,setuptools,wheel python3-{pip,setuptools,wheel}
 need_headers
 . "$top/tests/library.sh"
+page=bindings/python/README.md
 
 for compiler in gcc clang; do
   step "its module in C, by $compiler" "$compiler" -std=gnu11 -O2 -Wall -Wextra -Werror -fPIC -shared \
@@ -65,9 +66,9 @@ if command -v mypy >/dev/null; then
 else
   echo "       mypy is not there: the types are not tested"
 fi
-step "docs/PYTHON.md" python -m doctest "$top/docs/PYTHON.md"
-for page in README.md docs/COOKBOOK.md; do
-  step "$page" python "$top/tests/docs/documented.py" --python "$top/$page"
+step "$page" python -m doctest "$top/$page"
+for name in README.md docs/COOKBOOK.md; do
+  step "$name" python "$top/tests/docs/documented.py" --python "$top/$name"
 done
 tutorial() { # its first part, which needs no other package
   python "$top/tests/docs/documented.py" --shell "$top/docs/TUTORIAL.md" "## Part 2: an hour"
@@ -87,7 +88,7 @@ by_pip() { # the module where pip puts it, with the library elsewhere
   cp -r "$top/bindings/python" "$work/source" && /usr/bin/python3 -m pip install -q --no-index --no-build-isolation \
     --no-deps --disable-pip-version-check --root-user-action=ignore --target "$work/site" "$work/source" \
     && (cd "$work" && env -u LD_LIBRARY_PATH PYTHONPATH="$work/site" S2UNION_LIBRARY="$work/usr/lib/libs2union.so.1" \
-      /usr/bin/python3 -m doctest "$top/docs/PYTHON.md") && [ -e "$work/site/s2union/py.typed" ]
+      /usr/bin/python3 -m doctest "$top/$page") && [ -e "$work/site/s2union/py.typed" ]
 }
 step "installed by pip" by_pip
 without_pkg_config() { # where no folder for s2union.h is said, the compiler's own places are left
@@ -96,7 +97,7 @@ without_pkg_config() { # where no folder for s2union.h is said, the compiler's o
 step "its setup.py without pkg-config" without_pkg_config
 by_sdist() ( # the archive of its sources builds where nothing else is
   cp -r "$top/bindings/python" "$work/described" &&
-    python3 "$top/tools/packaging/described.py" "$work/described" docs/PYTHON.md &&
+    python3 "$top/tools/packaging/described.py" "$work/described" $page &&
     cd "$work/described" && /usr/bin/python3 -c 'from setuptools import build_meta
 build_meta.build_sdist("'"$work"'")' >sdist 2>&1 && ! grep -i '^warning' sdist && mkdir "$work/from-sdist" &&
     tar -C "$work/from-sdist" --strip-components=1 -xf "$work"/s2union-*.tar.gz && cd "$work/from-sdist" &&
@@ -109,8 +110,8 @@ step "an archive of its sources, and a wheel from that" by_sdist
 for minor in 8 9 10 11 12 13 14; do
   other=$(command -v "python3.$minor") && "$other" -c '' 2>/dev/null || continue
   [ "$(realpath "$other")" != "$(realpath /usr/bin/python3)" ] || continue
-  step "docs/PYTHON.md by Python 3.$minor" env PYTHONPATH="$work/usr/lib/python" PYTHONDONTWRITEBYTECODE=1 \
-    "$other" -m doctest "$top/docs/PYTHON.md"
+  step "$page by Python 3.$minor" env PYTHONPATH="$work/usr/lib/python" PYTHONDONTWRITEBYTECODE=1 \
+    "$other" -m doctest "$top/$page"
 done
 
 finish

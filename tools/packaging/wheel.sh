@@ -18,7 +18,7 @@ case $platform in
     ;;
 esac
 cp "$top"/bindings/python/{pyproject.toml,setup.py} "$work/"
-python3 "$top/tools/packaging/described.py" "$work" docs/PYTHON.md
+python3 "$top/tools/packaging/described.py" "$work" bindings/python/README.md
 cp -r "$module" "$work/s2union"
 cp -r "$(dirname "$module")/s2union_geo" "$work/s2union_geo"
 [ -z "$library" ] || install -m 644 "$library" "$work/s2union/"
