@@ -100,7 +100,7 @@ MISTAKES = [
             swapped("  S2U_MANY = -6, ", "  S2U_MUCH = -6, ")),
     Mistake("a package that the list of parts lacks", pages.unnamed_packages, "bindings/go/tests/check.sh",
             swapped("need go golang-go\n", "need go golang-go gccgo\n")),
-    Mistake("a function that MARIADB.md lacks", pages.functions_of_mariadb, "docs/MARIADB.md",
+    Mistake("a function that the page for MariaDB lacks", pages.functions_of_mariadb, "bindings/mariadb/README.md",
             swapped("`s2_count`, `s2_leaves`", "`s2_count`")),
     Mistake("a page that the index lacks", pages.unlisted, "docs/README.md",
             swapped("| [SERVERS](SERVERS.md) |", "| servers |")),

@@ -1,5 +1,5 @@
 /* User functions of MariaDB and MySQL: a union is a BLOB, the union file that SQLite's extension has too, and a cell a
- * BIGINT. docs/MARIADB.md says what each does. An argument of a wrong type is an error of the statement. A wrong value
+ * BIGINT. README.md says what each does. An argument of a wrong type is an error of the statement. A wrong value
  * answers NULL, since a user function can't end a statement once it has begun. */
 #include <mysql.h>
 #include <s2union_host.h>

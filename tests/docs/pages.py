@@ -6,14 +6,14 @@ heading; if the link's text is names of the sources, the file has them, as it ha
 path in backticks is there; the files that docs/ARCHITECTURE.md walks through have the functions that it names, and each
 crate uses only those of lower layers there; each language has what docs/FROM_S2.md says it has; the numbers on
 docs/HEADLINE.md and others are what they count (tests/docs/figures.py); docs/TROUBLESHOOTING.md has each error that the
-sources make, and no others; docs/CONCEPTS.md has the edges and numbers of cells of all levels; docs/MARIADB.md lists
-the functions of install.sql; docs/README.md leads to each page for users; README.md has fewer than 10,000 bytes; a page
-that names the kit names the one of the file KIT; CHANGELOG.md says nothing twice; each part that a text names after
-`tests/run` is one, and has beside it the Debian packages that its script installs; each command of tools/, bench/ and
-bindings/ prints its usage with --help, and does nothing else; and what is a command, a file whose name has no ending
-and which names its interpreter, is executable, and no other file is. The last line is 'N passed, M failed', where N
-counts the definitions, the links, the paths, the names, the calls, the errors, the levels, the changes, the parts,
-their packages, the commands and the files. A check that has nothing to look at fails.
+sources make, and no others; docs/CONCEPTS.md has the edges and numbers of cells of all levels;
+bindings/mariadb/README.md lists the functions of install.sql; docs/README.md leads to each page for users; README.md
+has fewer than 10,000 bytes; a page that names the kit names the one of the file KIT; CHANGELOG.md says nothing twice;
+each part that a text names after `tests/run` is one, and has beside it the Debian packages that its script installs;
+each command of tools/, bench/ and bindings/ prints its usage with --help, and does nothing else; and what is a command,
+a file whose name has no ending and which names its interpreter, is executable, and no other file is. The last line is
+'N passed, M failed', where N counts the definitions, the links, the paths, the names, the calls, the errors, the
+levels, the changes, the parts, their packages, the commands and the files. A check that has nothing to look at fails.
 """
 import functools
 import importlib.machinery
@@ -225,10 +225,10 @@ def unexplained():
 
 
 def functions_of_mariadb():
-    """The functions of install.sql, and what docs/MARIADB.md has more or less, or docs/SQLITE.md under no such name,
-    where a question about a cell is one about a union."""
+    """The functions of install.sql, and what the page for MariaDB has more or less, or the one for SQLite under no such
+    name, where a question about a cell is one about a union."""
     installed = set(re.findall(r"FUNCTION (\w+)", (ROOT / "bindings" / "mariadb" / "install.sql").read_text()))
-    table = "".join(re.findall(r"^\|.*", (ROOT / "docs/MARIADB.md").read_text(), re.M))
+    table = "".join(re.findall(r"^\|.*", (ROOT / "bindings/mariadb/README.md").read_text(), re.M))
     others = installed ^ set(re.findall(r"\bs2_\w+", table))
     known = set(re.findall(r"`(s2_\w+)\(", (ROOT / "docs/SQLITE.md").read_text()))
     return len(installed), sorted(others | {name for name in installed if name not in known
@@ -383,7 +383,7 @@ CHECKS = {
     "leads nowhere": broken_links,
     "not defined in the file that is linked or named": lost_names,
     "docs/TROUBLESHOOTING.md and the sources differ": unexplained,
-    "docs/MARIADB.md": functions_of_mariadb,
+    "bindings/mariadb/README.md": functions_of_mariadb,
     "not in the index docs/README.md": unlisted,
     "README.md is too long": too_long,
     "the table of levels": wrong_levels,

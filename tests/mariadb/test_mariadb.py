@@ -1,4 +1,4 @@
-"""docs/MARIADB.md: each user function over columns of files, texts, cells, numbers, degrees and shapes, row by row
+"""The page for MariaDB: each user function over columns of files, texts, cells, numbers, degrees and shapes, row by row
 beside the function of SQLite. BESIDE and the functions below it have the differences."""
 
 import itertools

@@ -1,7 +1,8 @@
 #!/usr/bin/env bash
 # The tests of unions on a cluster of worker processes, of docs/ENGINES.md over MariaDB, ClickHouse and pandas, and of
-# docs/FFI.md in five languages, and of docs/R.md: tests/run dask -- [CELLS]. It installs the Debian packages that it
-# needs, and prints the figures of docs/DASK.md. Its last line is 'N passed, M failed'; the status is 1 if any failed.
+# docs/FFI.md in five languages, and of the page for R: tests/run dask -- [CELLS]. It installs the Debian packages that
+# it needs, and prints the figures of docs/DASK.md. Its last line is 'N passed, M failed'; the status is 1 if any
+# failed.
 . "$(dirname "$0")/../steps.sh"
 [ -z "${1:-}" ] || export S2UNION_CELLS=$1
 
@@ -76,7 +77,8 @@ mkdir -p "$work/library" "$work/src/contrib" && : >"$work/src/contrib/PACKAGES" 
 echo "options(repos = c(CRAN = 'file://$work'))" >"$work/profile"
 export PKG_CONFIG_PATH=$work/usr/lib/pkgconfig R_LIBS=$work/library R_PROFILE=$work/profile
 for_r() (
-  cp -r "$top/bindings/r" "$work/r" && python3 "$top/tools/packaging/described.py" "$work/r" docs/R.md && cd "$work" &&
+  cp -r "$top/bindings/r" "$work/r" &&
+    python3 "$top/tools/packaging/described.py" "$work/r" bindings/r/README.md && cd "$work" &&
     R CMD build r && R CMD check --no-manual s2union_*.tar.gz && grep -qx 'Status: OK' s2union.Rcheck/00check.log &&
     R CMD INSTALL s2union_*.tar.gz
 )
@@ -151,14 +153,14 @@ cat(asked, "passed, 0 failed\n")
 R
 )
 page_of_r() (
-  cd "$work" && block docs/R.md r >first.R && block docs/R.md "text r" >wanted && [ -s wanted ] &&
+  cd "$work" && block bindings/r/README.md r >first.R && block bindings/r/README.md "text r" >wanted && [ -s wanted ] &&
     Rscript first.R >said && diff wanted said
 )
 step "the package for R: R CMD check, with its tests beside S2's own operations" for_r
 step "the package for R: no text that is longer than R's" long_text_of_r
 step "the package for R: the cells of shapes, beside Python" shapes_of_r
-step "docs/R.md" page_of_r
-step "docs/R.md: all pairs" pairs_by docs/R.md "r pairs" R Rscript pairs.R
+step "bindings/r/README.md" page_of_r
+step "bindings/r/README.md: all pairs" pairs_by bindings/r/README.md "r pairs" R Rscript pairs.R
 
 step "ten million cells on 1, 2 and 4 workers, and with one that is killed" tests test_dask.py::OnACluster
 grep -E '^one process|^[0-9] worker|^a worker' "$work/log" | sed 's/^/       /'

@@ -102,7 +102,7 @@ class Mariadb(MariadbServer):
         self.assertEqual(pairs(self.ask(self.given("unsigned", "unsigned") + recipe)), PAIRS)
 
     def test_functions(self):
-        """docs/MARIADB.md: all pairs of a leaf and a covering and of two coverings, and set operations beside the
+        """The page for MariaDB: all pairs of a leaf and a covering and of two coverings, and set operations beside the
         module for Python."""
         values = ",".join(f"('{name}', x'{Union(cells).to_bytes().hex()}')" for name, cells in REGIONS.items())
         pairs_of_unions = "SELECT count(*) FROM regions a JOIN regions b ON a.name < b.name AND s2_intersects(a.u, b.u)"
