@@ -1,4 +1,4 @@
--- s2union 1.0: unions of S2 cells, as the first version made them, for the updates from it. docs/POSTGRES.md says what
+-- s2union 1.0: unions of S2 cells, as the first version made them, for the updates from it. README.md says what
 -- each function does.
 
 \echo Use "CREATE EXTENSION s2union VERSION '1.0'" to load this file. \quit

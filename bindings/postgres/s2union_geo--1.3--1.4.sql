@@ -1,5 +1,5 @@
 -- s2union_geo 1.4: what came after 1.3. CREATE EXTENSION runs it after s2union_geo--1.3.sql. docs/GEO.md and
--- docs/POSTGRES.md say what each function does, in the words of its comment.
+-- README.md say what each function does, in the words of its comment.
 
 \echo Use "ALTER EXTENSION s2union_geo UPDATE" to load this file. \quit
 

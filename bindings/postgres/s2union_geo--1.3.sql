@@ -1,4 +1,4 @@
--- s2union_geo 1.3. docs/POSTGRES.md says what each function does, in the words of its comment.
+-- s2union_geo 1.3. README.md says what each function does, in the words of its comment.
 
 \echo Use "CREATE EXTENSION s2union_geo" to load this file. \quit
 

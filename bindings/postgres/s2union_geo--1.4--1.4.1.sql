@@ -1,5 +1,5 @@
 -- s2union_geo 1.4.1: exact joins that give no right away and stay exact. CREATE EXTENSION runs it after
--- s2union_geo--1.3--1.4.sql. docs/POSTGRES.md says what each function does, in the words of its comment.
+-- s2union_geo--1.3--1.4.sql. README.md says what each function does, in the words of its comment.
 
 \echo Use "ALTER EXTENSION s2union_geo UPDATE" to load this file. \quit
 

@@ -1,5 +1,5 @@
 /* Unions of S2 cells in PostgreSQL, over libs2union: what the server gives to the library and hears from it, memory and
- * errors. docs/POSTGRES.md says what each function does.
+ * errors. README.md says what each function does.
  *
  * Only the library knows about cells. The files of this folder have PostgreSQL's values, errors, memory and index
  * classes, each what its name says; value.h has what they share. */

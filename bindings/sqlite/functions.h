@@ -1,4 +1,4 @@
-/* made by tools/calls of docs/SQLITE.md */
+/* made by tools/calls of bindings/sqlite/README.md */
 static const char* const listed[][4] = {
   {"s2_union", "one, other",
    "the leaves of either", "s2union"},

@@ -1,4 +1,4 @@
-/* Unions of S2 cells in SQLite, over libs2union. docs/SQLITE.md says what each function does.
+/* Unions of S2 cells in SQLite, over libs2union. README.md says what each function does.
  *
  * A union is a BLOB, the bytes of its file. Only the library knows about cells. This file has SQLite's types, NULL,
  * errors and memory. */

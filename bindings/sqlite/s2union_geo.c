@@ -1,4 +1,4 @@
-/* Points and shapes in degrees for unions of S2 cells in SQLite. docs/SQLITE.md says what each function does. */
+/* Points and shapes in degrees for unions of S2 cells in SQLite. README.md says what each function does. */
 #include <s2union.h>
 #include <sqlite3ext.h>
 #include <s2union_join.h>

@@ -230,7 +230,7 @@ def functions_of_mariadb():
     installed = set(re.findall(r"FUNCTION (\w+)", (ROOT / "bindings" / "mariadb" / "install.sql").read_text()))
     table = "".join(re.findall(r"^\|.*", (ROOT / "bindings/mariadb/README.md").read_text(), re.M))
     others = installed ^ set(re.findall(r"\bs2_\w+", table))
-    known = set(re.findall(r"`(s2_\w+)\(", (ROOT / "docs/SQLITE.md").read_text()))
+    known = set(re.findall(r"`(s2_\w+)\(", (ROOT / "bindings/sqlite/README.md").read_text()))
     return len(installed), sorted(others | {name for name in installed if name not in known
                                             and name.removesuffix("_cell") not in known})
 

@@ -55,7 +55,7 @@ first_screen() { # PAGE DATABASE: its examples that need PostGIS, which the part
     --only postgis "$top/$1" psql -XAqt -d "$2"
 }
 step "README.md, what needs PostGIS" first_screen README.md readme
-step "docs/POSTGRES.md, what needs PostGIS" first_screen docs/POSTGRES.md first
+step "bindings/postgres/README.md, what needs PostGIS" first_screen bindings/postgres/README.md first
 modules=$work/node/debian/usr/share/nodejs
 driver_of_node() { # Debian's, unpacked: as a package it would want Debian's Node too
   mkdir -p "$work/node/debian" "$work/node/node_modules" && unpacked "$work/node/debian" node-pg node-split2 &&

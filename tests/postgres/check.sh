@@ -71,13 +71,14 @@ page() { # PAGE DATABASE: its examples, in a database of their own, without noti
 }
 step "README.md" page README.md readme
 step "docs/COOKBOOK.md" page docs/COOKBOOK.md cookbook
-step "docs/POSTGRES.md" page docs/POSTGRES.md page
+own_page=bindings/postgres/README.md
+step "$own_page" page $own_page page
 export PYTHONPATH=$work/usr/lib/python
 step "drivers of Python" tests test_drivers.py
 from_python() { # what the page shows of psycopg, in the page's database
-  PGDATABASE=page /usr/bin/python3 "$top/tests/docs/documented.py" --python --only psycopg "$top/docs/POSTGRES.md"
+  PGDATABASE=page /usr/bin/python3 "$top/tests/docs/documented.py" --python --only psycopg "$top/$own_page"
 }
-step "docs/POSTGRES.md, from a program" from_python
+step "$own_page, from a program" from_python
 # Drivers of other languages, where Debian's packages of them are.
 by_go() { # without modules: Debian's sources are in one folder for all
   local path to

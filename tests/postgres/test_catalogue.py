@@ -9,7 +9,7 @@ import unittest
 from pathlib import Path
 
 from model import unions as model
-from test_postgres import PAGES, TRY, Tests, ask, psql
+from test_postgres import BINDINGS, TRY, Tests, ask, psql
 
 CONTROL = Path(os.environ["EXTENSIONS"], "s2union.control").read_text(encoding="utf-8")
 VERSION = re.search("default_version = '(.*)'", CONTROL)[1]
@@ -234,10 +234,10 @@ class Catalogue(Tests):
         """)
         self.assertEqual(said, [])
 
-    def rows_of(self, page):
-        """Of each function and number of arguments: their names, and what the table of functions of a page says."""
+    def rows_of(self, system):
+        """Of each function and number of arguments: their names, and what the table of the system's page says."""
         rows = {}
-        text = (PAGES / page).read_text()
+        text = (BINDINGS / system / "README.md").read_text()
         for calls, said in re.findall(r"^\| (`\w+\(.*?\)`(?:, `.*?`)*) \| (?:.* \| )?(.*) \|$", text, re.M):
             for name, names in re.findall(r"`(\w+)\((.*?)\)`", calls):
                 rows[name, len(names.split(",")) if names else 0] = (names, said)
@@ -259,12 +259,12 @@ class Catalogue(Tests):
             comment, names = rest.rsplit("|", 1)
             for arguments in range(int(count) - int(defaults), int(count) + 1):
                 wanted[name, arguments] = (", ".join(names.split(",")[:arguments]), comment)
-        self.assertEqual(self.rows_of("POSTGRES.md"), wanted)
-        for (name, arguments), (_, row) in self.rows_of("SQLITE.md").items():
+        self.assertEqual(self.rows_of("postgres"), wanted)
+        for (name, arguments), (_, row) in self.rows_of("sqlite").items():
             if (name, arguments) in wanted:
                 comment = wanted[name, arguments][1]
                 self.assertEqual(row[: len(comment)], comment, name)
-        page = (PAGES / "POSTGRES.md").read_text()
+        page = (BINDINGS / "postgres/README.md").read_text()
         said = psql(f"""
             SELECT CASE oprleft WHEN 0 THEN oprname || 'x' ELSE format('x %s y', oprname) END, proname,
                 obj_description(m.objid, 'pg_operator')

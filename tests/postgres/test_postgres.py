@@ -27,7 +27,7 @@ AS_POSTGRES = ["runuser", "-u", "postgres", "--"] if os.geteuid() == 0 else []
 DATABASE = os.environ.get("PGDATABASE", "postgres")
 # The ticks of a processor that the session has taken. Unlike the clock they don't go on while others have it.
 TICKS = "SELECT split_part(s, ' ', 14)::int + split_part(s, ' ', 15)::int FROM pg_read_file('/proc/self/stat') s"
-PAGES = Path(__file__).resolve().parents[2] / "docs"
+BINDINGS = Path(__file__).resolve().parents[2] / "bindings"
 PSQL = ["psql", "-XAqt", "-v", "ON_ERROR_STOP=1", "-d"]
 TRY = """
 CREATE OR REPLACE FUNCTION try(query text) RETURNS text LANGUAGE plpgsql AS $$
@@ -616,7 +616,7 @@ class WhatIsRefused(Tests):
         ]
         psql(STATE + "CREATE EXTENSION IF NOT EXISTS s2union_geo;")
         self.all_are([(f"state_of($s${query}$s$)", code) for query, code in codes])
-        on_the_page = re.findall(r"^\| `(\w{5})` \|", (PAGES / "POSTGRES.md").read_text(), re.M)
+        on_the_page = re.findall(r"^\| `(\w{5})` \|", (BINDINGS / "postgres/README.md").read_text(), re.M)
         elsewhere = {"53200", "42501"}  # memory that is missing, and strangers in the way
         self.assertEqual({*on_the_page}, {code for _, code in codes} | elsewhere)
 

@@ -78,9 +78,9 @@ refused() {
 step "each allocation refused in turn, under valgrind" refused
 
 documented() { # FOLDER
-  S2UNION_SQLITE=$work/$1/mod_s2union /usr/bin/python3 "$top/tests/docs/documented.py" "$top/docs/SQLITE.md"
+  S2UNION_SQLITE=$work/$1/mod_s2union /usr/bin/python3 "$top/tests/docs/documented.py" "$top/bindings/sqlite/README.md"
 }
-step "docs/SQLITE.md" documented plain
+step "bindings/sqlite/README.md" documented plain
 step "docs/ENGINES.md, without the extension" /usr/bin/python3 "$top/tests/docs/documented.py" "$top/docs/ENGINES.md"
 covered() {
   build covered CFLAGS="-O0 -g --coverage" && export S2UNION_ROUNDS=300 &&
@@ -94,10 +94,10 @@ covered() {
 }
 step "what these tests execute" covered
 valgrind_run() { # the page shows errors, so sqlite3 ends with 1; all its calls have to be there
-  /usr/bin/python3 "$top/tests/docs/documented.py" --script "$top/docs/SQLITE.md" >"$work/script.sql" &&
+  /usr/bin/python3 "$top/tests/docs/documented.py" --script "$top/bindings/sqlite/README.md" >"$work/script.sql" &&
     [ -s "$work/script.sql" ] && cd "$work/plain" || return 1
   valgrind -q --error-exitcode=9 --leak-check=full "${sqlite[@]}" <"$work/script.sql" 2>"$work/said" >/dev/null
   [ $? -eq 1 ] && ! grep 'no such function' "$work/said" || { cat "$work/said" && return 1; }
 }
-step "docs/SQLITE.md under valgrind" valgrind_run
+step "bindings/sqlite/README.md under valgrind" valgrind_run
 finish

@@ -143,7 +143,7 @@ MISTAKES = [
     Mistake("another first room in Java", "bindings/java/s2union/Calls.java", "return 2 * Math.min(n, m);",
             "return n + m;"),
     Mistake("another first room in JavaScript", "bindings/js/core.js", "=> 2 * Math.min(nx, ny),", "=> nx + ny,"),
-    Mistake("a function that SQLite doesn't list", "docs/SQLITE.md", "\n| `s2_count(region)` |",
+    Mistake("a function that SQLite doesn't list", "bindings/sqlite/README.md", "\n| `s2_count(region)` |",
             "\n| `s2_size(region)` | how many |\n| `s2_count(region)` |"),
 ]
 
