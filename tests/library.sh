@@ -34,10 +34,10 @@ says() { # PAGE LANGUAGE COMMAND..: whether a program says what the page says th
 documented() { # LANGUAGE COMPILER..
   local language=$1
   shift
-  program_of docs/C.md "$language" "$work/x.$language" || return 1
+  program_of bindings/c/README.md "$language" "$work/x.$language" || return 1
   (
     cd "$work" && export PATH=/usr/bin:/bin # where no kit is
     "$@" "${strict[@]}" "x.$language" $(pkg-config --cflags --libs s2union) -o "x-$language" \
-      && says docs/C.md "$language" "./x-$language"
+      && says bindings/c/README.md "$language" "./x-$language"
   )
 }

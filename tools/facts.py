@@ -95,7 +95,7 @@ def of_statuses(statuses):
         Place(java.format("Refusal"), r'case (?P<name>-\d+): return "(?P<text>.*?)";', texts),
         Place("bindings/python/s2union/_errors.py", r"^    status = (?P<number>-\d+)  # (?P<name>\w+)$",
               {name: number for name, number in numbers.items() if name != "ROOM"}),
-        Place("docs/C.md", r"^\| `S2U_(?P<name>\w+)` \| (?P<number>.*?) \| (?P<text>.*?) \|", rows),
+        Place("bindings/c/README.md", r"^\| `S2U_(?P<name>\w+)` \| (?P<number>.*?) \| (?P<text>.*?) \|", rows),
     ]
 
 

@@ -93,9 +93,9 @@ fuzzed() { # NAME LENGTH: calls with what libFuzzer makes up, from a fixed seed
 step "fuzzer, each call of the header, $seconds seconds" fuzzed fuzz 1200
 step "fuzzer, shapes in degrees and WKB, $seconds seconds" fuzzed fuzz_shapes 300
 
-# ---- the program of docs/C.md
+# ---- the program of bindings/c/README.md
 
-step "docs/C.md: the program in C" documented c cc -std=c99
+step "bindings/c/README.md: the program in C" documented c cc -std=c99
 moved() { # the program in C again, with the library in another folder than that it was installed to
   local status=0
   mv "$work/usr" "$work/moved" || return 1

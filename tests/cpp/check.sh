@@ -47,5 +47,5 @@ covered() {
 }
 step "what its test executes" covered
 
-step "docs/C.md: the program in C++" documented cpp c++ -std=c++17
+step "bindings/c/README.md: the program in C++" documented cpp c++ -std=c++17
 finish
