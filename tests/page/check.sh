@@ -1,7 +1,7 @@
 #!/usr/bin/env bash
 # The page in Chromium without a screen, beside the library: tests/run --tier full page. With -- --figures it prints the
-# figures of docs/PAGE.md too, with -- --pictures it makes the stored pictures anew, and with -- --screenshot that of
-# docs/PAGE.md. With --short, as the gate has it, the slowest tests are left out. It installs the Debian packages that
+# figures of page/README.md too, with -- --pictures it makes the stored pictures anew, and with -- --screenshot that of
+# page/README.md. With --short, as the gate has it, the slowest tests are left out. It installs the Debian packages that
 # it needs. Its last line is 'N passed, M failed'; the status is 1 if any failed.
 . "$(dirname "$0")/../steps.sh"
 

@@ -1262,7 +1262,7 @@ class TestPage:
     # ---- what is shown elsewhere
 
     def screenshot(self):
-        """The picture of docs/PAGE.md."""
+        """The picture of page/README.md."""
         self.driver.set_window_size(1280, 930)
         self.open()
         self.click("sample")
