@@ -221,28 +221,28 @@ class Launcher(unittest.TestCase):
 
 def said_by_tool(tool, words, room):
     """What a tool that writes into a folder says in one, in which it then has left nothing."""
-    done = subprocess.run([os.path.join(TOP, "tools", tool), *words], cwd=room, capture_output=True, text=True,
+    done = subprocess.run([os.path.join(TOP, tool), *words], cwd=room, capture_output=True, text=True,
                           env={"PATH": "/usr/bin:/bin"}, timeout=SECONDS)
     assert os.listdir(room) == []
     return done
 
 
-TOOLS = ["library", "package", "package-trial", "page", "java"]
+TOOLS = ["tools/library", "tools/package", "tools/package-trial", "tools/page", "bindings/java/package"]
 
 
 @pytest.mark.parametrize("tool,words", [*((tool, words) for tool in TOOLS for words in ([], [""])),
-                                        ("library", ["f", "--once"]), ("package", ["f", "--once"])])
+                                        ("tools/library", ["f", "--once"]), ("tools/package", ["f", "--once"])])
 def test_no_folder_is_named(tool, words, tmp_path):
     """Then nothing is made, and nothing installed."""
     done = said_by_tool(tool, words, tmp_path)
     assert (done.returncode != 0, done.stdout) == (True, "")
-    assert re.match(f"(the folder is missing: )?tools/{tool} ", done.stderr)
+    assert re.match(f"(the folder is missing: )?{tool} ", done.stderr)
 
 
 @pytest.mark.parametrize("tool", TOOLS)
 def test_help_of_a_tool(tool, tmp_path):
     done = said_by_tool(tool, ["--help"], tmp_path)
-    assert (done.returncode, done.stderr, f"tools/{tool} " in done.stdout) == (0, "", True)
+    assert (done.returncode, done.stderr, f"{tool} " in done.stdout) == (0, "", True)
 
 
 def text_of(name):
