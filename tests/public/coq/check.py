@@ -1,18 +1,19 @@
 """Whether Coq accepts the laws of laws.py, by the proofs in crates: tests/public/coq/check.py [--tier gate|full]
---library FILE.
+--library FILE. With --program FILE, it makes the checker of answers, and checks nothing else.
 
 translate.py puts the modules of crates that the laws stand on into Coq's words, anew in each run, and Coq's kernel
 checks each definition and each proof. Then Coq says of each law on which axioms it stands: on none. Lemmas that Coq
 doesn't take stand as axioms by axioms.txt, each with its reason. Then mistakes are planted in copies of crates, and
 each has to be noticed. At last the checker of answers, which Checker.v proves, is made into a program, and is asked
-about answers of the library FILE, and about spoilt ones. It needs Debian's coq, libcoq-equations, ocaml and
-libzarith-ocaml-dev. The last line is 'N passed, M failed'."""
+about answers of the library FILE, about spoilt ones, and about files. It needs Debian's coq, libcoq-equations, ocaml
+and libzarith-ocaml-dev. The last line is 'N passed, M failed'."""
 import argparse
 import re
 import shutil
 import subprocess
 import sys
 import tempfile
+from collections import Counter
 from pathlib import Path
 from typing import NamedTuple
 
@@ -25,7 +26,10 @@ from translate import Library  # noqa: E402
 CRATES = HERE.parents[2] / "crates"
 CLOSED = "Closed under the global context"
 LAWS = "Laws"
-MODULES = (laws.MODULE, "Rattle.s2list.proofs.PackedLocal")
+PROGRAM = "s2union-check"
+OF_CHECKER = tuple(f"Rattle.s2list.{name}" for name in ("proofs.Normal", "proofs.PackedLocal", "specs.Sets",
+                                                        "specs.Denorm"))
+MODULES = (laws.MODULE, *OF_CHECKER)
 SECONDS = 900  # for a file; each takes less than ten
 
 
@@ -52,9 +56,9 @@ CHANGES = (
            "pub normal_from_local : (u : List ℕ) → All IsCell u →", "s2list_proofs_Normal"),
     Change("Kit.v", "P (get_or xs k d)", "P d", "Kit"),
 )
-PAIRS = {"gate": 5000, "full": 25000}  # each is asked for four answers
+PAIRS = {"gate": 2500, "full": 12500}  # of each, nine questions are asked
 SPOILT = 100
-THEOREMS = ("checked_is_right", "the_only_one")
+THEOREMS = ("accepted_is_right", "the_only_one", "refused_is_wrong", "yes_is_right", "no_is_right", "cut_is_right")
 # A lemma that a law stands on, and the law.
 NEEDED = "s2list_proofs_Shortest.shorter", "shortest"
 
@@ -86,12 +90,12 @@ def compiled(folder, file):
 class Build:
     """A folder with the translated modules of a folder of crates."""
 
-    def __init__(self, folder, crates=CRATES, kit=None, axioms=None):
+    def __init__(self, folder, modules, crates=CRATES, kit=None, axioms=None):
         self.folder = Path(folder)
         (self.folder / "Kit.v").write_text(kit or (HERE / "Kit.v").read_text(encoding="utf-8"), encoding="utf-8")
         self.library = Library(crates, listed() if axioms is None else axioms, by_hand(),
                                {laws.MODULE: laws.text(crates)})
-        self.files = ["Kit", *self.library.write(folder, MODULES)]
+        self.files = ["Kit", *self.library.write(folder, modules)]
 
     def keep(self, other):
         """Takes what Coq made of the other build's files, up to the first that differs."""
@@ -172,7 +176,7 @@ def with_change(change, folder):
 def check_change(change, right, count):
     words = f"{change.file}: {change.wrong} in place of {change.right}"
     with tempfile.TemporaryDirectory() as copy, tempfile.TemporaryDirectory() as folder:
-        build = Build(folder, *with_change(change, copy))
+        build = Build(folder, MODULES, *with_change(change, copy))
         build.keep(right)
         try:
             build.check()
@@ -186,7 +190,7 @@ def check_axiom(right, count):
     """Whether a law that gains an axiom is noticed."""
     lemma, law = NEEDED
     with tempfile.TemporaryDirectory() as folder:
-        build = Build(folder, axioms=[*listed(), lemma])
+        build = Build(folder, MODULES, axioms=[*listed(), lemma])
         build.keep(right)
         build.check()
         found = build.axioms_of(LAWS, [law])[law]
@@ -200,44 +204,141 @@ def run(folder, *command):
     return done.stdout
 
 
-def check_answers(right, library, tier, count):
-    """Whether the checker is proved, accepts the library's answers and refuses spoilt ones."""
-    folder = right.folder
-    for name in ("Checker.v", "Program.v", "answers.ml"):
-        shutil.copy2(HERE / name, folder)
-    compiled(folder, "Checker")
-    for name, found in right.axioms_of("Checker", list(THEOREMS)).items():
+def make_program(build, file):
+    """The checker of answers as a program, of a build that has Checker.vo."""
+    for name in ("Program.v", "s2union_check.ml"):
+        shutil.copy2(HERE / name, build.folder)
+    compiled(build.folder, "Program")
+    (build.folder / "checker.mli").unlink()
+    run(build.folder, "ocamlopt", "-I", "+zarith", "zarith.cmxa", "checker.ml", "s2union_check.ml", "-o", file)
+
+
+def check_checker(build, count):
+    """Whether the checker of answers is proved."""
+    shutil.copy2(HERE / "Checker.v", build.folder)
+    compiled(build.folder, "Checker")
+    for name, found in build.axioms_of("Checker", list(THEOREMS)).items():
         count.check(not found, f"the checker of answers, {name}: checked by Coq, {standing(found)}")
-    compiled(folder, "Program")
-    (folder / "checker.mli").unlink()
-    run(folder, "ocamlopt", "-I", "+zarith", "zarith.cmxa", "checker.ml", "answers.ml", "-o", "answers")
-    asked = ((PAIRS[tier], (), "accepted"), (SPOILT, ("--spoilt",), "refused"))
-    for pairs, words, wanted in asked:
-        questions = run(folder, "/usr/bin/python3", str(HERE / "questions.py"), library, str(pairs), *words)
-        (folder / "questions").write_text(questions, encoding="utf-8")
-        told = run(folder, "sh", "-c", "./answers <questions")
-        for name, accepted, refused in re.findall(r"^(\w+) (\d+) (\d+)$", told, re.M):
-            is_right = (int(accepted), int(refused)) == ((0, pairs) if words else (pairs, 0))
-            count.check(is_right, f"{name}: {pairs} {'spoilt answers' if words else 'answers of the library'} {wanted}",
-                        "\n".join(re.findall("^refused: .*", told, re.M)))
+
+
+def check_answers(right, library, tier, count):
+    """Whether the checker accepts the library's answers and refuses spoilt ones."""
+    check_checker(right, count)
+    make_program(right, PROGRAM)
+    for pairs, words, wanted in ((PAIRS[tier], (), "accepted"), (SPOILT, ("--spoilt",), "refused")):
+        questions = run(right.folder, "/usr/bin/python3", str(HERE / "questions.py"), library, str(pairs), *words)
+        check_verdicts(right.folder, questions.splitlines(), wanted, count)
+    check_files(right.folder, count)
+
+
+def check_verdicts(folder, questions, wanted, count):
+    """Whether the program's verdict on each question with its answer is the wanted one."""
+    (folder / "questions").write_text("\n".join(questions) + "\n", encoding="utf-8")
+    done = subprocess.run([f"./{PROGRAM}", "--lines"], cwd=folder, stdin=(folder / "questions").open("rb"),
+                          capture_output=True, encoding="utf-8", timeout=SECONDS, check=False)
+    verdicts = done.stdout.splitlines()
+    if len(verdicts) != len(questions):
+        raise Refused(PROGRAM, done.stderr[-2000:])
+    asked, others = Counter(), Counter()
+    for question, verdict in zip(questions, verdicts):
+        name = question.split()[0]
+        asked[name] += 1
+        if verdict.split(":")[0] != wanted:
+            others[name] += 1
+            print(f"{question}: {verdict}")
+    for name, each in asked.items():
+        count.check(not others[name], f"{name}: {each} {'' if wanted == 'accepted' else 'spoilt '}answers of the "
+                    f"library {wanted}")
+
+
+def file_of(cells):
+    return b"\1" + b"".join(number.to_bytes(8, "little") for number in (len(cells), *cells))
+
+
+# Files, and for the words of the program what it says, and its status.
+FACE, CHILDREN = 0x1000000000000000, (0x0400000000000000, 0x0c00000000000000, 0x1400000000000000, 0x1c00000000000000)
+FILES = {"face": file_of([FACE]), "children": file_of(CHILDREN), "three": file_of(CHILDREN[:3]),
+         "back": file_of(CHILDREN[::-1]), "others": file_of([(2 * face + 1) << 60 for face in range(1, 6)]),
+         "last": file_of(CHILDREN[3:]), "none": file_of([]), "zero": file_of([0]), "empty": b"", "other": b"\2",
+         "cut": file_of([FACE])[:-1], "more": file_of([FACE]) + b"\0"}
+ASKED = {
+    "three union last face": ("accepted", 0),
+    "three union last children": ("refused: 0400000000000000 and the next three cells are the children of one cell", 1),
+    "three union last three": ("refused: the leaf 1800000000000001 is missing", 1),
+    "face intersection last face": ("refused: the leaf 0000000000000001 is too much", 1),
+    "face difference last three": ("accepted", 0),
+    "face symmetric_difference three last": ("accepted", 0),
+    "face complement others": ("accepted", 0),
+    "others complement none": ("refused: the leaf 0000000000000001 is missing", 1),
+    "back normalise face": ("accepted", 0),
+    "back normalise back": ("refused: the leaf 1000000000000001 begins a cell that does not come after the one before "
+                            "it", 1),
+    "face denormalise 1 1 children": ("accepted", 0),
+    "face denormalise 1 1 back": ("refused: the cell at index 0 is another one", 1),
+    "face contains last yes": ("accepted", 0),
+    "last contains face yes": ("refused: the answer is no", 1),
+    "last intersects three no": ("accepted", 0),
+    "face file": ("accepted", 0),
+    "none file": ("accepted", 0),
+    "children file": ("refused: 0400000000000000 and the next three cells are the children of one cell", 1),
+    "zero file": ("refused: 0000000000000000 is not the identifier of a cell", 1),
+    "zero union face face": ("cell: 0000000000000000 is not the identifier of a cell", 2),
+    "empty union face face": ("short: empty", 2),
+    "other union face face": ("version: other", 2),
+    "cut file": ("short: cut", 2),
+    "more file": ("trailing: more", 2),
+    "missing file": ("file: missing: No such file or directory", 2),
+    "face denormalise 31 1 face": ("usage: 31 is not a number from 0 to 30", 2),
+    "face united last face": ("usage: s2union-check --help has the forms", 2),
+}
+
+
+def check_files(folder, count):
+    """Whether the program says of union files what ASKED says."""
+    for name, text in FILES.items():
+        (folder / name).write_bytes(text)
+    for words, (wanted, status) in ASKED.items():
+        done = subprocess.run([f"./{PROGRAM}", *words.split()], cwd=folder, capture_output=True, encoding="utf-8",
+                              timeout=SECONDS, check=False)
+        said = (done.stdout + done.stderr).strip().removeprefix(f"{PROGRAM}: ")
+        count.check((said, done.returncode) == (wanted, status), f"{PROGRAM} {words}: {wanted}, with status {status}",
+                    f"{said}, with status {done.returncode}")
+
+
+def check_all(folder, asked, count):
+    right = Build(folder, MODULES)
+    check_laws(right, count)
+    for change in CHANGES:
+        check_change(change, right, count)
+    check_axiom(right, count)
+    check_answers(right, str(Path(asked.library).resolve()), asked.tier, count)
+
+
+def write_program(folder, file, count):
+    """Writes the program of the checker, which Coq has proved before."""
+    build = Build(folder, OF_CHECKER)
+    build.check()
+    check_checker(build, count)
+    make_program(build, str(Path(file).resolve()))
+    count.check(True, f"{file}: made")
 
 
 def main():
     parser = argparse.ArgumentParser(prog="tests/public/coq/check.py")
     parser.add_argument("--tier", choices=("gate", "full"), default="gate")
-    parser.add_argument("--library", required=True)
+    what = parser.add_mutually_exclusive_group(required=True)
+    what.add_argument("--library")
+    what.add_argument("--program")
     asked = parser.parse_args()
     count = Count()
     with tempfile.TemporaryDirectory() as folder:
         try:
-            right = Build(folder)
-            check_laws(right, count)
-            for change in CHANGES:
-                check_change(change, right, count)
-            check_axiom(right, count)
-            check_answers(right, str(Path(asked.library).resolve()), asked.tier, count)
+            if asked.program:
+                write_program(folder, asked.program, count)
+            else:
+                check_all(folder, asked, count)
         except Refused as error:
-            count.check(False, f"{error.args[0]}.v: Coq doesn't take it", error.args[1])
+            count.check(False, f"{error.args[0]}: not taken", error.args[1])
         except Bad as error:
             count.check(False, str(error))
     print(f"{count.passed} passed, {count.failed} failed")

@@ -1,26 +1,32 @@
-"""Prints set operations on random unions near each other, with the library's answers, a line each:
-questions.py LIBRARY PAIRS [--spoilt]. With --spoilt, each answer is changed in one cell."""
+"""Prints questions about random unions near each other, with the library's answers, a line each, as s2union-check
+--lines reads them: questions.py LIBRARY PAIRS [--spoilt]. With --spoilt, each answer is changed in one place."""
 import ctypes
 import random
 import sys
 
-OPERATIONS = ("union", "intersection", "difference", "symmetric_difference")
+OF_TWO = ("union", "intersection", "difference", "symmetric_difference")
+RELATIONS = ("contains", "intersects")
+QUESTIONS = (*OF_TWO, "complement", "normalise", "denormalise", *RELATIONS)
 LEAVES = 6 * 4 ** 30
 MOST = 8
+MOST_CUT = 300
+ROOM = 4000
 
 
 def array(cells):
     return (ctypes.c_uint64 * max(1, len(cells)))(*cells)
 
 
-def answer(library, operation, a, b):
-    room = 200 * (len(a) + len(b) + 2)
-    out, count = array([0] * room), ctypes.c_size_t()
-    status = getattr(library, f"s2u_{operation}")(
-        array(a), ctypes.c_size_t(len(a)), array(b), ctypes.c_size_t(len(b)), out, ctypes.c_size_t(room),
-        ctypes.byref(count))
+def listed(cells):
+    return array(cells), ctypes.c_size_t(len(cells))
+
+
+def made(library, name, *arguments):
+    """The list that a call makes."""
+    out, count = (ctypes.c_uint64 * ROOM)(), ctypes.c_size_t()
+    status = getattr(library, f"s2u_{name}")(*arguments, out, ctypes.c_size_t(ROOM), ctypes.byref(count))
     if status != 0:
-        sys.exit(f"s2u_{operation} answers {status}")
+        sys.exit(f"s2u_{name} answers {status}")
     return out[:count.value]
 
 
@@ -31,11 +37,23 @@ def normal(library, cells):
     return out[:count.value]
 
 
+def cutting(library, cells, chooser):
+    """Levels to which a union is cut into few cells."""
+    count = ctypes.c_uint64()
+    while True:
+        words = chooser.randrange(31), chooser.randrange(1, 4)
+        levels = [ctypes.c_uint32(word) for word in words]
+        if library.s2u_denormalised_len(*listed(cells), *levels, ctypes.byref(count)) != 0:
+            sys.exit("s2u_denormalised_len has no answer")
+        if count.value <= MOST_CUT or not words[0]:
+            return words, levels, count.value <= MOST_CUT
+
+
 def cell(level, place):
     return (2 * place + 1) * 4 ** (30 - level)
 
 
-def union(library, chooser):
+def some_cells(chooser):
     near, cells = chooser.randrange(LEAVES), []
     for _ in range(chooser.randrange(MOST + 1)):
         level = chooser.choice([0, 1, 2, 3, 28, 29, 30, chooser.randrange(31)])
@@ -45,7 +63,7 @@ def union(library, chooser):
         cells.append(cell(level, place))
         if chooser.random() < .2 and level:
             cells += [cell(level, place // 4 * 4 + child) for child in range(4)]
-    return normal(library, cells)
+    return cells
 
 
 def spoilt(cells, chooser):
@@ -59,13 +77,35 @@ def spoilt(cells, chooser):
     return cells[:at] + [cells[at]] + cells[at:]
 
 
+def asked(library, name, cells, others, chooser):
+    """A question about cells, and its answer: its words, the lists, and the cells or yes or no."""
+    a, b = normal(library, cells), normal(library, others)
+    if name in OF_TWO:
+        return name, a, b, made(library, name, *listed(a), *listed(b))
+    if name in RELATIONS:
+        return name, a, b, getattr(library, f"s2u_{name}")(*listed(a), *listed(b)) == 1
+    if name == "complement":
+        return name, a, [], made(library, name, *listed(a))
+    if name == "normalise":
+        return name, cells, [], a
+    words, levels, is_short = cutting(library, a, chooser)
+    a = a if is_short else []
+    return f"{name} {words[0]} {words[1]}", a, [], made(library, "denormalised", *listed(a), *levels)
+
+
+def told(answer):
+    return " ".join(map(str, answer)) if isinstance(answer, list) else "yes" if answer else "no"
+
+
 def main(path, pairs, spoils):
     library, chooser = ctypes.CDLL(path), random.Random(20)
     for _ in range(pairs):
-        a, b = union(library, chooser), union(library, chooser)
-        for operation in OPERATIONS:
-            out = answer(library, operation, a, b)
-            print(operation, "/", *a, "/", *b, "/", *(spoilt(out, chooser) if spoils else out))
+        cells, others = some_cells(chooser), some_cells(chooser)
+        for name in QUESTIONS:
+            name, a, b, out = asked(library, name, cells, others, chooser)
+            if spoils:
+                out = spoilt(out, chooser) if isinstance(out, list) else not out
+            print(name, "/", *a, "/", *b, "/", told(out))
 
 
 if __name__ == "__main__":
