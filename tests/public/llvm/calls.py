@@ -3,13 +3,27 @@ trusted: a wrong row makes a claim that Z3 refutes, or one that nobody can decid
 from typing import NamedTuple
 
 
+class Loop(NamedTuple):
+    """A loop over a range: the function and the label where it begins, the file with its invariant, below crates, and
+    the invariant's name there; which local has the number that runs through the range, by its name in the invariant,
+    and which has the range's end."""
+
+    function: str
+    label: str
+    file: str
+    invariant: str
+    name: str
+    at: str
+    end: str
+
+
 class Plan(NamedTuple):
     """How a call is proved. `file` has its contract, below crates. `cells` are the arguments that are looked at level
     by level. If `is_apart`, cells are known by facts alone. `lists` has the length up to which each list is looked at,
     `arrays` the lists of which any place is looked at, `rooms` what a result needs by the levels of `cells`, and
-    `witnesses` the numbers for statements about some or all numbers. An answer of the functions of `named` has a name
-    of its own, and `turns` are the levels at which the curve's orientation has one. `tier` is the first one that has
-    it: quick, gate or full."""
+    `witnesses` the numbers for statements about some or all numbers. `loops` go on for lists of any length. An answer
+    of the functions of `named` has a name of its own, and `turns` are the levels at which the curve's orientation has
+    one. `tier` is the first one that has it: quick, gate or full."""
 
     file: str = "s2union_c/src/cells.rt"
     cells: tuple = ()
@@ -18,6 +32,7 @@ class Plan(NamedTuple):
     arrays: tuple = ()
     rooms: dict = {}
     witnesses: dict = {}
+    loops: tuple = ()
     named: tuple = ()
     turns: tuple = ()
     tier: str = "quick"
@@ -38,6 +53,7 @@ CELL = Plan(cells=("id",))
 PAIR = Plan(is_apart=True, tier="gate")
 TEXTS = "s2union_c/src/texts.rt"
 FILES = "s2union_c/src/files.rt"
+QUESTIONS = "s2union_c/src/questions.rt"
 DEBUGGED = """(2 * ((slice_index text.now 0 - 48) * 4 ^ (length text.now - 2) + digits_value 4 (drop 2 text.now)) + 1)
     * 4 ^ (32 - length text.now)"""  # the number that a debug text says
 PLANS = {
@@ -64,4 +80,7 @@ PLANS = {
     "s2u_from_token": Plan(TEXTS, lists={"text": 16}, tier="gate", witnesses={
         "n": "digits_value 16 text.now * 16 ^ (16 - length text.now)"}),
     "s2u_from_debug": Plan(TEXTS, lists={"text": 32}, tier="gate", witnesses={"n": DEBUGGED}),
+    "s2u_compare": Plan(QUESTIONS, arrays=("xs", "ys"), tier="gate", loops=(Loop(
+        "s2union_c_questions_s2u_compare", "loop.2", "s2union_c/proofs/questions/s2u_compare/Invariants.antt",
+        "invariant-loop-k", "k", at="%r6", end="%r5"),)),
 }

@@ -6,6 +6,7 @@ given, such as to the left of an arrow, one that is true for all numbers is used
 calls names as its witness; likewise what is claimed for some number is shown for its witness. All this only makes
 claims stronger. Words that have no such witness have a form without quantifiers, in words.py."""
 import functools
+import itertools
 
 import z3
 
@@ -45,22 +46,25 @@ class Mapped:
         return self.count
 
 
-class Bytes:
-    """A list of bytes of any length: so many of an array from one on."""
+class Stretch:
+    """A list of any length: the elements of an array from one on to another one, which isn't in it."""
 
-    def __init__(self, array, begin, count):
-        self.array, self.begin, self.count = array, begin, count
+    def __init__(self, array, begin, end):
+        self.array, self.begin, self.end = array, begin, end
 
     def length(self):
-        return self.count
+        return numbers.subtract(self.end, self.begin)
 
-    def drop(self, number):
-        return Bytes(self.array, numbers.add(self.begin, number), numbers.subtract(self.count, number))
+    def is_empty(self):
+        return z3.UGE(self.begin.bits, self.end.bits)
+
+    def drop(self, count):
+        return Stretch(self.array, numbers.add(self.begin, count), self.end)
 
     def at(self, index):
-        place = z3.Extract(63, 0, numbers.add(self.begin, index).bits)
-        return numbers.choice(z3.ULT(index.bits, self.count.bits), numbers.of_bits(z3.Select(self.array, place)),
-                              constant(0))
+        place = numbers.add(self.begin, index)
+        element = numbers.of_bits(z3.Select(self.array, z3.Extract(63, 0, place.bits)))
+        return numbers.choice(z3.ULT(place.bits, self.end.bits), element, constant(0))
 
 
 class Listed:
@@ -91,6 +95,7 @@ class Words:
         self.definitions, self.records, self.forms, self.witnesses, self.where = {}, {}, {}, {}, "a clause"
         self.shown = {}  # forms from which a word follows: for where it is claimed alone
         self.premises = []  # of what is looked at
+        self.facts, self.unfolded = [], None  # what is known of words; the word of which a step is being made
         for path in paths:
             for found in declarations(path):
                 if found.get("name") in self.definitions or found.get("name") in self.records:
@@ -286,6 +291,9 @@ class Words:
         definition, outer = self.definitions[word], self.where
         if len(values) < len(argument_kinds(definition["type"])):
             return Partial(word, values)
+        if any(isinstance(it, Stretch) and is_list_pattern(pattern) for patterns, _, _ in definition["clauses"]
+               for pattern, it in zip([it for it in patterns if it[0] not in ("ipat", "many")], values)):
+            return self.of_any_length(word, values)
         for patterns, body, _ in definition["clauses"]:
             patterns = [it for it in patterns if it[0] not in ("ipat", "many")]
             known = {}
@@ -296,6 +304,43 @@ class Words:
                 finally:
                     self.where = outer
         raise self.unknown(f"the clause of {word} for such arguments")
+
+    def of_any_length(self, word, values):
+        """A number that a word makes of lists of any length by recursion: one of which its definition is known for one
+        step, from these lists to their rests."""
+        if not all(isinstance(it, Stretch) for it in values):
+            raise self.unknown(f"{word} of other things than lists")
+        lists = [number.bits for it in values for number in (it.begin, it.end)]
+        name = " of ".join([word, *(str(it.array) for it in values)])
+        result = z3.Function(name, *[z3.BitVecSort(numbers.BITS)] * (len(lists) + 1))(*lists)
+        if self.unfolded is None:
+            self.unfolded = word
+            self.facts.append(result == self.one_step(word, values).bits)
+            self.unfolded = None
+        elif self.unfolded != word:
+            raise self.unknown(f"{word} in the recursion of {self.unfolded}")
+        return Number(result, numbers.TOP)
+
+    def one_step(self, word, values):
+        """The clause of a definition that fits lists, by which of them are empty. The last clause is for what is left,
+        so the clauses have to be all cases."""
+        ways = []
+        for patterns, body, _ in self.definitions[word]["clauses"]:
+            known, is_empty = {}, []
+            for pattern, value in zip(patterns, values):
+                if not is_list_pattern(pattern) or len(pattern) == 3 and any(it[0] != "var" for it in pattern[2]):
+                    raise self.unknown(f"the pattern {pattern}")
+                is_empty.append(len(pattern) == 2)
+                if len(pattern) == 3:
+                    known.update({pattern[2][0][1]: value.at(constant(0)), pattern[2][1][1]: value.drop(constant(1))})
+            ways.append((tuple(is_empty), self.value(body, known)))
+        if {way for way, _ in ways} != set(itertools.product((True, False), repeat=len(values))):
+            raise self.unknown(f"{word}, which has other clauses than one for each case,")
+        result = ways[-1][1]
+        for is_empty, value in ways[:-1]:
+            fits_here = z3.And([it.is_empty() == empty for it, empty in zip(values, is_empty)])
+            result = numbers.choice(fits_here, value, result)
+        return result
 
     def same(self, a, b):
         if isinstance(a, Number) and isinstance(b, Number):
@@ -334,6 +379,10 @@ def is_statement(kind):
     return kind[0] == "app" and kind[1] == ("var", "Type")
 
 
+def is_list_pattern(pattern):
+    return pattern == ("var", "[]") or pattern[:2] == ("con", "◌∷◌")
+
+
 def fits(pattern, value, known):
     """Whether a pattern fits a value; if so the names in it are known afterwards."""
     if pattern == ("var", "zero"):
@@ -362,12 +411,12 @@ def decided(value):
 # ---- words of the kit whose meaning is here
 
 def dropped(count, xs):
-    return xs.drop(count if isinstance(xs, Bytes) else decided(count))
+    return xs.drop(count if isinstance(xs, Stretch) else decided(count))
 
 
 def looked_up(xs, index):
     """`slice_index`: the element, or 0 where there is none."""
-    if isinstance(xs, Bytes):
+    if isinstance(xs, Stretch):
         return xs.at(index)
     if index.literal is not None and index.literal < len(xs.front):
         return xs.front[index.literal]

@@ -9,7 +9,8 @@ import itertools
 import z3
 
 import natural as numbers
-from definitions import Bytes, Listed
+from bits import shifted
+from definitions import Listed, Stretch
 from memory import UNWRITTEN, Pointer, State, Thing
 from natural import BITS, Number, constant, of_bits
 from solver import Undecided
@@ -57,8 +58,9 @@ def choices_of(name, kind, plan, structures):
         return number_choices(name, 8 * BYTES[kind], name in plan.cells)
     if kind in ("&mut usize", "&mut u64"):
         return [(name, lambda case: add_number(case, name))]
-    if kind == "&[u8]" and name in plan.arrays:
-        return [(f"{name} null", lambda case: add_null(case, name, "now")), (name, lambda case: add_array(case, name))]
+    if kind in ("&[u8]", "&[u64]") and name in plan.arrays:
+        return [(f"{name} null", lambda case: add_array(case, name, BYTES[kind[2:-1]], False)),
+                (name, lambda case: add_array(case, name, BYTES[kind[2:-1]], True))]
     if kind == "&[u8]" and name in plan.lists:
         return list_choices(name, plan.lists[name])
     if kind == "&mut [u8]" and name in plan.rooms:
@@ -168,12 +170,14 @@ def add_longer(case, name, most):
     case.known[name] = {"now": Listed(map(of_bits, elements), rest)}
 
 
-def add_array(case, name):
-    """A list of any length, all of whose bytes are known by their places."""
-    length, array = z3.BitVec(f"{name}_length", 64), z3.Array(name, z3.BitVecSort(64), z3.BitVecSort(8))
-    case.state.given.append(z3.ULE(length, MOST_BYTES))
-    case.values += [case.state.add(Thing(name, length, array=array)), length]
-    case.known[name] = {"now": Bytes(array, constant(0), of_bits(length))}
+def add_array(case, name, size, is_there):
+    """A list of any length, all of whose elements, of so many bytes, are known by their places; or none."""
+    array = z3.Array(name, z3.BitVecSort(64), z3.BitVecSort(8 * size))
+    length = z3.BitVec(f"{name}_length", 64) if is_there else z3.BitVecVal(0, 64)
+    case.state.given.append(z3.ULE(length, MOST_BYTES // size))
+    thing = Thing(name, shifted(length, size.bit_length() - 1), size, array=array)
+    case.values += [case.state.add(thing) if is_there else Pointer(0, 0), length]
+    case.known[name] = {"now": Stretch(array, constant(0), of_bits(length))}
 
 
 def room_choices(name, needed):

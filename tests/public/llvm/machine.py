@@ -26,10 +26,11 @@ OPERATIONS = {
 
 class Machine(Memory):
     """Runs functions of a text. It counts the instructions, and what it had to prove. The answer of a function among
-    `named` has a name of its own from then on, so that no formula has more than one step of a long way."""
+    `named` has a name of its own from then on, so that no formula has more than one step of a long way. `loops` are
+    those that have an invariant."""
 
-    def __init__(self, text, named=()):
-        self.text, self.named = text, named
+    def __init__(self, text, named=(), loops=None):
+        self.text, self.named, self.loops = text, named, loops
         self.steps = self.proved = 0
         self.lines = set()  # of the text that were run
 
@@ -83,6 +84,8 @@ class Way:
     def follow(self):
         """Runs to the end: the other ways that leave this one, and the state and the answer in the end."""
         while not self.has_ended:
+            if self.at == 0 and self.machine.loops and self.machine.loops.come(self):
+                break
             instruction = self.function.blocks[self.label][self.at]
             self.at += 1
             self.machine.steps += 1
@@ -253,6 +256,7 @@ class Way:
             value = self.value(kind, word)
         if value is UNWRITTEN and self.function.is_defined:
             raise Refuted(f"{self.name} answers bytes that were never written")
+        self.state.cuts = {key: cut for key, cut in self.state.cuts.items() if key[0] != self.name}
         for number in self.locals:
             del self.state.things[number]
             self.state.addresses.pop(number, None)

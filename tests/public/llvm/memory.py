@@ -35,11 +35,13 @@ def simple(value):
 
 class Thing:
     """An object: its name, its size and alignment, and what is known of its bytes: `chunks` has (bytes, value) at
-    offsets, and no two overlap; a constant has its `content`; of an argument of any length `array` has all bytes."""
+    offsets, and no two overlap; a constant has its `content`; of an argument of any length `array` has all elements,
+    each of which is so many bytes."""
 
     def __init__(self, name, size, align=1, content=None, array=None):
         self.name, self.size, self.align = name, size, align
         self.content, self.array, self.chunks = content, array, {}
+        self.step = array.range().size() // 8 if array is not None else None
 
     def copy(self):
         if self.content is not None or self.array is not None:
@@ -53,7 +55,7 @@ class Thing:
         if self.content is not None:
             return z3.BitVecVal(self.content[at], 8)
         if self.array is not None:
-            return z3.Select(self.array, z3.BitVecVal(at, 64))
+            raise Undecided(f"a byte of {self.name} by itself")
         for begin in range(at, max(-1, at - 64), -1):
             if begin in self.chunks and begin + self.chunks[begin][0] > at:
                 value = self.chunks[begin][1]
@@ -81,11 +83,12 @@ def part(value, index):
 
 class State:
     """What is known on one way through a function: the memory, what is given, and the conditions of the way. `steps`
-    has the numbers that were given a name of their own on the way, each with what it is."""
+    has the numbers that were given a name of their own on the way, each with what it is, `cuts` the loops that the way
+    goes through."""
 
     def __init__(self):
         self.things, self.given, self.conditions, self.addresses, self.count = {}, [], [], {}, 0
-        self.steps = []
+        self.steps, self.cuts = [], {}
 
     def known(self):
         return self.given + self.conditions
@@ -95,6 +98,7 @@ class State:
         other.things = {number: thing.copy() for number, thing in self.things.items()}
         other.given, other.conditions = list(self.given), list(self.conditions)
         other.addresses, other.count, other.steps = dict(self.addresses), self.count, list(self.steps)
+        other.cuts = dict(self.cuts)
         return other
 
     def add(self, thing):
@@ -150,7 +154,11 @@ class Memory:
         count = size_of(kind)
         thing = self.check(state, pointer, count, align, "load")
         offset = literal(pointer.offset)
-        value = self.looked_up(state, thing, pointer.offset, count) if offset is None else loaded(thing, offset, count)
+        if thing.array is not None:
+            value = self.element(state, thing, as_bits(pointer.offset), count)
+        else:
+            value = (self.looked_up(state, thing, pointer.offset, count) if offset is None
+                     else loaded(thing, offset, count))
         if value is UNWRITTEN:
             if is_defined:
                 raise Refuted(f"bytes of {thing.name} are loaded that were never written")
@@ -163,12 +171,19 @@ class Memory:
             return value
         return z3.simplify(z3.Extract(width(kind) - 1, 0, value))
 
+    def element(self, state, thing, offset, count):
+        """Elements of an argument of any length, as a number."""
+        if count % thing.step or thing.step & (thing.step - 1):
+            raise Undecided(f"{count} bytes of {thing.name}, whose elements have {thing.step}")
+        if thing.step > 1:
+            self.must(state, offset & (thing.step - 1) == 0, f"a load of whole elements of {thing.name}")
+        at = z3.LShR(offset, thing.step.bit_length() - 1)
+        return joined([z3.Select(thing.array, z3.simplify(at + index)) for index in range(count // thing.step)])
+
     def looked_up(self, state, thing, offset, count):
         """The value at an offset that is a formula."""
         if thing.content is not None:
             return from_table(thing.content, offset, count)
-        if thing.array is not None:
-            return joined([z3.Select(thing.array, z3.simplify(offset + index)) for index in range(count)])
         values = [(at, value) for at, (size, value) in sorted(thing.chunks.items()) if size == count]
         if len(values) != len(thing.chunks) or any(value is UNWRITTEN or isinstance(value, Pointer)
                                                    for _, value in values):

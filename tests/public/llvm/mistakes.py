@@ -21,6 +21,7 @@ SAME = {
         "the zeros at the end of a cell are even, so never 61", None),
     ("s2cell_cell_CellId_from_id", "store i64 0, ptr %r, align 1", "store i64 1, ptr %r, align 1"): (
         "any other number than a cell is then taken for 0, of which the answer is 0", ("s2u_next", "s2u_size")),
+    ("s2u_compare", "mul i64 %r, 4096", "mul i64 %r, 4097"): ("nothing is read where an empty list would be", None),
 }
 
 
@@ -93,7 +94,8 @@ class Change(NamedTuple):
 
     def made(self, crates, room):
         """A copy of the contracts and the definitions with the change."""
-        for name in [*(f"{name}.antt" for name in DEFINITIONS), *{plan.file for plan in PLANS.values()}]:
+        files = {file for plan in PLANS.values() for file in (plan.file, *(loop.file for loop in plan.loops))}
+        for name in [*(f"{name}.antt" for name in DEFINITIONS), *files]:
             (room / name).parent.mkdir(parents=True, exist_ok=True)
             shutil.copy(crates / name, room / name)
         text = (room / self.file).read_text(encoding="utf-8")
@@ -112,6 +114,8 @@ CHANGES = [
     Change("s2cell/specs/Square.antt", "size ≡ 2 ^ (30 - level_of c)", "size ≡ 4 ^ (30 - level_of c)", "s2u_square_of"),
     Change("s2cell/specs/Curve.antt", "1 ∷ 0 ∷ 0 ∷ 3 ∷ []", "1 ∷ 0 ∷ 0 ∷ 2 ∷ []", "s2u_square_of"),
     Change("s2cell/specs/Debug.antt", "slice_index text 1 ≡ 47", "slice_index text 1 ≡ 46", "s2u_from_debug"),
+    Change("s2union_c/specs/Order.antt", "order [] (y ∷ ys) = negsuc 0", "order [] (y ∷ ys) = pos 0", "s2u_compare"),
+    Change("s2union_c/proofs/questions/s2u_compare/Invariants.antt", "(drop l.k l.ys)", "l.ys", "s2u_compare"),
     Change("s2union_c/src/cells.rt", "result ≡ size_of id", "result ≡ weight_of id", "s2u_size",
            "not decided: s2union_c/src/cells.rt:"),
 ]

@@ -11,6 +11,7 @@ TOP = Path(__file__).resolve().parents[3]
 sys.path += [str(TOP / "tests" / "public"), str(TOP / "tests" / "public" / "llvm")]
 from clauses import contracts, structures  # noqa: E402
 from inputs import cases  # noqa: E402
+from loops import Loops  # noqa: E402
 from machine import Machine  # noqa: E402
 from natural import constant  # noqa: E402
 from solver import Undecided, is_possible, prove, use  # noqa: E402
@@ -18,7 +19,7 @@ from squares import SquareWords  # noqa: E402
 
 DEFINITIONS = ["s2cell/specs/Cell", "s2cell/specs/Curve", "s2cell/specs/Neighbours", "s2cell/specs/Square",
                "s2cell/specs/Text", "s2cell/specs/Token", "s2cell/specs/Debug", "s2union_c/specs/Status",
-               "s2union_c/specs/Results", "s2union_c/specs/Files", "s2list/specs/Numbers", "s2file/specs/File",
+               "s2union_c/specs/Results", "s2union_c/specs/Order", "s2union_c/specs/Files", "s2list/specs/Numbers", "s2file/specs/File",
                "s2file/specs/Numbers"]
 
 
@@ -62,12 +63,13 @@ def prove_call(text, crates, name, plan):
     done = Proved([clause.name for clause in contract.ensures])
     for case in cases(contract, plan, fields):
         begun = time.process_time()
-        machine = Machine(text, plan.named)
+        loops = Loops(plan.loops, crates, functools.partial(words_of, crates), case.known)
+        machine = Machine(text, plan.named, loops)
         if not is_possible(*case.state.given):
             raise Undecided(f"{name}: nothing fits the case {', '.join(case.names)}")
         given = list(case.state.given)
         ways = list(machine.run(case.state, name, case.values))
-        prove_all_ways(name, given, ways)
+        prove_all_ways(name, given, [state for state, _ in ways] + loops.closed)
         done.cases, done.ways = done.cases + 1, done.ways + len(ways)
         done.lines |= machine.lines
         ways = joined(ways, case)
@@ -78,11 +80,11 @@ def prove_call(text, crates, name, plan):
     return done
 
 
-def prove_all_ways(name, given, ways):
-    """The ways are all that there are."""
-    for state, _ in ways:
+def prove_all_ways(name, given, states):
+    """The ways are all that there are: those that end, and those that come back in a loop."""
+    for state in states:
         given += [it for it in state.given if not any(it is other for other in given)]
-    prove(z3.Or([z3.And(state.conditions) for state, _ in ways]), f"{name}: all ways are run", *given)
+    prove(z3.Or([z3.And(state.conditions) for state in states]), f"{name}: all ways are run", *given)
 
 
 def joined(ways, case):

@@ -16,6 +16,7 @@ from calls import PLANS
 from mistakes import CHANGES, mistakes
 from proofs import TOP, contract_of, prove_call, words_of
 from solver import Refuted, Undecided
+from table import check_table
 from text import Text, Unknown
 
 TIERS = ("quick", "gate", "full")
@@ -98,6 +99,8 @@ def main():
     text = Text(asked.text)
     names = asked.calls or [name for name, plan in PLANS.items() if name != asked.left_out
                             and TIERS.index(plan.tier) <= TIERS.index(asked.tier)]
+    if not asked.calls:
+        count.check(True, f"the table in docs/CHECK.md: {check_table()} calls, each with its verdict")
     prove_forms("the forms of words", words_of(asked.crates).prove_forms, count)
     if "s2u_square_of" in names:
         prove_forms("the form of squares", words_of(asked.crates).prove_squares, count)

@@ -69,7 +69,7 @@ class CellWords(Words):
     def __init__(self, paths, is_apart=False):
         super().__init__(paths)
         self.side = self.bottom = None  # the level from which on `At` isn't claimed, if any
-        self.facts, self.apart = [], {}
+        self.apart = {}
         self.forms["IsCell"] = is_cell
         self.forms["IsInside"] = self.is_inside
         self.forms["ShareLeaf"] = self.share_leaf
