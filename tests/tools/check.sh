@@ -73,4 +73,24 @@ of_release() ( # what links with it has the calls of dist/, and the headers of t
     gcc -Iinclude x.c lib/libs2union.a -o x && ./x
 )
 step "tools/library: the library of the release" of_release
+tags() ( # in a clone each version has its tag, at a commit of it; the same a second time, and none is moved
+  local version commit names
+  git clone -q "$top" "$work/tagged" && cp "$top/tools/release" "$work/tagged/tools/" &&
+    cp "$top/CHANGELOG.md" "$work/tagged/" && cd "$work/tagged" && tools/release --tags || return 1
+  while read -r version commit; do
+    [[ $(git rev-parse "v$version^{commit}") = "$commit"* ]] &&
+      { [ "$version" = 0.1.0 ] || [ "$(git show "v$version:VERSION")" = "$version" ]; } ||
+      { echo "$version" && return 1; }
+  done < <(awk '/^## [0-9]/ { version = $2 } sub(/^Made from commit /, "") { print version, substr($1, 1, 10) }' \
+    CHANGELOG.md)
+  [ "$(git rev-parse bindings/go/v1.3.0^{commit})" = "$(git rev-parse v1.3.0^{commit})" ] &&
+    ! git rev-parse -q --verify refs/tags/bindings/go/v1.2.0 && names=$(git for-each-ref refs/tags) &&
+    tools/release --tags && [ "$names" = "$(git for-each-ref refs/tags)" ] && git tag -f v1.0.0 HEAD &&
+    names=$(git for-each-ref refs/tags) && ! tools/release --tags && [ "$names" = "$(git for-each-ref refs/tags)" ]
+)
+if [ "$(git -C "$top" rev-parse --is-shallow-repository)" = false ]; then
+  step "tools/release --tags: each version of CHANGELOG.md" tags
+else
+  echo "       this clone lacks the commits of releases: their tags are not tried"
+fi
 finish
