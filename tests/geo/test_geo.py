@@ -86,8 +86,8 @@ class Geo(page.Page):
 
         package = os.environ["S2UNION_PAGE"] + "/js"
         Path(self.file("places.txt")).write_text(text)
-        subprocess.run(["node", os.path.join(page.TOP, "tests", "js", "geo.mjs"), package, self.file("places.txt"),
-                        "-", self.file("leaves.txt")], check=True)
+        subprocess.run(["node", os.path.join(page.TOP, "bindings/js/tests/geo.mjs"), package,
+                        self.file("places.txt"), "-", self.file("leaves.txt")], check=True)
         made = from_tokens(Path(self.file("leaves.txt")).read_text())
         apart = numpy.flatnonzero(numpy.array(made, "uint64") != cells)
         self.assertGreaterEqual(apart.min(initial=len(cells)), 1000000)  # on borders Node's own sines may differ
@@ -341,7 +341,7 @@ SQL
                 cells = (" ".join(f"{cell:x}" for cell in union) for union in made)
                 lines.append("\t".join(["rings", shapes.shape_in_words(rings), shapes.in_words(options), *cells]))
         Path(self.file("shapes")).write_text("\n".join(lines))
-        words = ["node", os.path.join(page.TOP, "tests", "js", "shapes.mjs"), os.environ["S2UNION_PAGE"] + "/js"]
+        words = ["node", os.path.join(page.TOP, "bindings/js/tests/shapes.mjs"), os.environ["S2UNION_PAGE"] + "/js"]
         said = subprocess.run([*words, self.file("shapes")], check=False, capture_output=True, text=True).stdout
         self.assertTrue(said.endswith(f"{len(lines)} passed, 0 failed\n"), said[-2000:])
 

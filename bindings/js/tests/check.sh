@@ -2,8 +2,8 @@
 # The package for JavaScript, in Node: tests/run js. It needs Node 18 or later, and installs Debian's if there is none.
 # With --short, as the gate has it, there are fewer cases, and TypeScript is asked only if it is there.
 # Its last line is 'N passed, M failed'; the status is 1 if any failed.
-. "$(dirname "$0")/../steps.sh"
-tests=$top/tests/js
+. "$(dirname "$0")/../../../tests/steps.sh"
+tests=$top/bindings/js/tests
 package=$work/page/js
 page=bindings/js/README.md
 module=$package/s2union.js
@@ -61,7 +61,7 @@ step "the examples of its types" by_comments
 tgz=$work/to-npm/s2union-$version.tgz
 to_npm() { # the file of a release, twice
   mkdir -p "$work/to-npm" && for file in "$tgz" "$work/again"; do
-    SOURCE_DATE_EPOCH=1000000000 bash "$top/tools/packaging/npm.sh" "$package" "$file" || return 1
+    SOURCE_DATE_EPOCH=1000000000 bash "$top/bindings/js/npm.sh" "$package" "$file" || return 1
   done
   cmp "$tgz" "$work/again"
 }
