@@ -110,7 +110,7 @@ class Mutant:
     @functools.cached_property
     def verdict(self):
         """The name of the verdict that it is refused: by the program and its tests, or the crate and its rows."""
-        of_program = ["tests/*.py", "tests/program", "tests/model", "tests/peer", "docs/SCRIPT.md"]
+        of_program = ["conftest.py", "tests/*.py", "tests/program", "tests/model", "tests/peer", "docs/SCRIPT.md"]
         of_program += ["tests/faults"] if self.test == WATCHED else []
         of = [f"crates/{self.crate}/stdin"] if self.crate else of_program
         made_by = ["tests/mutants/mutant_texts.py", "tools/over_gate.py"]

@@ -1,7 +1,7 @@
 #!/usr/bin/env bash
 # The tests of the user functions of MariaDB: tests/run mariadb. It installs the Debian packages that it needs, and runs
 # a server of its own. Its last line is 'N passed, M failed'; the status is 1 if any failed.
-. "$(dirname "$0")/../steps.sh"
+. "$(dirname "$0")/../../../tests/steps.sh"
 
 need make make
 need /usr/sbin/mariadbd mariadb-server
@@ -18,7 +18,8 @@ step "build" built mariadb
 step "build, for SQLite" built sqlite
 [ "$failed" -eq 0 ] || finish
 beside_sqlite() {
-  cd "$top/tests/mariadb" && export PYTHONPATH=$top/tests:$work/usr/lib/python PYTHONDONTWRITEBYTECODE=1 WORK=$work
+  cd "$top/bindings/mariadb/tests" || return
+  export PYTHONPATH=$top/tests:$work/usr/lib/python PYTHONDONTWRITEBYTECODE=1 WORK=$work
   timeout 3600 /usr/bin/python3 -m pytest test_mariadb.py
 }
 step "each function in MariaDB, beside the same in SQLite" beside_sqlite
