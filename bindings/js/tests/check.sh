@@ -25,7 +25,7 @@ questions() { PYTHONPATH=$top/tests /usr/bin/python3 -B -m model.vectors "$round
 step "questions" questions
 step "against the model" node "$tests/vectors.mjs" "$module" "$work/vectors"
 step "what is refused, and what stays" node "$tests/refusals.mjs" "$module" "$version" "$cells"
-step "the page's own code, without a browser" node "$tests/page.mjs" "$top"
+step "the page's own code, without a browser" node "$top/page/tests/page.mjs" "$top"
 heap() {
   gcc -std=gnu11 -O2 -Wall -Wextra -Werror -I"$top/bindings/js" -I"$top/bindings/c" -I"$work/usr/include" \
     "$tests/heap.c" "$work/usr/lib/libs2union.a" -lm -o "$work/heap" && "$work/heap"

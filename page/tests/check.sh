@@ -3,7 +3,7 @@
 # figures of page/README.md too, with -- --pictures it makes the stored pictures anew, and with -- --screenshot that of
 # page/README.md. With --short, as the gate has it, the slowest tests are left out. It installs the Debian packages that
 # it needs. Its last line is 'N passed, M failed'; the status is 1 if any failed.
-. "$(dirname "$0")/../steps.sh"
+. "$(dirname "$0")/../../tests/steps.sh"
 
 need_pytest
 need chromium chromium
@@ -14,7 +14,7 @@ need_linker
 
 in_browser() { # the library's module for Python answers beside the page
   PYTHONPATH=$work/usr/lib/python PYTHONDONTWRITEBYTECODE=1 \
-    timeout 7200 /usr/bin/python3 -m pytest -s "$top/tests/page" "$@"
+    timeout 7200 /usr/bin/python3 -m pytest -s "$top/page/tests" "$@"
 }
 
 need_packages
