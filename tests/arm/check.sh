@@ -62,7 +62,7 @@ refusing() { # NAME
 for name in memory shapes outline neighbors; do step "C: $name, each allocation refused in turn" refusing "$name"; done
 unions() { # with a heap of its own
   aarch64-linux-gnu-g++ -std=c++17 -D_DEFAULT_SOURCE -O2 "${strict[@]}" -I"$arm/include" \
-    "$top/tests/cpp/cell_union.cc" "$arm/lib/libs2union_noheap.a" -o "$work/unions" && on_arm "$work/unions"
+    "$top/bindings/cpp/tests/cell_union.cc" "$arm/lib/libs2union_noheap.a" -o "$work/unions" && on_arm "$work/unions"
 }
 step "C++: s2union.hpp" unions
 wants() { # FILE: for any page size up to 64 KiB, with nothing of a C library after 2.17, and no executable stack

@@ -19,7 +19,8 @@ peer() {
     qemu-aarch64-static -L "$system" "$work/peer" "$cases"
 }
 step "S2 is asked the same: $cases cases" peer
-step "S2's own tests over the unions for C++" bash "$top/tests/cpp/s2_own_tests.sh" --arm "$system" "${released[@]}"
+step "S2's own tests over the unions for C++" \
+  bash "$top/bindings/cpp/tests/s2_own_tests.sh" --arm "$system" "${released[@]}"
 fuzzed() { # its own checks stand for those of sanitizers, which qemu has no room for
   local runtime=("$system"/usr/lib/llvm-*/lib/clang/*/lib/linux/libclang_rt.fuzzer-aarch64.a)
   mkdir "$work/found" && clang --target=aarch64-linux-gnu -std=c11 -D_DEFAULT_SOURCE -O2 "${strict[@]}" \

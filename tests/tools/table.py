@@ -111,7 +111,7 @@ MISTAKES = [
             "    >>> face(from_token(\"89c25\"))\n    4\n", "", "Python: face: its comment lacks >>> "),
     Mistake("a member of C++ without its example", "bindings/cpp/s2union.hpp",
             "  /// @snippet examples.cc Release\n", "", "C++: Release: its comment lacks an example of examples.cc"),
-    Mistake("an example of C++ left out", "tests/cpp/examples.cc", "    // [ToString]\n    CellUnion half",
+    Mistake("an example of C++ left out", "bindings/cpp/tests/examples.cc", "    // [ToString]\n    CellUnion half",
             "    CellUnion half", "C++: ToString: its comment lacks an example of examples.cc"),
     Mistake("a member of C++ without its version", "bindings/cpp/s2union.hpp",
             "  /// All leaves. S2U_MEMORY. @since 0.1\n", "  /// All leaves. S2U_MEMORY.\n",

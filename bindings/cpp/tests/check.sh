@@ -1,8 +1,8 @@
 #!/usr/bin/env bash
 # The tests of s2union.hpp, the unions for C++: tests/run cpp. It installs the Debian packages that it needs. Its last
 # line is 'N passed, M failed'; the status is 1 if any failed.
-. "$(dirname "$0")/../steps.sh"
-tests=$top/tests/cpp
+. "$(dirname "$0")/../../../tests/steps.sh"
+tests=$top/bindings/cpp/tests
 
 need g++ g++
 need clang++ clang

@@ -5,8 +5,8 @@
 # packages for ARM that are unpacked in SYSTEM. It takes S2's source from the package sources that this machine has,
 # and installs the Debian packages that it needs. It takes some minutes, nearly all to compile. Its last line is
 # 'N passed, M failed', where N counts the names, the programs and S2's tests; the status is 1 if any failed.
-. "$(dirname "$0")/../steps.sh"
-out=$top/tests/cpp/out sources=$top/tests/cpp/out/s2 processor=x86_64 system= cross= by=()
+. "$(dirname "$0")/../../../tests/steps.sh"
+out=$top/bindings/cpp/tests/out sources=$top/bindings/cpp/tests/out/s2 processor=x86_64 system= cross= by=()
 if [ "${1:-}" = --arm ]; then
   system=$2 processor=aarch64 cross=aarch64-linux-gnu- by=(qemu-aarch64-static -L "$2") out=$out/aarch64
   shift 2
@@ -40,7 +40,7 @@ export out source compiler
 printf '%s -O1\n' "${tests[@]}" "${users[@]}" | xargs -P "$(nproc)" -I{} bash -c 'compile {}'
 compile s2cell_union -O0 # nothing is inlined, so each call can be replaced
 "${cross}objcopy" --weaken "$out/s2cell_union.o" "$out/s2_union_weak.o"
-$compiler -O1 -I"$out/usr/include" -I"$source" -c "$top/tests/cpp/s2_operations.cc" -o "$out/s2_operations.o"
+$compiler -O1 -I"$out/usr/include" -I"$source" -c "$top/bindings/cpp/tests/s2_operations.cc" -o "$out/s2_operations.o"
 
 objects=("$out/s2_operations.o" "$out/s2_union_weak.o")
 for name in "${users[@]}"; do objects+=("$out/$name.o"); done
@@ -58,13 +58,13 @@ echo "$(wc -w <<<"$named") names of S2 in docs/FROM_S2.md"
 
 linked=("$out/usr/lib/libs2union.a" "$libraries/libs2.so" -Wl,--as-needed,-rpath-link,"$libraries"
   "$libraries"/libabsl_*.so "$libraries/libcrypto.so")
-for page in FROM_S2.md ../README.md; do # the program of each in C++, and what the page says that it prints
+for page in docs/FROM_S2.md README.md; do # the program of each in C++, and what the page says that it prints
   block "$page" cpp >"$out/example.cc"
   if $compiler -I"$out/usr/include" "$out/example.cc" "${linked[@]}" -o "$out/example" \
     && diff <(block "$page" "text cpp") <("${by[@]}" "$out/example"); then
     passed=$((passed + 1))
   else
-    echo "FAILED ${page#../}: the program in C++"
+    echo "FAILED $page: the program in C++"
     failed=$((failed + 1))
   fi
 done
