@@ -173,8 +173,12 @@ def test_options_of_the_program_are_handed_on(tmp_path):
     (tmp_path / "program").chmod(0o755)
     (tmp_path / "script").write_text("lines\n")
     environment = {**ENVIRONMENT, "S2CALC_PROGRAM": str(tmp_path / "program")}
-    for words, given in (["script", "--stop"], b"lines\n"), (["--stop", "-c", "line"], b"line\n"), (["--stop"], b""):
-        assert launched("run", *words, cwd=tmp_path, env=environment) == (0, b"run --stop\n" + given, b"")
+    for words, options, given in [
+            (["script", "--stop"], b" --explain --stop", b"lines\n"), (["script"], b" --explain --stop", b"lines\n"),
+            (["--stop", "-c", "x"], b" --explain --stop", b"x\n"), (["-c", "x"], b" --explain --stop", b"x\n"),
+            (["script", "--go-on"], b"", b"lines\n"), (["--go-on", "-c", "x"], b"", b"x\n"),
+            (["--stop"], b" --stop", b""), (["--go-on"], b"", b"")]:
+        assert launched("run", *words, cwd=tmp_path, env=environment) == (0, b"run" + options + b"\n" + given, b"")
 
 
 @pytest.mark.parametrize("words", [["run"], ["run", "--explain"], ["cell", "1"]], ids=str)
@@ -281,17 +285,37 @@ class Scripts(unittest.TestCase):
         path = os.path.join(self.room, "script")
         for words in (["script"], [path], ["./-x"], ["a b$(c)"]):
             named = error.replace(b"line ", words[0].encode() + b": line ")
-            self.assertEqual(launched("run", "--explain", *words, **self.how), (status, out, named))
-            self.assertEqual(launched("run", *words, "--explain", **self.how), (status, out, named))
-            self.assertEqual(launched("run", *words, **self.how), (status, out, b""))
+            self.assertEqual(launched("run", "--explain", *words, "--go-on", **self.how), (status, out, named))
+            self.assertEqual(launched("run", "--go-on", *words, "--explain", **self.how), (status, out, named))
+            self.assertEqual(launched("run", *words, "--go-on", **self.how), (status, out, b""))
         self.assertEqual(launched("run", "-", "--explain", **{**self.how, "input": SCRIPT}), wanted)
         self.assertEqual(launched("run", "--no-prompt", "--explain", **{**self.how, "input": SCRIPT}), wanted)
+
+    def test_the_first_error_ends_a_file_and_lines(self):
+        """It is named; so no file is replaced by what a load that had an error left."""
+        lines = [b"add a 04", b"save a parks", b"load b praks", b"save b parks"]
+        script, parks = os.path.join(self.room, "script"), os.path.join(self.room, "parks")
+        with open(script, "wb") as it:
+            it.write(b"\n".join(lines))
+        wanted = (1, b"ok 0 1\nok\nerror missing\n", b"line 3: error missing: there is no file of that name\n")
+        for how in self.how, self.without_python():
+            for words in ["script"], ["script", "--stop"], [word for line in lines for word in ("-c", line)]:
+                self.assertEqual(launched("run", *words, **how), wanted, words)
+                with open(parks, "rb") as it:
+                    self.assertEqual(len(it.read()), 17)
+            status, out, error = launched("run", "script", "--go-on", **how)
+            self.assertEqual((status, out[-5:], error), (1, b"g\nok\n", b""))
+            with open(parks, "rb") as it:
+                self.assertEqual(len(it.read()), 9)
+        for words in ["-"], ["--go-on"], []:
+            self.assertEqual(launched("run", *words, **{**self.how, "input": b"\n".join(lines)}),
+                             (1, b"ok 0 1\nok\nerror missing\nok\n", b""))
 
     def test_a_file_that_is_written_meanwhile(self):
         """It is opened once."""
         path = os.path.join(self.room, "pipe")
         os.mkfifo(path)
-        with subprocess.Popen([LAUNCHER, "run", path], **self.how, stdout=subprocess.PIPE) as process:
+        with subprocess.Popen([LAUNCHER, "run", path, "--go-on"], **self.how, stdout=subprocess.PIPE) as process:
             with open(path, "wb") as it:
                 it.write(SCRIPT)
             self.assertEqual(process.stdout.read(), ran("run", script=SCRIPT, cwd=self.room)[1])
@@ -311,8 +335,9 @@ class Scripts(unittest.TestCase):
         path = os.path.join(self.room, "a script")
         with open(path, "wb") as it:
             it.write(SCRIPT)
-        for words in [], ["--limit", "2"], ["--depth=1", "--no-prompt"]:
-            wanted = ran("run", *(word for word in words if word != "--no-prompt"), script=SCRIPT, cwd=self.room)
+        for words in ["--go-on"], ["--go-on", "--limit", "2"], ["--depth=1", "--no-prompt", "--go-on"]:
+            options = (word for word in words if word not in ("--go-on", "--no-prompt"))
+            wanted = ran("run", *options, script=SCRIPT, cwd=self.room)
             self.assertEqual(launched("run", *words, path, **self.without_python()), wanted)
             self.assertEqual(launched("run", path, *words, **self.without_python()), wanted)
 

@@ -420,7 +420,7 @@ class Keys(unittest.TestCase):
             self.assertEqual(it.read(), b"cells 0 leaves 0\nerror syntax\n")
 
     def test_a_script_in_a_file(self):
-        """At a terminal each error has its reason, with the file's name before it; lines after -c have reasons too."""
+        """It ends at its first error, which is explained; at a terminal with the file's name before it."""
         with open(os.path.join(self.room, "script"), "wb") as it:
             it.write(b"add a zz\ncount a\n")
         for words, reason in (["script"], "script: line 1: "), (["-c", "add a zz"], "line 1: "):
@@ -428,11 +428,15 @@ class Keys(unittest.TestCase):
             shown = self.shown(session, pexpect.EOF)
             self.assertIn(f"{reason}error cell: 'zz' is not a cell (a token or a debug text)\n", shown)
             self.assertIn("error cell\n", shown)
+            self.assertNotIn("cells 0", shown)
             session.close()
             self.assertEqual(session.exitstatus, 1)
-        session = self.spawned("sh", "-c", f"{LAUNCHER} run script 2>reasons")
-        self.assertEqual(self.shown(session, pexpect.EOF), "error cell\ncells 0 leaves 0\n")
-        self.assertEqual(os.path.getsize(os.path.join(self.room, "reasons")), 0)
+        for words, answers, reasons in (("", "", "line 1: error cell: 'zz' is not a cell (a token or a debug text)\n"),
+                                        ("--go-on", "cells 0 leaves 0\n", "")):
+            session = self.spawned("sh", "-c", f"{LAUNCHER} run script {words} 2>reasons")
+            self.assertEqual(self.shown(session, pexpect.EOF), f"error cell\n{answers}")
+            with open(os.path.join(self.room, "reasons"), encoding="utf-8") as it:
+                self.assertEqual(it.read(), reasons)
 
     def test_reasons_in_a_file(self):
         """Where standard error is no terminal, the prompt is at standard output."""

@@ -31,6 +31,7 @@ MORE = {
     "": [("cells", "Turns identifiers that other programs print into tokens; not proved")],
     "run": [("[FILE]", "The script, in place of standard input, which is '-'"),
             ("-c <LINE>", "A line of the script, in place of a file; of several, each is the next line"),
+            ("--go-on", "Goes on after an error in a FILE or a LINE; else it ends the run, and is explained"),
             ("--no-prompt", "No prompt at a terminal, where there is one")],
     "cell": [("--explain", "Says on standard error the identifier too"),
              ("CELL", "Also a decimal identifier, with a sign or of more than 16 digits; or several, with commas")],
@@ -111,7 +112,7 @@ def prompted(program, options):
 
 def unread(program, script, *others):
     """Why there is no such script, if the words beside it are no fault."""
-    others = [word for word in others if word != "--no-prompt"]
+    others = [word for word in others if word not in ("--go-on", "--no-prompt")]
     if program("run", *others).returncode == 2:
         return program.instead("run", *others)
     why = f"'{script}' is a folder, or can't be read" if os.path.exists(script) else f"there is no file '{script}'"
