@@ -1,6 +1,6 @@
 # How two builds of the library are compared: a program asks each call in each of $rounds rounds, and prints sums of all
 # answers. The caller has read tests/steps.sh. $asked is the program's source.
-asked=${asked:-$top/tests/c/answers.c}
+asked=${asked:-$top/bindings/c/tests/answers.c}
 
 asking() { # NAME COMPILER INCLUDE WORD..: the program with a library that these are, or are the sources of
   "$2" -std=c11 -O2 -Wall -Wextra -pedantic -Werror -I"$3" "$asked" "${@:4}" -o "$work/$1"

@@ -49,8 +49,8 @@ step "the same answers with musl, by a shared library" by_musl
 # ---- the library for C and C++
 
 program() { # NAME FLAGS..
-  aarch64-linux-gnu-gcc -std=c11 -D_DEFAULT_SOURCE -O2 "${strict[@]}" "${@:2}" -I"$arm/include" "$top/tests/c/$1.c" \
-    "$arm/lib/libs2union.a" -lpthread -lm -o "$work/$1" && on_arm "$work/$1"
+  aarch64-linux-gnu-gcc -std=c11 -D_DEFAULT_SOURCE -O2 "${strict[@]}" "${@:2}" -I"$arm/include" \
+    "$top/bindings/c/tests/$1.c" "$arm/lib/libs2union.a" -lpthread -lm -o "$work/$1" && on_arm "$work/$1"
 }
 for name in header examples traps garbage threads pages; do step "C: $name" program "$name"; done
 in_degrees() { places && program points <"$work/places"; }

@@ -24,7 +24,7 @@ step "S2's own tests over the unions for C++" \
 fuzzed() { # its own checks stand for those of sanitizers, which qemu has no room for
   local runtime=("$system"/usr/lib/llvm-*/lib/clang/*/lib/linux/libclang_rt.fuzzer-aarch64.a)
   mkdir "$work/found" && clang --target=aarch64-linux-gnu -std=c11 -D_DEFAULT_SOURCE -O2 "${strict[@]}" \
-    -fsanitize=fuzzer-no-link,undefined -fsanitize-trap=undefined -I"$arm/include" -c "$top/tests/c/fuzz.c" \
+    -fsanitize=fuzzer-no-link,undefined -fsanitize-trap=undefined -I"$arm/include" -c "$top/bindings/c/tests/fuzz.c" \
     -o "$work/fuzz.o" && aarch64-linux-gnu-g++ "$work/fuzz.o" "${runtime[0]}" "$arm/lib/libs2union.a" -lpthread \
     -o "$work/fuzz" && on_arm "$work/fuzz" -seed=1 -max_len=1200 -len_control=0 -max_total_time="$seconds" \
     -artifact_prefix="$work/found/" || { od -An -tx1 "$work"/found/* | head -40; return 1; }

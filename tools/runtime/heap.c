@@ -7,8 +7,8 @@
  *                   `ok` 0, and the block is as it was.
  *   rattle_dealloc  ends a block of either.
  *
- * A block of no bytes has a place too, and a place is never null. tests/c/check.sh puts this in place of the kit's own
- * on x86-64, and the answers and each refused allocation are tested again.
+ * A block of no bytes has a place too, and a place is never null. bindings/c/tests/check.sh puts this in place of the
+ * kit's own on x86-64, and the answers and each refused allocation are tested again.
  */
 #include <stddef.h>
 #include <stdint.h>

@@ -1,7 +1,7 @@
 /* The header for C++: what its unions answer, with numbers for cells and with a class for them, and how each refusal is
  * reported: by an exception, and by a status. Linked with libs2union_noheap.a, so that memory can run out. */
 #include "as_s2.h"
-#include "../../../tests/c/tests.h"
+#include "../../c/tests/tests.h"
 #include <s2union.hpp>
 #include <set>
 #include <sys/wait.h>

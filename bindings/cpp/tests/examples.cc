@@ -1,7 +1,7 @@
 /* An example of each member of s2union.hpp, which the header's reference shows: a program whose last line is 'N passed,
  * M failed'. */
 #include "as_s2.h"
-#include "../../../tests/c/tests.h"
+#include "../../c/tests/tests.h"
 #include <s2union.hpp>
 #include <set>
 #include <sstream>

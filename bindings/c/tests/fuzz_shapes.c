@@ -1,7 +1,7 @@
 /* Coverings of s2union_cover.h and clips of s2union_join.h of what libFuzzer makes: bytes as WKB, and shapes of few and
  * of odd numbers. Whatever they are, there is an error by name, or an outer covering that has the inner one, and a clip
  * that has the same places. Both coverings agree with the shape itself about its corners, and a place. The first two
- * bytes are options. tests/c/check.sh builds it. */
+ * bytes are options. bindings/c/tests/check.sh builds it. */
 #include <s2union_join.h>
 #include <stdio.h>
 

@@ -2,7 +2,7 @@
  * refused in turn, lists that are no unions, and that nothing stays allocated. */
 #include <s2union_cover.h>
 #include <s2union_outline.h>
-#include "../refuse.h"
+#include "../../../tests/refuse.h"
 #include "tests.h"
 
 typedef int32_t Way(const uint64_t* ids, size_t n, s2u_geo_rings* rings);

@@ -2,7 +2,7 @@
  * level, whose corners lie on a cube; each allocation refused in turn; what is refused. The last line is 'N passed, M
  * failed'. tests/peer asks S2 about more. */
 #include <s2union_cover.h>
-#include "../refuse.h"
+#include "../../../tests/refuse.h"
 #include "tests.h"
 
 typedef struct {

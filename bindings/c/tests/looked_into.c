@@ -1,6 +1,6 @@
 /* How many cells a covering of a polygon looks into, by the blocks of memory that it takes: millions, so this is no
  * part of memory.c, which runs under the sanitizer. */
-#include "../refuse.h"
+#include "../../../tests/refuse.h"
 #include "tests.h"
 
 enum { ROOM = 100000 };

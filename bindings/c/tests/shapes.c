@@ -1,7 +1,7 @@
 /* Coverings of shapes in degrees by s2union_cover.h: no place of a shape is missing in the outer covering, and none
  * that is outside lies in the inner one; what is refused, and where. The last line is 'N passed, M failed'. */
 #include <s2union_cover.h>
-#include "../refuse.h"
+#include "../../../tests/refuse.h"
 #include "tests.h"
 
 static double unit(void) { return (double)(draw() >> 11) / 9007199254740992.0; }

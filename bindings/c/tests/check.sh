@@ -1,8 +1,8 @@
 #!/usr/bin/env bash
 # The tests of the library for C: tests/run c [-- SECONDS]. The fuzzer runs for SECONDS, 20 if none are given. It
 # installs the Debian packages that it needs. Its last line is 'N passed, M failed'; the status is 1 if any failed.
-. "$(dirname "$0")/../steps.sh"
-tests=$top/tests/c
+. "$(dirname "$0")/../../../tests/steps.sh"
+tests=$top/bindings/c/tests
 
 need gcc gcc libc6-dev
 need g++ g++

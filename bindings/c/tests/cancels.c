@@ -18,7 +18,7 @@ static int is_cancelled(int is_loop) {
 #include <s2union_host.h>
 #include <s2union_cover.h>
 #include <s2union_outline.h>
-#include "../refuse.h"
+#include "../../../tests/refuse.h"
 #include "tests.h"
 
 enum { CORNERS = 400, BOXES = 40 };

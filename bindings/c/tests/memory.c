@@ -1,6 +1,6 @@
 /* Each allocation refused in turn, in each call that takes memory: the status is S2U_MEMORY, or the right result by
  * another way; nothing stays allocated, nothing else has changed. The calls that are [pure] take none. */
-#include "../refuse.h"
+#include "../../../tests/refuse.h"
 #include "calls.h"
 #include "tests.h"
 

@@ -1,7 +1,7 @@
 /* Each call of the header with lists, texts, files and arguments that libFuzzer makes: real unions, unions with a
  * number spoiled, cells in any order, numbers that are no cells, lengths of 0 with no pointer. Whatever they are, what
  * the header promises has to hold: the statuses, the bounds on *len, what is not touched, and not a byte read or
- * written past a list: each ends at a page which may not be touched. tests/c/check.sh builds it. */
+ * written past a list: each ends at a page which may not be touched. bindings/c/tests/check.sh builds it. */
 #include "calls.h"
 #include "tests.h"
 
