@@ -90,12 +90,12 @@ extension() { # FOLDER FLAGS..
 }
 in_sqlite() { # FOLDER TEST..
   (
-    cd "$top/tests/sqlite" && export PYTHONPATH=$top/tests:$tests S2UNION_ROUNDS=${S2UNION_ROUNDS:-1500}
+    cd "$top/bindings/sqlite/tests" && export PYTHONPATH=$top/tests:$tests S2UNION_ROUNDS=${S2UNION_ROUNDS:-1500}
     S2UNION_SQLITE=$work/$1/mod_s2union.so python_on_arm "${by_qemu[@]}" "${@:2}"
   )
 }
 counting() {
-  cp "$top/tests/sqlite/counted."{c,flags} "$work/" &&
+  cp "$top/bindings/sqlite/tests/counted."{c,flags} "$work/" &&
     extension counted LDFLAGS="$work/counted.c @$work/counted.flags"
 }
 step "SQLite: build" extension sqlite

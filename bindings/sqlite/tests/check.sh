@@ -3,11 +3,11 @@
 # It installs the Debian packages that it needs. --full asks for 10,000 random rows in place of 1,500; --costs measures
 # the time of questions, and tests nothing. The last line is 'N passed, M failed'; the status is 1 if any failed.
 # The tests for PostgreSQL, which need a server, are in tests/postgres.
-. "$(dirname "$0")/../steps.sh"
+. "$(dirname "$0")/../../../tests/steps.sh"
 rounds=1500
 [ "${1:-}" != --full ] || rounds=10000
 
-. "$top/tests/sqlite/needs.sh"
+. "$top/bindings/sqlite/tests/needs.sh"
 sqlite=(sqlite3 -batch -init /dev/null :memory:) # without its user's settings
 
 # ---- the extension
@@ -26,7 +26,7 @@ step "build" build plain
 step "the C library that they need" old_glibc "$work"/plain/mod_s2union{,_geo}.so
 step "build, with the sanitizers" build sanitized CFLAGS="-O1 -g -fsanitize=address,undefined -fno-sanitize-recover"
 with_counts() {
-  cp "$top/tests/sqlite/counted."{c,flags} "$work/"
+  cp "$top/bindings/sqlite/tests/counted."{c,flags} "$work/"
   build counted LDFLAGS="$work/counted.c @$work/counted.flags"
 }
 step "build, counting steps" with_counts
@@ -36,13 +36,13 @@ tests() { # FOLDER TEST..
   local folder=$1
   shift
   (
-    cd "$top/tests/sqlite" && export PYTHONPATH=$top/tests PYTHONDONTWRITEBYTECODE=1
+    cd "$top/bindings/sqlite/tests" && export PYTHONPATH=$top/tests PYTHONDONTWRITEBYTECODE=1
     S2UNION_SQLITE=$work/$folder/mod_s2union.so S2UNION_ROUNDS=${S2UNION_ROUNDS:-$rounds} timeout 7200 \
       /usr/bin/python3 -m pytest "$@"
   )
 }
 if [ "${1:-}" = --costs ]; then
-  cd "$top/tests/sqlite" && export PYTHONPATH=$top/tests PYTHONDONTWRITEBYTECODE=1
+  cd "$top/bindings/sqlite/tests" && export PYTHONPATH=$top/tests PYTHONDONTWRITEBYTECODE=1
   S2UNION_SQLITE=$work/plain/mod_s2union.so /usr/bin/python3 costs.py
   finish
 fi
@@ -71,8 +71,9 @@ step "under the sanitizers" sanitized test_sqlite.py::{AgainstTheModel,WhatIsRef
   test_geo.py test_joins.py
 
 refused() {
-  gcc -std=c11 -D_DEFAULT_SOURCE -Wall -Wextra -Werror "$top"/tests/{sqlite/memory,refuse}.c -lsqlite3 \
-    -o "$work/memory" && valgrind -q --error-exitcode=9 --leak-check=full --soname-synonyms=somalloc=nouserintercepts \
+  gcc -std=c11 -D_DEFAULT_SOURCE -Wall -Wextra -Werror "$top/bindings/sqlite/tests/memory.c" \
+    "$top/tests/refuse.c" -lsqlite3 -o "$work/memory" &&
+    valgrind -q --error-exitcode=9 --leak-check=full --soname-synonyms=somalloc=nouserintercepts \
     "$work/memory" "$work/plain/"mod_s2union{,_geo}
 }
 step "each allocation refused in turn, under valgrind" refused

@@ -19,7 +19,7 @@ EXTENSION = os.environ["S2UNION_SQLITE"]
 ROUNDS = int(os.environ.get("S2UNION_ROUNDS", "1500"))
 UNDER_A_SANITIZER = "libasan" in os.environ.get("LD_PRELOAD", "")
 EMPTY = model.file([])
-PAGE = (Path(__file__).resolve().parents[2] / "bindings/sqlite/README.md").read_text()
+PAGE = (Path(__file__).resolve().parents[3] / "bindings/sqlite/README.md").read_text()
 FUNCTIONS = {
     "s2_union": "ll", "s2_intersection": "ll", "s2_difference": "ll", "s2_symmetric_difference": "ll", "s2_range": "cc",
     "s2_complement": "l",

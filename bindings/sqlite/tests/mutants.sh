@@ -2,8 +2,8 @@
 # Makes mistakes in the extension for SQLite, each of which its tests must find: tests/run sqlite-mutants -- [NAME..].
 # They are those of bindings/sqlite/mutants.txt. The tests run plainly and then under the sanitizers. One whose tests
 # were killed was not tried, and fails. The last line is 'N passed, M failed'.
-. "$(dirname "$0")/../steps.sh"
-. "$top/tests/sqlite/needs.sh"
+. "$(dirname "$0")/../../../tests/steps.sh"
+. "$top/bindings/sqlite/tests/needs.sh"
 
 build() { # FOLDER FLAGS..
   local folder=$1
@@ -13,12 +13,13 @@ build() { # FOLDER FLAGS..
     make -C "$folder" -B PREFIX="$work/usr" "$@"
 }
 
-gcc -std=c11 -D_DEFAULT_SOURCE -O1 "$top"/tests/{sqlite/memory,refuse}.c -lsqlite3 -o "$work/memory" || exit 2
+gcc -std=c11 -D_DEFAULT_SOURCE -O1 "$top"/{bindings/sqlite/tests/memory,tests/refuse}.c -lsqlite3 -o "$work/memory" ||
+  exit 2
 
 tests() { # FOLDER PRELOAD
   (
     LD_PRELOAD=$2 ASAN_OPTIONS=detect_leaks=0 timeout 100 "$work/memory" "$1/"mod_s2union{,_geo} || exit
-    cd "$top/tests/sqlite" && export PYTHONPATH=$top/tests PYTHONDONTWRITEBYTECODE=1
+    cd "$top/bindings/sqlite/tests" && export PYTHONPATH=$top/tests PYTHONDONTWRITEBYTECODE=1
     export ASAN_OPTIONS=detect_leaks=0
     LD_PRELOAD=$2 S2UNION_ROUNDS=300 S2UNION_SQLITE=$1/mod_s2union.so timeout 300 \
       /usr/bin/python3 -m pytest -x test_sqlite.py::{WhatIsRefused,AgainstTheModel} test_{geo,joins}.py

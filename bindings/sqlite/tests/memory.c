@@ -1,7 +1,7 @@
 /* Refuses each allocation of SQLite's heap in turn, in queries of the extensions: the query is out of memory, or has
  * the right answer or the right error, and all memory is freed. Usage: memory EXTENSION.. */
 #define SQLITE_CORE 1 /* this program calls SQLite itself; of sqlite3ext.h it wants what extensions are given */
-#include "../refuse.h"
+#include "../../../tests/refuse.h"
 #include <dlfcn.h>
 #include <sqlite3ext.h>
 #include <stdio.h>
