@@ -177,10 +177,47 @@ class Keys(unittest.TestCase):
                            ("q", "; did you mean 'quit'?"), ("exit()", "; did you mean 'exit'?"),
                            (".tables", "; 'help' lists the commands"), ("ADD A 04", "; did you mean 'add'?"),
                            ("cuont a", "; did you mean 'count'?"), ("un", "; did you mean 'union', 'undo'?"),
-                           ("h", "; did you mean 'has', 'history', 'help'?")):
+                           ("h", "; did you mean 'has', 'history', 'help'?"),
+                           ("difference a b", "; did you mean 'subtract'?"), ("PRINT a", "; did you mean 'show'?"),
+                           ("contains a b", "; did you mean 'covers' of a register, 'has' of a cell?"),
+                           ("intersects a b", "; did you mean 'meets' of a register, 'touches' of a cell?"),
+                           ("delete a 04", "; did you mean 'remove' of cells, 'clear' of all?"),
+                           ("equal a b", "; two registers are equal if 'covers a b' and 'covers b a' both say yes"),
+                           ("xor a b", "; 'subtract' each from a copy of the other, and 'union' the two"),
+                           ("ls", "; did you mean 'registers'?")):
             self.assertEqual(self.answered(session, line),
                              f"error syntax\n  '{line.split()[0]}' is not a command{hint}\n")
         self.assertEqual(self.answered(session, "quit now"), "error syntax\n  'quit' takes no word\n")
+
+    def test_hints_lead_there(self):
+        """Each command that a hint at a word of other tools names is one, and the sphere's other part is it."""
+        for hint in prompt.MEANT.values():
+            for name in re.findall("'([a-z]+)", hint):
+                self.assertIn(name, [*prompt.COMMANDS, *prompt.WORDS])
+        session = self.started()
+        self.assertIn("'add b 1 3 5 7 9 b' is the sphere, and 'subtract b a'", self.answered(session, "complement a"))
+        for line, answer in (("add a 1", "ok 0 1"), ("add b 1 3 5 7 9 b", "ok 0 6"), ("subtract b a", "ok 1 0"),
+                             ("show b", "3\n5\n7\n9\nb\nend")):
+            self.assertEqual(self.answered(session, line), answer + "\n")
+
+    def test_registers(self):
+        """Those that a line has changed, or may have; and no other line changes one."""
+        session = self.started()
+        self.assertEqual(self.answered(session, "registers"), "no line has changed a register\n")
+        for line in "add c 04 0c", "add b", "has d 04", "add a 1", "copy e a", "dump x":
+            self.answered(session, line)
+        counts = {"a": "cells 1 leaves 1152921504606846976", "c": "cells 2 leaves 576460752303423488"}
+        counts["e"] = counts["a"]
+        said = "".join(f"{name}  {count}\n" for name, count in counts.items())
+        self.assertEqual(self.answered(session, "registers"), said)
+        self.answered(session, "restore x")
+        shown = self.answered(session, "registers").splitlines()
+        self.assertEqual([line[0] for line in shown], list("abcdefghijklmnopqrstuvwxyz"))
+        self.assertEqual([line for line in shown if "cells 0" not in line], said.splitlines())
+        self.assertEqual(self.answered(session, "registers a"), "error syntax\n  'registers' takes no word\n")
+        for name, (form, _) in prompt.help_of(PROGRAM)[1].items():
+            self.assertEqual(name in prompt.CHANGE, form.split()[1:2] == ["r"] and not re.search(
+                r"^(lists|counts|yes|writes)", prompt.help_of(PROGRAM)[1][name][1]), name)
 
     def test_habits_of_other_prompts(self):
         session = self.started()

@@ -20,11 +20,15 @@ from cells import DECIMAL, token
 PROMPT = "s2calc> "
 LONGEST = 4096  # bytes of a line; every longer one is answered alike
 LEAVING = "Ctrl-D or 'quit' leaves"
+ALL = "abcdefghijklmnopqrstuvwxyz"  # the registers
 OWN = {
     "help [COMMAND]": "this list, or a command with its errors and an example; also '?'",
+    "registers": "counts each register that a line has changed",
     "quit": "leaves, as 'exit' and Ctrl-D do",
 }
-WORDS = ("help", "quit", "exit")  # of the prompt, beside the commands of a script
+WORDS = ("help", "quit", "exit", "registers")  # of the prompt, beside the commands of a script
+# The commands that change the register that they name first.
+CHANGE = frozenset("add remove keep union subtract intersect copy clear range outer inner outerof innerof load".split())
 # The errors of each command beside `syntax`, and an example: tools/calls writes them, of docs/SCRIPT.md.
 COMMANDS = {
     "add": ("register, cell, too-many, memory", "add a 04 0c 14"),
@@ -294,7 +298,7 @@ class Keyboard:
         form = forms.get(before[0], ("",))[0].split()
         kind = form[len(before)] if len(before) < len(form) else ""
         if kind in ("r", "s"):
-            return map(chr, range(ord("a"), ord("z") + 1))
+            return ALL
         return self.files() if kind == "NAME" else []
 
     def files(self):
@@ -340,6 +344,23 @@ HABITS = ((r"'\\['\"].* is not an? ", "words stand without quotes"),
           (r"'[+-]?\d+\.\d+' is not an? ", "'python3 -m s2union_geo leaves' makes cells of degrees"))
 
 
+# Words of S2, of other tools and of sets, and what is meant by them here.
+MEANT = {
+    **dict.fromkeys(("difference", "minus", "except"), "did you mean 'subtract'?"),
+    **dict.fromkeys(("print", "echo", "tokens"), "did you mean 'show'?"),
+    **dict.fromkeys(("list", "ls", "vars"), "did you mean 'registers'?"),
+    **dict.fromkeys(("delete", "del", "rm"), "did you mean 'remove' of cells, 'clear' of all?"),
+    "contains": "did you mean 'covers' of a register, 'has' of a cell?",
+    "intersects": "did you mean 'meets' of a register, 'touches' of a cell?",
+    **dict.fromkeys(("equal", "equals"), "two registers are equal if 'covers a b' and 'covers b a' both say yes"),
+    **dict.fromkeys(("xor", "symmetric_difference"), "'subtract' each from a copy of the other, and 'union' the two"),
+    **dict.fromkeys(("complement", "invert"), "'add b 1 3 5 7 9 b' is the sphere, and 'subtract b a' what a lacks"),
+    "area": "'count' has the leaves, each of 0.7 square centimeters on average",
+    "parent": "'outerof b a LEVEL' has the parents of the cells of a",
+    "level": "'cell CELL' has its level",
+}
+
+
 def hinted(reason):
     """The reason why a line has an error, with a hint at a habit of other places, at a word of the prompt, or at an
     upper-case command."""
@@ -347,6 +368,8 @@ def hinted(reason):
         return reason + next((f"; {advice}" for habit, advice in HABITS if re.match(habit, reason)), "")
     if unknown[1] in WORDS:
         return f"'{unknown[1]}' takes no word"
+    if unknown[1].lower() in MEANT:
+        return f"'{unknown[1]}' is not a command; {MEANT[unknown[1].lower()]}"
     if unknown[2]:
         hint = near(unknown[1], WORDS)
         return reason[:-1] + hint.replace("; did you mean", ",") if hint else reason
@@ -354,7 +377,7 @@ def hinted(reason):
 
 
 def answer(program, line):
-    """Has the program carry out a line, and shows why if it has an error."""
+    """Has the program carry out a line, and shows why if it has an error; whether it has none."""
     reason = program.carry_out(os.fsencode(in_tokens(line, help_of(program.path)[1]))).rstrip("\n")
     try:
         reason = hinted(reason)
@@ -362,6 +385,23 @@ def answer(program, line):
         pass  # nobody needs a hint as much as the registers
     if reason:
         print(f"  {reason}", file=sys.stderr, flush=True)
+    return not reason
+
+
+def changed_by(words):
+    """The registers that a line with these words may have changed."""
+    return ALL if words[:1] == ["restore"] else words[1:2] if words[0] in CHANGE else ""
+
+
+def show_registers(program, changed):
+    """Counts each of these registers, where answers are shown."""
+    if not program.is_seen:
+        say("answers go elsewhere, so 'registers' shows nothing; 'count a' counts a there")
+    elif not changed:
+        print("no line has changed a register")
+    for name in sorted(changed) if program.is_seen else ():
+        print(name, end="  ", flush=True)
+        program.carry_out(f"count {name}".encode())
 
 
 def keys():
@@ -384,12 +424,15 @@ def session(path, options):
     if not os.path.isdir(folder):
         say(f"there is no folder '{folder}' for the files of this session")
     help_of(path)  # while the program can surely be run
+    changed = set()  # registers
     for line in Keyboard(readline, program, folder).lines():
         words = words_of(line)
         if words in (["quit"], ["exit"]):
             break
         if words[:1] in (["help"], ["?"]):
             show_help(path, words[1:])
-        else:
-            answer(program, line)
+        elif words == ["registers"]:
+            show_registers(program, changed)
+        elif answer(program, line) and words:
+            changed.update(changed_by(words))
     program.close()
