@@ -29,7 +29,7 @@ pub middle_within : (m k K x X : ℕ) → m + k ≡ K → x / 2 ^ m ≡ X → In
 middle_within m k K x X e f = within x X (2 ^ m) (2 ^ k) (2 ^ K) (pow_pos m) (pow_pos k) f
     (ap (λ (t : ℕ). 2 ^ t) (sym e) ∙ pow-add 2 m k)
 
-row_held : (i j n v u w : ℕ) → In j n v → In i n u → In i n w → HoldsPiece (square i j n) (row v u w)
+pub row_held : (i j n v u w : ℕ) → In j n v → In i n u → In i n w → HoldsPiece (square i j n) (row v u w)
 row_held i j n v u w hv hu hw =
     let l = lesser_in i n u w hu hw in
     let g = greater_in i n u w hu hw in
@@ -40,7 +40,7 @@ row_held i j n v u w hv hu hw =
       last_row = along_follows v (2 * (j + n)) hv.to;
     }
 
-column_held : (i j n u v w : ℕ) → In i n u → In j n v → In j n w → HoldsPiece (square i j n) (column u v w)
+pub column_held : (i j n u v w : ℕ) → In i n u → In j n v → In j n w → HoldsPiece (square i j n) (column u v w)
 column_held i j n u v w hu hv hw =
     let l = lesser_in j n v w hv hw in
     let g = greater_in j n v w hv hw in
@@ -82,7 +82,8 @@ xor_with_false true b h = rw h refl
 xor_with_false false b h = rw h refl
 
 module _ (q : Square) where
-  even_over : (p : Piece) (es : List FramedEdge) → HoldsPiece q p → All (λ e. Misses e q) es → is_odd_over p es ≡ false
+  pub even_over : (p : Piece) (es : List FramedEdge) → HoldsPiece q p → All (λ e. Misses e q) es
+      → is_odd_over p es ≡ false
   even_over p [] h m = refl
   even_over p (e ∷ es) h m =
       both_false (crosses p e) (is_odd_over p es) (not_crossed p q e h (All-head (λ e. Misses e q) e es m))

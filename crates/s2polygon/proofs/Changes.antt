@@ -183,18 +183,18 @@ touched_permuted r edges x h =
     (edges_on (x / 4 ^ 30) edges) (on_permuted r.edges edges h (x / 4 ^ 30)))
 
 -- ---- edges that are listed twice, and edges of no length
-xor_self : (b : Bool) → xor b b ≡ false
+pub xor_self : (b : Bool) → xor b b ≡ false
 unfolding xor
 xor_self true = refl
 xor_self false = refl
 
-xor_none : (b : Bool) → xor b false ≡ b
+pub xor_none : (b : Bool) → xor b false ≡ b
 unfolding xor
 xor_none true = refl
 xor_none false = refl
 
 module _ {A : Type 0} (test : A → Bool) where
-  odd_both : (xs ys : List A) → is_odd_by test (xs ++ ys) ≡ xor (is_odd_by test xs) (is_odd_by test ys)
+  pub odd_both : (xs ys : List A) → is_odd_by test (xs ++ ys) ≡ xor (is_odd_by test xs) (is_odd_by test ys)
   odd_both [] ys = sym (xor_false (is_odd_by test ys))
   odd_both (x ∷ xs) ys = ap (xor (test x)) (odd_both xs ys) ∙ xor_moves (test x) (is_odd_by test xs) (is_odd_by test ys)
 

@@ -16,6 +16,7 @@ mod Integers
 mod Larger
 mod Leaves
 mod Meetings
+mod Middles
 mod Pairs
 mod Parts
 mod Parity
@@ -23,6 +24,7 @@ mod Picking
 mod PlaceSteps
 mod Polygons
 mod Quartering
+mod Rays
 mod Rejects
 mod Ringing
 mod Sides
@@ -30,3 +32,5 @@ mod Sizes
 mod Steps
 mod Tests
 mod Touching
+mod Turned
+mod Turning

@@ -28,10 +28,10 @@ below_0 z e = omega (arith, ints)
 not_both : (z : ℤ) → pos 0 ≤ℤ z → ¬ (z <ℤ pos 0)
 not_both z h k = omega (arith, ints)
 
-yes : {P : Type 0} → P → Decides true P
+pub yes : {P : Type 0} → P → Decides true P
 yes p = (λ _. p, λ _. refl)
 
-no : {P : Type 0} → ¬ P → Decides false P
+pub no : {P : Type 0} → ¬ P → Decides false P
 no n = (λ e. absurd (true≢false (sym e)), λ p. absurd (n p))
 
 module _ (a b p q : ℤ) where

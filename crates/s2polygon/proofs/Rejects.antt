@@ -13,7 +13,7 @@ use Rattle.s2polygon.specs.declared.frames.Framed.{Framed}
 use Rattle.s2polygon.specs.declared.places.Square.{Square}
 
 -- a product of a number above zero and one below
-product_below : (x y : ℤ) → pos 0 <ℤ x → y <ℤ pos 0 → (x *ℤ y) <ℤ pos 0
+pub product_below : (x y : ℤ) → pos 0 <ℤ x → y <ℤ pos 0 → (x *ℤ y) <ℤ pos 0
 product_below (pos (suc a)) (negsuc b) h k = omega (arith, ints)
 product_below (pos zero) y h k = absurd (omega (arith, ints))
 product_below (pos (suc a)) (pos b) h k = absurd (omega (arith, ints))

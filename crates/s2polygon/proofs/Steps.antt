@@ -70,7 +70,7 @@ xor_moves false true false = refl
 xor_moves false false true = refl
 xor_moves false false false = refl
 
-xor_same : (a b : Bool) → xor a b ≡ xor b a
+pub xor_same : (a b : Bool) → xor a b ≡ xor b a
 unfolding xor
 xor_same true true = refl
 xor_same true false = refl
@@ -90,7 +90,7 @@ module _ {A : Type 0} (test : A → Bool) where
       ∙ sym (ap (is_odd_by test) (take_more es i d h) ∙ odd_more (take i es) (get_or es i d))
 
 -- ---- a step by its places says what its pieces say
-never_of_crossing : (a b p : ℤ) → are_of_crossing a b p p ≡ false
+pub never_of_crossing : (a b p : ℤ) → are_of_crossing a b p p ≡ false
 unfolding xor
 never_of_crossing a b p = by (is_at_least_0 a) (is_at_least_0 b) (is_at_least_0 p)
   where
@@ -125,7 +125,7 @@ column_piece u v w e = by (v == w) refl
     by true is = rw (one_place v w (eqb-true v w is)) (never_of_crossing (left_of (along u) e.a)
         (left_of (along u) e.b) (side (along u) (along (max v w)) e.a e.b))
 
-xor_pairs : (a b c d : Bool) → xor (xor a b) (xor c d) ≡ xor (xor a c) (xor b d)
+pub xor_pairs : (a b c d : Bool) → xor (xor a b) (xor c d) ≡ xor (xor a c) (xor b d)
 unfolding xor
 xor_pairs true true true d = refl
 xor_pairs true true false true = refl

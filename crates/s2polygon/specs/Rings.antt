@@ -1,8 +1,8 @@
 -- The rings of a polygon, and why corners and ends make none.
 use Rattle.std.specs.Prelude.{◌≡◌, ℕ, zero, suc, ◌+◌, ◌-◌, ◌^◌, ◌<◌, ◌≤◌, ◌≢◌, ◌⊎◌, pos, ◌+ℤ◌, ◌-ℤ◌, ◌*ℤ◌, ◌≤ℤ◌}
-use Rattle.std.specs.Prelude.{◌==◌, cond, List, [], ◌∷◌, ◌++◌, length, get_or}
+use Rattle.std.specs.Prelude.{◌==◌, cond, List, [], ◌∷◌, ◌++◌, length, get_or, map}
 use Rattle.s2cell.specs.Cell.{level_of}
-use Rattle.s2polygon.specs.Directions.{Point, origin}
+use Rattle.s2polygon.specs.Directions.{IsDirection, Point, origin}
 use Rattle.s2polygon.specs.declared.directions.Edge.{Edge}
 use Rattle.s2polygon.specs.declared.fault.PolygonFault.{PolygonFault}
 use Rattle.s2polygon.specs.declared.fault.PolygonFault.TheVariants.{NoRing, WrongEnd, TooFewCorners, Antipodal}
@@ -39,6 +39,19 @@ ring_edges corners ends r =
 abbrev pub rings_edges : List Point → List ℕ → ℕ → List Edge
 rings_edges corners ends zero = []
 rings_edges corners ends (suc n) = rings_edges corners ends n ++ ring_edges corners ends n
+
+-- the edge, turned round: from its end to where it begins
+abbrev pub turned : Edge → Edge
+turned e = record { a = e.b; b = e.a }
+
+-- the edges, each turned round: a ring that runs in the other direction
+abbrev pub turned_round : List Edge → List Edge
+turned_round es = map turned es
+
+-- the edge begins and ends at a direction
+pub record HasDirections (e : Edge) : Type 0 where
+  pub a : IsDirection e.a
+  pub b : IsDirection e.b
 
 -- two directions lie opposite each other: they lie on one line, on its two sides
 pub record AreOpposite (e : Edge) : Type 0 where

@@ -1,8 +1,10 @@
 //! Laws about the definitions themselves: functions that do nothing, whose clauses are proved.
-ghost use Rattle.std.specs.Prelude.{◌≡◌, ◌↔◌, ◌≤◌, ◌<ℤ◌, ◌++◌, ℕ, All, IsTrue, List, false, not, true};
+ghost use Rattle.std.specs.Prelude.{◌≡◌, ◌↔◌, ◌<◌, ◌≤◌, ◌<ℤ◌, ◌++◌, ℕ, All, IsTrue, List, false, not, true};
 ghost use Rattle.std.specs.List.Sorted.{IsPermutation};
+ghost use Rattle.s2cell.specs.declared.TheConstants.{LEAVES};
 ghost use Rattle.s2polygon.specs.Leaves.{Region, inner_leaf, inside, is_touched, outer_leaf};
 ghost use Rattle.s2polygon.specs.Meets.{MeetsSquare};
+ghost use Rattle.s2polygon.specs.Rings.{HasDirections, turned_round};
 ghost use Rattle.s2polygon.specs.Tests.{meets_square};
 ghost use Rattle.s2polygon.specs.declared.directions.Edge.{Edge};
 ghost use Rattle.s2polygon.specs.declared.frames.FramedEdge.{FramedEdge};
@@ -33,6 +35,29 @@ pub fn law_of_orders()
         → inside (record r { edges = edges }) x ≡ inside r x }
     ensures touched { (r : Region) (edges : List Edge) (x : ℕ) → IsPermutation r.edges edges
         → is_touched (record r { edges = edges }) x ≡ is_touched r x }
+{}
+
+/// The direction in which a ring runs changes no leaf that no edge touches, and so no covering: where some of the edges
+/// are turned round, the same leaves are touched, the same are outer ones, and the same are inner ones. The leaf
+/// outside has to be one that no edge touches.
+///
+/// Of a leaf that an edge touches, the direction may change whether it lies inside: an edge through the leaf's middle
+/// is crossed by the way to it in one of its directions alone. Where that leaf is the one outside, this concerns all
+/// leaves.
+pub fn law_of_directions()
+    ensures touched { (r : Region) (ring : List Edge) (x : ℕ)
+        → is_touched (record r { edges = r.edges ++ turned_round ring }) x
+        ≡ is_touched (record r { edges = r.edges ++ ring }) x }
+    ensures outer { (r : Region) (ring : List Edge) (x : ℕ)
+        → All HasDirections ring → x < LEAVES → r.outside < LEAVES
+        → is_touched (record r { edges = r.edges ++ ring }) r.outside ≡ false
+        → outer_leaf (record r { edges = r.edges ++ turned_round ring }) x
+        ≡ outer_leaf (record r { edges = r.edges ++ ring }) x }
+    ensures inner { (r : Region) (ring : List Edge) (x : ℕ)
+        → All HasDirections ring → x < LEAVES → r.outside < LEAVES
+        → is_touched (record r { edges = r.edges ++ ring }) r.outside ≡ false
+        → inner_leaf (record r { edges = r.edges ++ turned_round ring }) x
+        ≡ inner_leaf (record r { edges = r.edges ++ ring }) x }
 {}
 
 /// Edges that are listed twice change nothing of what lies inside, so that they are lines: lines alone have no inside,

@@ -102,8 +102,9 @@ impl Polygon {
     /// The margin, in units of which a face has 6 * 2^60 a side, is how near an edge has to come to touch a leaf.
     ///
     /// Rings may cross, touch and repeat each other: what is crossed an odd number of times on the way from the leaf
-    /// outside is inside. Corners may repeat each other too. Each fault says what is so of the corners, of the leaf or
-    /// of the margin. S2: `S2Polygon`, whose rings may not cross.
+    /// outside is inside. In which direction a ring runs changes no covering, if no edge touches the leaf outside
+    /// (`law_of_directions`). Corners may repeat each other too. Each fault says what is so of the corners, of the leaf
+    /// or of the margin. S2: `S2Polygon`, whose rings may not cross.
     ///
     /// A line is a ring that runs out and back, listed twice, and a point is a ring of one corner, three times. They
     /// have no inside (`law_of_lines`): their outer leaves are those that they touch.
@@ -135,6 +136,9 @@ impl Polygon {
     }
 
     /// Whether a leaf lies inside: whether its parity is not that of the leaf outside. The cell must be a leaf.
+    ///
+    /// The direction of a ring changes this of no leaf that no edge touches (`law_of_directions`). Of a leaf that is
+    /// touched it may change it, where an edge passes through the leaf's middle.
     ///
     /// The edges of the leaf's face are looked at once, those near the leaf up to thirty times. S2:
     /// `S2Polygon::Contains`.
