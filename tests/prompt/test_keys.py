@@ -200,6 +200,32 @@ class Keys(unittest.TestCase):
                              ("show b", "3\n5\n7\n9\nb\nend")):
             self.assertEqual(self.answered(session, line), answer + "\n")
 
+    def test_restore_asks(self):
+        """If lines have changed what no dump has; and only 'y' and 'yes' are yes."""
+        session = self.started()
+        for line in "add a 1", "save a face", "dump all":
+            self.answered(session, line)
+        self.assertEqual(self.answered(session, "restore face"), "ok\n")
+        self.answered(session, "add b 3")
+        asked = "  all registers and the history go, and 'undo' doesn't give them back"
+        for name, hint in ("face", "; 'load a face' changes a alone"), ("all", ""):
+            for keys in "n\r", "\r", "yy\r", INTERRUPT:
+                session.send(f"restore {name}\r")
+                self.assertEqual(self.shown(session, "? (y/n) "), f"restore {name}\n{asked}{hint}; restore")
+                if keys == INTERRUPT:
+                    self.signaled(session, keys)
+                else:
+                    session.send(keys)
+                self.assertTrue(self.shown(session).endswith("\n  nothing is restored\n"))
+        self.assertEqual(self.answered(session, "count b"), "cells 1 leaves 1152921504606846976\n")
+        self.assertEqual(self.answered(session, "restore nofile").splitlines()[0], "error missing")
+        session.send("restore all\r")
+        self.shown(session, "? (y/n) ")
+        self.assertEqual(self.answered(session, "yes"), "ok\n")
+        self.assertEqual(self.answered(session, "count b"), "cells 0 leaves 0\n")
+        self.assertEqual(self.answered(session, "restore face"), "ok\n")
+        self.assertEqual(self.status(session), 0)
+
     def test_registers(self):
         """Those that a line has changed, or may have; and no other line changes one."""
         session = self.started()

@@ -29,6 +29,7 @@ OWN = {
 WORDS = ("help", "quit", "exit", "registers")  # of the prompt, beside the commands of a script
 # The commands that change the register that they name first.
 CHANGE = frozenset("add remove keep union subtract intersect copy clear range outer inner outerof innerof load".split())
+KEEP = ("dump", "restore")  # after which a file has all registers and the history
 # The errors of each command beside `syntax`, and an example: tools/calls writes them, of docs/SCRIPT.md.
 COMMANDS = {
     "add": ("register, cell, too-many, memory", "add a 04 0c 14"),
@@ -258,9 +259,7 @@ class Keyboard:
         """The lines that are typed, up to Ctrl-D. A paste may have several."""
         while True:
             try:
-                self.is_typing = not self.readline  # which says itself when it reads keys
-                text = input(PROMPT) if self.readline else self.plain_line()
-                self.is_typing = False
+                text = self.typed(PROMPT)
             except KeyboardInterrupt:
                 continue
             except EOFError:
@@ -270,10 +269,26 @@ class Keyboard:
                 self.keep(line)
                 yield line
 
-    def plain_line(self):
+    def typed(self, prompt):
+        self.is_typing = not self.readline  # which says itself when it reads keys
+        text = input(prompt) if self.readline else self.plain_line(prompt)
+        self.is_typing = False
+        return text
+
+    def is_sure(self, question):
+        """Whether the answer to a question is yes."""
+        try:
+            return self.typed(f"{question}? (y/n) ").strip().lower() in ("y", "yes")
+        except KeyboardInterrupt:
+            return False
+        except EOFError:
+            print()
+            return False
+
+    def plain_line(self, prompt):
         """A line that the terminal has edited. Python waits for it where a signal ends that wait, also one that came
         just before: in input() the line that comes next would have to."""
-        print(PROMPT, end="", flush=True)
+        print(prompt, end="", flush=True)
         ready = []
         while 0 not in ready:
             ready = select.select([0, self.signals], [], [])[0]
@@ -414,6 +429,16 @@ def keys():
     return readline
 
 
+def what_goes(path, folder, name):
+    """The question before a file is restored over changes that no dump has; nothing, if there is no such file."""
+    if not os.path.isfile(os.path.join(folder, name)):
+        return ""
+    done = subprocess.run([path, "check", "--dir", folder, name], stdin=subprocess.DEVNULL, capture_output=True,
+                          check=False)
+    other = f"; 'load a {name}' changes a alone" if done.returncode == 0 else ""
+    return f"  all registers and the history go, and 'undo' doesn't give them back{other}; restore"
+
+
 def session(path, options):
     """Hands over the lines that are typed, until one is to leave."""
     readline = keys()
@@ -424,8 +449,9 @@ def session(path, options):
     if not os.path.isdir(folder):
         say(f"there is no folder '{folder}' for the files of this session")
     help_of(path)  # while the program can surely be run
-    changed = set()  # registers
-    for line in Keyboard(readline, program, folder).lines():
+    changed, is_kept = set(), True  # registers, and whether all that lines have changed is in a dump
+    keyboard = Keyboard(readline, program, folder)
+    for line in keyboard.lines():
         words = words_of(line)
         if words in (["quit"], ["exit"]):
             break
@@ -433,6 +459,10 @@ def session(path, options):
             show_help(path, words[1:])
         elif words == ["registers"]:
             show_registers(program, changed)
+        elif not is_kept and words[:1] == ["restore"] and len(words) == 2 and \
+                (question := what_goes(path, folder, words[1])) and not keyboard.is_sure(question):
+            print("  nothing is restored")
         elif answer(program, line) and words:
             changed.update(changed_by(words))
+            is_kept = words[0] in KEEP or is_kept and words[0] not in (*CHANGE, "undo", "redo")
     program.close()
