@@ -26,6 +26,7 @@ WORDS = {
     "min": ("min m n", "the less"), "max": ("max m n", "the more"),
     "◌+ℤ◌": ("a +ℤ b", "the sum of whole numbers"), "◌-ℤ◌": ("a -ℤ b", "their difference"),
     "◌*ℤ◌": ("a *ℤ b", "their product"), "◌<ℤ◌": ("a <ℤ b", "a is less"), "◌≤ℤ◌": ("a ≤ℤ b", "a is at most b"),
+    "int_rem_euclid": ("int_rem_euclid a b", "what is left of a after the multiple of b that is next at or below it"),
     "int_lt": ("int_lt a b", "whether a <ℤ b"), "int_le": ("int_le a b", "whether a ≤ℤ b"),
     "bit_xor": ("bit_xor m n", "the number whose binary digits are 1 where those of m and n differ"),
     "count_trailing_zeros": ("count_trailing_zeros k n", "how many of the k lowest binary digits of n are below its "

@@ -56,6 +56,27 @@ impl Direction {
         }
         Ok(Direction { x, y, z })
     }
+
+    /// The coordinate along the axis through latitude 0 and longitude 0.
+    pub fn x(self) -> i64
+        ensures { result ≡ self.x }
+    {
+        self.x
+    }
+
+    /// The coordinate along the axis through latitude 0 and longitude 90.
+    pub fn y(self) -> i64
+        ensures { result ≡ self.y }
+    {
+        self.y
+    }
+
+    /// The coordinate along the axis through latitude 90.
+    pub fn z(self) -> i64
+        ensures { result ≡ self.z }
+    {
+        self.z
+    }
 }
 
 /// Whether a coordinate is 2^31 or more in size.

@@ -2,10 +2,10 @@
 //! they must answer. Prints the title of each row with other answers, and how many have theirs.
 //!
 //! Modules, by what is called: `cells` (of `s2cell`), `unions` (`s2union`), `counted` (`s2union`, `s2list` and
-//! `s2room`), `coverings` (`s2cover`), `polygons` (`s2polygon`), `files` (`s2file`), `shelves` (`s2shelf`), `edits`,
-//! `changes` and `sessions` (`s2edit` and `s2session`). `even` and `weighed` are regions of its own. `curve`,
-//! `rectangles` and `differing` compare calls with other calls, or with plain readings that stand here as test code.
-//! `table` has a row answered, and `texts` reads and writes the words of calls.
+//! `s2room`), `coverings` (`s2cover`), `polygons` (`s2polygon`), `directions` (`s2degrees`), `files` (`s2file`),
+//! `shelves` (`s2shelf`), `edits`, `changes` and `sessions` (`s2edit` and `s2session`). `even` and `weighed` are
+//! regions of its own. `curve`, `rectangles` and `differing` compare calls with other calls, or with plain readings
+//! that stand here as test code. `table` has a row answered, and `texts` reads and writes the words of calls.
 #![tactic(auto)]
 
 mod cells;
@@ -14,6 +14,7 @@ mod counted;
 mod coverings;
 mod curve;
 mod differing;
+mod directions;
 mod edits;
 mod even;
 mod files;

@@ -74,7 +74,7 @@ fn rings_of(alloc: Global, text: &str) -> Result<Option<Rings>, AllocError> {
 }
 
 /// A number, which may be below 0.
-fn coordinate_of(word: &str) -> i64 {
+pub(crate) fn coordinate_of(word: &str) -> i64 {
     match word.strip_prefix("-") {
         Some(size) => -i64::try_from(number(size)).unwrap_or(i64::MAX),
         None => i64::try_from(number(word)).unwrap_or(i64::MAX),

@@ -1,0 +1,3 @@
+mod Signs
+mod Steps
+mod Sums

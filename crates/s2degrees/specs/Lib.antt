@@ -1,0 +1,4 @@
+pub mod Degrees
+pub mod Directions
+pub mod Series
+pub mod Working
