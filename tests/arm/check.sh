@@ -78,10 +78,11 @@ step "the shared library: pages, symbols, stack" wants "$arm/lib/libs2union.so.1
 
 by_qemu=(-m pytest -p no:cacheprovider -p left_out)
 in_python() (
-  cd "$top/tests/python" && PYTHONPATH=$arm/lib/python:$top/tests:$tests python_on_arm "${by_qemu[@]}" test_library.py
+  cd "$top/bindings/python/tests" &&
+    PYTHONPATH=$arm/lib/python:$top/tests:$tests python_on_arm "${by_qemu[@]}" test_library.py
 )
 step "Python: against the model, and the module" in_python
-page() { (cd "$top/tests/python" && PYTHONPATH=$arm/lib/python python_on_arm -m doctest "$top/$1"); }
+page() { (cd "$top/bindings/python/tests" && PYTHONPATH=$arm/lib/python python_on_arm -m doctest "$top/$1"); }
 step "Python: bindings/python/README.md" page bindings/python/README.md
 
 extension() { # FOLDER FLAGS..

@@ -216,10 +216,11 @@ step "the wheel for macOS on x86-64: looked at, not run" for_macos macosx_10_12_
 step "the wheel for macOS on ARM: looked at, not run" for_macos macosx_11_0_arm64 ARM64 11.0
 step "its module is signed, without which macOS on ARM doesn't load it" signed
 loaded() ( # over a python3.dll that has the names of Python's, and does nothing
+  local definitions=$top/bindings/python/packaging/python3.def
   wheel win_amd64 && cd "$work/win_amd64" && cp s2union/_library.pyd . &&
     awk '/DATA/ { print "int " $1 ";"; next } /^  / { at = $1 ~ /^PyModuleDef_Init$/ ? "given" : "0"
-      print "void* " $1 "(void* given) { return (void*)" at "; }" }' "$top/tools/packaging/python3.def" >python3.c &&
-    x86_64-w64-mingw32-gcc -w -shared python3.c "$top/tools/packaging/python3.def" -o python3.dll &&
+      print "void* " $1 "(void* given) { return (void*)" at "; }" }' "$definitions" >python3.c &&
+    x86_64-w64-mingw32-gcc -w -shared python3.c "$definitions" -o python3.dll &&
     x86_64-w64-mingw32-gcc -w "$tests/loads.c" -o loads.exe &&
     [ "$(in_windows ./loads.exe | tr -d '\r')" = s2union._library ]
 )

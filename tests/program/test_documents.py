@@ -263,7 +263,7 @@ def test_transcripts(script, answers, tmp_path):
 
 
 # Calls that show their answers, with what a call leads into, if it does: those of all pages but the two that need maps,
-# which tests/python and tests/geo run.
+# which the tests of Python and tests/geo run.
 CALLS = [(*words.partition(" | ")[::2], text)
          for page in PAGES if page not in ("docs/TUTORIAL.md", "docs/GEO.md")
          for words, text in re.findall(r"```text\n\$ \./s2calc ([^<\n]*)\n(.*?)```", text_of(page), re.S)]

@@ -57,7 +57,7 @@ stopifnot(identical(s2u_contains_cells(face, none[c(3, 1)]), c(NA, TRUE)),
           s2u_tokens(nothing) == "", length(s2u_from_tokens("")) == 0,
           identical(s2u_tokens(odd), "7ff1 7ff9 7fff"),
           identical(s2u_contains_cells(odd, new_s2_cell(c(unclass(odd), NA))), c(TRUE, TRUE, TRUE, NA)))
-# Leaves and coverings in degrees, beside package s2's own, and what is refused. tests/python/dask.sh compares the cells
+# Leaves and coverings in degrees, beside package s2's own, and what is refused. tests/dask/check.sh compares the cells
 # of each kind of shape with those of Python.
 x <- c(runif(5000, -180, 180), 0, 180, NA, 2)
 y <- c(asin(runif(5000, -1, 1)) * 180 / pi, 90, -16.5, 1, NaN)

@@ -1151,7 +1151,7 @@ class TheModule(unittest.TestCase):
         self.assertRaises(ValueError, s2union.child, 1, 0)
 
     def test_the_oldest_python_that_it_is_for_can_read_it(self):
-        project = (Path(__file__).parents[2] / "bindings/python/pyproject.toml").read_text()
+        project = (Path(__file__).parents[1] / "pyproject.toml").read_text()
         oldest = re.search(r'^requires-python = ">=3\.(\d+)"$', project, re.M)[1]
         for file in Path(s2union.__file__).parent.glob("*.py"):
             ast.parse(file.read_text(), feature_version=(3, int(oldest)))

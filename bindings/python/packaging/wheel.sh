@@ -7,7 +7,7 @@
 # Debian's python3-build makes it. The same files make the same bytes, with the time of SOURCE_DATE_EPOCH.
 set -euo pipefail
 module=$1 platform=$2 folder=$(realpath "$3") python=${4:-cp38} library=${5:-}
-top=$(CDPATH= cd "$(dirname "$0")/../.." && pwd)
+top=$(CDPATH= cd "$(dirname "$0")/../../.." && pwd)
 work=$(mktemp -d)
 trap 'rm -rf "$work"' EXIT
 wanted() { objdump -p "$@" | sed -n 's/.*0x.* GLIBC_\([0-9.]*\)$/\1/p' | sort -V | tail -1; }

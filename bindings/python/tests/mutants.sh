@@ -2,7 +2,7 @@
 # Makes mistakes in the module for Python, each of which its tests must find: tests/run python-mutants -- [NAME..].
 # They are those of bindings/python/mutants.txt. One whose tests were killed was not tried, and fails. The last line is
 # 'N passed, M failed'.
-. "$(dirname "$0")/../steps.sh"
+. "$(dirname "$0")/../../../tests/steps.sh"
 need /usr/bin/python3 python3
 need_pytest
 need_modules numpy,shapely python3-{numpy,shapely}
@@ -11,7 +11,7 @@ need_packages
 need_library
 
 tests() (
-  cd "$top/tests/python" && export PYTHONPATH=$work/mutant:$top/tests PYTHONDONTWRITEBYTECODE=1
+  cd "$top/bindings/python/tests" && export PYTHONPATH=$work/mutant:$top/tests PYTHONDONTWRITEBYTECODE=1
   S2UNION_LIBRARY=$work/usr/lib/libs2union.so timeout 600 /usr/bin/python3 -m pytest -x test_library.py \
     test_calls.py test_edges.py test_index.py::Joins test_index.py::Files
 )

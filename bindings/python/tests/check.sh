@@ -2,7 +2,7 @@
 # The tests of the modules for Python: tests/run python. It installs the Debian packages that it needs, except mypy and
 # pandas (python3-pandas): what is for these is tested if they are there, and else a line says that it isn't. Its last
 # line is 'N passed, M failed'; the status is 1 if any failed.
-. "$(dirname "$0")/../steps.sh"
+. "$(dirname "$0")/../../../tests/steps.sh"
 
 need gcc gcc libc6-dev
 need clang clang
@@ -31,7 +31,7 @@ of_module() { # what the module wants and offers: what each Python from 3.8 on h
 step "what its module wants of the system" of_module
 python() {
   (
-    cd "$top/tests/python" && export PYTHONPATH=$work/usr/lib/python:$top/tests PYTHONDONTWRITEBYTECODE=1
+    cd "$top/bindings/python/tests" && export PYTHONPATH=$work/usr/lib/python:$top/tests PYTHONDONTWRITEBYTECODE=1
     timeout 7200 /usr/bin/python3 -X dev "$@"
   )
 }
@@ -49,7 +49,7 @@ sanitized() ( # the module in C with the sanitizers, and what C itself gives for
   mkdir "$work/sanitized" && cp -r "$work/usr/lib/python/s2union" "$work/sanitized" &&
     gcc -std=gnu11 -O1 -g -fsanitize=address,undefined -fno-sanitize-recover -fPIC -shared -I"$(python_headers)" \
       -I"$include" "$top/bindings/python/s2union/_library.c" -o "$work/sanitized/s2union/_library.abi3.so" || return
-  cd "$top/tests/python" && export PYTHONPATH=$work/sanitized:$top/tests PYTHONDONTWRITEBYTECODE=1
+  cd "$top/bindings/python/tests" && export PYTHONPATH=$work/sanitized:$top/tests PYTHONDONTWRITEBYTECODE=1
   export PYTHONMALLOC=malloc ASAN_OPTIONS=detect_leaks=0
   LD_PRELOAD="$(gcc -print-file-name=libasan.so) $(gcc -print-file-name=libubsan.so)" \
     S2UNION_LIBRARY=$work/usr/lib/libs2union.so.1 timeout 7200 /usr/bin/python3 -m pytest test_calls.py test_edges.py

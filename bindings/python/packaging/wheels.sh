@@ -8,7 +8,7 @@ here=$(CDPATH= cd "$(dirname "$0")" && pwd)
 source=$(realpath "$1") folder=$(realpath "$2")
 work=$(mktemp -d)
 trap 'rm -rf "$work"' EXIT
-python=$here/../../bindings/python
+python=$here/..
 headers=$(/usr/bin/python3 -c 'import sysconfig; print(sysconfig.get_path("include"))')
 cp -rs "$headers" "$work/include" && rm "$work/include/pyconfig.h" && cp "$here/pyconfig.h" "$work/include/"
 x86_64-w64-mingw32-dlltool --temp-prefix python3 -d "$here/python3.def" -l "$work/libpython3.a"
@@ -18,8 +18,8 @@ while read -r system platform oldest name library; do
   mkdir -p "$module" "$work/$system/s2union_geo"
   cp "$python"/s2union/{*.py,*.pyi,py.typed} "$module/"
   cp "$python"/s2union_geo/{*.py,py.typed} "$work/$system/s2union_geo/"
-  bash "$here/shared_for.sh" "$system" "$source" "$module/$name" PyInit__library -DS2UNION_WITHIN -Wall -Wextra \
-    -I"$work/include" "$python/s2union/_library.c" ${library:+"$work/$library"}
+  bash "$here/../../../tools/packaging/shared_for.sh" "$system" "$source" "$module/$name" PyInit__library \
+    -DS2UNION_WITHIN -Wall -Wextra -I"$work/include" "$python/s2union/_library.c" ${library:+"$work/$library"}
   bash "$here/wheel.sh" "$module" "$platform" "$folder" "$oldest"
 done <<'TABLE'
 x86_64-musl musllinux_1_2_x86_64 cp38 _library.abi3.so

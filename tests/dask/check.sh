@@ -29,7 +29,7 @@ page() {
     (cd "$work" && timeout 3600 /usr/bin/python3 dask_page.py) >"$work/said" && diff "$work/wanted" "$work/said"
 }
 tests() { # FILE::CLASS
-  (cd "$work" && timeout 3600 /usr/bin/python3 -m pytest -s "$top/tests/python/$1")
+  (cd "$work" && timeout 3600 /usr/bin/python3 -m pytest -s "$top/tests/dask/$1")
 }
 blocks() {
   block docs/DASK.md python >"$work/dask_page.py" && block docs/ENGINES.md python >"$work/engines.py" &&
