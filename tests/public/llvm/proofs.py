@@ -19,8 +19,8 @@ from squares import SquareWords  # noqa: E402
 
 DEFINITIONS = ["s2cell/specs/Cell", "s2cell/specs/Curve", "s2cell/specs/Neighbours", "s2cell/specs/Square",
                "s2cell/specs/Text", "s2cell/specs/Token", "s2cell/specs/Debug", "s2union_c/specs/Status",
-               "s2union_c/specs/Results", "s2union_c/specs/Order", "s2union_c/specs/Files", "s2list/specs/Numbers", "s2file/specs/File",
-               "s2file/specs/Numbers"]
+               "s2union_c/specs/Results", "s2union_c/specs/Order", "s2union_c/specs/Files", "s2list/specs/Numbers",
+               "s2file/specs/File", "s2file/specs/Numbers"]
 
 
 class Proved:

@@ -156,7 +156,8 @@ class SquareWords(CellWords):
     def is_within_square(self, i, j, size):
         """Each place of the square is one of so many."""
         x, y = (Number(z3.BitVec(name, BITS), numbers.TOP) for name in ("any_x", "any_y"))
-        is_near = [z3.And(z3.UGE(at.bits, least.bits), is_below(Number(at.bits - least.bits, numbers.TOP), size.literal))
+        is_near = [z3.And(z3.UGE(at.bits, least.bits),
+                          is_below(Number(at.bits - least.bits, numbers.TOP), size.literal))
                    for at, least in ((x, i), (y, j))]
         return z3.Implies(self.record_holds("InSquare", [i, j, size, x, y], True), z3.And(is_near))
 
