@@ -3,8 +3,8 @@ it does is an error.
 
 Terms: ('var', name) ('num', n) ('str', s) ('app', f, [args]) ('iarg', name, e) as an argument {name = e}
 ('lam', [binders], e) ('let', pat, type|None, e, e) ('pi', [(names, type, implicit)], e) ('sig', [(name|None, type)..])
-('tup', [e..]) ('proj', e, field) ('rec', base|None, [(f, e)..]) ('elim', e|None, motive|None, [(pat, e)..])
-('tac', name, text) ('if', c, a, b)
+('tup', [e..]) ('proj', e, field) ('rec', base|None, [(f, e)..]) ('fields', [(f, type)..])
+('elim', e|None, motive|None, [(pat, e)..]) ('tac', name, text) ('if', c, a, b)
 """
 import re
 
@@ -310,14 +310,15 @@ class Parser:
                 base = self.postfix()
             self.want('{')
             fields = []
+            sign = ':' if base is None and self.peek(1) == ':' else '='
             while not self.is_('}'):
                 f = self.next()
-                self.want('=')
+                self.want(sign)
                 fields.append((f, self.term()))
                 if self.is_(';'):
                     self.next()
             self.want('}')
-            return ('rec', base, fields)
+            return ('fields', fields) if sign == ':' else ('rec', base, fields)
         if self.is_('('):
             self.next()
             if self.is_('◌'):

@@ -6,7 +6,8 @@ from typing import NamedTuple
 class Loop(NamedTuple):
     """A loop over a range: the function and the label where it begins, the file with its invariant, below crates, and
     the invariant's name there; which local has the number that runs through the range, by its name in the invariant,
-    and which has the range's end."""
+    which has the range's end, which others it changes, which arguments it writes into, and which names are what a
+    constructor makes of arguments."""
 
     function: str
     label: str
@@ -15,6 +16,9 @@ class Loop(NamedTuple):
     name: str
     at: str
     end: str
+    others: dict = {}
+    writes: tuple = ()
+    built: dict = {}
 
 
 class Plan(NamedTuple):
@@ -54,8 +58,19 @@ PAIR = Plan(is_apart=True, tier="gate")
 TEXTS = "s2union_c/src/texts.rt"
 FILES = "s2union_c/src/files.rt"
 QUESTIONS = "s2union_c/src/questions.rt"
+MANY = "s2union_c/src/many_cells.rt"
 DEBUGGED = """(2 * ((slice_index text.now 0 - 48) * 4 ^ (length text.now - 2) + digits_value 4 (drop 2 text.now)) + 1)
     * 4 ^ (32 - length text.now)"""  # the number that a debug text says
+
+
+def relatives(which):
+    """The plan of a call that puts such relatives of cells into a list."""
+    return Plan(MANY, arrays=("ids", "out"), tier="full", loops=(Loop(
+        "s2union_c_many_cells_put_relatives", "loop.5", "s2union_c/proofs/many_cells/put_relatives/Invariants.antt",
+        "invariant-loop-k", "k", at="%r9", end="%r14", others={"first": "%r8"}, writes=("out",),
+        built={"which": (which,)}),))
+
+
 PLANS = {
     "s2u_version": Plan(),
     "s2u_is_cell": CELL,
@@ -79,8 +94,13 @@ PLANS = {
     "s2u_debug": Plan(TEXTS, cells=("id",), rooms={"text": bytes_of_debug}, tier="gate"),
     "s2u_from_token": Plan(TEXTS, lists={"text": 16}, tier="gate", witnesses={
         "n": "digits_value 16 text.now * 16 ^ (16 - length text.now)"}),
-    "s2u_from_debug": Plan(TEXTS, lists={"text": 32}, tier="gate", witnesses={"n": DEBUGGED}),
+    "s2u_from_debug": Plan(TEXTS, lists={"text": 32}, tier="full", witnesses={"n": DEBUGGED}),
     "s2u_compare": Plan(QUESTIONS, arrays=("xs", "ys"), tier="gate", loops=(Loop(
         "s2union_c_questions_s2u_compare", "loop.2", "s2union_c/proofs/questions/s2u_compare/Invariants.antt",
         "invariant-loop-k", "k", at="%r6", end="%r5"),)),
+    "s2u_levels": Plan(MANY, arrays=("ids", "out"), tier="gate", loops=(Loop(
+        "s2union_c_many_cells_s2u_levels", "loop.5", "s2union_c/proofs/many_cells/s2u_levels/Invariants.antt",
+        "invariant-loop-k", "k", at="%r6", end="%r11", others={"first": "%r5"}, writes=("out",)),)),
+    "s2u_range_mins": relatives("FirstLeaf"),
+    "s2u_range_maxes": relatives("LastLeaf"),
 }

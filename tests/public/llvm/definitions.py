@@ -22,6 +22,9 @@ def declarations(path):
     return [{**found, "path": path} for found in antt.read(path)]
 
 
+NUMBERS = object()  # what a type is known to be, if it is ℕ
+
+
 class Closure:
     """A function of some names, or a statement that is looked at where it is claimed or given."""
 
@@ -34,6 +37,13 @@ class Partial:
 
     def __init__(self, word, values):
         self.word, self.values = word, values
+
+
+class Built:
+    """What a constructor with these arguments is."""
+
+    def __init__(self, constructor, values):
+        self.constructor, self.values = constructor, values
 
 
 class Mapped:
@@ -61,10 +71,17 @@ class Stretch:
     def drop(self, count):
         return Stretch(self.array, numbers.add(self.begin, count), self.end)
 
-    def at(self, index):
+    def __repr__(self):
+        return f"{self.array.sexpr()} {self.begin} {self.end}"
+
+    def element(self, place):
+        return z3.Select(self.array, z3.Extract(63, 0, place))
+
+    def at(self, index, otherwise=None):
+        """The element at an index, or what is otherwise there, 0 if nothing is said of it."""
         place = numbers.add(self.begin, index)
-        element = numbers.of_bits(z3.Select(self.array, z3.Extract(63, 0, place.bits)))
-        return numbers.choice(z3.ULT(place.bits, self.end.bits), element, constant(0))
+        there = numbers.of_bits(self.element(place.bits))
+        return numbers.choice(z3.ULT(place.bits, self.end.bits), there, otherwise or constant(0))
 
 
 class Listed:
@@ -96,6 +113,7 @@ class Words:
         self.shown = {}  # forms from which a word follows: for where it is claimed alone
         self.premises = []  # of what is looked at
         self.facts, self.unfolded = [], None  # what is known of words; the word of which a step is being made
+        self.claimed_of, self.known_of = [], None  # any numbers of what is claimed; for which what is given is used
         for path in paths:
             for found in declarations(path):
                 if found.get("name") in self.definitions or found.get("name") in self.records:
@@ -122,6 +140,8 @@ class Words:
             if head[0] == "var" and head[1] not in known:
                 return self.word_holds(head[1], arguments, known, claimed)
             return self.holds_of(self.value(head, known), [self.value(it, known) for it in arguments], claimed)
+        if kind == "fields":
+            return self.all_hold([(None, it) for _, it in term[1]], known, claimed)
         if kind == "var" and term[1] in known:
             return self.holds_of(known[term[1]], [], claimed)
         if kind == "var":
@@ -132,6 +152,9 @@ class Words:
         """The formula for a value that is a statement, or a function whose values are."""
         if z3.is_bool(statement) and not arguments:
             return statement
+        if isinstance(statement, Partial):
+            named = {f"argument {place}": it for place, it in enumerate([*statement.values, *arguments])}
+            return self.word_holds(statement.word, [("var", name) for name in named], named, claimed)
         if not isinstance(statement, Closure) or len(arguments) != len(statement.names):
             raise self.unknown("a statement made of a value")
         known = {**statement.known, **dict(zip(statement.names, arguments))}
@@ -143,8 +166,22 @@ class Words:
         if names == [None]:
             premise = self.looked_at(kind, known, not claimed)
             return TRUE if z3.is_false(premise) else self.then(premise, others, body, known, claimed)
-        ways = self.any_numbers(names, kind, known) if claimed else [(self.witnessed(names, kind, known), TRUE)]
-        return simple(z3.And([self.then(premise, others, body, names, claimed) for names, premise in ways]))
+        if claimed:
+            ways = self.any_numbers(names, kind, known)
+        elif self.known_of is None:
+            ways = [(self.witnessed(names, kind, known), TRUE)]
+        else:
+            ways = [(used, TRUE) for used in self.uses(names, kind, known)]
+        return simple(z3.And([TRUE, *(self.then(premise, others, body, used, claimed) for used, premise in ways)]))
+
+    def uses(self, names, kind, known):
+        """The names with the numbers for which a statement about all numbers is used: the first with each of them."""
+        self.want_numbers(kind, known)
+        return [{**known, **dict.fromkeys(names, constant(0)), names[0]: number} for number in self.known_of]
+
+    def want_numbers(self, kind, known):
+        if kind != ("var", "ℕ") and (kind[0] != "var" or known.get(kind[1]) is not NUMBERS):
+            raise self.unknown(f"a quantifier over {kind}")
 
     def then(self, premise, others, body, known, claimed):
         """What follows from a premise."""
@@ -181,11 +218,12 @@ class Words:
 
     def any_numbers(self, names, kind, known):
         """The names with any numbers: one of 64 bits, or a greater one of which nothing else is known."""
-        if kind != ("var", "ℕ"):
-            raise self.unknown(f"a quantifier over {kind}")
+        self.want_numbers(kind, known)
         ways = [(known, TRUE)]
         for name in names:
             small, is_small = numbers.variable(name, 2**64 - 1)
+            if name == names[0]:
+                self.claimed_of.append(small)
             great, _ = numbers.variable(name, numbers.TOP)
             is_great = z3.UGE(great.bits, z3.BitVecVal(2**64, numbers.BITS))
             ways = [({**others, name: number}, z3.And(condition, is_it)) for others, condition in ways
@@ -194,8 +232,7 @@ class Words:
 
     def witnessed(self, names, kind, known):
         """The names with their witnesses."""
-        if kind != ("var", "ℕ"):
-            raise self.unknown(f"a quantifier over {kind}")
+        self.want_numbers(kind, known)
         for name in names:
             if name not in self.witnesses:
                 raise self.unknown(f"a witness for {name}")
@@ -205,7 +242,10 @@ class Words:
     def word_holds(self, word, arguments, known, claimed):
         """The formula for a word that makes a statement of its arguments."""
         if word in ("◌≡◌", "◌≢◌"):
-            same = self.same(self.value(arguments[0], known), self.value(arguments[1], known))
+            left, right = (self.value(it, known) for it in arguments)
+            if word == "◌≡◌" and isinstance(left, Stretch) and isinstance(right, Stretch):
+                return self.are_same_stretches(left, right, claimed)
+            same = self.same(left, right)
             return same if word == "◌≡◌" else z3.Not(same)
         if word == "◌⊎◌":
             return z3.Or([self.looked_at(it, known, claimed) for it in arguments])
@@ -219,19 +259,46 @@ class Words:
         if word in self.forms or word in self.shown:
             return {**self.forms, **self.shown}[word](*[self.value(it, known) for it in arguments])
         if word in self.records:
-            return self.record_holds(word, [self.value(it, known) for it in arguments], claimed)
+            return self.record_holds(word, self.values_of(arguments, field_kinds(self.records[word]), known), claimed)
         if word in self.definitions:
-            kinds = argument_kinds(self.definitions[word]["type"])
-            values = [Closure([], it, known, self.where) if is_statement(kind) else self.value(it, known)
-                      for it, kind in zip(arguments, kinds)]
+            values = self.values_of(arguments, argument_kinds(self.definitions[word]["type"]), known)
             return self.defined(word, values, lambda body, names: self.holds(body, names, claimed))
         raise self.unknown(f"the word {word}")
+
+    def values_of(self, arguments, kinds, known):
+        """The values of arguments of these types; a statement, or a word that makes one of numbers, is looked at
+        later."""
+        values = []
+        for it, kind in zip(arguments, kinds):
+            if is_statement(kind) and not (it[0] == "var" and it[1] in known):
+                values.append(Closure([], it, known, self.where))
+            elif kind[0] == "pi" and is_statement(kind[2]) and it[0] == "var" and it[1] not in known:
+                values.append(Partial(it[1], []))
+            else:
+                values.append(self.value(it, known))
+        return values
+
+    def are_same_stretches(self, a, b, claimed):
+        """That two lists have as many elements, and the same ones: at any place, or, if it is given, at those for
+        which what is given is used."""
+        places = [it.bits for it in (self.known_of or [])]
+        if claimed:
+            place, _ = numbers.variable("place", numbers.TOP)
+            self.claimed_of.append(place)
+            places = [place.bits]
+        same = [z3.Implies(z3.And(z3.ULE(a.begin.bits, place), z3.ULT(place, a.end.bits)), a.element(place) ==
+                           b.element(place)) for place in places]
+        are_as_long = z3.And(a.begin.bits == b.begin.bits, a.end.bits == b.end.bits)
+        return z3.And(z3.Or(are_as_long, z3.And(a.is_empty(), b.is_empty())), *same) if claimed else z3.Implies(
+            are_as_long, z3.And(TRUE, *same))
 
     def record_holds(self, word, values, claimed, only=None):
         """The formula for a record of statements, or for those of its fields that are named."""
         record = self.records[word]
         names = [name for group in record["params"] if not group[2] for name in group[0]]
         known = dict(zip(names, values))
+        if any(isinstance(it, Stretch) for it in values):  # of numbers
+            known.update({name: NUMBERS for group in record["params"] if group[2] for name in group[0]})
         return self.all_hold([(None, kind) for name, kind in record["fields"] if only is None or name in only],
                              known, claimed)
 
@@ -375,6 +442,11 @@ def argument_kinds(kind):
     return kinds
 
 
+def field_kinds(record):
+    """The types of the explicit parameters of a record."""
+    return [kind for names, kind, is_implicit in record["params"] if not is_implicit for _ in names]
+
+
 def is_statement(kind):
     return kind[0] == "app" and kind[1] == ("var", "Type")
 
@@ -385,6 +457,10 @@ def is_list_pattern(pattern):
 
 def fits(pattern, value, known):
     """Whether a pattern fits a value; if so the names in it are known afterwards."""
+    if isinstance(value, Built) and (pattern[0] == "con" or pattern[1][0].isupper()):
+        parts = pattern[2] if pattern[0] == "con" else []
+        return (pattern[1], len(parts)) == (value.constructor, len(value.values)) and all(
+            fits(part, it, known) for part, it in zip(parts, value.values))
     if pattern == ("var", "zero"):
         return decided(value) == 0
     if pattern == ("var", "[]"):
@@ -445,7 +521,8 @@ BUILT_IN = {
     "◌++◌": lambda xs, ys: joined(xs, ys), "length": lambda xs: xs.length(),
     "range_with_len": lambda begin, count: Mapped(None, begin, count),
     "map": lambda function, xs: Mapped(function, xs.begin, xs.count),
-    "drop": dropped, "slice_index": looked_up,
+    "drop": dropped, "slice_index": looked_up, "get_or": lambda xs, index, otherwise: xs.at(index, otherwise),
+    "slice_index_or": lambda xs, index, otherwise: xs.at(index, otherwise),
 }
 
 

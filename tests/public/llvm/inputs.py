@@ -5,6 +5,7 @@ it, and then as any number that is no cell. A list is looked at for each length 
 and then as any longer one, of whose elements nothing is known. Room for a result either has what is needed in front of
 any rest, or is shorter. Of a list without elements the pointer may be null."""
 import itertools
+import re
 
 import z3
 
@@ -26,7 +27,12 @@ class Case:
 
     def __init__(self):
         self.state, self.values, self.known, self.later, self.levels, self.names = State(), [], {}, [], {}, []
-        self.is_empty = False
+        self.is_empty, self.things = False, {}
+
+    def stretch(self, state, name):
+        """What is now in a list of any length that may be written."""
+        old = self.known[name]["old"]
+        return Stretch(state.things[self.things[name]].array, old.begin, old.end) if self.things[name] else old
 
     def after(self, state, result, kind):
         """The names of the clauses when the function has ended."""
@@ -58,9 +64,9 @@ def choices_of(name, kind, plan, structures):
         return number_choices(name, 8 * BYTES[kind], name in plan.cells)
     if kind in ("&mut usize", "&mut u64"):
         return [(name, lambda case: add_number(case, name))]
-    if kind in ("&[u8]", "&[u64]") and name in plan.arrays:
-        return [(f"{name} null", lambda case: add_array(case, name, BYTES[kind[2:-1]], False)),
-                (name, lambda case: add_array(case, name, BYTES[kind[2:-1]], True))]
+    if name in plan.arrays and (found := re.fullmatch(r"&(mut )?\[(u8|u64)\]", kind)):
+        return [(f"{name} {'of any length' if is_there else 'null'}", lambda case, is_there=is_there: add_array(
+            case, name, BYTES[found[2]], is_there, bool(found[1]))) for is_there in (True, False)]
     if kind == "&[u8]" and name in plan.lists:
         return list_choices(name, plan.lists[name])
     if kind == "&mut [u8]" and name in plan.rooms:
@@ -170,14 +176,19 @@ def add_longer(case, name, most):
     case.known[name] = {"now": Listed(map(of_bits, elements), rest)}
 
 
-def add_array(case, name, size, is_there):
-    """A list of any length, all of whose elements, of so many bytes, are known by their places; or none."""
+def add_array(case, name, size, is_there, is_open):
+    """A list of any length, all of whose elements, of so many bytes, are known by their places; or none. It may be
+    written if it is open."""
     array = z3.Array(name, z3.BitVecSort(64), z3.BitVecSort(8 * size))
     length = z3.BitVec(f"{name}_length", 64) if is_there else z3.BitVecVal(0, 64)
     case.state.given.append(z3.ULE(length, MOST_BYTES // size))
-    thing = Thing(name, shifted(length, size.bit_length() - 1), size, array=array)
-    case.values += [case.state.add(thing) if is_there else Pointer(0, 0), length]
-    case.known[name] = {"now": Stretch(array, constant(0), of_bits(length))}
+    thing = Thing(name, shifted(length, size.bit_length() - 1), size, array=array, is_open=is_open)
+    pointer = case.state.add(thing) if is_there else Pointer(0, 0)
+    case.values += [pointer, length]
+    case.things[name] = pointer.thing
+    case.known[name] = {"old" if is_open else "now": Stretch(array, constant(0), of_bits(length))}
+    if is_open:
+        case.later.append((name, lambda state: case.stretch(state, name)))
 
 
 def room_choices(name, needed):

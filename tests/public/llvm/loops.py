@@ -8,11 +8,12 @@ from typing import NamedTuple
 
 import z3
 
-from definitions import declarations
+from bits import variables_of
+from definitions import Built, declarations
 from memory import UNWRITTEN, Pointer, as_bits
-from natural import fresh, of_bits
+from natural import constant, fresh, of_bits
 from solver import Refuted, Undecided, prove
-from text import CASE
+from text import CASE, arguments_of
 
 
 class Cut(NamedTuple):
@@ -24,11 +25,11 @@ class Cut(NamedTuple):
 
 
 class Loops:
-    """The loops of a run: `words_of` gives the words of the definitions, `known` what the names of the call mean."""
+    """The loops of a run: `words_of` gives the words of the definitions, `case` what the names of the call mean."""
 
-    def __init__(self, rows, crates, words_of, known):
+    def __init__(self, rows, crates, words_of, case):
         self.rows = {(row.function, row.label): row for row in rows}
-        self.crates, self.words_of, self.known = crates, words_of, known
+        self.crates, self.words_of, self.case = crates, words_of, case
         self.closed = []  # the states of the ways that came back
 
     def come(self, way):
@@ -36,47 +37,78 @@ class Loops:
         row = self.rows.get((way.name, way.label))
         if row is None:
             return False
-        self.prove(row, way)
         key = row.function, row.label
         if key not in way.state.cuts:
+            self.prove(row, way, [])
             way.state.cuts[key] = self.forget(row, way)
             self.suppose(row, way)
             return False
-        self.close(row, way, way.state.cuts[key])
+        cut = way.state.cuts[key]
+        self.prove(row, way, [of_bits(cut.variable)])
+        self.close(row, way, cut)
         return True
 
-    def statement(self, row, way, claimed):
-        """The invariant as a formula, with that the number is in its range, and the facts about its words."""
+    def statement(self, row, values, claimed, known_of=None):
+        """The invariant as a formula, and the words that it was read with."""
         found = [it for it in declarations(str(self.crates / row.file)) if it.get("name") == row.invariant]
         if len(found) != 1 or len(found[0]["clauses"]) != 1 or len(found[0]["clauses"][0][0]) != 1:
             raise Undecided(f"{row.file}: {row.invariant} isn't one clause with one name")
         (pattern,), body, _ = found[0]["clauses"][0]
         words = self.words_of()
-        words.where = f"{row.file}:{found[0]['line']}"
-        values = {name: value["now"] if isinstance(value, dict) else value for name, value in self.known.items()}
-        at, end = (held(way, local) for local in (row.at, row.end))
-        values[row.name] = of_bits(at)
-        invariant = words.holds(body, {pattern[1]: values}, claimed)
-        return z3.And(invariant, z3.ULE(at, end)), words.facts
+        words.where, words.known_of = f"{row.file}:{found[0]['line']}", known_of
+        return words.holds(body, {pattern[1]: values}, claimed), words
 
-    def prove(self, row, way):
-        claim, facts = self.statement(row, way, True)
-        prove(claim, f"{row.file}: {row.invariant}", *way.state.known(), *facts)
+    def values(self, row, way):
+        """What the names of the invariant mean, and that the number is in its range."""
+        known = {name: value.get("now", value.get("old")) if isinstance(value, dict) else value
+                 for name, value in self.case.known.items()}
+        now = {name: self.case.stretch(way.state, name) for name in row.writes}
+        at, end = (held(way, local) for local in (row.at, row.end))
+        others = {name: of_bits(held(way, local)) for name, local in row.others.items()}
+        built = {name: Built(word, [known[it] for it in names]) for name, (word, *names) in row.built.items()}
+        return {**known, **now, **others, **built, row.name: of_bits(at), "fn": known}, z3.ULE(at, end)
+
+    def prove(self, row, way, numbers):
+        values, is_in_range = self.values(row, way)
+        prove(is_in_range, f"the range of the loop {row.label}", *way.state.known())
+        claim, words = self.statement(row, values, True)
+        for each in parts(z3.simplify(claim)):
+            used = self.used(way.state, [*numbers, *those_in(each, words.claimed_of)])
+            prove(each, f"{row.file}: {row.invariant}", *way.state.known(), *words.facts, *used)
 
     def suppose(self, row, way):
-        claim, facts = self.statement(row, way, False)
-        way.state.given += [*facts, z3.Implies(z3.And(way.state.conditions), claim)]
+        """From now on the invariant is known: what it says of all numbers, of those that a claim speaks of."""
+        values, is_in_range = self.values(row, way)
+        conditions = z3.And(way.state.conditions)
+        way.state.supposed.append((row, values, conditions))
+        way.state.given += [z3.Implies(conditions, is_in_range), *self.used(way.state, [])]
+
+    def used(self, state, numbers):
+        """What the invariants say of these numbers."""
+        known = []
+        for row, values, conditions in state.supposed:
+            formula, words = self.statement(row, values, False, [constant(0), *numbers])
+            known += [*words.facts, z3.Implies(conditions, formula)]
+        return known
 
     def forget(self, row, way):
-        """Makes the loop's variable any number, and forgets what the loop stores into locals."""
+        """Makes the loop's variables any numbers, and forgets what else the loop stores into locals."""
+        state, things = way.state, way.state.things
         numbers = {way.names[local].thing for local in stored(way.function, row.label)
                    if isinstance(way.names.get(local), Pointer)}
-        number, size = way.names[row.at].thing, 8 * way.state.things[way.names[row.at].thing].size
         for each in numbers:
-            way.state.things[each].chunks = {}
-        variable = z3.BitVec(f"{row.name}!{next(fresh)}", size)
-        way.state.things[number].chunks = {0: (size // 8, variable)}
-        return Cut({each: thing.copy() for each, thing in way.state.things.items()}, numbers | {number}, variable)
+            things[each].chunks = {}
+        for name, local in {**row.others, row.name: row.at}.items():
+            thing = things[way.names[local].thing]
+            variable = z3.BitVec(f"{name}!{next(fresh)}", 8 * thing.size)
+            thing.chunks = {0: (thing.size, variable)}
+            numbers.add(way.names[local].thing)
+        for name in row.writes:
+            if self.case.things[name]:
+                thing = things[self.case.things[name]]
+                thing.array = z3.Array(f"{name}!{next(fresh)}", thing.array.domain(), thing.array.range())
+                numbers.add(self.case.things[name])
+        return Cut({each: thing.copy() for each, thing in state.things.items()}, numbers, held(way, row.at))
 
     def close(self, row, way, cut):
         """Proves that the range is nearer to its end, and that the loop left all else as it was."""
@@ -85,6 +117,16 @@ class Loops:
             if each not in cut.forgotten and not is_same(thing, way.state.things.get(each)):
                 raise Undecided(f"the loop {row.label} writes into {thing.name}")
         self.closed.append(way.state)
+
+
+def parts(claim):
+    return [part for each in claim.children() for part in parts(each)] if z3.is_and(claim) else [claim]
+
+
+def those_in(claim, numbers):
+    """The numbers whose names stand in a claim."""
+    names = variables_of(claim)
+    return [it for it in numbers if str(it.bits) in names]
 
 
 def held(way, local):
@@ -99,6 +141,8 @@ def held(way, local):
 def is_same(thing, other):
     if other is None or set(thing.chunks) != set(other.chunks):
         return False
+    if thing.array is not None:
+        return thing.array.eq(other.array)
     return all(size == other.chunks[at][0] and is_one(value, other.chunks[at][1])
                for at, (size, value) in thing.chunks.items())
 
@@ -111,7 +155,7 @@ def is_one(value, other):
 
 
 def stored(function, label):
-    """The locals that the blocks of a loop store into: those that lead from its label back to it."""
+    """The locals that the blocks of a loop store or copy into: those that lead from its label back to it."""
     follows = {name: {label for instruction in block for label in function.blocks if goes(instruction, label)}
                for name, block in function.blocks.items()}
 
@@ -124,8 +168,10 @@ def stored(function, label):
         return found
 
     blocks = [name for name in reached(label) if label in reached(name)]
-    return {instruction.parts[2] for name in blocks for instruction in function.blocks[name]
-            if instruction.form == "store"}
+    instructions = [it for name in blocks for it in function.blocks[name]]
+    copied = [arguments_of(it.parts[2])[0][1] for it in instructions
+              if it.form == "call" and it.parts[1].startswith("llvm.mem")]
+    return {it.parts[2] for it in instructions if it.form == "store"}.union(copied)
 
 
 def goes(instruction, label):

@@ -36,17 +36,17 @@ def simple(value):
 class Thing:
     """An object: its name, its size and alignment, and what is known of its bytes: `chunks` has (bytes, value) at
     offsets, and no two overlap; a constant has its `content`; of an argument of any length `array` has all elements,
-    each of which is so many bytes."""
+    each of which is so many bytes, and may be written if `is_open`."""
 
-    def __init__(self, name, size, align=1, content=None, array=None):
-        self.name, self.size, self.align = name, size, align
+    def __init__(self, name, size, align=1, content=None, array=None, is_open=False):
+        self.name, self.size, self.align, self.is_open = name, size, align, is_open
         self.content, self.array, self.chunks = content, array, {}
         self.step = array.range().size() // 8 if array is not None else None
 
     def copy(self):
-        if self.content is not None or self.array is not None:
+        if self.content is not None:
             return self
-        other = Thing(self.name, self.size, self.align)
+        other = Thing(self.name, self.size, self.align, array=self.array, is_open=self.is_open)
         other.chunks = dict(self.chunks)
         return other
 
@@ -84,11 +84,11 @@ def part(value, index):
 class State:
     """What is known on one way through a function: the memory, what is given, and the conditions of the way. `steps`
     has the numbers that were given a name of their own on the way, each with what it is, `cuts` the loops that the way
-    goes through."""
+    goes through, and `supposed` what is known by invariants."""
 
     def __init__(self):
         self.things, self.given, self.conditions, self.addresses, self.count = {}, [], [], {}, 0
-        self.steps, self.cuts = [], {}
+        self.steps, self.cuts, self.supposed = [], {}, []
 
     def known(self):
         return self.given + self.conditions
@@ -98,7 +98,7 @@ class State:
         other.things = {number: thing.copy() for number, thing in self.things.items()}
         other.given, other.conditions = list(self.given), list(self.conditions)
         other.addresses, other.count, other.steps = dict(self.addresses), self.count, list(self.steps)
-        other.cuts = dict(self.cuts)
+        other.cuts, other.supposed = dict(self.cuts), list(self.supposed)
         return other
 
     def add(self, thing):
@@ -173,12 +173,17 @@ class Memory:
 
     def element(self, state, thing, offset, count):
         """Elements of an argument of any length, as a number."""
-        if count % thing.step or thing.step & (thing.step - 1):
+        many = count // thing.step
+        at = self.index(state, thing, offset, count, many)
+        return joined([z3.Select(thing.array, z3.simplify(at + place)) for place in range(many)])
+
+    def index(self, state, thing, offset, count, many):
+        """The index of the first of so many elements that these bytes are."""
+        if count != many * thing.step or thing.step & (thing.step - 1):
             raise Undecided(f"{count} bytes of {thing.name}, whose elements have {thing.step}")
         if thing.step > 1:
-            self.must(state, offset & (thing.step - 1) == 0, f"a load of whole elements of {thing.name}")
-        at = z3.LShR(offset, thing.step.bit_length() - 1)
-        return joined([z3.Select(thing.array, z3.simplify(at + index)) for index in range(count // thing.step)])
+            self.must(state, offset & (thing.step - 1) == 0, f"whole elements of {thing.name}")
+        return z3.simplify(z3.LShR(offset, thing.step.bit_length() - 1))
 
     def looked_up(self, state, thing, offset, count):
         """The value at an offset that is a formula."""
@@ -196,10 +201,12 @@ class Memory:
 
     def store(self, state, pointer, count, align, value):
         thing = self.check(state, pointer, count, align, "store")
-        if thing.content is not None or thing.array is not None:
+        if thing.content is not None or thing.array is not None and not thing.is_open:
             raise Refuted(f"a store into {thing.name}, which is constant")
         offset = literal(pointer.offset)
-        if offset is None:
+        if thing.array is not None:
+            thing.array = z3.Store(thing.array, self.index(state, thing, as_bits(pointer.offset), count, 1), value)
+        elif offset is None:
             self.store_somewhere(state, thing, pointer.offset, count, value)
         else:
             thing.cut(offset, count)

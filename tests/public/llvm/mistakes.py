@@ -15,13 +15,15 @@ OTHER = {"add": "sub", "sub": "add", "mul": "add", "udiv": "urem", "urem": "udiv
 LINE = re.compile(r"  %r\d+ = (?:(?:add|sub|mul|udiv|urem|and|or|xor|shl|lshr) |icmp \w+ )i\d+ [^,]+, \S+$"
                   r"|  store i\d+ -?\d+, .*|  ret i\d+ -?\d+$")
 NUMBER = re.compile(r"(?<=, )\d+$|(?<=i8 )-?\d+(?=,)|(?<=i32 )-?\d+(?=,)|(?<=i64 )-?\d+(?=,)")
-# Mistakes that change nothing: the function, the line and what is in its place; why, and in which calls, if not in all.
+# Mistakes that change nothing: the function, if it isn't any, the line and what is in its place; why, and in which
+# calls, if not in all.
 SAME = {
     ("s2cell_cell_CellId_from_id", "icmp ule i32 %r, 60", "icmp ule i32 %r, 61"): (
         "the zeros at the end of a cell are even, so never 61", None),
     ("s2cell_cell_CellId_from_id", "store i64 0, ptr %r, align 1", "store i64 1, ptr %r, align 1"): (
         "any other number than a cell is then taken for 0, of which the answer is 0", ("s2u_next", "s2u_size")),
-    ("s2u_compare", "mul i64 %r, 4096", "mul i64 %r, 4097"): ("nothing is read where an empty list would be", None),
+    (None, "mul i64 %r, 4096", "mul i64 %r, 4097"): ("nothing is read where an empty list would be", None),
+    (None, "mul i64 %r, 4096", "mul i64 %r, 4095"): ("nothing is read where an empty list would be", None),
 }
 
 
@@ -37,7 +39,7 @@ class Mistake:
     def reason(self, call):
         """Why the call is the same with it, if it is."""
         plain = tuple(re.sub(r"%r\d+", "%r", re.sub(r"^%r\d+ = ", "", line.strip())) for line in (self.old, self.new))
-        reason, calls = SAME.get((self.function, *plain), (None, None))
+        reason, calls = SAME.get((self.function, *plain), SAME.get((None, *plain), (None, None)))
         return reason if calls is None or call in calls else None
 
     def text(self, text):
@@ -90,7 +92,7 @@ class Change(NamedTuple):
     wanted: str = "refuted"
 
     def __str__(self):
-        return f"{self.file}: {self.new} in place of {self.old}"
+        return f"{self.file}: {self.new.strip()} in place of {self.old.strip()}"
 
     def made(self, crates, room):
         """A copy of the contracts and the definitions with the change."""
@@ -116,6 +118,7 @@ CHANGES = [
     Change("s2cell/specs/Debug.antt", "slice_index text 1 ≡ 47", "slice_index text 1 ≡ 46", "s2u_from_debug"),
     Change("s2union_c/specs/Order.antt", "order [] (y ∷ ys) = negsuc 0", "order [] (y ∷ ys) = pos 0", "s2u_compare"),
     Change("s2union_c/proofs/questions/s2u_compare/Invariants.antt", "(drop l.k l.ys)", "l.ys", "s2u_compare"),
+    Change("s2union_c/proofs/many_cells/s2u_levels/Invariants.antt", " 255\n", " 254\n", "s2u_levels"),
     Change("s2union_c/src/cells.rt", "result ≡ size_of id", "result ≡ weight_of id", "s2u_size",
            "not decided: s2union_c/src/cells.rt:"),
 ]

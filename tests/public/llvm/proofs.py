@@ -19,8 +19,9 @@ from squares import SquareWords  # noqa: E402
 
 DEFINITIONS = ["s2cell/specs/Cell", "s2cell/specs/Curve", "s2cell/specs/Neighbours", "s2cell/specs/Square",
                "s2cell/specs/Text", "s2cell/specs/Token", "s2cell/specs/Debug", "s2union_c/specs/Status",
-               "s2union_c/specs/Results", "s2union_c/specs/Order", "s2union_c/specs/Files", "s2list/specs/Numbers",
-               "s2file/specs/File", "s2file/specs/Numbers"]
+               "s2union_c/specs/Results", "s2union_c/specs/Order", "s2union_c/specs/ManyCells",
+               "s2union_c/specs/Working/ManyCells", "s2union_c/proofs/Firsts", "s2union_c/specs/Files",
+               "s2list/specs/Numbers", "s2file/specs/File", "s2file/specs/Numbers"]
 
 
 class Proved:
@@ -34,6 +35,7 @@ class Proved:
 def words_of(crates, is_apart=False):
     paths = [TOP / "tests" / "public" / "kit.txt", *(crates / f"{name}.antt" for name in DEFINITIONS)]
     words = SquareWords([str(path) for path in paths], is_apart)
+    words.forms["NO_LEVEL"] = lambda: no_level(crates / "s2union_c" / "src" / "many_cells.rt")
     words.side = side(TOP / "crates" / "s2cell" / "src" / "lib.rt")
     return words
 
@@ -46,6 +48,12 @@ def side(path):
     if len(found) != 1 or text.count("\npub const SIDE: u32 = 1 << GREATEST_LEVEL;\n") != 1:
         raise Undecided(f"{path}: SIDE isn't what it was")
     return constant(2 ** int(found[0]))
+
+
+@functools.cache
+def no_level(path):
+    found = re.findall(r"^const NO_LEVEL: u8 = (\d+);$", path.read_text(encoding="utf-8"), re.M)
+    return constant(int(found[0]))
 
 
 def contract_of(crates, name, plan):
@@ -63,7 +71,7 @@ def prove_call(text, crates, name, plan):
     done = Proved([clause.name for clause in contract.ensures])
     for case in cases(contract, plan, fields):
         begun = time.process_time()
-        loops = Loops(plan.loops, crates, functools.partial(words_of, crates), case.known)
+        loops = Loops(plan.loops, crates, functools.partial(words_of, crates), case)
         machine = Machine(text, plan.named, loops)
         if not is_possible(*case.state.given):
             raise Undecided(f"{name}: nothing fits the case {', '.join(case.names)}")
@@ -74,7 +82,7 @@ def prove_call(text, crates, name, plan):
         done.lines |= machine.lines
         ways = joined(ways, case)
         for clause in contract.ensures:
-            prove_clause(crates, name, plan, contract, clause, case, ways)
+            prove_clause(crates, name, plan, contract, clause, case, ways, loops)
             done.seconds[clause.name] += time.process_time() - begun
             begun = time.process_time()
     return done
@@ -103,10 +111,11 @@ def any_of(states):
         found.given = [it for it in found.given if all(any(it.eq(other) for other in state.given) for state in states)]
         found.conditions = [z3.Or([z3.And(state.known()) for state in states])]
         found.steps = [step for state in states for step in state.steps]
+        found.supposed = list({id(it): it for state in states for it in state.supposed}.values())
     return found
 
 
-def prove_clause(crates, name, plan, contract, clause, case, ways):
+def prove_clause(crates, name, plan, contract, clause, case, ways, loops):
     for state, result in ways:
         words = words_of(crates, plan.is_apart)
         if plan.named:
@@ -114,4 +123,4 @@ def prove_clause(crates, name, plan, contract, clause, case, ways):
         words.where, words.witnesses = f"{contract.path}:{clause.line}", plan.witnesses
         claim = words.holds(clause.term, case.after(state, result, contract.result), True)
         prove(claim, f"{contract.path}:{clause.line}: {name}, clause {clause.name}, {', '.join(case.names)}",
-              *state.known(), *words.facts, *words.steps_of(state, claim))
+              *state.known(), *words.facts, *words.steps_of(state, claim), *loops.used(state, words.claimed_of))
