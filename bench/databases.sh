@@ -13,7 +13,7 @@ cells=${1:-2000} before=${2:-} provinces=/usr/share/qgis/resources/data/world_ma
 . "$top/tests/geo/countries.sh"
 [ "$cells" != joins ] || need_file "$provinces" qgis-common
 need_countries libsqlite3-dev postgresql-15-postgis-3 python3-rtree libsqlite3-mod-spatialite
-. "$top/tests/postgres/server.sh"
+. "$top/bindings/postgres/tests/server.sh"
 
 both() { # FOLDER PREFIX: both extensions over the library there
   local folder=$work/$1

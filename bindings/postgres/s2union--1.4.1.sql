@@ -1,5 +1,5 @@
 -- s2union 1.4.1, whole: what CREATE EXTENSION makes. README.md says what each function does, in the words of its
--- comment. From an earlier version an upgrade leads to the same; tests/postgres compares them.
+-- comment. From an earlier version an upgrade leads to the same; bindings/postgres/tests compares them.
 
 \echo Use "CREATE EXTENSION s2union" to load this file. \quit
 

@@ -14,7 +14,7 @@ export S2CALC=${S2CALC:-$top/crates/calculator/out/calculator}
 need node nodejs
 need_countries make time sqlite3 libsqlite3-dev gdal-bin python3-rtree python3-qgis qgis-{common,providers} \
   postgresql-15-postgis-3
-. "$top/tests/postgres/server.sh"
+. "$top/bindings/postgres/tests/server.sh"
 
 # ---- what the pages take as installed: the library, both extensions, a server
 
@@ -60,7 +60,7 @@ modules=$work/node/debian/usr/share/nodejs
 driver_of_node() { # Debian's, unpacked: as a package it would want Debian's Node too
   mkdir -p "$work/node/debian" "$work/node/node_modules" && unpacked "$work/node/debian" node-pg node-split2 &&
     ln -s "$modules/pg" "$work/node/node_modules" && cp -r "$work/page/js" "$work/node/node_modules/s2union" &&
-    cp "$top/tests/postgres/drivers/drivers.mjs" "$work/node"
+    cp "$top/bindings/js/tests/drivers.mjs" "$work/node"
 }
 by_node() { # PROGRAM: the driver's own modules Node finds by the variable alone
   (cd "$work/node" && PGDATABASE=first NODE_PATH=$modules node "$1")

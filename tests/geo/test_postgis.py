@@ -6,7 +6,7 @@ import sys
 import unittest
 from pathlib import Path
 
-sys.path.append(str(Path(__file__).resolve().parents[1] / "postgres"))
+sys.path.append(str(Path(__file__).resolve().parents[2] / "bindings/postgres/tests"))
 from test_strangers import TWINS, error_of  # noqa: E402
 
 # A function as version 1.4 had it, whose text is looked up in the path of the caller.

@@ -28,7 +28,8 @@ got_by_go() ( # the program with the module as a proxy of Go's hands it out
     echo '{"Version":"v1.0.0"}' >"$at/v1.0.0.info" && /usr/bin/python3 -c 'import sys, zipfile
 with zipfile.ZipFile(sys.argv[1], "w") as made:
     for name in sys.argv[3:]:
-        made.write(name, f"{sys.argv[2]}@v1.0.0/{name}")' "$at/v1.0.0.zip" "$path" $(git ls-files . ':!bench') &&
+        made.write(name, f"{sys.argv[2]}@v1.0.0/{name}")' "$at/v1.0.0.zip" "$path" \
+      $(git ls-files . ':!bench' ':!tests') &&
     cd "$work/got-by-go" && cp "$work/by-go/main.go" . && go mod init program &&
     GOPROXY=file://$work/proxy GONOSUMDB=* go get "$path@v1.0.0" && go vet . && go build -o program &&
     says $page go ./program

@@ -1,4 +1,4 @@
--- Whether an installed extension answers: make installcheck. tests/postgres has all that it is tested for.
+-- Whether an installed extension answers: make installcheck. bindings/postgres/tests has all that it is tested for.
 CREATE EXTENSION s2union;
 SELECT extversion FROM pg_extension WHERE extname = 's2union';
 

@@ -2,7 +2,7 @@
 # The tests of the unions inside SQLite: tests/run sqlite -- [--full | --costs].
 # It installs the Debian packages that it needs. --full asks for 10,000 random rows in place of 1,500; --costs measures
 # the time of questions, and tests nothing. The last line is 'N passed, M failed'; the status is 1 if any failed.
-# The tests for PostgreSQL, which need a server, are in tests/postgres.
+# The tests for PostgreSQL, which need a server, are in bindings/postgres/tests.
 . "$(dirname "$0")/../../../tests/steps.sh"
 rounds=1500
 [ "${1:-}" != --full ] || rounds=10000

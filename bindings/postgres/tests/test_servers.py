@@ -274,7 +274,7 @@ class OverTheCountries(unittest.TestCase):
 
     def test_each_level(self):
         """The table of docs/SCALE.md: how many tiles, their size, and the most cells of a part; and all pairs."""
-        with open(f"{os.path.dirname(os.path.abspath(__file__))}/../../docs/SCALE.md", encoding="utf-8") as file:
+        with open(f"{os.path.dirname(os.path.abspath(__file__))}/../../../docs/SCALE.md", encoding="utf-8") as file:
             rows = re.findall(r"^\| (\d) \| ([\d,]+) \| ([\d,]+) KB \| (\d+) \|", file.read(), re.M)
         self.assertEqual(len(rows), 7)
         for level, *wanted in rows:

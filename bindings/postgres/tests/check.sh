@@ -3,10 +3,10 @@
 # A copy of the server that Debian ships runs in a folder of its own, on a socket there. Nothing is installed except
 # Debian's packages. --full asks for 10,000 random rows in place of 1,000; --costs measures the costs of this many
 # regions, and tests nothing. The last line is 'N passed, M failed'; the status is 1 if any failed.
-. "$(dirname "$0")/../steps.sh"
+. "$(dirname "$0")/../../../tests/steps.sh"
 [ "${1:-}" != --full ] || export S2UNION_ROUNDS=10000
 need_modules psycopg,psycopg2,shapely python3-{psycopg,psycopg2,shapely}
-. "$top/tests/postgres/server.sh"
+. "$top/bindings/postgres/tests/server.sh"
 
 # ---- the extension: as it is, over guarded allocations, and with the sanitizers
 
@@ -39,7 +39,7 @@ step "another" begun shard
 [ "$failed" -eq 0 ] || finish
 
 if [ "${1:-}" = --costs ]; then
-  S2UNION_SHARD=$work/shard /usr/bin/python3 "$top/tests/postgres/costs_postgres.py" "${2:-100000}"
+  S2UNION_SHARD=$work/shard /usr/bin/python3 "$top/bindings/postgres/tests/costs_postgres.py" "${2:-100000}"
   finish
 fi
 
@@ -85,7 +85,7 @@ by_go() { # without modules: Debian's sources are in one folder for all
   path=$(sed -n 's/^module //p' "$top/bindings/go/go.mod") to=$work/drivers
   mkdir -p "$to/src/$path" && cp "$top"/bindings/go/*.go "$to/src/$path" && rm "$to/src/$path"/*_test.go &&
     GO111MODULE=off GOPATH=$to:/usr/share/gocode GOCACHE=$to/cache PKG_CONFIG_PATH=$work/usr/lib/pkgconfig \
-      go build -o "$to/by-go" "$top/tests/postgres/drivers/drivers.go" &&
+      go build -o "$to/by-go" "$top/bindings/go/tests/drivers.go" &&
     LD_LIBRARY_PATH=$work/usr/lib "$to/by-go"
 }
 by_jdbc() { # which knows no socket in a folder, so another server listens to this machine
@@ -94,7 +94,7 @@ by_jdbc() { # which knows no socket in a folder, so another server listens to th
   port=$(/usr/bin/python3 -c 'import socket; print(socket.create_server(("127.0.0.1", 0)).getsockname()[1])')
   mkdir -p "$to" && gcc -std=c11 -O2 -fPIC -shared -I"$jdk/include" -I"$jdk/include/linux" -I"$work/usr/include" \
     "$top/bindings/java/s2union.c" "$work/usr/lib/libs2union.a" -o "$to/libs2union_java.so" &&
-    javac -d "$to" "$top"/bindings/java/s2union/*.java "$top/tests/postgres/drivers/Drivers.java" &&
+    javac -d "$to" "$top"/bindings/java/s2union/*.java "$top/bindings/java/tests/drivers/Drivers.java" &&
     begun network "listen_addresses = '127.0.0.1'" "port = $port" &&
     PGHOST=127.0.0.1 PGPORT=$port psql -qc "CREATE EXTENSION s2union" &&
     java -cp "$to:$jar" -Ds2union.library="$to/libs2union_java.so" Drivers \

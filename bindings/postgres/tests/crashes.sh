@@ -3,9 +3,9 @@
 # turns the server is stopped at once, all of its processes are killed, or one that inserts is. Each time it recovers,
 # and then every answer by an index has to be that of a scan. It is killed TIMES times, 10 if none are given. The last
 # line is 'N passed, M failed'.
-. "$(dirname "$0")/../steps.sh"
+. "$(dirname "$0")/../../../tests/steps.sh"
 need pgrep procps
-. "$top/tests/postgres/server.sh"
+. "$top/bindings/postgres/tests/server.sh"
 RANDOM=1
 
 step "a copy of PostgreSQL $server" copied

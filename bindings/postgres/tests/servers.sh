@@ -2,12 +2,12 @@
 # The tests of docs/SERVERS.md: tests/run servers. Copies of the server that Debian ships run in folders and in
 # network namespaces of their own, so it needs root; the machine's own network is left alone. Nothing is installed
 # except Debian's packages. The last line is 'N passed, M failed'; the status is 1 if any failed.
-. "$(dirname "$0")/../steps.sh"
+. "$(dirname "$0")/../../../tests/steps.sh"
 need ip iproute2
 need_packages
 . "$top/tests/geo/countries.sh"
 need_countries
-. "$top/tests/postgres/server.sh"
+. "$top/bindings/postgres/tests/server.sh"
 
 export NET=s2u$$ WORK=$work
 without_network() {

@@ -27,7 +27,7 @@ AS_POSTGRES = ["runuser", "-u", "postgres", "--"] if os.geteuid() == 0 else []
 DATABASE = os.environ.get("PGDATABASE", "postgres")
 # The ticks of a processor that the session has taken. Unlike the clock they don't go on while others have it.
 TICKS = "SELECT split_part(s, ' ', 14)::int + split_part(s, ' ', 15)::int FROM pg_read_file('/proc/self/stat') s"
-BINDINGS = Path(__file__).resolve().parents[2] / "bindings"
+BINDINGS = Path(__file__).resolve().parents[3] / "bindings"
 PSQL = ["psql", "-XAqt", "-v", "ON_ERROR_STOP=1", "-d"]
 TRY = """
 CREATE OR REPLACE FUNCTION try(query text) RETURNS text LANGUAGE plpgsql AS $$

@@ -39,7 +39,7 @@ guarded() {
   local folder=$work/$1 sources=$2 file name
   shift 2
   mkdir -p "$folder/rewritten" && : >"$folder/rewritten.c" &&
-    cp "$top"/bindings/postgres/{Makefile,*.control,*.sql} "$top/tests/postgres/guarded.c" "$folder" &&
+    cp "$top"/bindings/postgres/{Makefile,*.control,*.sql} "$top/bindings/postgres/tests/guarded.c" "$folder" &&
     cp "$sources"/{planner.c,geo.c,cover.c,value.h} "$folder" || return
   for file in "$sources"/{*.c,value.h}; do
     name=$(basename "$file")
@@ -75,7 +75,7 @@ with_valgrind() { # FOLDER
 with_sanitizers() { # FOLDER
   local preload
   preload="$(gcc -print-file-name=libasan.so) $(gcc -print-file-name=libubsan.so) $work/untranslated.so"
-  gcc -shared -fPIC "$top/tests/postgres/untranslated.c" -o "$work/untranslated.so" &&
+  gcc -shared -fPIC "$top/bindings/postgres/tests/untranslated.c" -o "$work/untranslated.so" &&
     start_under "$1" env LD_PRELOAD="$preload" ASAN_OPTIONS=detect_leaks=0:abort_on_error=1
 }
 
@@ -108,7 +108,7 @@ tests() { # TEST..: those of test_postgres.py, or of TESTS, or with the name of 
     case $name in *.py*) names+=("$name") ;; *) names+=("${TESTS:-test_postgres.py}::$name") ;; esac
   done
   (
-    cd "$top/tests/postgres" && export PYTHONPATH=$top/tests:${PYTHONPATH:-} PYTHONDONTWRITEBYTECODE=1
+    cd "$top/bindings/postgres/tests" && export PYTHONPATH=$top/tests:${PYTHONPATH:-} PYTHONDONTWRITEBYTECODE=1
     timeout "${SECONDS_OF_TESTS:-7200}" /usr/bin/python3 -m pytest -s -x "${names[@]}"
   )
 }

@@ -3,8 +3,8 @@
 # [NAME..]. They are those of bindings/postgres/mutants.txt. Each is built over guarded allocations and put into one
 # running server, where it gets a database of its own. One whose tests were killed was not tried, and fails. The last
 # line is 'N passed, M failed'.
-. "$(dirname "$0")/../steps.sh"
-. "$top/tests/postgres/server.sh"
+. "$(dirname "$0")/../../../tests/steps.sh"
+. "$top/bindings/postgres/tests/server.sh"
 export S2UNION_ROUNDS=60
 
 survives() { # NAME: without one it notes how long the tests may take, which is longer on a busy machine
