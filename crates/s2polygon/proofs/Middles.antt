@@ -58,7 +58,7 @@ none (pos zero) e = refl
 none (pos (suc n)) e = absurd (omega (arith, e))
 none (negsuc n) e = absurd (omega (arith, e))
 
-difference : (x y : ℤ) → x -ℤ y ≡ pos 0 → x ≡ y
+pub difference : (x y : ℤ) → x -ℤ y ≡ pos 0 → x ≡ y
 difference x y e = omega (arith, ints)
 
 -- on the line of a middle, one of the two coordinates is 0, and then the other

@@ -19,10 +19,10 @@ use Rattle.s2polygon.specs.declared.frames.FramedEdge.{FramedEdge}
 use Rattle.s2polygon.specs.declared.places.Square.{Square}
 
 -- ---- what the answers say
-from_0 : (z : ℤ) → is_at_least_0 z ≡ true → pos 0 ≤ℤ z
+pub from_0 : (z : ℤ) → is_at_least_0 z ≡ true → pos 0 ≤ℤ z
 from_0 z e = omega (arith, ints)
 
-below_0 : (z : ℤ) → is_at_least_0 z ≡ false → z <ℤ pos 0
+pub below_0 : (z : ℤ) → is_at_least_0 z ≡ false → z <ℤ pos 0
 below_0 z e = omega (arith, ints)
 
 not_both : (z : ℤ) → pos 0 ≤ℤ z → ¬ (z <ℤ pos 0)

@@ -94,7 +94,7 @@ rises_turned n = by (int_lt (pos 0) (pos 0 -ℤ n)) (int_lt n (pos 0)) refl refl
     by true false e f = absurd (omega (arith, ints))
     by false true e f = absurd (omega (arith, ints))
 
-above_0 : (z : ℤ) → pos 0 ≤ℤ z → z ≢ pos 0 → pos 0 <ℤ z
+pub above_0 : (z : ℤ) → pos 0 ≤ℤ z → z ≢ pos 0 → pos 0 <ℤ z
 above_0 z h k = by_lt_z (pos 0) z (λ (l : pos 0 <ℤ z). l) (λ (l : z ≤ℤ pos 0). absurd (k (omega (arith, ints))))
 
 module _ (a b n p : ℤ) where
@@ -147,7 +147,7 @@ module _ (a b n p : ℤ) where
 abbrev pub AreLike : ℤ → ℤ → Type 0
 AreLike n m = ((n <ℤ pos 0) × (m <ℤ pos 0)) ⊎ ((pos 0 <ℤ n) × (pos 0 <ℤ m))
 
-abbrev AreUnlike : ℤ → ℤ → Type 0
+abbrev pub AreUnlike : ℤ → ℤ → Type 0
 AreUnlike n m = ((n <ℤ pos 0) × (pos 0 <ℤ m)) ⊎ ((pos 0 <ℤ n) × (m <ℤ pos 0))
 
 pub below_like : (n c m a : ℤ) → n *ℤ c ≡ m *ℤ a → AreLike n m → a <ℤ pos 0 → c <ℤ pos 0
@@ -192,11 +192,11 @@ pub above_like : (n c m a : ℤ) → n *ℤ c ≡ m *ℤ a → AreLike n m → p
 above_like n c m a e h k = minus_below c (below_like n (pos 0 -ℤ c) m (pos 0 -ℤ a) (both_minus n c m a e) h
     (below_minus a k))
 
-below_unlike : (n c m a : ℤ) → n *ℤ c ≡ m *ℤ a → AreUnlike n m → pos 0 <ℤ a → c <ℤ pos 0
+pub below_unlike : (n c m a : ℤ) → n *ℤ c ≡ m *ℤ a → AreUnlike n m → pos 0 <ℤ a → c <ℤ pos 0
 below_unlike n c m a e h k = below_like (pos 0 -ℤ n) c m (pos 0 -ℤ a) (first_minus n c m a e) (like_minus n m h)
     (below_minus a k)
 
-above_unlike : (n c m a : ℤ) → n *ℤ c ≡ m *ℤ a → AreUnlike n m → a <ℤ pos 0 → pos 0 <ℤ c
+pub above_unlike : (n c m a : ℤ) → n *ℤ c ≡ m *ℤ a → AreUnlike n m → a <ℤ pos 0 → pos 0 <ℤ c
 above_unlike n c m a e h k = above_like (pos 0 -ℤ n) c m (pos 0 -ℤ a) (first_minus n c m a e) (like_minus n m h)
     (omega (arith, ints))
 

@@ -53,7 +53,7 @@ short_minus z h = rw (abs_minus z) h
 none_minus : (z : ℤ) → neg_ℤ z ≡ pos 0 → z ≡ pos 0
 none_minus z e = omega (arith, ints)
 
-proper : (f : ℕ) (p : Point) → IsDirection p → IsProper (in_frame f p)
+pub proper : (f : ℕ) (p : Point) → IsDirection p → IsProper (in_frame f p)
 proper zero p d = record { w = d.x; u = d.y; v = d.z; some = λ e f g. d.some (record { x = e; y = f; z = g }) }
 proper (suc zero) p d = record {
   w = d.y;

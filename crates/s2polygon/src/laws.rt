@@ -1,10 +1,13 @@
 //! Laws about the definitions themselves: functions that do nothing, whose clauses are proved.
-ghost use Rattle.std.specs.Prelude.{◌≡◌, ◌↔◌, ◌<◌, ◌≤◌, ◌<ℤ◌, ◌++◌, ℕ, All, IsTrue, List, false, not, true};
+ghost use Rattle.std.specs.Prelude.{◌≡◌, ◌↔◌, ◌<◌, ◌≤◌, ◌<ℤ◌, ◌/◌, ◌^◌, ◌++◌, ℕ, All, IsTrue, List, false, length, not};
+ghost use Rattle.std.specs.Prelude.{true};
 ghost use Rattle.std.specs.List.Sorted.{IsPermutation};
+ghost use Rattle.s2cell.specs.Curve.{AreNeighbours, i_of, j_of};
 ghost use Rattle.s2cell.specs.declared.TheConstants.{LEAVES};
+ghost use Rattle.s2polygon.specs.Directions.{IsDirection, Point};
 ghost use Rattle.s2polygon.specs.Leaves.{Region, inner_leaf, inside, is_touched, outer_leaf};
 ghost use Rattle.s2polygon.specs.Meets.{MeetsSquare};
-ghost use Rattle.s2polygon.specs.Rings.{HasDirections, turned_round};
+ghost use Rattle.s2polygon.specs.Rings.{AreRings, HasDirections, rings_edges, turned_round};
 ghost use Rattle.s2polygon.specs.Tests.{meets_square};
 ghost use Rattle.s2polygon.specs.declared.directions.Edge.{Edge};
 ghost use Rattle.s2polygon.specs.declared.frames.FramedEdge.{FramedEdge};
@@ -58,6 +61,16 @@ pub fn law_of_directions()
         → is_touched (record r { edges = r.edges ++ ring }) r.outside ≡ false
         → inner_leaf (record r { edges = r.edges ++ turned_round ring }) x
         ≡ inner_leaf (record r { edges = r.edges ++ ring }) x }
+{}
+
+/// Two leaves of one face that share a side, and that no edge touches, lie on one side of a polygon: both are inside,
+/// or neither is. So on a face 'inside' doesn't depend on the way by which crossings are counted: whoever goes from
+/// leaf to leaf, and over none that is touched, stays inside or stays outside.
+pub fn law_of_neighbors()
+    ensures { (r : Region) (corners : List Point) (ends : List ℕ) (x y : ℕ)
+        → r.edges ≡ rings_edges corners ends (length ends) → AreRings corners ends → All IsDirection corners
+        → x / 4 ^ 30 ≡ y / 4 ^ 30 → AreNeighbours (i_of x) (j_of x) (i_of y) (j_of y)
+        → is_touched r x ≡ false → is_touched r y ≡ false → inside r x ≡ inside r y }
 {}
 
 /// Edges that are listed twice change nothing of what lies inside, so that they are lines: lines alone have no inside,

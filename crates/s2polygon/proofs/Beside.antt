@@ -1,0 +1,290 @@
+-- Two leaves of one face that lie beside each other, neither touched, lie on one side of closed rings.
+use Rattle.std.proofs.Common.{◌≡◌, refl, sym, ap, ap₂, ◌∙◌, ℕ, zero, suc, ◌+◌, ◌*◌, ◌/◌, ◌^◌, ◌≤◌, ◌<◌, arith}
+use Rattle.std.proofs.Common.{inl, inr, Bool, true, false, List, [], ◌∷◌}
+use Rattle.std.proofs.Common.{All}
+use Rattle.std.proofs.Common.{min, max, nat_lt, ltb-true, ltb-false, pow-suc}
+use Rattle.std.proofs.lemmas.List.Elements.{All-cons, All-head, All-nil, All-tail}
+use Rattle.std.proofs.Math.Bool.{xor}
+use Rattle.std.specs.List.{list_any}
+use Rattle.s2cell.specs.Curve.{AreNeighbours, i_of, j_of}
+use Rattle.s2polygon.proofs.Along.{In}
+use Rattle.s2polygon.proofs.Cells.{column_held, even_over, row_held}
+use Rattle.s2polygon.proofs.Changes.{xor_none, xor_self}
+use Rattle.s2polygon.proofs.Lines.{column_at, column_rising, lines_at, middles_alike, quarter_at, quarters_at, row_at}
+use Rattle.s2polygon.proofs.Lines.{row_rising}
+use Rattle.s2polygon.proofs.Lines.{seen_at, HasShortWay}
+use Rattle.s2polygon.proofs.Steps.{column_piece, never_of_crossing, row_piece, xor_pairs, xor_same}
+use Rattle.s2polygon.proofs.Tests.{leaves_out_near}
+use Rattle.s2polygon.proofs.Turned.{below_side, drop, further, odd_mapped, or_false, same_of}
+use Rattle.s2polygon.proofs.Turning.{IsProper}
+use Rattle.s2polygon.specs.Cells.{odd_of, square_of, step_to, widened}
+use Rattle.s2polygon.specs.Crosses.{crosses_column_at, crosses_row_at, side}
+use Rattle.s2polygon.specs.Faces.{edges_on, top_of}
+use Rattle.s2polygon.specs.Directions.{Point}
+use Rattle.s2polygon.specs.Frames.{framed, in_frame}
+use Rattle.s2polygon.specs.Leaves.{Region, inside, is_touched, odd_at}
+use Rattle.s2polygon.specs.Meets.{above, left_of}
+use Rattle.s2polygon.specs.Parity.{is_odd_along, is_odd_by, is_odd_over}
+use Rattle.s2polygon.specs.Places.{along}
+use Rattle.s2polygon.specs.Tests.{meets_square}
+use Rattle.s2polygon.specs.Ways.{row, column, crosses, middle_of}
+use Rattle.s2polygon.specs.Working.Holding.{Misses}
+use Rattle.s2polygon.specs.declared.directions.Edge.{Edge}
+use Rattle.s2polygon.specs.declared.frames.FramedEdge.{FramedEdge}
+
+-- ---- pieces of ways
+row_pieces : (t s u : ℕ) (e : FramedEdge) → crosses (row t s u) e ≡ xor (row_at s t e.a e.b) (row_at u t e.a e.b)
+row_pieces t s u e = sym (row_piece t s u e) ∙ by (nat_lt s u) refl
+  where
+    falling : (c : Bool) → nat_lt u s ≡ c → u ≤ s → crosses_row_at (along t) (along (min s u)) (along (max s u)) e
+        ≡ xor (row_at s t e.a e.b) (row_at u t e.a e.b)
+    falling true q l =
+        let m = ltb-true u s q in
+        let low : min s u ≡ u = omega arith in
+        let high : max s u ≡ s = omega arith in
+        rw (low, high) (row_rising t u s e.a e.b m ∙ xor_same (row_at u t e.a e.b) (row_at s t e.a e.b))
+    falling false q l =
+        let m = ltb-false u s q in
+        let one : s ≡ u = omega arith in
+        let low : min s u ≡ u = omega arith in
+        let high : max s u ≡ u = omega arith in
+        rw (low, high, one) (never_of_crossing (above (along t) e.a) (above (along t) e.b)
+        (side (along u) (along t) e.a e.b) ∙ sym (xor_self (row_at u t e.a e.b)))
+
+    by : (c : Bool) → nat_lt s u ≡ c → crosses_row_at (along t) (along (min s u)) (along (max s u)) e
+        ≡ xor (row_at s t e.a e.b) (row_at u t e.a e.b)
+    by true p =
+        let l = ltb-true s u p in
+        let low : min s u ≡ s = omega arith in
+        let high : max s u ≡ u = omega arith in
+        rw (low, high) (row_rising t s u e.a e.b l)
+    by false p = falling (nat_lt u s) refl (ltb-false s u p)
+
+column_pieces : (s t u : ℕ) (e : FramedEdge) → crosses (column s t u) e
+    ≡ xor (column_at s t e.a e.b) (column_at s u e.a e.b)
+column_pieces s t u e = sym (column_piece s t u e) ∙ by (nat_lt t u) refl
+  where
+    falling : (c : Bool) → nat_lt u t ≡ c → u ≤ t → crosses_column_at (along s) (along (min t u)) (along (max t u)) e
+        ≡ xor (column_at s t e.a e.b) (column_at s u e.a e.b)
+    falling true q l =
+        let m = ltb-true u t q in
+        let low : min t u ≡ u = omega arith in
+        let high : max t u ≡ t = omega arith in
+        rw (low, high) (column_rising s u t e.a e.b m ∙ xor_same (column_at s u e.a e.b) (column_at s t e.a e.b))
+    falling false q l =
+        let m = ltb-false u t q in
+        let one : t ≡ u = omega arith in
+        let low : min t u ≡ u = omega arith in
+        let high : max t u ≡ u = omega arith in
+        rw (low, high, one) (never_of_crossing (left_of (along s) e.a) (left_of (along s) e.b)
+        (side (along s) (along u) e.a e.b) ∙ sym (xor_self (column_at s u e.a e.b)))
+
+    by : (c : Bool) → nat_lt t u ≡ c → crosses_column_at (along s) (along (min t u)) (along (max t u)) e
+        ≡ xor (column_at s t e.a e.b) (column_at s u e.a e.b)
+    by true p =
+        let l = ltb-true t u p in
+        let low : min t u ≡ t = omega arith in
+        let high : max t u ≡ u = omega arith in
+        rw (low, high) (column_rising s t u e.a e.b l)
+    by false p = falling (nat_lt u t) refl (ltb-false t u p)
+
+-- ---- closed lists of edges
+-- each test of directions differs at the two ends of an even number of the edges
+abbrev pub IsClosed : List Edge → Type 0
+IsClosed es = (test : Point → Bool) → is_odd_by (λ e. xor (test e.a) (test e.b)) es ≡ false
+
+-- the edge has a frame in which its numbers are small, and goes the short way
+pub record IsFit (f : ℕ) (e : Edge) : Type 0 where
+  pub a : IsProper (in_frame f e.a)
+  pub b : IsProper (in_frame f e.b)
+  pub short : HasShortWay (in_frame f e.a) (in_frame f e.b)
+
+odd_xor : (p q : Edge → Bool) (es : List Edge) → is_odd_by (λ e. xor (p e) (q e)) es
+    ≡ xor (is_odd_by p es) (is_odd_by q es)
+odd_xor p q [] = sym (xor_self false)
+odd_xor p q (e ∷ es) = ap (xor (xor (p e) (q e))) (odd_xor p q es)
+    ∙ xor_pairs (p e) (q e) (is_odd_by p es) (is_odd_by q es)
+
+odd_same : (p q : Edge → Bool) (P : Edge → Type 0) → ((e : Edge) → P e → p e ≡ q e) → (es : List Edge) → All P es
+    → is_odd_by p es ≡ is_odd_by q es
+odd_same p q P h [] a = refl
+odd_same p q P h (e ∷ es) a = ap₂ xor (h e (All-head P e es a)) (odd_same p q P h es (All-tail P e es a))
+
+swap_ends : (a b c d : Bool) → xor a b ≡ xor c d → xor b d ≡ xor a c
+swap_ends a b c d e = same_of (xor b d) (xor a c) (xor_pairs b d a c ∙ ap₂ xor (xor_same b a) (xor_same d c)
+    ∙ ap (λ (z : Bool). xor z (xor c d)) e ∙ xor_self (xor c d))
+
+module _ (f : ℕ) (es : List Edge) (fit : All (IsFit f) es) (closed : IsClosed es) where
+  abbrev rows : ℕ → ℕ → Bool
+  rows s t = is_odd_by (λ e. row_at s t (in_frame f e.a) (in_frame f e.b)) es
+
+  abbrev columns : ℕ → ℕ → Bool
+  columns s t = is_odd_by (λ e. column_at s t (in_frame f e.a) (in_frame f e.b)) es
+
+  seen_odd : (s t : ℕ) → is_odd_by (λ e. seen_at s t (in_frame f e.a) (in_frame f e.b)) es
+      ≡ xor (rows s t) (columns s t)
+  unfolding seen_at lines_at quarters_at
+  seen_odd s t =
+      odd_xor (λ e. lines_at s t (in_frame f e.a) (in_frame f e.b))
+      (λ e. quarters_at s t (in_frame f e.a) (in_frame f e.b)) es
+      ∙ ap₂ xor (odd_xor (λ e. row_at s t (in_frame f e.a) (in_frame f e.b))
+      (λ e. column_at s t (in_frame f e.a) (in_frame f e.b)) es)
+      (closed (λ p. quarter_at s t (in_frame f p)))
+      ∙ xor_none (xor (rows s t) (columns s t))
+
+  -- the columns differ as the rows do
+  columns_follow : (m n p : ℕ) → xor (columns (2 * m + 1) (2 * n + 1)) (columns (2 * m + 1) (2 * p + 1))
+      ≡ xor (rows (2 * m + 1) (2 * n + 1)) (rows (2 * m + 1) (2 * p + 1))
+  columns_follow m n p =
+      let s = 2 * m + 1 in let t = 2 * n + 1 in let u = 2 * p + 1 in
+      swap_ends (rows s t) (columns s t) (rows s u) (columns s u)
+      (sym (seen_odd s t)
+      ∙ odd_same (λ e. seen_at s t (in_frame f e.a) (in_frame f e.b))
+      (λ e. seen_at s u (in_frame f e.a) (in_frame f e.b))
+      (IsFit f) (λ e h. middles_alike m n m p (in_frame f e.a) (in_frame f e.b) h.a h.b h.short) es fit
+      ∙ seen_odd s u)
+
+  row_over : (t s u : ℕ) → is_odd_over (row t s u) (edges_on f es) ≡ xor (rows s t) (rows u t)
+  row_over t s u =
+      odd_mapped f (row t s u) es
+      ∙ odd_same (λ e. crosses (row t s u) (framed f e)) (λ e. xor (row_at s t (in_frame f e.a) (in_frame f e.b))
+      (row_at u t (in_frame f e.a) (in_frame f e.b))) (IsFit f) (λ e h. row_pieces t s u (framed f e)) es fit
+      ∙ odd_xor (λ e. row_at s t (in_frame f e.a) (in_frame f e.b)) (λ e. row_at u t (in_frame f e.a) (in_frame f e.b))
+      es
+
+  column_over : (m n p : ℕ) → is_odd_over (column (2 * m + 1) (2 * n + 1) (2 * p + 1)) (edges_on f es)
+      ≡ xor (rows (2 * m + 1) (2 * n + 1)) (rows (2 * m + 1) (2 * p + 1))
+  column_over m n p =
+      let s = 2 * m + 1 in let t = 2 * n + 1 in let u = 2 * p + 1 in
+      odd_mapped f (column s t u) es
+      ∙ odd_same (λ e. crosses (column s t u) (framed f e)) (λ e. xor (column_at s t (in_frame f e.a) (in_frame f e.b))
+      (column_at s u (in_frame f e.a) (in_frame f e.b))) (IsFit f) (λ e h. column_pieces s t u (framed f e)) es fit
+      ∙ odd_xor (λ e. column_at s t (in_frame f e.a) (in_frame f e.b))
+      (λ e. column_at s u (in_frame f e.a) (in_frame f e.b)) es
+      ∙ columns_follow m n p
+
+  step_over : (k i j : ℕ) → is_odd_along (step_to k i j) (edges_on f es)
+      ≡ xor (rows (middle_of (suc k) (i / 2)) (middle_of (suc k) (j / 2))) (rows (middle_of k i) (middle_of k j))
+  step_over k i j =
+      ap₂ xor (row_over (middle_of (suc k) (j / 2)) (middle_of (suc k) (i / 2)) (middle_of k i))
+      (xor_none (is_odd_over (column (middle_of k i) (middle_of (suc k) (j / 2)) (middle_of k j)) (edges_on f es))
+      ∙ column_over (i * 2 ^ k + 2 ^ k / 2) (j / 2 * 2 ^ suc k + 2 ^ suc k / 2) (j * 2 ^ k + 2 ^ k / 2))
+      ∙ drop (rows (middle_of (suc k) (i / 2)) (middle_of (suc k) (j / 2)))
+      (rows (middle_of k i) (middle_of (suc k) (j / 2))) (rows (middle_of k i) (middle_of k j))
+
+  below_over : (top : Bool) (n k i j : ℕ) → n + k ≡ 30 → i < 2 ^ n → j < 2 ^ n → odd_of top (edges_on f es) n k i j
+      ≡ xor top (xor (rows (middle_of 30 0) (middle_of 30 0)) (rows (middle_of k i) (middle_of k j)))
+  below_over top zero k i j e hi hj =
+      let p : k ≡ 30 = omega arith in
+      let q : i ≡ 0 = omega arith in
+      let r : j ≡ 0 = omega arith in
+      rw (p, q, r) (sym (ap (xor top) (xor_self (rows (middle_of 30 0) (middle_of 30 0))) ∙ xor_none top))
+  below_over top (suc n) k i j e hi hj =
+      let two = pow-suc 2 n in
+      ap₂ xor (below_over top n (suc k) (i / 2) (j / 2) (omega arith) (omega (arith, two)) (omega (arith, two)))
+      (step_over k i j)
+      ∙ further top (rows (middle_of 30 0) (middle_of 30 0))
+      (rows (middle_of (suc k) (i / 2)) (middle_of (suc k) (j / 2)))
+      (rows (middle_of k i) (middle_of k j))
+
+  leaf_over : (x : ℕ) → x / 4 ^ 30 ≡ f → odd_at es x
+      ≡ xor (top_of es f) (xor (rows (middle_of 30 0) (middle_of 30 0))
+      (rows (middle_of 0 (i_of x)) (middle_of 0 (j_of x))))
+  unfolding odd_at
+  leaf_over x e =
+      let place = below_side x in
+      ap (λ (g : ℕ). odd_of (top_of es g) (edges_on g es) 30 0 (i_of x) (j_of x)) e
+      ∙ below_over (top_of es f) 30 0 (i_of x) (j_of x) refl place.0 place.1
+
+  -- ---- leaves that no edge touches
+  column_any : (s t u : ℕ) → is_odd_over (column s t u) (edges_on f es) ≡ xor (columns s t) (columns s u)
+  column_any s t u =
+      odd_mapped f (column s t u) es
+      ∙ odd_same (λ e. crosses (column s t u) (framed f e)) (λ e. xor (column_at s t (in_frame f e.a) (in_frame f e.b))
+      (column_at s u (in_frame f e.a) (in_frame f e.b))) (IsFit f) (λ e h. column_pieces s t u (framed f e)) es fit
+      ∙ odd_xor (λ e. column_at s t (in_frame f e.a) (in_frame f e.b))
+      (λ e. column_at s u (in_frame f e.a) (in_frame f e.b)) es
+
+  module _ (i j : ℕ) (missed : All (λ e. Misses e (square_of 0 i j)) (edges_on f es)) where
+    row_stays : (u : ℕ) → In (i * 2 ^ 0) (2 ^ 0) u → rows (middle_of 0 i) (middle_of 0 j) ≡ rows u (middle_of 0 j)
+    row_stays u h =
+        same_of (rows (middle_of 0 i) (middle_of 0 j)) (rows u (middle_of 0 j))
+        (sym (row_over (middle_of 0 j) (middle_of 0 i) u)
+        ∙ even_over (square_of 0 i j) (row (middle_of 0 j) (middle_of 0 i) u) (edges_on f es)
+        (row_held (i * 2 ^ 0) (j * 2 ^ 0) (2 ^ 0) (middle_of 0 j) (middle_of 0 i) u
+        (record { from = omega arith; to = omega arith }) (record { from = omega arith; to = omega arith }) h) missed)
+
+    column_stays : (u : ℕ) → In (j * 2 ^ 0) (2 ^ 0) u → columns (middle_of 0 i) (middle_of 0 j)
+        ≡ columns (middle_of 0 i) u
+    column_stays u h =
+        same_of (columns (middle_of 0 i) (middle_of 0 j)) (columns (middle_of 0 i) u)
+        (sym (column_any (middle_of 0 i) (middle_of 0 j) u)
+        ∙ even_over (square_of 0 i j) (column (middle_of 0 i) (middle_of 0 j) u) (edges_on f es)
+        (column_held (i * 2 ^ 0) (j * 2 ^ 0) (2 ^ 0) (middle_of 0 i) (middle_of 0 j) u
+        (record { from = omega arith; to = omega arith }) (record { from = omega arith; to = omega arith }) h) missed)
+
+  abbrev Missed : ℕ → ℕ → Type 0
+  Missed i j = All (λ e. Misses e (square_of 0 i j)) (edges_on f es)
+
+  -- a leaf and the next one of its row, and of its column
+  next_in_row : (i j : ℕ) → Missed i j → Missed (i + 1) j → rows (middle_of 0 i) (middle_of 0 j)
+      ≡ rows (middle_of 0 (i + 1)) (middle_of 0 j)
+  next_in_row i j h k =
+      row_stays i j h (2 * (i + 1)) (record { from = omega arith; to = omega arith })
+      ∙ sym (row_stays (i + 1) j k (2 * (i + 1)) (record { from = omega arith; to = omega arith }))
+
+  next_in_column : (i j : ℕ) → Missed i j → Missed i (j + 1) → rows (middle_of 0 i) (middle_of 0 j)
+      ≡ rows (middle_of 0 i) (middle_of 0 (j + 1))
+  next_in_column i j h k =
+      same_of (rows (middle_of 0 i) (middle_of 0 j)) (rows (middle_of 0 i) (middle_of 0 (j + 1)))
+      (sym (columns_follow (i * 2 ^ 0 + 2 ^ 0 / 2) (j * 2 ^ 0 + 2 ^ 0 / 2) ((j + 1) * 2 ^ 0 + 2 ^ 0 / 2))
+      ∙ ap₂ xor (column_stays i j h (2 * (j + 1)) (record { from = omega arith; to = omega arith }))
+      (column_stays i (j + 1) k (2 * (j + 1)) (record { from = omega arith; to = omega arith }))
+      ∙ xor_self (columns (middle_of 0 i) (2 * (j + 1))))
+
+  on_column : (i j u v : ℕ) → i ≡ u → j + 1 ≡ v → Missed i j → Missed u v
+      → rows (middle_of 0 i) (middle_of 0 j) ≡ rows (middle_of 0 u) (middle_of 0 v)
+  on_column i j u v e g h k =
+      next_in_column i j h (rw (sym e, sym g) at k)
+      ∙ ap₂ (λ (m n : ℕ). rows (middle_of 0 m) (middle_of 0 n)) e g
+
+  on_row : (i j u v : ℕ) → j ≡ v → i + 1 ≡ u → Missed i j → Missed u v
+      → rows (middle_of 0 i) (middle_of 0 j) ≡ rows (middle_of 0 u) (middle_of 0 v)
+  on_row i j u v e g h k =
+      next_in_row i j h (rw (sym e, sym g) at k)
+      ∙ ap₂ (λ (m n : ℕ). rows (middle_of 0 m) (middle_of 0 n)) g e
+
+  neighbors : (i j u v : ℕ) → AreNeighbours i j u v → Missed i j → Missed u v
+      → rows (middle_of 0 i) (middle_of 0 j) ≡ rows (middle_of 0 u) (middle_of 0 v)
+  neighbors i j u v (inl (e, inl g)) h k = on_column i j u v e g h k
+  neighbors i j u v (inl (e, inr g)) h k = sym (on_column u v i j (sym e) g k h)
+  neighbors i j u v (inr (e, inl g)) h k = on_row i j u v e g h k
+  neighbors i j u v (inr (e, inr g)) h k = sym (on_row u v i j (sym e) g k h)
+
+  leaves_alike : (x y : ℕ) → x / 4 ^ 30 ≡ f → y / 4 ^ 30 ≡ f → AreNeighbours (i_of x) (j_of x) (i_of y) (j_of y)
+      → Missed (i_of x) (j_of x) → Missed (i_of y) (j_of y) → odd_at es x ≡ odd_at es y
+  leaves_alike x y e g beside h k =
+      leaf_over x e
+      ∙ ap (λ (t : Bool). xor (top_of es f) (xor (rows (middle_of 30 0) (middle_of 30 0)) t))
+      (neighbors (i_of x) (j_of x) (i_of y) (j_of y) beside h k)
+      ∙ sym (leaf_over y g)
+
+all_missed : (m i j : ℕ) (es : List FramedEdge) → list_any (meets_square (widened m (square_of 0 i j))) es ≡ false
+    → All (λ e. Misses e (square_of 0 i j)) es
+all_missed m i j [] e = All-nil (λ e. Misses e (square_of 0 i j))
+all_missed m i j (o ∷ es) e =
+    let parts = or_false (meets_square (widened m (square_of 0 i j)) o)
+    (list_any (meets_square (widened m (square_of 0 i j))) es) e in
+    All-cons (λ e. Misses e (square_of 0 i j)) o es (leaves_out_near m 0 i j o parts.0) (all_missed m i j es parts.1)
+
+pub one_side : (r : Region) (x y : ℕ) → IsClosed r.edges → All (IsFit (x / 4 ^ 30)) r.edges → x / 4 ^ 30 ≡ y / 4 ^ 30
+    → AreNeighbours (i_of x) (j_of x) (i_of y) (j_of y) → is_touched r x ≡ false → is_touched r y ≡ false
+    → inside r x ≡ inside r y
+unfolding is_touched
+one_side r x y closed fit e beside h k =
+    let f = x / 4 ^ 30 in
+    ap (λ (t : Bool). xor t (odd_at r.edges r.outside))
+    (leaves_alike f r.edges fit closed x y refl (sym e) beside
+    (all_missed r.margin (i_of x) (j_of x) (edges_on f r.edges) h)
+    (all_missed r.margin (i_of y) (j_of y) (edges_on f r.edges) (sym (ap (λ (g : ℕ). list_any
+    (meets_square (widened r.margin (square_of 0 (i_of y) (j_of y)))) (edges_on g r.edges)) (sym e)) ∙ k)))
