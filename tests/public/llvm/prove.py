@@ -3,8 +3,8 @@ say: tests/public/llvm/prove.py --text FILE [--tier quick|gate|full] [--crates F
 
 FILE is s2union.ll, of the source archive in dist, or of one that tools/portable made. FOLDER is crates, which has the
 contracts and the definitions that they cite. A line tells for each clause that it was proved, with the seconds that it
-took and how many ways through the text there are. Then mistakes are made in the text, one at a time, in a contract and
-in a definition, and each has to be refuted. With no CALL it proves those of the tier. The last line is 'N passed, M
+took and how many ways through the text there are. Then mistakes are made in the text, one at a time, in contracts,
+definitions and invariants, and each has to be refuted. With no CALL it proves those of the tier. The last line is 'N passed, M
 failed'."""
 import argparse
 import sys
@@ -84,9 +84,10 @@ def refuse_mistakes(text, crates, name, lines, count):
             count.check(found == "refuted", f"{name:22} {mistake}: {found}")
 
 
-def refuse_changes(text, crates, count):
-    """Changes a contract and definitions, one at a time, each of which has to be refuted or not to be known."""
-    for change in CHANGES:
+def refuse_changes(text, crates, names, count):
+    """Changes contracts, definitions and invariants of these calls, one at a time, each of which has to be refuted or
+    not to be known."""
+    for change in (it for it in CHANGES if it.call in names):
         with tempfile.TemporaryDirectory() as room:
             found = verdict(text, change.made(crates, Path(room)), change.call)
             found = found.replace(f"{room}/", "")
@@ -108,7 +109,7 @@ def main():
         done = prove_one(text, asked.crates, name, count)
         if done and asked.tier != "quick":
             refuse_mistakes(text, asked.crates, name, done.lines, count)
-    refuse_changes(text, asked.crates, count)
+    refuse_changes(text, asked.crates, names, count)
     say(f"{count.passed} passed, {count.failed} failed")
     return count.failed > 0
 
