@@ -260,7 +260,7 @@ class Parser:
             return ('tac', 'cc', [])
         if head == ('var', 'rw'):
             e = self.postfix()
-            if self.is_('at'):
+            if self.is_('at') and self.peek(1) not in (None, *KEY, *')},;'):
                 self.next()
                 return ('app', ('var', 'rw_at'), [e, self.postfix()])
             if self.is_('λ', 'let'):

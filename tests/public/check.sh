@@ -1,19 +1,20 @@
 #!/usr/bin/env bash
 # What anybody can check without Rattle's kit, by tools of Debian 12: tests/public/check.sh [--tier quick|gate|full]
-# [--text FILE] [CALL..]; tests/public/check.sh --program FILE writes the checker of answers, and does nothing else.
+# [--text FILE] [CALL..]; tests/public/check.sh --program FILE writes the checker of answers, and --definitions FOLDER
+# the definitions in Coq's words, and does nothing else.
 #
 # Z3 proves that the text from which the library is compiled does what the contracts of its calls say. That text is
 # FILE, or the one of the library that this machine has proved, or src/s2union.ll of the source archive in dist/. With
 # CALLs only these are proved. In all tiers except quick, Frama-C then looks at C of the headers that nothing proves.
-# Coq checks the laws of lists by their proofs in crates, and a checker that it proved looks at answers of the library.
+# Coq checks laws of cells, lists and files by their proofs in crates, and a checker that it proved looks at answers.
 # The last line is 'N passed, M failed'.
 . "$(dirname "$0")/../steps.sh"
-tier=gate text='' program='' calls=() others=()
+tier=gate text='' made=() calls=() others=()
 while [ $# -gt 0 ]; do
   case $1 in
     --tier) tier=${2:-} && shift ;;
     --text) text=${2:-} && shift ;;
-    --program) program=${2:-} && shift ;;
+    --program | --definitions) made=("$1" "${2:-}") && shift ;;
     *) calls+=("$1") ;;
   esac
   shift
@@ -76,8 +77,8 @@ choose_library_file() { # $library: the one that is installed for this run, or e
   library=$work/package/usr/lib/x86_64-linux-gnu/libs2union.so.1
 }
 
-if [ -n "$program" ]; then
-  counted /usr/bin/python3 -B "$top/tests/public/coq/check.py" --program "$program"
+if [ ${#made[@]} -gt 0 ]; then
+  counted /usr/bin/python3 -B "$top/tests/public/coq/check.py" "${made[@]}"
   finish
 fi
 choose_text

@@ -1,5 +1,6 @@
 """Whether Coq accepts the laws of laws.py, by the proofs in crates: tests/public/coq/check.py [--tier gate|full]
---library FILE. With --program FILE, it makes the checker of answers, and checks nothing else.
+--library FILE. With --program FILE it makes the checker of answers, and with --definitions FOLDER it writes the
+definitions in Coq's words; then it checks nothing else.
 
 translate.py puts the modules of crates that the laws stand on into Coq's words, anew in each run, and Coq's kernel
 checks each definition and each proof. Then Coq says of each law on which axioms it stands: on none. Lemmas that Coq
@@ -14,6 +15,7 @@ import subprocess
 import sys
 import tempfile
 from collections import Counter
+from concurrent.futures import ThreadPoolExecutor
 from pathlib import Path
 from typing import NamedTuple
 
@@ -26,11 +28,13 @@ from translate import Library  # noqa: E402
 CRATES = HERE.parents[2] / "crates"
 CLOSED = "Closed under the global context"
 LAWS = "Laws"
+PAGE = HERE.parents[2] / "docs" / "CHECK.md"
 PROGRAM = "s2union-check"
 OF_CHECKER = tuple(f"Rattle.s2list.{name}" for name in ("proofs.Normal", "proofs.PackedLocal", "specs.Sets",
                                                         "specs.Denorm"))
-MODULES = (laws.MODULE, *OF_CHECKER)
+MODULES = (laws.MODULE, *(law.module for law in laws.ANSWERED), *OF_CHECKER)
 SECONDS = 900  # for a file; each takes less than ten
+AT_ONCE = 3
 
 
 class Refused(Exception):
@@ -93,9 +97,11 @@ class Build:
     def __init__(self, folder, modules, crates=CRATES, kit=None, axioms=None):
         self.folder = Path(folder)
         (self.folder / "Kit.v").write_text(kit or (HERE / "Kit.v").read_text(encoding="utf-8"), encoding="utf-8")
-        self.library = Library(crates, listed() if axioms is None else axioms, by_hand(),
-                               {laws.MODULE: laws.text(crates)})
+        self.library = Library(crates, listed() if axioms is None else axioms, by_hand(), laws.texts(crates, modules))
         self.files = ["Kit", *self.library.write(folder, modules)]
+        self.below = {"Kit": []} | {module.file: ["Kit", *(
+            self.library.module(each["module"]).file for each in module.uses() if self.library.has(each["module"]))]
+            for module in self.library.modules.values()}
 
     def keep(self, other):
         """Takes what Coq made of the other build's files, up to the first that differs."""
@@ -109,9 +115,23 @@ class Build:
         return path.read_text(encoding="utf-8") if path.exists() else None
 
     def check(self):
-        """Has Coq check all files."""
-        for file in self.files:
-            compiled(self.folder, file)
+        """Has Coq check all files, some at once, each after those that it uses."""
+        done = {}
+        with ThreadPoolExecutor(AT_ONCE) as pool:
+            for file in self.files:
+                below = [done[each] for each in self.below[file] if each in done]
+                done[file] = pool.submit(self.check_one, file, below)
+            try:
+                for each in done.values():
+                    each.result()
+            except Refused:
+                pool.shutdown(cancel_futures=True)
+                raise
+
+    def check_one(self, file, below):
+        for each in below:
+            each.result()
+        compiled(self.folder, file)
 
     def axioms_of(self, file, names):
         """The axioms on which each of the names stands, of which `file` has the definitions."""
@@ -151,6 +171,11 @@ def check_laws(build, count):
                 f"not met: {sorted(set(axioms) - build.library.assumed)}")
     for name, found in build.axioms_of(LAWS, list(laws.NAMES)).items():
         count.check(not found, f"{laws.NAMES[name]}: checked by Coq, {standing(found)}")
+    for law in laws.ANSWERED:
+        names = laws.answered_text(CRATES, law)[1]
+        found = sorted({each for of_it in build.axioms_of(f"laws_{law.function}", names).values() for each in of_it})
+        clauses = f", clauses {', '.join(name.removeprefix('clause_') for name in names)}" if len(names) > 1 else ""
+        count.check(not found, f"{law.function}{clauses}: {law.says}: checked by Coq, {standing(found)}")
 
 
 def standing(axioms):
@@ -176,7 +201,7 @@ def with_change(change, folder):
 def check_change(change, right, count):
     words = f"{change.file}: {change.wrong} in place of {change.right}"
     with tempfile.TemporaryDirectory() as copy, tempfile.TemporaryDirectory() as folder:
-        build = Build(folder, MODULES, *with_change(change, copy))
+        build = Build(folder, (laws.MODULE,), *with_change(change, copy))
         build.keep(right)
         try:
             build.check()
@@ -190,7 +215,7 @@ def check_axiom(right, count):
     """Whether a law that gains an axiom is noticed."""
     lemma, law = NEEDED
     with tempfile.TemporaryDirectory() as folder:
-        build = Build(folder, MODULES, axioms=[*listed(), lemma])
+        build = Build(folder, (laws.MODULE,), axioms=[*listed(), lemma])
         build.keep(right)
         build.check()
         found = build.axioms_of(LAWS, [law])[law]
@@ -202,6 +227,42 @@ def run(folder, *command):
     if done.returncode != 0:
         raise Refused(command[0], (done.stdout + done.stderr)[-2000:])
     return done.stdout
+
+
+def typed():
+    """The modules of definitions that Coq types, by statement.txt."""
+    lines = (HERE / "statement.txt").read_text(encoding="utf-8").split("\n")
+    return [f"Rattle.{line.replace('/', '.')}" for line in lines if line and not line.startswith("#")]
+
+
+def all_definitions():
+    """How many modules of definitions are stated in crates."""
+    paths = [path.relative_to(CRATES) for path in CRATES.glob("*/specs/**/*.antt")]
+    return sum(path.name not in ("Lib.antt", "Working.antt") and "Working" not in path.parts for path in paths)
+
+
+def check_statement(right, count):
+    """Whether Coq types the definitions of statement.txt, and takes the theorem that the page states over them."""
+    modules = typed()
+    with tempfile.TemporaryDirectory() as folder:
+        build = Build(folder, modules)
+        build.keep(right)
+        build.check()
+        count.check(True, f"{len(modules)} of {all_definitions()} modules of definitions typed by Coq: "
+                    f"{', '.join(module.removeprefix('Rattle.') for module in modules)}")
+        example = re.findall(r"^```coq\n(.*?)^```$", PAGE.read_text(encoding="utf-8"), re.M | re.S)
+        for at, text in enumerate(example):
+            Path(folder, f"Example{at}.v").write_text(text, encoding="utf-8")
+            compiled(folder, f"Example{at}")
+        count.check(len(example) == 1, f"{PAGE.name}: its theorem over the definitions is taken by Coq")
+
+
+def write_definitions(folder, count):
+    """Writes the definitions of statement.txt in Coq's words, with what Coq makes of them."""
+    Path(folder).mkdir(parents=True, exist_ok=True)
+    build = Build(folder, typed())
+    build.check()
+    count.check(True, f"{folder}: {len(build.files)} files for Coq")
 
 
 def make_program(build, file):
@@ -308,6 +369,7 @@ def check_files(folder, count):
 def check_all(folder, asked, count):
     right = Build(folder, MODULES)
     check_laws(right, count)
+    check_statement(right, count)
     for change in CHANGES:
         check_change(change, right, count)
     check_axiom(right, count)
@@ -329,12 +391,15 @@ def main():
     what = parser.add_mutually_exclusive_group(required=True)
     what.add_argument("--library")
     what.add_argument("--program")
+    what.add_argument("--definitions")
     asked = parser.parse_args()
     count = Count()
     with tempfile.TemporaryDirectory() as folder:
         try:
             if asked.program:
                 write_program(folder, asked.program, count)
+            elif asked.definitions:
+                write_definitions(asked.definitions, count)
             else:
                 check_all(folder, asked, count)
         except Refused as error:

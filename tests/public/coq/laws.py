@@ -42,8 +42,89 @@ NAMES = {law.name: f"{law.function}, clause {law.clause}: {law.says}" for law in
     "shortest": "shortest: no cells with the same leaves are fewer than those of a union's list"}
 
 
+class Answered(NamedTuple):
+    """A law whose clauses are all proved in the answers of its function, in crates/CRATE/proofs/laws/FUNCTION: its
+    crate and function, and what it says."""
+
+    crate: str
+    function: str
+    says: str
+
+    @property
+    def module(self):
+        return f"Rattle.laws.{self.function}"
+
+
+ANSWERED = (
+    Answered("s2cell", "law_of_levels", "a cell has one level, one place, and the leaves of that place"),
+    Answered("s2room", "law_of_indexes", "an index of cells and ancestors finds what shares a leaf, and no other"),
+    Answered("s2file", "one_text", "a set is written as one byte string"),
+    Answered("s2file", "one_reading", "bytes stand for at most one set, and have at most one first fault"),
+)
+TYPED = re.compile(r"pub (returns(?:-clause-(\w+))?) : goal\.\1")
+TYPE_USED = re.compile(r"use crate::(\w+)::(\w+);")
+USED = re.compile(r"(?:ghost )?use (\w+(?:::\w+)*)::\{([A-Z_, ]+)\};")
+
+
+def answered_text(crates, law):
+    """The module of a law with answers, and the names of its clauses in it."""
+    folder = Path(crates) / law.crate
+    path = folder / "src" / "laws.rt"
+    lines = path.read_text(encoding="utf-8").split("\n")
+    stated = {found[2] or "whole": found[3] for found in clauses_of(path, lines, law.function)}
+    uses = [use[1] for line in lines if (use := re.fullmatch(r"ghost (use .*);", line))]
+    for line in lines:
+        if constants := USED.fullmatch(line):
+            crate = law.crate if constants[1] == "crate" else constants[1]
+            uses.append(f"use Rattle.{crate}.specs.declared.TheConstants.{{{constants[2]}}}")
+        if of_type := TYPE_USED.fullmatch(line):
+            file, name = of_type.groups()
+            uses.append(f"use Rattle.{law.crate}.specs.declared.{file}.{name}.{{{name}}}")
+    answers = folder / "proofs" / "laws" / law.function / "Answers.antt"
+    body = []
+    for line in answers.read_text(encoding="utf-8").split("\n"):
+        if line.startswith("use "):
+            uses += [] if line.endswith(".Goals as goal") else [line]
+        elif typed := TYPED.fullmatch(line):
+            name = typed[2] or "whole"
+            body.append(f"clause_{name} : {stated[name]}")
+        elif re.match(r"returns(?:-clause-\w+)? ", line):
+            # its first argument is the function that is called
+            name, _, rest = line.split(" ", 2)
+            body.append(f"clause_{name.removeprefix('returns').removeprefix('-clause-') or 'whole'} {rest}")
+        else:
+            body.append(line)
+    if missing := [name for name in stated if not any(line.startswith(f"clause_{name} : ") for line in body)]:
+        raise Bad(f"{path}: {law.function} has clauses without a proof here: {', '.join(missing)}")
+    said = set(re.findall(r"[\w'-]+", "\n".join(body)))
+    used = filter(None, (taken(use, said) for use in dict.fromkeys(uses)))
+    return "\n".join([*used, *body]) + "\n", [f"clause_{name}" for name in stated]
+
+
+def taken(use, said):
+    """What a line `use` takes of the names that are said."""
+    module, names = re.fullmatch(r"use (.*)\.\{(.*)\}", use).groups()
+    names = [name for name in map(str.strip, names.split(",")) if name in said or "◌" in name or not name[0].isalpha()]
+    return names and f"use {module}.{{{', '.join(names)}}}"
+
+
+def clauses_of(path, lines, function):
+    """The clauses of a function, each as its word, its name and its text."""
+    heads = [at for at, line in enumerate(lines) if line == f"pub fn {function}()"]
+    if len(heads) != 1:
+        raise Bad(f"{path}: {function} stands there {len(heads)} times")
+    found = [clauses.CLAUSE.fullmatch(each) for _, each in clauses.clause_texts(lines, heads[0] + 1)]
+    return [each for each in found if each and each[1] == "ensures"]
+
+
+def texts(crates, modules):
+    """The texts of those of the modules that are laws."""
+    found = {law.module: answered_text(crates, law)[0] for law in ANSWERED if law.module in modules}
+    return found | ({MODULE: text(crates)} if MODULE in modules else {})
+
+
 def text(crates):
-    """The module of the laws."""
+    """The module of the laws of lists."""
     uses, stated = [], []
     for law in LAWS:
         path = Path(crates) / law.file
@@ -57,11 +138,7 @@ def text(crates):
 
 def clause(path, lines, law):
     """The words of a law's clause."""
-    heads = [at for at, line in enumerate(lines) if line == f"pub fn {law.function}()"]
-    if len(heads) != 1:
-        raise Bad(f"{path}: {law.function} stands there {len(heads)} times")
-    for _, each in clauses.clause_texts(lines, heads[0] + 1):
-        found = clauses.CLAUSE.fullmatch(each)
-        if found and found[1] == "ensures" and found[2] == law.clause:
+    for found in clauses_of(path, lines, law.function):
+        if found[2] == law.clause:
             return found[3]
     raise Bad(f"{path}: {law.function} has no clause {law.clause}")

@@ -9,6 +9,7 @@ import re
 from pathlib import Path
 
 import antt
+import declared
 from antt import Bad
 
 HERE = Path(__file__).resolve().parent
@@ -16,14 +17,15 @@ OPERATORS = {"≡": "same", "≢": "differ", "+": "add", "-": "sub", "*": "mul",
              "<": "lt", "≤": "le", "==": "eqb", "&&": "andb", "||": "orb", "∷": "cons", "++": "app", "∙": "trans",
              "⊎": "or", "↔": "iff"}
 LETTERS = {"-": "_m_", "⊎": "or", "≢": "_ne_", "≤": "le", "<": "lt", "→": "to", "ℕ": "nat_t", "₁": "1", "₂": "2",
-           "×": "x", "≡": "eq", "∷": "cons", "=": "eq", "+": "plus", "*": "star", "^": "pow", "/": "div"}
+           "×": "x", "≡": "eq", "∷": "cons", "=": "eq", "+": "plus", "*": "star", "^": "pow", "/": "div", "'": "_"}
 RESERVED = {"at", "in", "end", "match", "with", "for", "as", "then", "else", "fun", "if", "let", "where", "return",
             "using", "by", "forall", "exists", "Type", "Set", "Prop", "fix", "is", "do", "mod", "S", "O", "I", "list",
             "nat", "bool", "option", "unit", "sum"}
 CONSTRUCTORS = {"zero": "0", "suc": "S", "inl": "inl", "inr": "inr", "refl": "eq_refl", "true": "true",
-                "false": "false", "[]": "nil", "◌∷◌": "cons", "tt": "tt"}
+                "false": "false", "[]": "nil", "◌∷◌": "cons", "tt": "tt", "Ok": "Kit.Ok", "Err": "Kit.Err",
+                "Some": "Some", "None": "None"}
 TYPES = {"ℕ": "nat", "⊥": "False", "Unit": "unit", "List": "list", "Bool": "bool", "Option": "option"}
-DECLARED = re.compile(r"(?:Definition|Fixpoint|Lemma|Notation) (\w+)")
+DECLARED = re.compile(r"(?:Definition|Fixpoint|Lemma|Notation|Inductive) (\w+)")
 # What a tactic is told beside facts: each of ours knows all of it.
 RULES = {"arith", "gets", "rules", "tests", "nat_tests"}
 TACTICS = {"omega": "k_omega", "cc": "k_cc", "grind": "k_grind"}
@@ -40,6 +42,8 @@ Local Open Scope nat_scope.
 
 def coq_name(name):
     """A name in Coq's letters."""
+    if name is None:
+        raise Bad("an argument without a name")
     operator = re.fullmatch("◌(.+)◌", name)
     if operator and operator[1] in OPERATORS:
         return f"op_{OPERATORS[operator[1]]}"
@@ -103,7 +107,8 @@ class Module:
                 self.own[name_of_it] = {"kind": "constructor"}
 
     def uses(self):
-        return [each for each in self.declarations if each["kind"] == "use"]
+        return [each | {"module": each["module"].removesuffix(".TheVariants")} for each in self.declarations
+                if each["kind"] == "use"]
 
 
 class Library:
@@ -125,6 +130,11 @@ class Library:
         return path if first == "Rattle" and path.is_file() else None
 
     def has(self, name):
+        """Whether a module is read here. Constants that Kit.v has are its own."""
+        if name not in self.texts and self.path(name) is None and name != "Rattle.s2cell.specs.declared.TheConstants":
+            text = declared.text(self.crates, name)
+            if text is not None:
+                self.texts[name] = text
         return name in self.texts or self.path(name) is not None
 
     def module(self, name):
@@ -395,26 +405,35 @@ class Writer:
         return "self" if self.depth else coq_name(self.defined)
 
     def number(self, term):
-        if term[1] > 4096:
-            raise Bad(f"a number that Coq would count up to: {term[1]}")
-        return str(term[1])
+        """A number; a great one by its digits to the base 4096, as Coq would count up to it."""
+        high, low = divmod(term[1], 4096)
+        return f"({self.number(('num', high))} * 4096 + {low})" if high else str(low)
 
     def lambda_(self, term):
-        heads = []
-        for each in term[1]:
+        heads, body = [], self.term(term[2])
+        for at, each in reversed(list(enumerate(term[1]))):
             if each[0] == "typed":
                 heads.append(f"({' '.join(map(coq_name, each[1]))} : {self.term(each[2])})")
             elif each[0] == "var":
                 heads.append(self.binder(each[1]))
+            elif each[0] == "tup":
+                heads.append(f"parts{at}")
+                body = f"(match parts{at} with {self.pattern(each)} => {body} end)"
             else:
                 raise Bad(f"a binder: {each}")
-        return f"(fun {' '.join(heads)} => {self.term(term[2])})"
+        return f"(fun {' '.join(reversed(heads))} => {body})"
 
     def let(self, term):
         _, pattern, kind, value, body = term
-        if self.is_variable(pattern):
+        if pattern[0] == "var":
             typed = f" : {self.term(kind)}" if kind else ""
-            return f"(let {coq_name(pattern[1])}{typed} := {self.term(value)} in\n    {self.term(body)})"
+            head = f"(let {coq_name(pattern[1])}{typed} := {self.term(value)} in\n    "
+            # in the body the name is no longer what a module gives
+            outer = self.known.pop(pattern[1], None)
+            try:
+                return f"{head}{self.term(body)})"
+            finally:
+                self.known |= {pattern[1]: outer} if outer else {}
         return f"(match {self.term(value)} with {self.pattern(pattern)} => {self.term(body)} end)"
 
     def pi(self, term):
@@ -434,6 +453,9 @@ class Writer:
     def tuple_(self, term):
         return f"(Kit.mk{len(term[1])} {' '.join(map(self.term, term[1]))})" if term[1] else "tt"
 
+    def choice(self, term):
+        return f"(if {self.term(term[1])} then {self.term(term[2])} else {self.term(term[3])})"
+
     def eliminate(self, term):
         _, value, _, cases = term
         rows = " ".join(f"| {self.pattern(pattern)} => {self.term(body)}" for pattern, body in cases)
@@ -441,6 +463,9 @@ class Writer:
 
     def projection(self, term):
         field, value = term[2], self.term(term[1])
+        whole, of_it = self.known.get(term[1][1], (None, None)) if term[1][0] == "var" else (None, None)
+        if of_it and of_it["kind"] == "data":
+            return f"{whole.rpartition('.')[0]}.{coq_name(field)}".lstrip(".")
         if field.isdigit():
             return f"ltac:(let r := open_constr:({value}) in k_proj{field} r)"
         having = [record for record, (each, _) in self.records.items() if field in dict(each["fields"])]
@@ -458,9 +483,12 @@ class Writer:
         if base is not None or not fitting:
             raise Bad(f"a record with the fields {', '.join(values)}")
         visible = {coq for coq, _ in self.known.values()}
-        record = ([each for each in fitting if each in visible] or fitting)[-1]
-        each, prefix = self.records[record]
-        return f"({prefix}mk_{record.split('.')[-1]} {' '.join(self.term(values[name]) for name, _ in each['fields'])})"
+        made = []
+        for record in [each for each in fitting if each in visible] or fitting[-1:]:
+            each, prefix = self.records[record]
+            parts = " ".join(self.term(values[name]) for name, _ in each["fields"])
+            made.append(f"({prefix}mk_{record.split('.')[-1]} {parts})")
+        return made[0] if len(made) == 1 else f"ltac:(first [{' | '.join(f'exact {each}' for each in made)}])"
 
     def application(self, term):
         _, function, arguments = term
@@ -530,4 +558,5 @@ class Writer:
 DECLARATIONS = {"use": lambda *_: (), "record": Writer.record, "data": Writer.data, "def": Writer.definition}
 TERMS = {"raw": lambda _, term: term[1], "num": Writer.number, "var": Writer.variable, "app": Writer.application,
          "lam": Writer.lambda_, "let": Writer.let, "pi": Writer.pi, "sig": Writer.sigma, "tup": Writer.tuple_,
-         "proj": Writer.projection, "rec": Writer.construct, "elim": Writer.eliminate, "tac": Writer.tactic}
+         "if": Writer.choice, "proj": Writer.projection, "rec": Writer.construct, "elim": Writer.eliminate,
+         "tac": Writer.tactic}
