@@ -225,16 +225,23 @@ down_column u v0 v1 a b ha hb hp hq =
       };
     }
 
+-- it meets the piece itself
+pub row_itself : (v u0 u1 : ℤ) (a b : Framed) → CrossesRow v u0 u1 a b
+    → MeetsSquare a b (record { u0 = u0; u1 = u1; v0 = v; v1 = v })
+row_itself v u0 u1 a b (inl c) = down_row v u0 u1 a b c.0 c.1 c.2 c.3
+row_itself v u0 u1 a b (inr c) = up_row v u0 u1 a b c.0 c.1 c.2 c.3
+
+pub column_itself : (u v0 v1 : ℤ) (a b : Framed) → CrossesColumn u v0 v1 a b
+    → MeetsSquare a b (record { u0 = u; u1 = u; v0 = v0; v1 = v1 })
+column_itself u v0 v1 a b (inl c) = down_column u v0 v1 a b c.0 c.1 c.2 c.3
+column_itself u v0 v1 a b (inr c) = up_column u v0 v1 a b c.0 c.1 c.2 c.3
+
 pub row_meets : (a b : Framed) (q : Square) (v u0 u1 : ℤ) → u0 <ℤ u1 → HoldsRow q v u0 u1 → CrossesRow v u0 u1 a b
     → MeetsSquare a b q
-row_meets a b q v u0 u1 less holds (inl c) = meets_larger a b (record { u0 = u0; u1 = u1; v0 = v; v1 = v }) q
-    (inl less) holds (down_row v u0 u1 a b c.0 c.1 c.2 c.3)
-row_meets a b q v u0 u1 less holds (inr c) = meets_larger a b (record { u0 = u0; u1 = u1; v0 = v; v1 = v }) q
-    (inl less) holds (up_row v u0 u1 a b c.0 c.1 c.2 c.3)
+row_meets a b q v u0 u1 less holds c = meets_larger a b (record { u0 = u0; u1 = u1; v0 = v; v1 = v }) q
+    (inl less) holds (row_itself v u0 u1 a b c)
 
 pub column_meets : (a b : Framed) (q : Square) (u v0 v1 : ℤ) → v0 <ℤ v1 → HoldsColumn q u v0 v1
     → CrossesColumn u v0 v1 a b → MeetsSquare a b q
-column_meets a b q u v0 v1 less holds (inl c) = meets_larger a b (record { u0 = u; u1 = u; v0 = v0; v1 = v1 }) q
-    (inr less) holds (down_column u v0 v1 a b c.0 c.1 c.2 c.3)
-column_meets a b q u v0 v1 less holds (inr c) = meets_larger a b (record { u0 = u; u1 = u; v0 = v0; v1 = v1 }) q
-    (inr less) holds (up_column u v0 v1 a b c.0 c.1 c.2 c.3)
+column_meets a b q u v0 v1 less holds c = meets_larger a b (record { u0 = u; u1 = u; v0 = v0; v1 = v1 }) q
+    (inr less) holds (column_itself u v0 v1 a b c)

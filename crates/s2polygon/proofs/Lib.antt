@@ -3,6 +3,7 @@ mod Along
 mod Around
 mod Bare
 mod Beside
+mod Between
 mod Borders
 mod Cells
 mod Changes

@@ -97,7 +97,7 @@ exact_steps a b c d ha hb hc hd =
     }
 
 -- the same of coordinates that are read from bits
-read : (x : ℤ) → unsigned_abs x < 2 ^ 31 → to_z w64 (of_z w64 x) ≡ x
+pub read : (x : ℤ) → unsigned_abs x < 2 ^ 31 → to_z w64 (of_z w64 x) ≡ x
 read x h = to_z-of_z w64 x (short_fits x (omega arith))
 
 pub minor_steps : (a b c d : ℤ) → unsigned_abs a < 2 ^ 31 → unsigned_abs b < 2 ^ 31 → unsigned_abs c < 2 ^ 31

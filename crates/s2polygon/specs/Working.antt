@@ -1,6 +1,7 @@
 -- What only private contracts and proofs need. No public contract rests on it, so it is no part of the statement:
 -- docs/STATEMENT.md says what is.
 pub mod Apart
+pub mod Boxes
 pub mod Counting
 pub mod Crossed
 pub mod Descent

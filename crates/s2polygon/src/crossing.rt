@@ -2,12 +2,11 @@
 ghost use Rattle.std.specs.Prelude.{◌≡◌, ◌↔◌, IsTrue};
 ghost use Rattle.s2polygon.specs.Crosses.{crosses_column_at, crosses_row_at};
 ghost use Rattle.s2polygon.specs.Working.Crossed.{AreBeside, AreCrossed};
-ghost use Rattle.s2polygon.specs.Working.Descent.{crosses_step_at};
-ghost use Rattle.s2polygon.specs.Working.Sizes.{HasPlaces, HasPlacesOfLine, IsFramed};
+ghost use Rattle.s2polygon.specs.Working.Sizes.{HasPlacesOfLine, IsFramed};
 
 use crate::frames::FramedEdge;
 use crate::meeting::{above_by, left_by, side_of};
-use crate::places::{Line, Step};
+use crate::places::Line;
 
 /// Whether the signs are those of a crossing.
 fn are_crossed(a: i128, b: i128, p: i128, q: i128) -> bool
@@ -59,14 +58,4 @@ pub(crate) fn crosses_column(e: FramedEdge, line: Line) -> bool
     let low = side_of(line.at, line.low, e.n);
     let high = side_of(line.at, line.high, e.n);
     are_crossed(from, to, low, high)
-}
-
-/// Whether an edge crosses just one of the two pieces of a step.
-#[tactic(none)]
-pub(crate) fn crosses_step(e: FramedEdge, s: Step) -> bool
-    requires edge { IsFramed e }
-    requires step { HasPlaces s }
-    ensures { result ≡ crosses_step_at s e }
-{
-    crosses_row(e, s.row) ^ crosses_column(e, s.column)
 }

@@ -7,9 +7,7 @@ ghost use Rattle.s2polygon.specs.Working.Descent.{IsRight, crosses_step_at, near
 ghost use Rattle.s2polygon.specs.Working.Sizes.{HasPlaces, IsFramed, IsOfPlaces};
 ghost use Rattle.s2polygon.specs.declared.frames.FramedEdge.{FramedEdge};
 
-use crate::crossing::crosses_step;
-use crate::frames::FramedEdge;
-use crate::meeting::is_met;
+use crate::boxes::BoxedEdge;
 use crate::places::{Square, Step, square_at, step_at};
 use std::alloc::{AllocError, Global};
 
@@ -23,13 +21,13 @@ pub struct Known {
 }
 
 /// The edge with this number in a list.
-fn edge_at(all: &[FramedEdge], n: usize) -> FramedEdge
+fn edge_at(all: &[BoxedEdge], n: usize) -> &BoxedEdge
     requires framed { All IsFramed all.now }
     requires within { n < length all.now }
-    ensures value { result ≡ get_or all.now n no_edge }
-    ensures framed { IsFramed result }
+    ensures value { result.now ≡ get_or all.now n no_edge }
+    ensures framed { IsFramed result.now }
 {
-    all[n]
+    &all[n]
 }
 
 /// Adds a number to a list if it is to be kept.
@@ -46,7 +44,7 @@ fn keep_if(kept: bool, n: usize, list: &mut Vec<usize>) -> Result<(), AllocError
 /// a square.
 fn sifted(
     alloc: Global,
-    all: &[FramedEdge],
+    all: &[BoxedEdge],
     numbers: &[usize],
     s: Step,
     q: Square,
@@ -65,8 +63,8 @@ fn sifted(
     let mut met = Vec::new(alloc);
     for n in numbers {
         let e = edge_at(all, *n);
-        odd = odd ^ crosses_step(e, s);
-        keep_if(is_met(q, e), *n, &mut met)?;
+        odd = odd ^ e.crosses_step(s);
+        keep_if(e.is_met(q), *n, &mut met)?;
     }
     Ok(Known { odd, edges: met })
 }
@@ -77,7 +75,7 @@ fn sifted(
 #[tactic(none)]
 pub(crate) fn descend(
     alloc: Global,
-    all: &[FramedEdge],
+    all: &[BoxedEdge],
     parent: &Known,
     k: u32,
     i: u64,
@@ -111,7 +109,7 @@ pub(crate) fn descend(
 /// The parity and the edges of a face with this list, whose middle has this parity.
 pub(crate) fn known_of_face(
     alloc: Global,
-    all: &[FramedEdge],
+    all: &[BoxedEdge],
     odd: bool,
 ) -> Result<Known, AllocError>
     ensures right { (margin : ℕ) (edges : List FramedEdge) → all.now ≡ near_face margin edges
@@ -130,7 +128,7 @@ pub(crate) fn known_of_face(
 #[tactic(none)]
 pub(crate) fn descend_to(
     alloc: Global,
-    all: &[FramedEdge],
+    all: &[BoxedEdge],
     face: Known,
     bottom: u32,
     x: u64,
@@ -161,7 +159,7 @@ pub(crate) fn descend_to(
 #[tactic(none)]
 pub(crate) fn descend_to_leaf(
     alloc: Global,
-    all: &[FramedEdge],
+    all: &[BoxedEdge],
     face: Known,
     x: u64,
     y: u64,

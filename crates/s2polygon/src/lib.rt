@@ -5,6 +5,7 @@
 //! signs of products of whole numbers: nothing is rounded.
 #![tactic(auto)]
 
+mod boxes;
 mod counting;
 mod covering;
 mod crossing;

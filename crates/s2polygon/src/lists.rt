@@ -6,8 +6,9 @@ ghost use Rattle.s2polygon.specs.Working.Descent.{near_face};
 ghost use Rattle.s2polygon.specs.Working.Known.{AreLists, list_of};
 ghost use Rattle.s2polygon.specs.Working.Sizes.{IsOfPlaces};
 
+use crate::boxes::BoxedEdge;
 use crate::directions::Edge;
-use crate::frames::{FramedEdge, edge_on};
+use crate::frames::edge_on;
 use crate::meeting::is_met;
 use crate::places::{Square, square_at};
 use std::alloc::{AllocError, Global};
@@ -16,17 +17,17 @@ use std::alloc::{AllocError, Global};
 #[derive(Drop)]
 pub struct Lists {
     /// Those of face 0.
-    pub zero: Vec<FramedEdge>,
+    pub zero: Vec<BoxedEdge>,
     /// Those of face 1.
-    pub one: Vec<FramedEdge>,
+    pub one: Vec<BoxedEdge>,
     /// Those of face 2.
-    pub two: Vec<FramedEdge>,
+    pub two: Vec<BoxedEdge>,
     /// Those of face 3.
-    pub three: Vec<FramedEdge>,
+    pub three: Vec<BoxedEdge>,
     /// Those of face 4.
-    pub four: Vec<FramedEdge>,
+    pub four: Vec<BoxedEdge>,
     /// Those of face 5.
-    pub five: Vec<FramedEdge>,
+    pub five: Vec<BoxedEdge>,
 }
 
 /// Those of the edges that meet a square of a face, in the frame of the face.
@@ -35,7 +36,7 @@ fn edges_met_on(
     face: u8,
     edges: &[Edge],
     q: Square,
-) -> Result<Vec<FramedEdge>, AllocError>
+) -> Result<Vec<BoxedEdge>, AllocError>
     requires face { face < 6 }
     requires square { IsOfPlaces q }
     ensures { IfOk result (λ met. met.items ≡ filter (meets_square q) (edges_on face edges.now)) }
@@ -44,7 +45,7 @@ fn edges_met_on(
     for e in edges {
         let edge = edge_on(face, *e);
         if is_met(q, edge) {
-            met.push(edge)?;
+            met.push(BoxedEdge::new(edge))?;
         }
     }
     Ok(met)
@@ -57,7 +58,7 @@ fn list_on(
     face: u8,
     edges: &[Edge],
     margin: u64,
-) -> Result<Vec<FramedEdge>, AllocError>
+) -> Result<Vec<BoxedEdge>, AllocError>
     requires face { face < 6 }
     requires margin { margin ≤ 2 ^ 60 }
     ensures { IfOk result (λ list. list.items ≡ near_face margin (edges_on face edges.now)) }
@@ -87,7 +88,7 @@ pub(crate) fn lists_of(alloc: Global, edges: &[Edge], margin: u64) -> Result<Lis
 }
 
 /// The list of a face.
-pub(crate) fn list_at(lists: &Lists, face: u8) -> &[FramedEdge]
+pub(crate) fn list_at(lists: &Lists, face: u8) -> &[BoxedEdge]
     requires { face < 6 }
     ensures { result.now ≡ list_of lists.now face }
 {

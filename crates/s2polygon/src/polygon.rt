@@ -10,11 +10,11 @@ ghost use Rattle.s2polygon.specs.Working.Known.{face_list, top_in};
 ghost use Rattle.s2polygon.specs.Working.Sizes.{IsFramed};
 ghost use Rattle.s2polygon.specs.declared.frames.FramedEdge.{FramedEdge};
 
+use crate::boxes::BoxedEdge;
 use crate::descent::{Known, descend_to_leaf, known_of_face};
 use crate::directions::{Direction, Edge};
 use crate::faces::{Tops, exchanged, top_at, tops_of};
 use crate::fault::PolygonFault;
-use crate::frames::FramedEdge;
 use crate::lists::{Lists, list_at, lists_of};
 use crate::rings::edges_of;
 use s2cell::{CellId, GREATEST_LEVEL};
@@ -52,7 +52,7 @@ impl Model for Polygon {
 /// `top` the parity of its middle.
 fn parity_of_leaf(
     alloc: Global,
-    all: &[FramedEdge],
+    all: &[BoxedEdge],
     margin: u64,
     top: bool,
     i: u32,
@@ -182,7 +182,7 @@ impl Polygon {
     }
 
     /// The list of a face: the edges that meet it.
-    pub(crate) fn list(&self, face: u8) -> &[FramedEdge]
+    pub(crate) fn list(&self, face: u8) -> &[BoxedEdge]
         requires { face < 6 }
         ensures value { result.now ≡ face_list self.now face }
         ensures framed { All IsFramed result.now }

@@ -9,8 +9,8 @@ ghost use Rattle.s2polygon.specs.Working.Known.{IsKnown, part_by};
 ghost use Rattle.s2polygon.specs.Working.Sizes.{IsFramed};
 ghost use Rattle.s2polygon.specs.declared.frames.FramedEdge.{FramedEdge};
 
+use crate::boxes::BoxedEdge;
 use crate::descent::{Known, descend};
-use crate::frames::FramedEdge;
 use crate::polygon::Polygon;
 use s2cell::{CellId, GREATEST_LEVEL, PlacedCell};
 use s2cover::{Part, Quadrant, Quartered};
@@ -34,7 +34,7 @@ pub struct Walked<'a> {
 #[tactic(none)]
 fn known_of_child(
     alloc: Global,
-    all: &[FramedEdge],
+    all: &[BoxedEdge],
     parent: &Known,
     child: &PlacedCell,
     margin: u64,
