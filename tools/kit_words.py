@@ -68,6 +68,7 @@ WORDS = {
     "AllPairs": ("AllPairs R xs", "R holds of each item and each later one"),
     "list_any": ("list_any p xs", "whether an item passes the test"),
     "list_all": ("list_all p xs", "whether each does"), "count_by": ("count_by p xs", "how many do"),
+    "sum_by": ("sum_by f xs", "the sum of f over the items"),
     "AllZip": ("AllZip R xs ys", "they are of one length, and R holds of each two items in the same place"),
     "IsStrictlyIncreasing": ("IsStrictlyIncreasing xs", "each number is less than the next"),
     "IsNonDecreasing": ("IsNonDecreasing xs", "each number is at most the next"),

@@ -101,6 +101,14 @@ inner_in R k x h t =
           filled_each R (m * 4 ^ (30 - k)) (4 ^ (30 - k)) both.1 y (omega arith) (omega arith),
     )
 
+-- a leaf of an inner cell is in the set
+pub inner_of : (R : ℕ → Bool) (k x : ℕ) → inner_set R k x ≡ true → R x ≡ true
+unfolding inner_set
+inner_of R k x t =
+    let both = and_parts (nat_lt x LEAVES) (filled R (x / 4 ^ (30 - k) * 4 ^ (30 - k)) (4 ^ (30 - k))) t in
+    let own = own_block k x in
+    filled_each R (x / 4 ^ (30 - k) * 4 ^ (30 - k)) (4 ^ (30 - k)) both.1 x own.0 own.1
+
 pub inner_from : (R : ℕ → Bool) (k x : ℕ) → IsInInner R k x → inner_set R k x ≡ true
 unfolding inner_set
 inner_from R k x (c, i, lv, v, inside) =

@@ -11,6 +11,7 @@ mod Regions
 mod Coverings
 pub mod OwnCells
 mod Searches
+mod Times
 mod Splittings
 mod Squares
 mod Rounded

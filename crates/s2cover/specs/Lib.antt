@@ -1,3 +1,4 @@
 pub mod Coverings
 pub mod Cut
+pub mod Near
 pub mod Working

@@ -1,8 +1,9 @@
 //! A cell that crosses a region, and its children that don't lie outside.
-ghost use Rattle.std.specs.Prelude.{◌≡◌, ◌+◌, ◌<◌, ◌≤◌, ◌++◌, ◌∷◌, ◌||◌, [], ℕ, Bool, All, IfOk, length, true};
+ghost use Rattle.std.specs.Prelude.{◌≡◌, ◌+◌, ◌<◌, ◌≤◌, ◌++◌, ◌∷◌, ◌||◌, ◌⊎◌, [], ℕ, Bool, All, IfOk, true};
+ghost use Rattle.std.specs.Prelude.{cond, length};
 ghost use Rattle.s2cell.specs.Cell.{IsCell, covers, level_of};
 ghost use Rattle.s2list.specs.Union.{has_leaf};
-ghost use Rattle.s2cover.specs.Working.Splitting.{IsAcross, IsFamily, IsInside, any_covers};
+ghost use Rattle.s2cover.specs.Working.Splitting.{IsAcross, IsFamily, IsInside, any_covers, times, times_by};
 
 use crate::quadrant::Quadrant;
 use crate::region::Part;
@@ -26,9 +27,9 @@ pub(crate) fn family_of<Q: Quadrant>(alloc: Global, quadrant: &Q) -> Result<Fami
     requires deep { level_of (Q.id quadrant.now) < GREATEST_LEVEL }
     ensures cell { IfOk result (λ f. f.cell ≡ Q.id quadrant.now) }
     ensures few { IfOk result (λ f. length f.inside.items + length f.across.items ≤ 4) }
-    ensures family { IfOk result (λ f. (o i : ℕ → Bool) (k : ℕ)
-        → IsAcross Q.id Q.sound Q.outer Q.inner o i k quadrant.now
-        → IsFamily Q.id Q.sound Q.outer Q.inner o i (k + 1) f.cell f.inside.items f.across.items) }
+    ensures family { IfOk result (λ f. (w : ℕ → ℕ) (o i : ℕ → Bool) (k : ℕ)
+        → IsAcross Q.id Q.sound Q.work Q.outer Q.inner w o i k quadrant.now
+        → IsFamily Q.id Q.sound Q.work Q.outer Q.inner w o i (k + 1) f.cell f.inside.items f.across.items) }
 {
     let cell = quadrant.cell();
     let _ = cell.id();
@@ -53,17 +54,21 @@ pub(crate) fn sort_in<Q: Quadrant>(
 ) -> Result<(), AllocError>
     requires { Q.sound quadrant }
     ensures cell { IsCell (Q.id quadrant) }
-    ensures leaves { IfOk result (λ _. (x : ℕ) → covers (Q.id quadrant) x ≡ true → Q.outer quadrant x ≡ true
+    ensures leaves { IfOk result (λ _. (x : ℕ) → covers (Q.id quadrant) x ≡ true
+        → (Q.outer quadrant x ≡ true) ⊎ (Q.inner quadrant x ≡ true)
         → (has_leaf inside.new.items x || any_covers Q.id across.new.items x) ≡ true) }
     ensures others { IfOk result (λ _. (x : ℕ)
         → (has_leaf inside.old.items x || any_covers Q.id across.old.items x) ≡ true
         → (has_leaf inside.new.items x || any_covers Q.id across.new.items x) ≡ true) }
+    ensures times { IfOk result (λ _. (x : ℕ) → times inside.new.items x + times_by Q.id across.new.items x
+        ≤ (times inside.old.items x + times_by Q.id across.old.items x) + cond (covers (Q.id quadrant) x) 1 0) }
     ensures inside { IfOk result (λ _. (o i : ℕ → Bool) (k : ℕ) → Q.outer quadrant ≡ o → Q.inner quadrant ≡ i
         → level_of (Q.id quadrant) ≡ k → All (IsInside o i k) inside.old.items
         → All (IsInside o i k) inside.new.items) }
-    ensures across { IfOk result (λ _. (o i : ℕ → Bool) (k : ℕ) → Q.outer quadrant ≡ o → Q.inner quadrant ≡ i
-        → level_of (Q.id quadrant) ≡ k → All (IsAcross Q.id Q.sound Q.outer Q.inner o i k) across.old.items
-        → All (IsAcross Q.id Q.sound Q.outer Q.inner o i k) across.new.items) }
+    ensures across { IfOk result (λ _. (w : ℕ → ℕ) (o i : ℕ → Bool) (k : ℕ) → Q.work quadrant ≡ w
+        → Q.outer quadrant ≡ o → Q.inner quadrant ≡ i → level_of (Q.id quadrant) ≡ k
+        → All (IsAcross Q.id Q.sound Q.work Q.outer Q.inner w o i k) across.old.items
+        → All (IsAcross Q.id Q.sound Q.work Q.outer Q.inner w o i k) across.new.items) }
     ensures few { IfOk result (λ _. length inside.new.items + length across.new.items
         ≤ (length inside.old.items + length across.old.items) + 1) }
 {
@@ -101,11 +106,11 @@ pub(crate) fn families_of<Q: Quadrant>(
     ensures len { IfOk result (λ families. length families.items ≡ length ahead.old.items) }
     ensures few { IfOk result (λ families.
         All (λ f. length f.inside.items + length f.across.items ≤ 4) families.items) }
-    ensures leaves { IfOk result (λ families. (x : ℕ) → any_covers Q.id ahead.old.items x ≡ true
-        → any_covers (λ f. f.cell) families.items x ≡ true) }
-    ensures families { IfOk result (λ families. (o i : ℕ → Bool) (k : ℕ)
-        → All (IsAcross Q.id Q.sound Q.outer Q.inner o i k) ahead.old.items
-        → All (λ f. IsFamily Q.id Q.sound Q.outer Q.inner o i (k + 1) f.cell f.inside.items f.across.items)
+    ensures times { IfOk result (λ families. (x : ℕ)
+        → times_by (λ f. f.cell) families.items x ≡ times_by Q.id ahead.old.items x) }
+    ensures families { IfOk result (λ families. (w : ℕ → ℕ) (o i : ℕ → Bool) (k : ℕ)
+        → All (IsAcross Q.id Q.sound Q.work Q.outer Q.inner w o i k) ahead.old.items
+        → All (λ f. IsFamily Q.id Q.sound Q.work Q.outer Q.inner w o i (k + 1) f.cell f.inside.items f.across.items)
         families.items) }
 {
     let mut families = Vec::new(alloc);

@@ -23,12 +23,17 @@ pub trait Quadrant: Drop {
 
     ghost inner: { Self → ℕ → Bool };
 
+    ghost work: { Self → ℕ → ℕ };
+
     /// The cell.
     fn cell(&self) -> CellId
         ensures { result ≡ id self.now };
 
-    /// How much it takes to find what is known in a child, as the number of edges that are tried on it.
-    fn size(&self) -> usize;
+    /// How much it takes to find what is known in a child, as the number of edges that are tried on it: the `work` of
+    /// the cell.
+    fn size(&self) -> usize
+        requires { sound self.now }
+        ensures { result ≡ work self.now (id self.now) };
 
     /// How the cell lies relative to the region: `Out` if it has no leaf of `outer`, `In` if all its leaves are in
     /// `inner`, else `Cross`. If it is `Out` it has no leaf of `inner` either, and if it is `In` all its leaves are in
@@ -51,20 +56,27 @@ pub trait Quadrant: Drop {
         ensures sound { IfOk result (λ child. sound child) }
         ensures cell { IfOk result (λ child. id child ≡ child_of (id self.now) digit) }
         ensures outer { IfOk result (λ child. outer child ≡ outer self.now) }
-        ensures inner { IfOk result (λ child. inner child ≡ inner self.now) };
+        ensures inner { IfOk result (λ child. inner child ≡ inner self.now) }
+        ensures work { IfOk result (λ child. work child ≡ work self.now) };
 }
 
-/// A region that a walk enters at the six faces. `outer` and `inner` are its sets of leaves, as of its quadrants.
+/// A region that a walk enters at the six faces. `outer` and `inner` are its sets of leaves, and `work` is that of each
+/// cell, as of its quadrants; `extent` is its size.
 pub trait Quartered {
     ghost outer: { Self → ℕ → Bool };
 
     ghost inner: { Self → ℕ → Bool };
 
+    ghost work: { Self → ℕ → ℕ };
+
+    ghost extent: { Self → ℕ };
+
     /// What is known of the region in one cell.
     type At: Quadrant;
 
     /// How large the region is, by what `size` of a quadrant counts, as the number of all its edges.
-    fn size(&self) -> usize;
+    fn size(&self) -> usize
+        ensures { result ≡ extent self.now };
 
     /// What is known of the region in a face, 0 to 5. Fails only if there is no memory for it.
     fn face(&self, alloc: Global, face: u8) -> Result<Self::At, AllocError>
@@ -73,5 +85,6 @@ pub trait Quartered {
         ensures level { IfOk result (λ top. level_of (Self.At.id top) ≡ 0) }
         ensures face { IfOk result (λ top. face_of (Self.At.id top) ≡ face) }
         ensures outer { IfOk result (λ top. Self.At.outer top ≡ outer self.now) }
-        ensures inner { IfOk result (λ top. Self.At.inner top ≡ inner self.now) };
+        ensures inner { IfOk result (λ top. Self.At.inner top ≡ inner self.now) }
+        ensures work { IfOk result (λ top. Self.At.work top ≡ work self.now) };
 }

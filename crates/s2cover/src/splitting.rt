@@ -1,12 +1,14 @@
 //! Coverings of few cells, for any region that is walked down from the faces: level by level, each cell
 //! that crosses the region is split if its children fit, those first that have the fewest.
-ghost use Rattle.std.specs.Prelude.{◌≡◌, ◌+◌, ◌*◌, ◌<◌, ◌≤◌, ◌||◌, [], ℕ, Bool, true, false, All, IfOk};
-ghost use Rattle.std.specs.Prelude.{IsTrue, length, max, take};
-ghost use Rattle.s2cell.specs.Cell.{covers, level_of};
+ghost use Rattle.std.specs.Prelude.{◌≡◌, ◌+◌, ◌*◌, ◌<◌, ◌≤◌, ◌∷◌, ◌⊎◌, [], ℕ, Bool, List, true, false, All, IfOk};
+ghost use Rattle.std.specs.Prelude.{Contains, IsTrue, drop, length, map, max, take};
+ghost use Rattle.std.specs.List.{sum_by};
+ghost use Rattle.s2cell.specs.Cell.{level_of};
 ghost use Rattle.s2list.specs.Union.{IsLocal, IsWithin, has_leaf};
 ghost use Rattle.s2cover.specs.Coverings.{EachShares, HasAllOf, NoneDeeper};
+ghost use Rattle.s2cover.specs.Near.{IsNearInner, IsNearOuter};
 ghost use Rattle.s2cover.specs.Working.Descent.{is_outer};
-ghost use Rattle.s2cover.specs.Working.Splitting.{Front, IsAcross, IsFamily, IsKept, Sizes, any_covers};
+ghost use Rattle.s2cover.specs.Working.Splitting.{Front, IsCellOf, IsFamily, Sizes, times, times_by};
 
 use crate::MOST_COVERING;
 use crate::budget::{budget, spend};
@@ -28,6 +30,9 @@ const FACES: usize = 6;
 /// covering may have. The sizes of the quadrants that are split add up to 2^20 + 32 (`size` of the region + `most`) or
 /// less; the others are kept whole then, which no error tells. Fails only if there is no memory. S2: `GetCovering` with
 /// `max_cells` and `max_level`.
+///
+/// It comes near: each cell that it is made of is of the level `deepest` or lies inside, unless there are `most - 2` of
+/// them or the bound of the sizes is met. What it is made of is normalized, so it may have fewer cells.
 pub fn outer_up_to<R: Quartered>(
     alloc: Global,
     region: &R,
@@ -37,6 +42,8 @@ pub fn outer_up_to<R: Quartered>(
     requires level { deepest ≤ GREATEST_LEVEL }
     requires most { most ≤ MOST_COVERING }
     ensures leaves { IfOk result (λ u. HasAllOf (R.outer region.now) u.cells) }
+    ensures near { IfOk result (λ u. IsNearOuter (R.outer region.now) (R.inner region.now) (R.work region.now)
+        (R.extent region.now) deepest most u.cells) }
     ensures shares { IfOk result (λ u. EachShares (R.outer region.now) u.cells) }
     ensures within { IfOk result (λ u. length u.cells ≤ max most 6) }
     ensures level { IfOk result (λ u. NoneDeeper deepest u.cells) }
@@ -53,6 +60,9 @@ pub fn outer_up_to<R: Quartered>(
 /// children outside; into none once it has as many cells as it may have, or once their sizes would add up to more than
 /// those of `outer_up_to` may. Fails only if there is no memory. S2: `GetInteriorCovering` with `max_cells` and
 /// `max_level`.
+///
+/// It comes near: it is made of `most` cells, or has each cell of a level down to `deepest` that lies inside, if no
+/// level above has more cells that cross the region than `most`, or 6, and these meet the bound of the sizes.
 pub fn inner_up_to<R: Quartered>(
     alloc: Global,
     region: &R,
@@ -62,6 +72,8 @@ pub fn inner_up_to<R: Quartered>(
     requires level { deepest ≤ GREATEST_LEVEL }
     requires most { most ≤ MOST_COVERING }
     ensures leaves { IfOk result (λ u. IsWithin (has_leaf u.cells) (R.inner region.now)) }
+    ensures near { IfOk result (λ u. IsNearInner (R.outer region.now) (R.inner region.now) (R.work region.now)
+        (R.extent region.now) deepest most u.cells) }
     ensures within { IfOk result (λ u. length u.cells ≤ most) }
     ensures level { IfOk result (λ u. NoneDeeper deepest u.cells) }
     ensures local { IfOk result (λ u. IsLocal u.cells) }
@@ -82,6 +94,10 @@ fn cover_up_to<R: Quartered>(
     ensures all { is_outer kind ≡ true → IfOk result (λ u. HasAllOf (R.outer region.now) u.cells) }
     ensures shares { is_outer kind ≡ true → IfOk result (λ u. EachShares (R.outer region.now) u.cells) }
     ensures only { is_outer kind ≡ false → IfOk result (λ u. IsWithin (has_leaf u.cells) (R.inner region.now)) }
+    ensures outer { is_outer kind ≡ true → IfOk result (λ u. IsNearOuter (R.outer region.now) (R.inner region.now)
+        (R.work region.now) (R.extent region.now) deepest most u.cells) }
+    ensures inner { is_outer kind ≡ false → IfOk result (λ u. IsNearInner (R.outer region.now) (R.inner region.now)
+        (R.work region.now) (R.extent region.now) deepest most u.cells) }
     ensures most { is_outer kind ≡ true → IfOk result (λ u. length u.cells ≤ max most 6) }
     ensures within { is_outer kind ≡ false → IfOk result (λ u. length u.cells ≤ most) }
     ensures level { IfOk result (λ u. NoneDeeper deepest u.cells) }
@@ -110,9 +126,9 @@ fn enter<R: Quartered>(
     requires kept { kept.old.items ≡ [] }
     requires ahead { ahead.old.items ≡ [] }
     ensures few { IfOk result (λ _. length kept.new.items + length ahead.new.items ≤ 6) }
-    ensures front { IfOk result (λ _. (whole : Bool) (deepest : ℕ)
-        → Front R.At.id R.At.sound R.At.outer R.At.inner whole (R.outer region.now) (R.inner region.now) deepest 0
-        (λ _. false) kept.new.items ahead.new.items) }
+    ensures front { IfOk result (λ _. (whole : Bool) (allowed most deepest : ℕ)
+        → Front R.At.id R.At.sound R.At.work R.At.outer R.At.inner whole (R.work region.now) (R.outer region.now)
+        (R.inner region.now) allowed most deepest 0 0 [] [] kept.new.items ahead.new.items) }
 {
     for face in 0..6u8 {
         let top = region.face(alloc, face)?;
@@ -137,30 +153,53 @@ fn trim(kind: Kind, most: usize, kept: &mut Vec<CellId>)
 fn leave_out<Q: Quadrant>(
     kind: Kind,
     most: usize,
-    left: &mut u64,
+    left: &mut u128,
     kept: &mut Vec<CellId>,
     ahead: &mut Vec<Q>,
 ) -> Result<(), AllocError>
-    requires { Sizes (is_outer kind) most 0 (length kept.old.items) (length ahead.old.items) }
+    requires sizes { Sizes (is_outer kind) most 0 (length kept.old.items) (length ahead.old.items) }
+    requires sound { All Q.sound ahead.old.items }
     ensures sizes { IfOk result (λ _.
         Sizes (is_outer kind) most 0 (length kept.new.items) (length ahead.new.items)) }
-    ensures front { IfOk result (λ _. (o i : ℕ → Bool) (deepest k : ℕ)
-        → Front Q.id Q.sound Q.outer Q.inner (is_outer kind) o i deepest k (λ _. false) kept.old.items ahead.old.items
-        → Front Q.id Q.sound Q.outer Q.inner (is_outer kind) o i deepest k (λ _. false) kept.new.items
-        ahead.new.items) }
+    ensures front { IfOk result (λ _. (w : ℕ → ℕ) (o i : ℕ → Bool) (allowed deepest k : ℕ) (spent : List ℕ)
+        → allowed ≤ sum_by w spent + left.old
+        → Front Q.id Q.sound Q.work Q.outer Q.inner (is_outer kind) w o i allowed most deepest k k spent []
+        kept.old.items ahead.old.items
+        → (more : List ℕ) × (allowed ≤ sum_by w more + left.new)
+        × Front Q.id Q.sound Q.work Q.outer Q.inner (is_outer kind) w o i allowed most deepest k (k + 1) more []
+        kept.new.items ahead.new.items) }
 {
-    let count = if is_full(kind, most, kept) {
-        0
-    } else {
-        spend(left, ahead)
-    };
+    let count = taken(kind, most, left, kept, ahead);
     let mut rest = ahead.split_off(count)?;
     close(kind, &mut rest, kept)?;
     Ok(())
 }
 
+/// How many quadrants of a list, from the first on, are to be split. Takes their pairs away from those that are left.
+fn taken<Q: Quadrant>(
+    kind: Kind,
+    most: usize,
+    left: &mut u128,
+    kept: &Vec<CellId>,
+    ahead: &[Q],
+) -> usize
+    requires { All Q.sound ahead.now }
+    ensures within { result ≤ length ahead.now }
+    ensures taken { ((is_outer kind ≡ false) × (most ≤ length kept.now.items) × (left.new ≡ left.old))
+        ⊎ ((left.new + sum_by (λ q. Q.work q (Q.id q)) (take result ahead.now) ≡ left.old)
+        × ((q : Q) (more : List Q) → drop result ahead.now ≡ q ∷ more → left.new < Q.work q (Q.id q))) }
+{
+    if is_full(kind, most, kept) {
+        0
+    } else {
+        spend(left, ahead)
+    }
+}
+
 /// Whether an inner covering has as many cells as it may have: what comes later would be cut off again.
-fn is_full(kind: Kind, most: usize, kept: &Vec<CellId>) -> bool {
+fn is_full(kind: Kind, most: usize, kept: &Vec<CellId>) -> bool
+    ensures { IsTrue result → (is_outer kind ≡ false) × (most ≤ length kept.now.items) }
+{
     match kind {
         Kind::Outer => false,
         Kind::Inner => most <= kept.len(),
@@ -180,10 +219,12 @@ fn split<Q: Quadrant>(
     requires sizes { Sizes (is_outer kind) most 0 (length kept.old.items) (length ahead.old.items) }
     ensures sizes { IfOk result (λ _.
         Sizes (is_outer kind) most 0 (length kept.new.items) (length ahead.new.items)) }
-    ensures front { IfOk result (λ _. (o i : ℕ → Bool) (deepest k : ℕ) → k + 1 ≤ deepest
-        → Front Q.id Q.sound Q.outer Q.inner (is_outer kind) o i deepest k (λ _. false) kept.old.items ahead.old.items
-        → Front Q.id Q.sound Q.outer Q.inner (is_outer kind) o i deepest (k + 1) (λ _. false) kept.new.items
-        ahead.new.items) }
+    ensures front { IfOk result (λ _. (w : ℕ → ℕ) (o i : ℕ → Bool) (allowed deepest k : ℕ) (spent : List ℕ)
+        → k + 1 ≤ deepest
+        → Front Q.id Q.sound Q.work Q.outer Q.inner (is_outer kind) w o i allowed most deepest k (k + 1) spent []
+        kept.old.items ahead.old.items
+        → Front Q.id Q.sound Q.work Q.outer Q.inner (is_outer kind) w o i allowed most deepest (k + 1) (k + 1) spent []
+        kept.new.items ahead.new.items) }
 {
     let mut families = families_of(alloc, ahead)?;
     for limit in 1..5usize {
@@ -198,14 +239,13 @@ fn close<Q: Quadrant>(
     ahead: &mut Vec<Q>,
     kept: &mut Vec<CellId>,
 ) -> Result<(), AllocError>
-    ensures outer { is_outer kind ≡ true → IfOk result (λ _. (x : ℕ)
-        → (has_leaf kept.old.items x || any_covers Q.id ahead.old.items x) ≡ true → has_leaf kept.new.items x ≡ true) }
+    ensures times { is_outer kind ≡ true → IfOk result (λ _. (x : ℕ)
+        → times kept.new.items x ≡ times kept.old.items x + times_by Q.id ahead.old.items x) }
     ensures len { is_outer kind ≡ true → IfOk result (λ _.
-        length kept.new.items ≤ length kept.old.items + length ahead.old.items) }
+        length kept.new.items ≡ length kept.old.items + length ahead.old.items) }
     ensures inner { is_outer kind ≡ false → kept.new.items ≡ kept.old.items }
-    ensures kept { is_outer kind ≡ true → IfOk result (λ _. (o i : ℕ → Bool) (deepest k : ℕ) → k ≤ deepest
-        → All (IsAcross Q.id Q.sound Q.outer Q.inner o i k) ahead.old.items
-        → All (IsKept true o i deepest) kept.old.items → All (IsKept true o i deepest) kept.new.items) }
+    ensures each { is_outer kind ≡ true → IfOk result (λ _.
+        All (λ c. Contains kept.old.items c ⊎ IsCellOf Q.id ahead.old.items c) kept.new.items) }
 {
     match kind {
         Kind::Outer => keep_whole(ahead, kept),
@@ -215,12 +255,11 @@ fn close<Q: Quadrant>(
 
 /// Adds the cells of quadrants to those that are kept.
 fn keep_whole<Q: Quadrant>(ahead: &mut Vec<Q>, kept: &mut Vec<CellId>) -> Result<(), AllocError>
-    ensures leaves { IfOk result (λ _. (x : ℕ)
-        → (has_leaf kept.old.items x || any_covers Q.id ahead.old.items x) ≡ true → has_leaf kept.new.items x ≡ true) }
-    ensures len { IfOk result (λ _. length kept.new.items ≤ length kept.old.items + length ahead.old.items) }
-    ensures kept { IfOk result (λ _. (o i : ℕ → Bool) (deepest k : ℕ) → k ≤ deepest
-        → All (IsAcross Q.id Q.sound Q.outer Q.inner o i k) ahead.old.items
-        → All (IsKept true o i deepest) kept.old.items → All (IsKept true o i deepest) kept.new.items) }
+    ensures times { IfOk result (λ _. (x : ℕ)
+        → times kept.new.items x ≡ times kept.old.items x + times_by Q.id ahead.old.items x) }
+    ensures len { IfOk result (λ _. length kept.new.items ≡ length kept.old.items + length ahead.old.items) }
+    ensures each { IfOk result (λ _.
+        All (λ c. Contains kept.old.items c ⊎ IsCellOf Q.id ahead.old.items c) kept.new.items) }
 {
     while let Some(quadrant) = ahead.pop() {
         add(kept, quadrant.cell())?;
@@ -246,15 +285,18 @@ fn settle_some<Q: Quadrant>(
     ensures few { IfOk result (λ others. All (λ f. length f.inside.items + length f.across.items ≤ 4) others.items) }
     ensures sizes { IfOk result (λ others.
         Sizes (is_outer kind) most (length others.items) (length kept.new.items) (length ahead.new.items)) }
-    ensures families { IfOk result (λ others. (o i : ℕ → Bool) (k : ℕ)
-        → All (λ f. IsFamily Q.id Q.sound Q.outer Q.inner o i k f.cell f.inside.items f.across.items) families.items
-        → All (λ f. IsFamily Q.id Q.sound Q.outer Q.inner o i k f.cell f.inside.items f.across.items) others.items) }
-    ensures front { IfOk result (λ others. (o i : ℕ → Bool) (deepest k : ℕ)
-        → All (λ f. IsFamily Q.id Q.sound Q.outer Q.inner o i k f.cell f.inside.items f.across.items) families.items
-        → Front Q.id Q.sound Q.outer Q.inner (is_outer kind) o i deepest k (any_covers (λ f. f.cell) families.items)
-        kept.old.items ahead.old.items
-        → Front Q.id Q.sound Q.outer Q.inner (is_outer kind) o i deepest k (any_covers (λ f. f.cell) others.items)
-        kept.new.items ahead.new.items) }
+    ensures families { IfOk result (λ others. (w : ℕ → ℕ) (o i : ℕ → Bool) (k : ℕ)
+        → All (λ f. IsFamily Q.id Q.sound Q.work Q.outer Q.inner w o i k f.cell f.inside.items f.across.items)
+        families.items
+        → All (λ f. IsFamily Q.id Q.sound Q.work Q.outer Q.inner w o i k f.cell f.inside.items f.across.items)
+        others.items) }
+    ensures front { IfOk result (λ others. (w : ℕ → ℕ) (o i : ℕ → Bool) (allowed deepest k : ℕ) (spent : List ℕ)
+        → All (λ f. IsFamily Q.id Q.sound Q.work Q.outer Q.inner w o i k f.cell f.inside.items f.across.items)
+        families.items
+        → Front Q.id Q.sound Q.work Q.outer Q.inner (is_outer kind) w o i allowed most deepest k k spent
+        (map (λ f. f.cell) families.items) kept.old.items ahead.old.items
+        → Front Q.id Q.sound Q.work Q.outer Q.inner (is_outer kind) w o i allowed most deepest k k spent
+        (map (λ f. f.cell) others.items) kept.new.items ahead.new.items) }
 {
     let mut others = Vec::new(alloc);
     while let Some(family) = families.pop() {
@@ -295,11 +337,13 @@ fn settle<Q: Quadrant>(
     requires sizes { Sizes (is_outer kind) most (waiting + 1) (length kept.old.items) (length ahead.old.items) }
     ensures sizes { IfOk result (λ _.
         Sizes (is_outer kind) most waiting (length kept.new.items) (length ahead.new.items)) }
-    ensures front { IfOk result (λ _. (o i : ℕ → Bool) (deepest k : ℕ) (rest : ℕ → Bool)
-        → IsFamily Q.id Q.sound Q.outer Q.inner o i k family.cell family.inside.items family.across.items
-        → Front Q.id Q.sound Q.outer Q.inner (is_outer kind) o i deepest k (λ x. covers family.cell x || rest x)
-        kept.old.items ahead.old.items
-        → Front Q.id Q.sound Q.outer Q.inner (is_outer kind) o i deepest k rest kept.new.items ahead.new.items) }
+    ensures front { IfOk result (λ _. (w : ℕ → ℕ) (o i : ℕ → Bool) (allowed deepest k : ℕ) (spent rest : List ℕ)
+        → length rest ≡ waiting
+        → IsFamily Q.id Q.sound Q.work Q.outer Q.inner w o i k family.cell family.inside.items family.across.items
+        → Front Q.id Q.sound Q.work Q.outer Q.inner (is_outer kind) w o i allowed most deepest k k spent
+        (family.cell ∷ rest) kept.old.items ahead.old.items
+        → Front Q.id Q.sound Q.work Q.outer Q.inner (is_outer kind) w o i allowed most deepest k k spent rest
+        kept.new.items ahead.new.items) }
 {
     match kind {
         Kind::Outer => settle_outer(family, waiting, most, kept, ahead),
@@ -319,11 +363,13 @@ fn settle_outer<Q: Quadrant>(
     requires most { most ≤ MOST_COVERING }
     requires sizes { Sizes true most (waiting + 1) (length kept.old.items) (length ahead.old.items) }
     ensures sizes { IfOk result (λ _. Sizes true most waiting (length kept.new.items) (length ahead.new.items)) }
-    ensures front { IfOk result (λ _. (o i : ℕ → Bool) (deepest k : ℕ) (rest : ℕ → Bool)
-        → IsFamily Q.id Q.sound Q.outer Q.inner o i k family.cell family.inside.items family.across.items
-        → Front Q.id Q.sound Q.outer Q.inner true o i deepest k (λ x. covers family.cell x || rest x) kept.old.items
-        ahead.old.items
-        → Front Q.id Q.sound Q.outer Q.inner true o i deepest k rest kept.new.items ahead.new.items) }
+    ensures front { IfOk result (λ _. (w : ℕ → ℕ) (o i : ℕ → Bool) (allowed deepest k : ℕ) (spent rest : List ℕ)
+        → length rest ≡ waiting
+        → IsFamily Q.id Q.sound Q.work Q.outer Q.inner w o i k family.cell family.inside.items family.across.items
+        → Front Q.id Q.sound Q.work Q.outer Q.inner true w o i allowed most deepest k k spent (family.cell ∷ rest)
+        kept.old.items ahead.old.items
+        → Front Q.id Q.sound Q.work Q.outer Q.inner true w o i allowed most deepest k k spent rest kept.new.items
+        ahead.new.items) }
 {
     let Family {
         cell,
@@ -343,7 +389,8 @@ fn settle_outer<Q: Quadrant>(
 fn fits(count: usize, others: usize, most: usize) -> bool
     requires few { count ≤ 4 }
     requires small { others ≤ 4 * MOST_COVERING }
-    ensures { IsTrue result → others + 1 ≤ max most 6 → others + count ≤ max most 6 }
+    ensures few { IsTrue result → others + 1 ≤ max most 6 → others + count ≤ max most 6 }
+    ensures full { result ≡ false → most < others + count }
 {
     count <= 1 || others + count <= most
 }
@@ -361,11 +408,13 @@ fn settle_inner<Q: Quadrant>(
     requires most { most ≤ MOST_COVERING }
     requires sizes { Sizes false most (waiting + 1) (length kept.old.items) (length ahead.old.items) }
     ensures sizes { IfOk result (λ _. Sizes false most waiting (length kept.new.items) (length ahead.new.items)) }
-    ensures front { IfOk result (λ _. (o i : ℕ → Bool) (deepest k : ℕ) (rest : ℕ → Bool)
-        → IsFamily Q.id Q.sound Q.outer Q.inner o i k family.cell family.inside.items family.across.items
-        → Front Q.id Q.sound Q.outer Q.inner false o i deepest k (λ x. covers family.cell x || rest x) kept.old.items
-        ahead.old.items
-        → Front Q.id Q.sound Q.outer Q.inner false o i deepest k rest kept.new.items ahead.new.items) }
+    ensures front { IfOk result (λ _. (w : ℕ → ℕ) (o i : ℕ → Bool) (allowed deepest k : ℕ) (spent rest : List ℕ)
+        → length rest ≡ waiting
+        → IsFamily Q.id Q.sound Q.work Q.outer Q.inner w o i k family.cell family.inside.items family.across.items
+        → Front Q.id Q.sound Q.work Q.outer Q.inner false w o i allowed most deepest k k spent (family.cell ∷ rest)
+        kept.old.items ahead.old.items
+        → Front Q.id Q.sound Q.work Q.outer Q.inner false w o i allowed most deepest k k spent rest kept.new.items
+        ahead.new.items) }
 {
     let Family {
         cell: _,

@@ -29,6 +29,8 @@ impl<'a, R: Region> Quadrant for Within<'a, R> {
 
     ghost inner = { λ w. R.holds w.region.now };
 
+    ghost work = { λ w c. 1 };
+
     fn cell(&self) -> CellId {
         self.placed.cell
     }
@@ -53,6 +55,10 @@ impl<'a, R: Region> Quartered for Walked<'a, R> {
     ghost outer = { λ w. R.holds w.region.now };
 
     ghost inner = { λ w. R.holds w.region.now };
+
+    ghost work = { λ w c. 1 };
+
+    ghost extent = { λ w. 1 };
 
     type At = Within<'a, R>;
 

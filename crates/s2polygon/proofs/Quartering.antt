@@ -1,12 +1,19 @@
 -- What is known of a cell of a polygon, and of its children.
-use Rattle.std.proofs.Common.{◌≡◌, sym, ap, ◌∙◌, ℕ, suc, ◌+◌, ◌-◌, ◌/◌, ◌^◌, ◌<◌, arith, length, All}
-use Rattle.s2cell.specs.Cell.{IsCell, level_of, child_of, face_of}
+use Rattle.std.proofs.Common.{◌≡◌, sym, ap, ◌∙◌, ℕ, suc, ◌+◌, ◌-◌, ◌/◌, ◌^◌, ◌<◌, arith, length, filter, All}
+use Rattle.std.specs.Prelude.{get_or}
+use Rattle.std.proofs.lemmas.List.{length-map}
+use Rattle.s2cell.specs.Cell.{IsCell, level_of, child_of, face_of, first_leaf}
+use Rattle.s2cell.specs.Curve.{i_of}
+use Rattle.s2cell.proofs.Squares.{first_leaf_covered}
 use Rattle.s2cell.specs.Square.{IsPlacedCell, IsSquareOf}
 use Rattle.s2cell.specs.declared.placed.PlacedCell.{PlacedCell}
-use Rattle.s2polygon.proofs.Indexes.{cell_on_grid, child_of_grid, level_within}
+use Rattle.s2polygon.proofs.Indexes.{cell_on_grid, child_of_grid, leaf_at, level_within}
+use Rattle.s2polygon.specs.Cells.{square_of, widened}
+use Rattle.s2polygon.specs.Counts.{edges_met}
 use Rattle.s2polygon.specs.Faces.{edges_on}
+use Rattle.s2polygon.specs.Tests.{meets_square}
 use Rattle.s2polygon.specs.Leaves.{Region}
-use Rattle.s2polygon.specs.Working.Descent.{IsRight, near_of}
+use Rattle.s2polygon.specs.Working.Descent.{IsRight, near_of, no_edge}
 use Rattle.s2polygon.specs.Working.Known.{IsKnown, face_list, top_in}
 use Rattle.s2polygon.specs.declared.descent.Known.{Known}
 
@@ -97,3 +104,18 @@ cell_known r c face i j size found k ic sq is right within =
       right = rw (is, depth, side) at right;
       within = within;
     }
+
+-- the edges of its list are those that meet it
+pub known_met : (r : Region) (c face i j size : ℕ) (known : Known) → IsKnown r c face i j size known
+    → length known.edges.items ≡ edges_met r c
+known_met r c face i j size known k =
+    let d = 30 - level_of c in
+    let x = first_leaf c in
+    let at = leaf_at x k.cell k.square (first_leaf_covered c k.cell) in
+    sym (length-map known.edges.items (λ n. get_or (face_list r face) n no_edge)) ∙ ap length k.right.met
+    ∙ ap (λ (f : ℕ). length (filter (meets_square (widened r.margin (square_of d (i / size) (j / size))))
+    (edges_on f r.edges))) (sym at.face_is)
+    ∙ ap (λ (u : ℕ). length (filter (meets_square (widened r.margin (square_of d u (j / size))))
+    (edges_on (x / 4 ^ 30) r.edges))) (sym at.column)
+    ∙ ap (λ (v : ℕ). length (filter (meets_square (widened r.margin (square_of d (i_of x / 2 ^ d) v)))
+    (edges_on (x / 4 ^ 30) r.edges))) (sym at.row)

@@ -159,7 +159,9 @@ impl Polygon {
     }
 
     /// How many edges there are.
-    pub(crate) fn size(&self) -> usize {
+    pub(crate) fn size(&self) -> usize
+        ensures { result ≡ length self.now.edges }
+    {
         self.edges.len()
     }
 

@@ -3,6 +3,7 @@ ghost use Rattle.std.specs.Prelude.{◌≡◌, ◌↔◌, ◌-◌, ◌/◌, ◌<
 ghost use Rattle.std.specs.Prelude.{length};
 ghost use Rattle.s2cell.specs.Cell.{level_of};
 ghost use Rattle.s2cell.specs.Square.{IsPlacedCell};
+ghost use Rattle.s2polygon.specs.Counts.{edges_met};
 ghost use Rattle.s2polygon.specs.Leaves.{inner_leaf, outer_leaf};
 ghost use Rattle.s2polygon.specs.Working.Descent.{IsRight, near_of};
 ghost use Rattle.s2polygon.specs.Working.Known.{IsKnown, part_by};
@@ -89,6 +90,8 @@ impl<'a> Quadrant for PolygonCell<'a> {
 
     ghost inner = { λ q. inner_leaf q.polygon.now };
 
+    ghost work = { λ q. edges_met q.polygon.now };
+
     fn cell(&self) -> CellId {
         self.placed.cell
     }
@@ -117,6 +120,10 @@ impl<'a> Quartered for Walked<'a> {
     ghost outer = { λ w. outer_leaf w.polygon.now };
 
     ghost inner = { λ w. inner_leaf w.polygon.now };
+
+    ghost work = { λ w. edges_met w.polygon.now };
+
+    ghost extent = { λ w. length w.polygon.now.edges };
 
     type At = PolygonCell<'a>;
 

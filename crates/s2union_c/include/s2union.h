@@ -969,7 +969,8 @@ int32_t s2u_polygon_inner(const s2u_direction* corners, size_t n, const size_t* 
  * those of levels below `least` are cut, so that the result may have more cells; it is normalized if `least` is 0.
  * Time and memory are bounded: cells are split for at most 2^20 + 32 (n + cells) pairs of a cell and an edge that meets
  * it. With more, the result is coarser, which no status tells. Countries, provinces and coasts have a third of that
- * or less.
+ * or less. Up to there the result is as near as its cells allow: before four cells of one parent are made one, each is
+ * of the level `deepest` or has inner leaves alone, or there are `cells` - 2 or more.
  * @param corners,n the corners, ring after ring, and how many they are; the first of a ring follows its last
  * @param ends,lists how many corners there are up to the end of each ring, and how many rings
  * @param outside a leaf that lies outside the polygon
@@ -995,7 +996,9 @@ int32_t s2u_polygon_outer_up_to(const s2u_direction* corners, size_t n, const si
 
 /** Few cells that have inner leaves of a polygon alone: S2's GetInteriorCovering with max_cells and max_level.
  * There are at most `cells` cells, none deeper than `deepest`. Then those of levels below `least` are cut; as
- * s2u_polygon_outer_up_to, whose bound of work holds here too: cells that aren't split then are left out.
+ * s2u_polygon_outer_up_to, whose bound of work holds here too: cells that aren't split then are left out. Up to there
+ * either `cells` were found, before four of one parent are made one, or each cell of a level that has inner leaves
+ * alone is there, if at no level above edges touch more than `cells` cells, or 6.
  * @param corners,n the corners, ring after ring, and how many they are; the first of a ring follows its last
  * @param ends,lists how many corners there are up to the end of each ring, and how many rings
  * @param outside a leaf that lies outside the polygon

@@ -4,8 +4,9 @@ use Rattle.s2cell.specs.Cell.{IsCell, first_leaf, level_of}
 use Rattle.s2list.specs.Denorm.{denormalised}
 use Rattle.s2list.specs.Union.{IsLocal, IsWithin, has_leaf}
 use Rattle.s2cover.specs.Coverings.{EachShares, HasAllOf, NoneDeeper}
+use Rattle.s2cover.specs.Near.{IsNearInner, IsNearOuter}
 use Rattle.s2cover.specs.declared.TheConstants.{MOST_COVERING}
-use Rattle.s2polygon.specs.Counts.{IsTooFine, IsWide}
+use Rattle.s2polygon.specs.Counts.{IsTooFine, IsWide, edges_met}
 use Rattle.s2polygon.specs.Directions.{IsDirection, Point}
 use Rattle.s2polygon.specs.Leaves.{Region, inner_leaf, outer_leaf}
 use Rattle.s2polygon.specs.Rings.{AreRings, EndsWrong, IsAntipodal, corner, rings_edges, start_of}
@@ -73,17 +74,20 @@ CoversUnless IsMuch most S status old new len = Covers most S status old new len
     ⊎ (Refused status too_many old new len × IsMuch)
 
 -- the cells `u` are an outer covering of at most `most` cells, or 6 if that is more: none is deeper than `deepest`, no
--- outer leaf is missing, and each cell has one
+-- outer leaf is missing, each cell has one, and the covering comes near
 pub record IsOuterUpTo (r : Region) (deepest most : ℕ) (u : List ℕ) : Type 0 where
   pub leaves : HasAllOf (outer_leaf r) u
+  pub near : IsNearOuter (outer_leaf r) (inner_leaf r) (edges_met r) (length r.edges) deepest most u
   pub shares : EachShares (outer_leaf r) u
   pub within : length u ≤ max most 6
   pub level : NoneDeeper deepest u
   pub local : IsLocal u
 
--- the cells `u` are an inner covering of at most `most` cells: none is deeper than `deepest`, and all leaves are inner
+-- the cells `u` are an inner covering of at most `most` cells: none is deeper than `deepest`, all leaves are inner, and
+-- the covering comes near
 pub record IsInnerUpTo (r : Region) (deepest most : ℕ) (u : List ℕ) : Type 0 where
   pub leaves : IsWithin (has_leaf u) (inner_leaf r)
+  pub near : IsNearInner (outer_leaf r) (inner_leaf r) (edges_met r) (length r.edges) deepest most u
   pub within : length u ≤ most
   pub level : NoneDeeper deepest u
   pub local : IsLocal u

@@ -112,7 +112,8 @@ pub extern "C" fn s2u_polygon_inner(
 
 /// An outer covering of a polygon by at most `cells` cells, or 6 if that is more, none deeper than the level `deepest`;
 /// those larger than a cell of the level `least` are then cut to that level. Cells are split for at most 2^20 + 32
-/// (corners + `cells`) pairs of a cell and an edge that meets it. The rest is as for `s2u_polygon_outer`.
+/// (corners + `cells`) pairs of a cell and an edge that meets it. Up to there it comes near, as `IsNearOuter` says. The
+/// rest is as for `s2u_polygon_outer`.
 #[unsafe(no_mangle)]
 pub extern "C" fn s2u_polygon_outer_up_to(
     alloc: Global,
@@ -152,7 +153,7 @@ pub extern "C" fn s2u_polygon_outer_up_to(
 
 /// An inner covering of a polygon by at most `cells` cells, none deeper than the level `deepest`; those larger than a
 /// cell of the level `least` are then cut to that level. Cells are split for no more pairs than by
-/// `s2u_polygon_outer_up_to`. The rest is as for `s2u_polygon_outer`.
+/// `s2u_polygon_outer_up_to`; up to there it comes near, as `IsNearInner` says. The rest is as for `s2u_polygon_outer`.
 #[unsafe(no_mangle)]
 pub extern "C" fn s2u_polygon_inner_up_to(
     alloc: Global,

@@ -32,6 +32,8 @@ impl<'a, R: Region> Quadrant for WeighedCell<'a, R> {
 
     ghost inner = { λ w. R.holds w.region.now };
 
+    ghost work = { λ w c. w.size };
+
     fn cell(&self) -> CellId {
         self.placed.cell
     }
@@ -59,6 +61,10 @@ impl<'a, R: Region> Quartered for Weighed<'a, R> {
     ghost outer = { λ w. R.holds w.region.now };
 
     ghost inner = { λ w. R.holds w.region.now };
+
+    ghost work = { λ w c. w.size };
+
+    ghost extent = { λ w. w.size };
 
     type At = WeighedCell<'a, R>;
 

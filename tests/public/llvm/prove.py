@@ -4,8 +4,8 @@ say: tests/public/llvm/prove.py --text FILE [--tier quick|gate|full] [--crates F
 FILE is s2union.ll, of the source archive in dist, or of one that tools/portable made. FOLDER is crates, which has the
 contracts and the definitions that they cite. A line tells for each clause that it was proved, with the seconds that it
 took and how many ways through the text there are. Then mistakes are made in the text, one at a time, in contracts,
-definitions and invariants, and each has to be refuted. With no CALL it proves those of the tier. The last line is 'N passed, M
-failed'."""
+definitions and invariants, and each has to be refuted. With no CALL it proves those of the tier. The last line is
+'N passed, M failed'."""
 import argparse
 import sys
 import tempfile

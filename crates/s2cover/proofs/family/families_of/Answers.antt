@@ -1,15 +1,17 @@
-use Rattle.std.proofs.Common.{arith, ◌+◌, ◌<◌, ◌≤◌, length}
+use Rattle.std.proofs.Common.{arith, ◌≡◌, ◌+◌, ◌<◌, ◌≤◌, length, ap}
 use Rattle.std.specs.Prelude.{Some}
 use Rattle.std.proofs.lemmas.List.Elements.{All-pop}
 use Rattle.s2cell.specs.Cell.{level_of}
-use Rattle.s2cover.specs.Working.Splitting.{IsFamily}
-use Rattle.s2cover.proofs.Splittings.{taken_none, taken_next, popped, ended, right_leaf}
+use Rattle.s2cover.specs.Working.Splitting.{IsFamily, times_by}
+use Rattle.s2cover.proofs.Splittings.{taken_none, taken_next, popped, ended}
 use Rattle.s2cover.proofs.family.families_of.Goals as goal
 
 pub loop-quadrant-init : goal.loop-quadrant-init
-loop-quadrant-init g c = taken_none g.Q.Quadrant.id g.Q.Quadrant.sound g.Q.Quadrant.outer g.Q.Quadrant.inner
+loop-quadrant-init g c = taken_none g.Q.Quadrant.id g.Q.Quadrant.sound g.Q.Quadrant.work g.Q.Quadrant.outer
+    g.Q.Quadrant.inner
     (λ f. f.cell) (λ f. length f.inside.items + length f.across.items ≤ 4)
-    (λ o i k f. IsFamily g.Q.Quadrant.id g.Q.Quadrant.sound g.Q.Quadrant.outer g.Q.Quadrant.inner o i k f.cell
+    (λ w o i k f. IsFamily g.Q.Quadrant.id g.Q.Quadrant.sound g.Q.Quadrant.work g.Q.Quadrant.outer g.Q.Quadrant.inner w
+    o i k f.cell
     f.inside.items f.across.items)
     c.new-families.ensures.items c.requires
 
@@ -24,9 +26,11 @@ loop-quadrant-smaller g c = popped c.loop-quadrant.ahead.items c.pop.new.self.it
     c.in-Some.ensures.items
 
 pub loop-quadrant-preserved : goal.loop-quadrant-preserved
-loop-quadrant-preserved g c = taken_next g.Q.Quadrant.id g.Q.Quadrant.sound g.Q.Quadrant.outer g.Q.Quadrant.inner
+loop-quadrant-preserved g c = taken_next g.Q.Quadrant.id g.Q.Quadrant.sound g.Q.Quadrant.work g.Q.Quadrant.outer
+    g.Q.Quadrant.inner
     (λ f. f.cell) (λ f. length f.inside.items + length f.across.items ≤ 4)
-    (λ o i k f. IsFamily g.Q.Quadrant.id g.Q.Quadrant.sound g.Q.Quadrant.outer g.Q.Quadrant.inner o i k f.cell
+    (λ w o i k f. IsFamily g.Q.Quadrant.id g.Q.Quadrant.sound g.Q.Quadrant.work g.Q.Quadrant.outer g.Q.Quadrant.inner w
+    o i k f.cell
     f.inside.items f.across.items)
     c.pop.new.self.items c.add.new.list.items c.in-Some.quadrant c.in_ok-family.family c.in-Some.ensures.items
     c.in_ok-add.ensures c.in_ok-family.ensures.cell c.in_ok-family.ensures.few c.in_ok-family.ensures.family
@@ -44,12 +48,13 @@ returns-clause-len g c =
 pub returns-clause-few : goal.returns-clause-few
 returns-clause-few g c = c.loop-quadrant.invariant.few
 
-pub returns-clause-leaves : goal.returns-clause-leaves
-returns-clause-leaves g c x h =
+pub returns-clause-times : goal.returns-clause-times
+returns-clause-times g c x =
     let none = ended c.loop-quadrant.ahead.items
     (omega (arith, c.in_default.ensures.cases.0, c.loop-quadrant.ahead.ok)) in
-    right_leaf g.Q.Quadrant.id (λ f. f.cell) c.loop-quadrant.ahead.items c.loop-quadrant.families.items x none
-    (c.loop-quadrant.invariant.leaves x h)
+    let z : times_by g.Q.Quadrant.id c.loop-quadrant.ahead.items x ≡ 0 = ap (λ u. times_by g.Q.Quadrant.id u x) none in
+    let s = c.loop-quadrant.invariant.same x in
+    omega arith
 
 pub returns-clause-families : goal.returns-clause-families
-returns-clause-families g c o i k a = (c.loop-quadrant.invariant.families_are o i k a).1
+returns-clause-families g c w o i k a = (c.loop-quadrant.invariant.families_are w o i k a).1

@@ -4,9 +4,11 @@ use Rattle.s2cover.proofs.Splittings.{Taken}
 use Rattle.s2cover.proofs.family.families_of.Given as goal
 
 abbrev pub invariant-loop-quadrant : goal.invariant-loop-quadrant
-invariant-loop-quadrant g l = Taken g.Q.Quadrant.id g.Q.Quadrant.sound g.Q.Quadrant.outer g.Q.Quadrant.inner
+invariant-loop-quadrant g l = Taken g.Q.Quadrant.id g.Q.Quadrant.sound g.Q.Quadrant.work g.Q.Quadrant.outer
+    g.Q.Quadrant.inner
     (λ f. f.cell) (λ f. length f.inside.items + length f.across.items ≤ 4)
-    (λ o i k f. IsFamily g.Q.Quadrant.id g.Q.Quadrant.sound g.Q.Quadrant.outer g.Q.Quadrant.inner o i k f.cell
+    (λ w o i k f. IsFamily g.Q.Quadrant.id g.Q.Quadrant.sound g.Q.Quadrant.work g.Q.Quadrant.outer g.Q.Quadrant.inner w
+    o i k f.cell
     f.inside.items f.across.items)
     l.fn.ahead.items l.ahead.items l.families.items
 

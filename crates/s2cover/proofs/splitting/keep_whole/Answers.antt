@@ -1,38 +1,42 @@
 use Rattle.std.proofs.Common.{rules, arith}
-use Rattle.s2cover.proofs.Splittings.{closing_none, closing_next, closing_leaves, ended, popped}
+use Rattle.s2cover.proofs.Splittings.{closing_none, closing_next, closed, ended, popped}
 use Rattle.s2cover.proofs.splitting.keep_whole.Goals as goal
 
 pub loop-quadrant-init : goal.loop-quadrant-init
-loop-quadrant-init g c = closing_none g.Q.Quadrant.id g.Q.Quadrant.sound g.Q.Quadrant.outer g.Q.Quadrant.inner
+loop-quadrant-init g c = closing_none g.Q.Quadrant.id g.Q.Quadrant.sound g.Q.Quadrant.work g.Q.Quadrant.outer
+    g.Q.Quadrant.inner
     c.args.kept.now.items c.args.ahead.now.items
 
-pub returns-in_err-add-clause-leaves : goal.returns-in_err-add-clause-leaves
-returns-in_err-add-clause-leaves g c = search rules
+pub returns-in_err-add-clause-times : goal.returns-in_err-add-clause-times
+returns-in_err-add-clause-times g c = search rules
 
 pub returns-in_err-add-clause-len : goal.returns-in_err-add-clause-len
 returns-in_err-add-clause-len g c = search rules
 
-pub returns-in_err-add-clause-kept : goal.returns-in_err-add-clause-kept
-returns-in_err-add-clause-kept g c = search rules
+pub returns-in_err-add-clause-each : goal.returns-in_err-add-clause-each
+returns-in_err-add-clause-each g c = search rules
 
 pub loop-quadrant-smaller : goal.loop-quadrant-smaller
 loop-quadrant-smaller g c = popped c.loop-quadrant.ahead.items c.pop.new.self.items c.in-Some.quadrant
     c.in-Some.ensures.items
 
 pub loop-quadrant-preserved : goal.loop-quadrant-preserved
-loop-quadrant-preserved g c = closing_next g.Q.Quadrant.id g.Q.Quadrant.sound g.Q.Quadrant.outer g.Q.Quadrant.inner
+loop-quadrant-preserved g c = closing_next g.Q.Quadrant.id g.Q.Quadrant.sound g.Q.Quadrant.work g.Q.Quadrant.outer
+    g.Q.Quadrant.inner
     c.add.new.list.items c.pop.new.self.items c.in-Some.quadrant c.cell.result c.in-Some.ensures.items
     c.in_ok-add.ensures c.cell.ensures c.loop-quadrant.invariant
 
-pub returns-clause-leaves : goal.returns-clause-leaves
-returns-clause-leaves g c x h =
+pub returns-clause-times : goal.returns-clause-times
+returns-clause-times g c =
     let none = ended c.loop-quadrant.ahead.items
     (omega (arith, c.in_default.ensures.cases.0, c.loop-quadrant.ahead.ok)) in
-    closing_leaves g.Q.Quadrant.id c.loop-quadrant.kept.items c.loop-quadrant.ahead.items x none
-    (c.loop-quadrant.invariant.leaves x h)
+    closed g.Q.Quadrant.id g.Q.Quadrant.sound g.Q.Quadrant.work g.Q.Quadrant.outer g.Q.Quadrant.inner none
+    c.loop-quadrant.invariant
 
 pub returns-clause-len : goal.returns-clause-len
-returns-clause-len g c = let l = c.loop-quadrant.invariant.len in omega arith
+returns-clause-len g c =
+    let l = c.loop-quadrant.invariant.len in
+    omega (arith, c.in_default.ensures.cases.0, c.loop-quadrant.ahead.ok)
 
-pub returns-clause-kept : goal.returns-clause-kept
-returns-clause-kept g c o i d k h a b = (c.loop-quadrant.invariant.kept_are o i d k h a b).1
+pub returns-clause-each : goal.returns-clause-each
+returns-clause-each g c = c.loop-quadrant.invariant.each

@@ -1,16 +1,17 @@
-use Rattle.std.proofs.Common.{arith, ◌≡◌, ◌+◌, ◌≤◌, length, subst}
+use Rattle.std.proofs.Common.{arith, ◌≡◌, ◌+◌, ◌≤◌, ◌++◌, length, map, subst}
 use Rattle.std.specs.Prelude.{Some}
 use Rattle.std.proofs.lemmas.List.Elements.{All-pop}
 use Rattle.s2cover.specs.Working.Descent.{is_outer}
-use Rattle.s2cover.specs.Working.Splitting.{IsFamily, Sizes, any_covers}
+use Rattle.s2cover.specs.Working.Splitting.{Front, IsFamily, Sizes}
 use Rattle.s2cover.proofs.Splittings.{settled_none, settled_sizes, settled_next, settled_other, popped, ended}
-use Rattle.s2cover.proofs.Splittings.{right_leaf, front_rest}
 use Rattle.s2cover.proofs.splitting.settle_some.Goals as goal
 
 pub loop-family-init : goal.loop-family-init
-loop-family-init g c = settled_none g.Q.Quadrant.id g.Q.Quadrant.sound g.Q.Quadrant.outer g.Q.Quadrant.inner
+loop-family-init g c = settled_none g.Q.Quadrant.id g.Q.Quadrant.sound g.Q.Quadrant.work g.Q.Quadrant.outer
+    g.Q.Quadrant.inner
     (λ f. f.cell) (λ f. length f.inside.items + length f.across.items ≤ 4)
-    (λ o i k f. IsFamily g.Q.Quadrant.id g.Q.Quadrant.sound g.Q.Quadrant.outer g.Q.Quadrant.inner o i k f.cell
+    (λ w o i k f. IsFamily g.Q.Quadrant.id g.Q.Quadrant.sound g.Q.Quadrant.work g.Q.Quadrant.outer g.Q.Quadrant.inner w
+    o i k f.cell
     f.inside.items f.across.items)
     c.new-others.ensures.items c.requires.few c.requires.sizes
 
@@ -32,9 +33,10 @@ settle-requires g c =
       few = (All-pop (λ f. length f.inside.items + length f.across.items ≤ 4) c.loop-family.families.items
           c.pop.new.self.items (Some c.in-Some.family) c.in-Some.ensures.items c.loop-family.invariant.few).1;
       most = c.requires.most;
-      sizes = settled_sizes g.Q.Quadrant.id g.Q.Quadrant.sound g.Q.Quadrant.outer g.Q.Quadrant.inner
+      sizes = settled_sizes g.Q.Quadrant.id g.Q.Quadrant.sound g.Q.Quadrant.work g.Q.Quadrant.outer g.Q.Quadrant.inner
           (λ f. f.cell) (λ f. length f.inside.items + length f.across.items ≤ 4)
-          (λ o i k f. IsFamily g.Q.Quadrant.id g.Q.Quadrant.sound g.Q.Quadrant.outer g.Q.Quadrant.inner o i k f.cell
+          (λ w o i k f. IsFamily g.Q.Quadrant.id g.Q.Quadrant.sound g.Q.Quadrant.work g.Q.Quadrant.outer
+          g.Q.Quadrant.inner w o i k f.cell
           f.inside.items f.across.items)
           c.pop.new.self.items c.in-Some.family c.in-Some.ensures.items waiting c.loop-family.invariant;
     }
@@ -48,9 +50,11 @@ loop-family-smaller-in-Continue-1 g c = popped c.loop-family.families.items c.po
     c.in-Some.ensures.items
 
 pub loop-family-preserved : goal.loop-family-preserved
-loop-family-preserved g c = settled_other g.Q.Quadrant.id g.Q.Quadrant.sound g.Q.Quadrant.outer g.Q.Quadrant.inner
+loop-family-preserved g c = settled_other g.Q.Quadrant.id g.Q.Quadrant.sound g.Q.Quadrant.work g.Q.Quadrant.outer
+    g.Q.Quadrant.inner
     (λ f. f.cell) (λ f. length f.inside.items + length f.across.items ≤ 4)
-    (λ o i k f. IsFamily g.Q.Quadrant.id g.Q.Quadrant.sound g.Q.Quadrant.outer g.Q.Quadrant.inner o i k f.cell
+    (λ w o i k f. IsFamily g.Q.Quadrant.id g.Q.Quadrant.sound g.Q.Quadrant.work g.Q.Quadrant.outer g.Q.Quadrant.inner w
+    o i k f.cell
     f.inside.items f.across.items)
     c.pop.new.self.items c.add.new.list.items c.in-Some.family c.in-Some.ensures.items c.in_ok-add.ensures
     (λ h. let t = c.turn_of.ensures in let f = c.if-turn_of-limit.false in omega arith) c.loop-family.invariant
@@ -65,9 +69,10 @@ loop-family-preserved-in-Continue-1 g c =
       c.pop.new.self.ok.0,
       c.loop-family.others.ok.0,
     ) in
-    settled_next g.Q.Quadrant.id g.Q.Quadrant.sound g.Q.Quadrant.outer g.Q.Quadrant.inner
+    settled_next g.Q.Quadrant.id g.Q.Quadrant.sound g.Q.Quadrant.work g.Q.Quadrant.outer g.Q.Quadrant.inner
     (λ f. f.cell) (λ f. length f.inside.items + length f.across.items ≤ 4)
-    (λ o i k f. IsFamily g.Q.Quadrant.id g.Q.Quadrant.sound g.Q.Quadrant.outer g.Q.Quadrant.inner o i k f.cell
+    (λ w o i k f. IsFamily g.Q.Quadrant.id g.Q.Quadrant.sound g.Q.Quadrant.work g.Q.Quadrant.outer g.Q.Quadrant.inner w
+    o i k f.cell
     f.inside.items f.across.items)
     c.pop.new.self.items c.settle.new.kept.items c.settle.new.ahead.items c.in-Some.family c.in-Some.ensures.items
     waiting c.in_ok-settle.ensures.sizes c.in_ok-settle.ensures.front c.loop-family.invariant
@@ -87,13 +92,13 @@ returns-clause-sizes g c =
     (length c.loop-family.ahead.items)) none c.loop-family.invariant.sizes
 
 pub returns-clause-families : goal.returns-clause-families
-returns-clause-families g c o i k a = (c.loop-family.invariant.families_are o i k a).1
+returns-clause-families g c w o i k a = (c.loop-family.invariant.families_are w o i k a).1
 
 pub returns-clause-front : goal.returns-clause-front
-returns-clause-front g c o i d k a fr =
+returns-clause-front g c w o i al d k sp a fr =
     let none = ended c.loop-family.families.items
     (omega (arith, c.in_default.ensures.cases.0, c.loop-family.families.ok)) in
-    front_rest g.Q.Quadrant.id g.Q.Quadrant.sound g.Q.Quadrant.outer g.Q.Quadrant.inner
-    (any_covers (λ f. f.cell) c.loop-family.others.items)
-    (λ x v. right_leaf (λ f. f.cell) (λ f. f.cell) c.loop-family.families.items c.loop-family.others.items x none v)
-    (c.loop-family.invariant.front o i d k a fr)
+    subst (λ u. Front g.Q.Quadrant.id g.Q.Quadrant.sound g.Q.Quadrant.work g.Q.Quadrant.outer g.Q.Quadrant.inner
+    (is_outer c.args.kind) w o i al c.args.most d k k sp (map (λ f. f.cell) u ++ map (λ f. f.cell)
+    c.loop-family.others.items) c.loop-family.kept.items c.loop-family.ahead.items) none
+    (c.loop-family.invariant.front w o i al d k sp a fr)

@@ -7,11 +7,12 @@ use Rattle.s2cover.proofs.splitting.split.Goals as goal
 pub loop-limit-init : goal.loop-limit-init
 loop-limit-init g c =
     let f = c.in_ok-families.ensures in
-    splits_none g.Q.Quadrant.id g.Q.Quadrant.sound g.Q.Quadrant.outer g.Q.Quadrant.inner
+    splits_none g.Q.Quadrant.id g.Q.Quadrant.sound g.Q.Quadrant.work g.Q.Quadrant.outer g.Q.Quadrant.inner
     (λ f. f.cell) (λ f. length f.inside.items + length f.across.items ≤ 4)
-    (λ o i k f. IsFamily g.Q.Quadrant.id g.Q.Quadrant.sound g.Q.Quadrant.outer g.Q.Quadrant.inner o i k f.cell
+    (λ w o i k f. IsFamily g.Q.Quadrant.id g.Q.Quadrant.sound g.Q.Quadrant.work g.Q.Quadrant.outer g.Q.Quadrant.inner w
+    o i k f.cell
     f.inside.items f.across.items)
-    refl f.empty f.len f.few f.leaves f.families c.requires.sizes
+    refl f.empty f.len f.few f.times f.families c.requires.sizes
 
 pub settle_some-requires : goal.settle_some-requires
 settle_some-requires g c = record {
@@ -23,9 +24,10 @@ settle_some-requires g c = record {
 pub loop-limit-preserved : goal.loop-limit-preserved
 loop-limit-preserved g c =
     let s = c.in_ok-families-2.ensures in
-    splits_next g.Q.Quadrant.id g.Q.Quadrant.sound g.Q.Quadrant.outer g.Q.Quadrant.inner
+    splits_next g.Q.Quadrant.id g.Q.Quadrant.sound g.Q.Quadrant.work g.Q.Quadrant.outer g.Q.Quadrant.inner
     (λ f. f.cell) (λ f. length f.inside.items + length f.across.items ≤ 4)
-    (λ o i k f. IsFamily g.Q.Quadrant.id g.Q.Quadrant.sound g.Q.Quadrant.outer g.Q.Quadrant.inner o i k f.cell
+    (λ w o i k f. IsFamily g.Q.Quadrant.id g.Q.Quadrant.sound g.Q.Quadrant.work g.Q.Quadrant.outer g.Q.Quadrant.inner w
+    o i k f.cell
     f.inside.items f.across.items)
     c.in_ok-families-2.families.items c.settle_some.new.kept.items c.settle_some.new.ahead.items s.none s.few s.sizes
     s.families s.front c.loop-limit.invariant
@@ -41,8 +43,9 @@ pub returns-clause-front : goal.returns-clause-front
 returns-clause-front g c =
     let five : c.loop-limit.limit ≡ 5 = (let t = c.loop-limit-test.false in let e = c.loop-limit.auto.limit-end in
     omega arith) in
-    splits_done g.Q.Quadrant.id g.Q.Quadrant.sound g.Q.Quadrant.outer g.Q.Quadrant.inner
+    splits_done g.Q.Quadrant.id g.Q.Quadrant.sound g.Q.Quadrant.work g.Q.Quadrant.outer g.Q.Quadrant.inner
     (λ f. f.cell) (λ f. length f.inside.items + length f.across.items ≤ 4)
-    (λ o i k f. IsFamily g.Q.Quadrant.id g.Q.Quadrant.sound g.Q.Quadrant.outer g.Q.Quadrant.inner o i k f.cell
+    (λ w o i k f. IsFamily g.Q.Quadrant.id g.Q.Quadrant.sound g.Q.Quadrant.work g.Q.Quadrant.outer g.Q.Quadrant.inner w
+    o i k f.cell
     f.inside.items f.across.items)
     five c.loop-limit.invariant
