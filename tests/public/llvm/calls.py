@@ -87,7 +87,7 @@ PLANS = {
     "s2u_cell_intersects": PAIR,
     "s2u_common_ancestor": Plan(is_apart=True, tier="full"),
     "s2u_from_face_ij": Plan(named=STEPS, turns=TURNS, tier="gate"),
-    "s2u_square_of": Plan(cells=("id",), named=STEPS, turns=TURNS, tier="gate"),
+    "s2u_square_of": Plan(cells=("id",), named=STEPS, turns=TURNS, tier="full"),
     "s2u_file_count": Plan(FILES, lists={"bytes": 9}, tier="gate"),
     "s2u_file_cell": Plan(FILES, arrays=("bytes",), tier="gate"),
     "s2u_token": Plan(TEXTS, cells=("id",), rooms={"text": digits_of_token}, tier="gate"),
@@ -98,7 +98,7 @@ PLANS = {
     "s2u_compare": Plan(QUESTIONS, arrays=("xs", "ys"), tier="gate", loops=(Loop(
         "s2union_c_questions_s2u_compare", "loop.2", "s2union_c/proofs/questions/s2u_compare/Invariants.antt",
         "invariant-loop-k", "k", at="%r6", end="%r5"),)),
-    "s2u_levels": Plan(MANY, arrays=("ids", "out"), tier="gate", loops=(Loop(
+    "s2u_levels": Plan(MANY, arrays=("ids", "out"), tier="full", loops=(Loop(
         "s2union_c_many_cells_s2u_levels", "loop.5", "s2union_c/proofs/many_cells/s2u_levels/Invariants.antt",
         "invariant-loop-k", "k", at="%r6", end="%r11", others={"first": "%r5"}, writes=("out",)),)),
     "s2u_range_mins": relatives("FirstLeaf"),
