@@ -288,8 +288,8 @@ using CellsOf = std::decay_t<decltype(list_of(std::declval<const X&>()))>;
 template <class X>
 using CellOf = typename CellsOf<X>::value_type;
 
-/// What a call makes whose first argument is an X: a union of this class, if it is one of unions and not ours; else a
-/// list.
+/// The result of a call whose first argument is an X: a union of this class, if it is one of unions and not ours;
+/// else a list.
 template <class X>
 constexpr bool is_ours = false;
 template <class Id>
@@ -1108,8 +1108,8 @@ class CellUnionOf {
 // ---- calls on unions and lists as they are: none is copied. Each of X and Y is a std::vector of cells, a CellUnionOf,
 // or another class of unions: one with cell_ids() and FromNormalized, such as S2CellUnion, of which a call makes an X.
 // Each call checks a vector, a step for each cell: S2U_NO_UNION if it isn't normalized. A CellUnionOf was checked when
-// it was made. What another class has is looked at by an assertion alone, as S2 does: with NDEBUG the answer about
-// cells that aren't normalized means nothing, but nothing outside of them is read or written.
+// it was made. An assertion alone looks at the cells of another class, as in S2: with NDEBUG the answer about cells
+// that aren't normalized means nothing, but nothing outside of them is read or written.
 
 /// Whether all leaves of the cell are in the union. S2U_NO_CELL, S2U_NO_UNION. @since 1.4
 /// @snippet examples.cc ContainsCell
