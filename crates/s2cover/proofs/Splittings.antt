@@ -747,7 +747,7 @@ module _ {A : Type 0} (id : A → ℕ) (sound : A → Type 0) (work : A → ℕ 
         looked = λ t. absurd (both_ways true t refl);
       }
 
-  -- the first `most` of two lists are both, or so many
+  -- the first `most` of two lists are both, or `most`
   cut_or_full : (most : ℕ) (kept2 kept inside : List ℕ) → kept2 ≡ take most (kept ++ inside) →
       (kept2 ≡ kept ++ inside) ⊎ (most ≤ length kept2)
   cut_or_full most kept2 kept inside e = ⊎_elim

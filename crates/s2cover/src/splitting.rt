@@ -32,7 +32,7 @@ const FACES: usize = 6;
 /// `max_cells` and `max_level`.
 ///
 /// It comes near: each cell that it is made of is of the level `deepest` or lies inside, unless there are `most - 2` of
-/// them or the bound of the sizes is met. What it is made of is normalized, so it may have fewer cells.
+/// them or the bound of the sizes is met. The result is normalized, so it may have fewer cells.
 pub fn outer_up_to<R: Quartered>(
     alloc: Global,
     region: &R,

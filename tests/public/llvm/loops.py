@@ -3,7 +3,7 @@
 Where a way first comes to the loop, Z3 proves that the invariant holds. From then on the loop's variables are any
 numbers for which it holds, and what else the loop writes is as if it had never been written. Where a way comes back,
 Z3 proves that the invariant holds again, and that the loop's range is nearer to its end; what isn't a variable of the
-loop has to be as it was. That way ends there, and those that leave the loop go on."""
+loop has to be as it was. The round ends there, and the ways that leave the loop go on."""
 from typing import NamedTuple
 
 import z3
