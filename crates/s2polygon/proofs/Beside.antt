@@ -110,12 +110,12 @@ odd_same : (p q : Edge → Bool) (P : Edge → Type 0) → ((e : Edge) → P e �
 odd_same p q P h [] a = refl
 odd_same p q P h (e ∷ es) a = ap₂ xor (h e (All-head P e es a)) (odd_same p q P h es (All-tail P e es a))
 
-swap_ends : (a b c d : Bool) → xor a b ≡ xor c d → xor b d ≡ xor a c
+pub swap_ends : (a b c d : Bool) → xor a b ≡ xor c d → xor b d ≡ xor a c
 swap_ends a b c d e = same_of (xor b d) (xor a c) (xor_pairs b d a c ∙ ap₂ xor (xor_same b a) (xor_same d c)
     ∙ ap (λ (z : Bool). xor z (xor c d)) e ∙ xor_self (xor c d))
 
 module _ (f : ℕ) (es : List Edge) (fit : All (IsFit f) es) (closed : IsClosed es) where
-  abbrev rows : ℕ → ℕ → Bool
+  abbrev pub rows : ℕ → ℕ → Bool
   rows s t = is_odd_by (λ e. row_at s t (in_frame f e.a) (in_frame f e.b)) es
 
   abbrev columns : ℕ → ℕ → Bool
@@ -187,7 +187,7 @@ module _ (f : ℕ) (es : List Edge) (fit : All (IsFit f) es) (closed : IsClosed 
       (rows (middle_of (suc k) (i / 2)) (middle_of (suc k) (j / 2)))
       (rows (middle_of k i) (middle_of k j))
 
-  leaf_over : (x : ℕ) → x / 4 ^ 30 ≡ f → odd_at es x
+  pub leaf_over : (x : ℕ) → x / 4 ^ 30 ≡ f → odd_at es x
       ≡ xor (top_of es f) (xor (rows (middle_of 30 0) (middle_of 30 0))
       (rows (middle_of 0 (i_of x)) (middle_of 0 (j_of x))))
   unfolding odd_at

@@ -1,6 +1,7 @@
 -- What the columns and rows that both ends of an edge lie between tell of the edge.
 use Rattle.std.proofs.Common.{◌≡◌, ℕ, ◌+◌, ◌*◌, ◌/◌, ◌^◌, ◌≤◌, ◌<◌, arith, ℤ, pos, ◌+ℤ◌, ◌*ℤ◌, ◌-ℤ◌, ◌≤ℤ◌, ◌<ℤ◌}
 use Rattle.std.proofs.Common.{inl, inr, refl, rules, true, false, w64, to_z, of_z, unsigned_abs, negsuc, Fits, IsFalse}
+use Rattle.std.proofs.Common.{sym, Bool, not, IsTrue, true≢false}
 use lib.Dec.{T}
 use lib.Signed.{non_neg}
 use Rattle.std.proofs.lemmas.Bool.Decides.{same_from_decides}
@@ -9,7 +10,7 @@ use Rattle.std.proofs.lemmas.Nat.{div-add-mod'}
 use Rattle.std.proofs.Math.Nat.{div-le_of_le-mul, div-mul-le_self, mod-lt}
 use Rattle.s2polygon.proofs.Crossings.{column_itself, row_itself}
 use Rattle.s2polygon.proofs.Integers.{at, ◌⊕◌, ◌⊖◌, ◌⊗◌, at_most, below_parts, less}
-use Rattle.s2polygon.proofs.Meetings.{met, missed}
+use Rattle.s2polygon.proofs.Meetings.{met, missed, yes}
 use Rattle.s2polygon.proofs.Parity.{are_of_crossing_decides}
 use Rattle.s2polygon.proofs.Rejects.{rights_behind, lefts_behind, aboves_behind, belows_behind, product_above}
 use Rattle.s2polygon.proofs.Sizes.{read}
@@ -22,6 +23,7 @@ use Rattle.s2polygon.specs.Working.Boxes.{IsAround, IsBetween, IsBoxed, IsNear, 
 use Rattle.s2polygon.specs.Working.Boxes.{place_of_quotient}
 use Rattle.s2polygon.specs.Working.Sizes.{HasPlacesOfLine, IsOfPlaces, IsPlace}
 use Rattle.s2polygon.specs.declared.boxes.Span.{Span}
+use Rattle.s2polygon.specs.declared.frames.Framed.{Framed}
 use Rattle.s2polygon.specs.declared.frames.FramedEdge.{FramedEdge}
 use Rattle.s2polygon.specs.declared.places.Line.{Line}
 use Rattle.s2polygon.specs.declared.places.Square.{Square}
@@ -68,6 +70,14 @@ off_answer e q columns rows p b o =
     same_from_decides false (meets_square q e)
     (missed (MeetsSquare e.a e.b q) (off_misses e q columns rows p.u0 p.u1 p.v0 p.v1 b o))
     (meets_decides q e p.wide p.high)
+
+-- an edge whose ends lie beyond one side of a square
+pub beyond_answer : (e : FramedEdge) (q : Square) (a b : Framed) (beyond : Bool) → IsOfPlaces q → a ≡ e.a → b ≡ e.b
+    → (IsTrue beyond → MeetsSquare a b q → ⊥) → not beyond ≡ false → meets_square q e ≡ false
+beyond_answer e q a b true p f g h n =
+    sym (same_from_decides false (meets_square q e) (missed (MeetsSquare e.a e.b q) (rw (f, g) at (h yes)))
+    (meets_decides q e p.wide p.high))
+beyond_answer e q a b false p f g h n = absurd (true≢false n)
 
 -- ---- an edge that begins in a square meets it
 first_beyond : (k : ℕ) (s xa wa xb wb : ℤ) → pos 0 <ℤ (pos k *ℤ xa -ℤ s *ℤ wa)

@@ -1,67 +1,24 @@
 -- The ways between the middles of the faces.
-use Rattle.std.proofs.Common.{◌≡◌, refl, sym, ap, ◌∙◌, ℕ, suc, ◌+◌, ◌%◌, ◌^◌, ◌==◌, ◌≢◌, Bool, true}
-use Rattle.std.proofs.Common.{false, not, cond, List, arith, eqb-true}
+use Rattle.std.proofs.Common.{◌≡◌, refl, sym, ap, ◌∙◌, ℕ, suc, ◌==◌, ◌≢◌, Bool, true}
+use Rattle.std.proofs.Common.{false, not, List, eqb-true}
 use Rattle.std.proofs.Math.Bool.{beq, xor}
 use Rattle.s2polygon.proofs.Parity.{xor_false}
-use Rattle.s2polygon.proofs.Steps.{either_answer, row_piece, column_piece}
-use Rattle.s2polygon.specs.Crosses.{crosses_row_at, crosses_column_at}
-use Rattle.s2polygon.specs.Faces.{crosses_border, top_of, way_in, way_out}
-use Rattle.s2polygon.specs.Frames.{framed}
+use Rattle.s2polygon.proofs.Steps.{either_answer}
+use Rattle.s2polygon.specs.Faces.{crosses_border, top_of}
 use Rattle.s2polygon.specs.Parity.{is_odd_by}
-use Rattle.s2polygon.specs.Ways.{crosses, middle_of, row, column}
-use Rattle.s2polygon.specs.Working.Descent.{line_of}
 use Rattle.s2polygon.specs.Working.Known.{exchanged_by, parities_of}
 use Rattle.s2polygon.specs.declared.directions.Edge.{Edge}
 use Rattle.s2polygon.specs.declared.faces.Tops.{Tops}
-use Rattle.s2polygon.specs.declared.frames.FramedEdge.{FramedEdge}
-use Rattle.s2polygon.specs.declared.places.Line.{Line}
 
-is_zero : (n : ℕ) → n ≡ 0 → (n == 0) ≡ true
+pub is_zero : (n : ℕ) → n ≡ 0 → (n == 0) ≡ true
 is_zero n e = rw e refl
 
-is_not_zero : (n : ℕ) → n ≢ 0 → (n == 0) ≡ false
+pub is_not_zero : (n : ℕ) → n ≢ 0 → (n == 0) ≡ false
 is_not_zero n h = by (n == 0) refl
   where
     by : (t : Bool) → (n == 0) ≡ t → (n == 0) ≡ false
     by true e = absurd (h (eqb-true n 0 e))
     by false e = e
-
-module _ (f : ℕ) (e : Edge) (here there : FramedEdge) (out back : Line) (r s : Bool)
-    (p : here ≡ framed f e) (q : there ≡ framed (f + 1) e)
-    (o : out ≡ line_of (middle_of 30 0) (middle_of 30 0) (2 ^ 31))
-    (b : back ≡ line_of (middle_of 30 0) 0 (middle_of 30 0)) where
-  next : there ≡ framed (suc f) e
-  next = let one : f + 1 ≡ suc f = omega arith in q ∙ ap (λ (n : ℕ). framed n e) one
-
-  pub border_row : f % 2 ≡ 0 → r ≡ crosses_row_at out.at out.low out.high here → s
-      ≡ crosses_row_at back.at back.low back.high there
-      → not (beq r s) ≡ crosses_border f e
-  border_row even g h =
-      let w = is_zero (f % 2) even in
-      let first = rw (o, p) at g in
-      let last = rw (b, next) at h in
-      either_answer r s (crosses (way_out f) (framed f e)) (crosses (way_in f) (framed (suc f) e))
-      (first ∙ row_piece (middle_of 30 0) (middle_of 30 0) (2 ^ 31) (framed f e)
-      ∙ sym (ap (λ (t : Bool). crosses (cond t (row (middle_of 30 0) (middle_of 30 0) (2 ^ 31))
-      (column (middle_of 30 0) (middle_of 30 0) (2 ^ 31))) (framed f e)) w))
-      (last ∙ row_piece (middle_of 30 0) 0 (middle_of 30 0) (framed (suc f) e)
-      ∙ sym (ap (λ (t : Bool). crosses (cond t (row (middle_of 30 0) 0 (middle_of 30 0))
-      (column (middle_of 30 0) 0 (middle_of 30 0))) (framed (suc f) e)) w))
-
-  pub border_column : f % 2 ≢ 0 → r ≡ crosses_column_at out.at out.low out.high here → s
-      ≡ crosses_column_at back.at back.low back.high there
-      → not (beq r s) ≡ crosses_border f e
-  border_column odd g h =
-      let w = is_not_zero (f % 2) odd in
-      let first = rw (o, p) at g in
-      let last = rw (b, next) at h in
-      either_answer r s (crosses (way_out f) (framed f e)) (crosses (way_in f) (framed (suc f) e))
-      (first ∙ column_piece (middle_of 30 0) (middle_of 30 0) (2 ^ 31) (framed f e)
-      ∙ sym (ap (λ (t : Bool). crosses (cond t (row (middle_of 30 0) (middle_of 30 0) (2 ^ 31))
-      (column (middle_of 30 0) (middle_of 30 0) (2 ^ 31))) (framed f e)) w))
-      (last ∙ column_piece (middle_of 30 0) 0 (middle_of 30 0) (framed (suc f) e)
-      ∙ sym (ap (λ (t : Bool). crosses (cond t (row (middle_of 30 0) 0 (middle_of 30 0))
-      (column (middle_of 30 0) 0 (middle_of 30 0))) (framed (suc f) e)) w))
 
 -- ---- the parities of the middles
 top_first : (es : List Edge) → top_of es 0 ≡ false

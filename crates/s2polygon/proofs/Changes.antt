@@ -51,7 +51,7 @@ meets_wider m n i j e h is =
     (near_decides n 0 i j e).1 (meets_larger e.a e.b (widened m (square_of 0 i j)) (widened n (square_of 0 i j))
     (inl (widened_wide m 0 i j)) (wider_holds m n (square_of 0 i j) h) ((near_decides m 0 i j e).0 is))
 
-or_more : (a b c d : Bool) → (a ≡ true → c ≡ true) → (b ≡ true → d ≡ true) → a || b ≡ true → c || d ≡ true
+pub or_more : (a b c d : Bool) → (a ≡ true → c ≡ true) → (b ≡ true → d ≡ true) → a || b ≡ true → c || d ≡ true
 or_more true b c d h k p = rw (h refl) refl
 or_more false b true d h k p = refl
 or_more false b false d h k p = k p

@@ -41,7 +41,7 @@ right_minus p q =
     ∙ equal (at p ⊗ (at (pos 0) ⊖ at q)) (at (pos 0) ⊖ at p ⊗ at q) (omega arith)
     ∙ minus_as (p *ℤ q)
 
-both_minus : (p q : ℤ) → neg_ℤ p *ℤ neg_ℤ q ≡ p *ℤ q
+pub both_minus : (p q : ℤ) → neg_ℤ p *ℤ neg_ℤ q ≡ p *ℤ q
 both_minus p q =
     ap₂ (λ (y z : ℤ). y *ℤ z) (sym (minus_as p)) (sym (minus_as q))
     ∙ equal ((at (pos 0) ⊖ at p) ⊗ (at (pos 0) ⊖ at q)) (at p ⊗ at q) (omega arith)
@@ -214,14 +214,14 @@ module _ (test : Point → Bool) (corners : List Point) (from end : ℕ) where
   at_corner : ℕ → Bool
   at_corner i = test (corner corners i)
 
-  next_is : (i : ℕ) → i + 1 < end → after from end i ≡ i + 1
+  pub next_is : (i : ℕ) → i + 1 < end → after from end i ≡ i + 1
   next_is i l = by (i + 1 == end) refl
     where
       by : (t : Bool) → (i + 1 == end) ≡ t → cond t from (i + 1) ≡ i + 1
       by false e = refl
       by true e = let f = eqb-true (i + 1) end e in absurd (omega arith)
 
-  last_is : (i : ℕ) → i + 1 ≡ end → after from end i ≡ from
+  pub last_is : (i : ℕ) → i + 1 ≡ end → after from end i ≡ from
   last_is i l = by (i + 1 == end) refl
     where
       by : (t : Bool) → (i + 1 == end) ≡ t → cond t from (i + 1) ≡ from
@@ -287,11 +287,11 @@ module _ (P : Edge → Type 0) (corners : List Point) where
       (each_from (start_of ends n) (get_or ends n 0) (get_or ends n 0 - start_of ends n) (omega arith)
       (h n (omega arith)))
 
-closed : (corners : List Point) (ends : List ℕ) → AreRings corners ends
+pub closed : (corners : List Point) (ends : List ℕ) → AreRings corners ends
     → IsClosed (rings_edges corners ends (length ends))
 closed corners ends h = rings_closed corners ends h.rings (length ends) (omega arith)
 
-all_fit : (f : ℕ) (corners : List Point) (ends : List ℕ) → AreRings corners ends → All IsDirection corners
+pub all_fit : (f : ℕ) (corners : List Point) (ends : List ℕ) → AreRings corners ends → All IsDirection corners
     → All (IsFit f) (rings_edges corners ends (length ends))
 all_fit f corners ends h directions =
     each_of (IsFit f) corners ends

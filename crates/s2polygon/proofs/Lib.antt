@@ -1,42 +1,50 @@
 mod Accepts
+mod Acute
 mod Along
 mod Around
 mod Bare
 mod Beside
 mod Between
 mod Borders
+mod Bundles
 mod Cells
-mod Changes
+pub mod Changes
 mod Closed
+mod Cones
 mod Countings
 mod Crossings
 mod Descents
 mod Framing
 mod Halves
+mod Hulls
 mod Indexes
 mod Insides
-mod Integers
+pub mod Integers
 mod Larger
 mod Leaves
 mod Lines
+mod Listed
 mod Meetings
 mod Middles
+mod Moved
+mod MovedCorners
+mod Moving
 mod Octants
 mod Pairs
-mod Parity
+pub mod Parity
 mod Parts
 mod Picking
 mod PlaceSteps
 mod Polygons
 mod Quartering
-mod Quarters
+pub mod Quarters
 mod Rays
-mod Rejects
-mod Ringing
+pub mod Rejects
+pub mod Ringing
 mod Sides
-mod Sizes
-mod Steps
+pub mod Sizes
+pub mod Steps
 mod Tests
 mod Touching
-mod Turned
+pub mod Turned
 mod Turning

@@ -22,13 +22,13 @@ use Rattle.s2polygon.specs.Places.{along}
 use Rattle.s2polygon.specs.declared.frames.Framed.{Framed}
 
 -- ---- answers
-abbrev is_above_0 : ℤ → Bool
+abbrev pub is_above_0 : ℤ → Bool
 is_above_0 z = int_lt (pos 0) z
 
-abbrev turns : ℤ → ℤ → Bool
+abbrev pub turns : ℤ → ℤ → Bool
 turns n d = int_lt (pos 0) n || (not (int_lt n (pos 0)) && int_lt (pos 0) d)
 
-is_turn : (n d : ℤ) → IsTurn n d (turns n d)
+pub is_turn : (n d : ℤ) → IsTurn n d (turns n d)
 is_turn n d = by (int_lt (pos 0) n) (int_lt n (pos 0)) (int_lt (pos 0) d) refl refl refl
   where
     by : (a b c : Bool) → int_lt (pos 0) n ≡ a → int_lt n (pos 0) ≡ b → int_lt (pos 0) d ≡ c
@@ -116,11 +116,11 @@ falls_on n d p q h e f g =
     (λ (l : pos 0 ≤ℤ n). let k = h.stays (omega (arith, ints)) in omega (arith, ints))
 
 -- the edge comes over the row beyond the place (s, t), and over the column
-pub row_at : ℕ → ℕ → Framed → Framed → Bool
+unfoldable pub row_at : ℕ → ℕ → Framed → Framed → Bool
 row_at s t a b = over_row (is_at_least_0 (above (along t) a)) (is_at_least_0 (above (along t) b))
     (turns (normal_u_of a b) (b.w -ℤ a.w)) (is_at_least_0 (side (along s) (along t) a b))
 
-pub column_at : (s t : ℕ) → Framed → Framed → Bool
+unfoldable pub column_at : (s t : ℕ) → Framed → Framed → Bool
 column_at s t a b = over_column (is_above_0 (right_of (along s) a)) (is_above_0 (right_of (along s) b))
     (turns (normal_v_of a b) (b.w -ℤ a.w)) (is_at_least_0 (side (along s) (along t) a b))
 
@@ -234,15 +234,15 @@ module _ (k : ℕ) (s t aw au av bw bu bv : ℤ) where
   abbrev upward : Expr → Expr → Expr
   upward p w = kk ⊗ p ⊖ at t ⊗ w
 
-  side_is : value (kk ⊗ sided) ≡ value (across (at au) (at aw) ⊗ upward (at bv) (at bw) ⊖ across (at bu) (at bw) ⊗
+  pub side_is : value (kk ⊗ sided) ≡ value (across (at au) (at aw) ⊗ upward (at bv) (at bw) ⊖ across (at bu) (at bw) ⊗
       upward (at av) (at aw))
   side_is = equal (kk ⊗ sided) (across (at au) (at aw) ⊗ upward (at bv) (at bw) ⊖ across (at bu) (at bw) ⊗
       upward (at av) (at aw)) (omega arith)
 
-  row_is : value (kk ⊗ nu) ≡ value (upward (at av) (at aw) ⊗ at bw ⊖ upward (at bv) (at bw) ⊗ at aw)
+  pub row_is : value (kk ⊗ nu) ≡ value (upward (at av) (at aw) ⊗ at bw ⊖ upward (at bv) (at bw) ⊗ at aw)
   row_is = equal (kk ⊗ nu) (upward (at av) (at aw) ⊗ at bw ⊖ upward (at bv) (at bw) ⊗ at aw) (omega arith)
 
-  column_is : value (kk ⊗ nv) ≡ value (at aw ⊗ across (at bu) (at bw) ⊖ across (at au) (at aw) ⊗ at bw)
+  pub column_is : value (kk ⊗ nv) ≡ value (at aw ⊗ across (at bu) (at bw) ⊖ across (at au) (at aw) ⊗ at bw)
   column_is = equal (kk ⊗ nv) (at aw ⊗ across (at bu) (at bw) ⊖ across (at au) (at aw) ⊗ at bw) (omega arith)
 
   start_is : value (nu ⊗ across (at au) (at aw) ⊕ nv ⊗ upward (at av) (at aw) ⊕ at aw ⊗ sided) ≡ pos 0

@@ -24,6 +24,9 @@ met M m = (λ t. m, λ n. yes)
 pub behind_yes : (p p_is : Pair) → p ≡ p_is → (IsTrue true ↔ AreBehind p) → AreBehind p_is
 behind_yes p p_is e h = rw e at (h.0 yes)
 
+pub behind_if : (p p_is : Pair) (r : Bool) → p ≡ p_is → (IsTrue r ↔ AreBehind p) → IsTrue r → AreBehind p_is
+behind_if p p_is r e h t = rw e at (h.0 t)
+
 pub behind_no : (p p_is : Pair) → p ≡ p_is → (IsTrue false ↔ AreBehind p) → ¬ (AreBehind p_is)
 behind_no p p_is e h = λ b. let k = rw e at h in no (k.1 b)
 

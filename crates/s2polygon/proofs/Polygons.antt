@@ -91,13 +91,13 @@ polygon_right es outside margin tops shifted odd lists e f g a h = record {
 }
 
 module _ (n face i j : ℕ) (p : IsPlaceOf n face i j) where
-  pub polygon_of : (es first last : List Edge) (margin : ℕ) (tops shifted : Tops) (top odd : Bool) (lists : Lists)
-      → first ≡ es → last ≡ es
-      → tops ≡ parities_of first → top ≡ answer_at tops face → odd ≡ odd_of top (edges_on face last) 30 0 i j
-      → shifted ≡ exchanged_by odd tops → face < 6 → AreLists last margin lists → margin ≤ 2 ^ 60
+  pub polygon_of : (es given : List Edge) (margin : ℕ) (tops shifted : Tops) (top odd : Bool) (lists : Lists)
+      → given ≡ es → tops ≡ parities_of given → top ≡ answer_at tops face
+      → odd ≡ odd_of top (edges_on face given) 30 0 i j
+      → shifted ≡ exchanged_by odd tops → face < 6 → AreLists given margin lists → margin ≤ 2 ^ 60
       → IsPolygon (record { edges = es; outside = n; margin = margin }) shifted lists
-  polygon_of es first last margin tops shifted top odd lists e f t a o s l h m =
+  polygon_of es given margin tops shifted top odd lists e t a o s l h m =
       let own = t ∙ ap parities_of e in
       polygon_right es n margin tops shifted odd lists own
       (leaf_parity n face i j p es top odd (a ∙ ap (λ (x : Tops). answer_at x face) own ∙ answer_is (top_of es) face l)
-      (o ∙ ap (λ (l : List Edge). odd_of top (edges_on face l) 30 0 i j) f)) s (rw f at h) m
+      (o ∙ ap (λ (l : List Edge). odd_of top (edges_on face l) 30 0 i j) e)) s (rw e at h) m

@@ -142,7 +142,7 @@ xor_pairs false false true true = refl
 xor_pairs false false true false = refl
 xor_pairs false false false d = refl
 
-pub odd_of_both : (f g h : FramedEdge → Bool) → ((e : FramedEdge) → h e ≡ xor (f e) (g e)) → (es : List FramedEdge)
+pub odd_of_both : {A : Type 0} (f g h : A → Bool) → ((e : A) → h e ≡ xor (f e) (g e)) → (es : List A)
     → is_odd_by h es ≡ xor (is_odd_by f es) (is_odd_by g es)
 odd_of_both f g h same [] = sym (xor_false false)
 odd_of_both f g h same (e ∷ es) = ap₂ xor (same e) (odd_of_both f g h same es) ∙ xor_pairs (f e) (g e)

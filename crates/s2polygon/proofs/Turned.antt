@@ -95,7 +95,7 @@ right c = record { w = c.u; u = pos 0 -ℤ c.w; v = c.v }
 abbrev up : Framed → Framed
 up c = record { w = c.v; u = c.u; v = pos 0 -ℤ c.w }
 
-minus_is : (z : ℤ) → neg_ℤ z ≡ pos 0 -ℤ z
+pub minus_is : (z : ℤ) → neg_ℤ z ≡ pos 0 -ℤ z
 minus_is z = omega (arith, ints)
 
 minus_twice : (z : ℤ) → z ≡ pos 0 -ℤ neg_ℤ z

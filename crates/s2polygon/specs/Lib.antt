@@ -6,6 +6,7 @@ pub mod Faces
 pub mod Frames
 pub mod Leaves
 pub mod Meets
+pub mod Moves
 pub mod Parity
 pub mod Places
 pub mod Rings

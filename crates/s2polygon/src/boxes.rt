@@ -161,6 +161,13 @@ impl BoxedEdge {
         }
     }
 
+    /// The edge itself.
+    pub(crate) fn framed(&self) -> FramedEdge
+        ensures { result ≡ self.now }
+    {
+        self.edge
+    }
+
     /// Whether it meets a square. Most edges show it without a product.
     #[tactic(none)]
     pub(crate) fn is_met(&self, q: Square) -> bool

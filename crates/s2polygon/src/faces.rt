@@ -1,13 +1,16 @@
 //! The parities of the middles of the faces.
-ghost use Rattle.std.specs.Prelude.{◌≡◌, ◌<◌};
-ghost use Rattle.s2polygon.specs.Faces.{crosses_border as crosses_border_of};
+ghost use Rattle.std.specs.Prelude.{◌≡◌, ◌<◌, ℕ, All, List};
+ghost use Rattle.s2polygon.specs.Crosses.{crosses_column_at, crosses_row_at};
+ghost use Rattle.s2polygon.specs.Faces.{crosses_border};
 ghost use Rattle.s2polygon.specs.Parity.{is_odd_by};
-ghost use Rattle.s2polygon.specs.Working.Known.{answer_at, exchanged_by, parities_of};
+ghost use Rattle.s2polygon.specs.Working.Known.{AreFramed, AreLists, answer_at, exchanged_by, parities_of};
+ghost use Rattle.s2polygon.specs.Working.Sizes.{HasPlacesOfLine, IsFramed};
+ghost use Rattle.s2polygon.specs.declared.directions.Edge.{Edge};
 
+use crate::boxes::BoxedEdge;
 use crate::crossing::{crosses_column, crosses_row};
-use crate::directions::Edge;
-use crate::frames::edge_on;
-use crate::places::line_at;
+use crate::lists::{Lists, list_at};
+use crate::places::{Line, line_at};
 
 /// The middle of a face along a side, in the numbers of borders and middles.
 const MIDDLE: u64 = (1 << 30) + 1;
@@ -15,34 +18,50 @@ const MIDDLE: u64 = (1 << 30) + 1;
 /// The last border of a face.
 const LAST: u64 = 1 << 31;
 
-/// Whether an edge crosses just one of the two pieces of the way from the middle of a face to that of the next.
-#[tactic(none)]
-fn crosses_border(face: u8, e: &Edge) -> bool
-    requires { face < 5 }
-    ensures { result ≡ crosses_border_of face e.now }
-{
-    let here = edge_on(face, *e);
-    let there = edge_on(face + 1, *e);
-    let out = line_at(MIDDLE, MIDDLE, LAST);
-    let back = line_at(MIDDLE, 0, MIDDLE);
-    if face % 2 == 0 {
-        crosses_row(here, out) ^ crosses_row(there, back)
-    } else {
-        crosses_column(here, out) ^ crosses_column(there, back)
-    }
-}
-
-/// Whether edges cross the way from the middle of a face to that of the next an odd number of times.
-fn is_odd_border(face: u8, edges: &[Edge]) -> bool
-    requires { face < 5 }
-    ensures { result ≡ is_odd_by (crosses_border_of face) edges.now }
+/// Whether edges cross a piece of a row an odd number of times.
+fn is_odd_row(edges: &[BoxedEdge], line: Line) -> bool
+    requires framed { All IsFramed edges.now }
+    requires line { HasPlacesOfLine line }
+    ensures { result ≡ is_odd_by (crosses_row_at line.at line.low line.high) edges.now }
 {
     let mut odd = false;
     for e in edges {
-        let edge = *e;
-        odd = odd ^ crosses_border(face, &edge);
+        odd = odd ^ crosses_row(e.framed(), line);
     }
     odd
+}
+
+/// Whether edges cross a piece of a column an odd number of times.
+fn is_odd_column(edges: &[BoxedEdge], line: Line) -> bool
+    requires framed { All IsFramed edges.now }
+    requires line { HasPlacesOfLine line }
+    ensures { result ≡ is_odd_by (crosses_column_at line.at line.low line.high) edges.now }
+{
+    let mut odd = false;
+    for e in edges {
+        odd = odd ^ crosses_column(e.framed(), line);
+    }
+    odd
+}
+
+/// Whether edges cross the way from the middle of a face to that of the next an odd number of times. Each piece of it
+/// lies on one of the two faces, so that the edges in the list of this face are enough.
+#[tactic(none)]
+fn is_odd_border(lists: &Lists, face: u8) -> bool
+    requires face { face < 5 }
+    requires framed { AreFramed lists.now }
+    ensures { (edges : List Edge) (margin : ℕ) → AreLists edges margin lists.now
+        → result ≡ is_odd_by (crosses_border face) edges }
+{
+    let here = list_at(lists, face);
+    let there = list_at(lists, face + 1);
+    let out = line_at(MIDDLE, MIDDLE, LAST);
+    let back = line_at(MIDDLE, 0, MIDDLE);
+    if face % 2 == 0 {
+        is_odd_row(here, out) ^ is_odd_row(there, back)
+    } else {
+        is_odd_column(here, out) ^ is_odd_column(there, back)
+    }
 }
 
 /// An answer for each of the six faces.
@@ -91,15 +110,16 @@ pub(crate) fn exchanged(tops: Tops, odd: bool) -> Tops
     }
 }
 
-/// The parities of the middles of the six faces.
-pub(crate) fn tops_of(edges: &[Edge]) -> Tops
-    ensures { result ≡ parities_of edges.now }
+/// The parities of the middles of the six faces, by the lists of the faces.
+pub(crate) fn tops_of(lists: &Lists) -> Tops
+    requires { AreFramed lists.now }
+    ensures { (edges : List Edge) (margin : ℕ) → AreLists edges margin lists.now → result ≡ parities_of edges }
 {
-    let one = is_odd_border(0, edges);
-    let two = one ^ is_odd_border(1, edges);
-    let three = two ^ is_odd_border(2, edges);
-    let four = three ^ is_odd_border(3, edges);
-    let five = four ^ is_odd_border(4, edges);
+    let one = is_odd_border(lists, 0);
+    let two = one ^ is_odd_border(lists, 1);
+    let three = two ^ is_odd_border(lists, 2);
+    let four = three ^ is_odd_border(lists, 3);
+    let five = four ^ is_odd_border(lists, 4);
     Tops {
         zero: false,
         one,

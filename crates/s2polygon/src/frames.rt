@@ -28,7 +28,7 @@ pub struct FramedEdge {
 }
 
 /// A direction in the frame of a face.
-fn in_frame(face: u8, p: Direction) -> Framed
+pub(crate) fn in_frame(face: u8, p: Direction) -> Framed
     requires { face < 6 }
     ensures value { result ≡ in_frame_of face p }
     ensures short { IsShort result }

@@ -1,6 +1,7 @@
 //! The edges of a polygon, face by face.
-ghost use Rattle.std.specs.Prelude.{◌≡◌, ◌<◌, ◌≤◌, ◌^◌, IfOk, filter};
+ghost use Rattle.std.specs.Prelude.{◌≡◌, ◌<◌, ◌≤◌, ◌^◌, IfOk, false, filter};
 ghost use Rattle.s2polygon.specs.Faces.{edges_on};
+ghost use Rattle.s2polygon.specs.Frames.{framed};
 ghost use Rattle.s2polygon.specs.Tests.{meets_square};
 ghost use Rattle.s2polygon.specs.Working.Descent.{near_face};
 ghost use Rattle.s2polygon.specs.Working.Known.{AreLists, list_of};
@@ -8,8 +9,8 @@ ghost use Rattle.s2polygon.specs.Working.Sizes.{IsOfPlaces};
 
 use crate::boxes::BoxedEdge;
 use crate::directions::Edge;
-use crate::frames::edge_on;
-use crate::meeting::is_met;
+use crate::frames::{edge_on, in_frame};
+use crate::meeting::{is_beyond, is_met};
 use crate::places::{Square, square_at};
 use std::alloc::{AllocError, Global};
 
@@ -30,6 +31,16 @@ pub struct Lists {
     pub five: Vec<BoxedEdge>,
 }
 
+/// Whether an edge may meet a square of a face, by its ends alone. Most edges have no need of a normal in the frames of
+/// five faces.
+fn may_meet(face: u8, e: Edge, q: Square) -> bool
+    requires face { face < 6 }
+    requires square { IsOfPlaces q }
+    ensures { result ≡ false → meets_square q (framed face e) ≡ false }
+{
+    !is_beyond(q, in_frame(face, e.a), in_frame(face, e.b))
+}
+
 /// Those of the edges that meet a square of a face, in the frame of the face.
 fn edges_met_on(
     alloc: Global,
@@ -43,9 +54,11 @@ fn edges_met_on(
 {
     let mut met = Vec::new(alloc);
     for e in edges {
-        let edge = edge_on(face, *e);
-        if is_met(q, edge) {
-            met.push(BoxedEdge::new(edge))?;
+        if may_meet(face, *e, q) {
+            let edge = edge_on(face, *e);
+            if is_met(q, edge) {
+                met.push(BoxedEdge::new(edge))?;
+            }
         }
     }
     Ok(met)

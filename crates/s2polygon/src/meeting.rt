@@ -203,6 +203,23 @@ fn meets(e: FramedEdge, q: Square) -> bool
     true
 }
 
+/// Whether both ends of an edge lie beyond one side of a square, so that it misses the square.
+#[tactic(none)]
+pub(crate) fn is_beyond(q: Square, a: Framed, b: Framed) -> bool
+    ensures { IsTrue result → MeetsSquare a b q → ⊥ }
+{
+    if are_behind(rights_of(q, a, b)) {
+        return true;
+    }
+    if are_behind(lefts_of(q, a, b)) {
+        return true;
+    }
+    if are_behind(aboves_of(q, a, b)) {
+        return true;
+    }
+    are_behind(belows_of(q, a, b))
+}
+
 /// The answer of `meets` for an edge.
 #[tactic(none)]
 pub(crate) fn is_met(q: Square, e: FramedEdge) -> bool

@@ -81,10 +81,10 @@ pub(crate) fn placed(
     requires margin { margin ≤ 2 ^ 60 }
     ensures { IfOk result (λ p. p ≡ record { edges = edges.items; outside = first_leaf outside; margin = margin }) }
 {
-    let tops = tops_of(&edges);
     let face = outside.face();
     let at = outside.square();
     let lists = lists_of(alloc, &edges, margin)?;
+    let tops = tops_of(&lists);
     let all = list_at(&lists, face);
     let odd = parity_of_leaf(alloc, all, margin, top_at(tops, face), at.i, at.j)?;
     Ok(Polygon {

@@ -8,6 +8,7 @@ use Rattle.s2cover.specs.declared.region.Part.TheVariants.{Out, In, Cross}
 use Rattle.s2polygon.specs.Faces.{edges_on, top_of}
 use Rattle.s2polygon.specs.Leaves.{Region, odd_at}
 use Rattle.s2polygon.specs.Working.Descent.{IsRight, near_face, near_of}
+use Rattle.s2polygon.specs.Working.Sizes.{IsFramed}
 use Rattle.s2polygon.specs.declared.descent.Known.{Known}
 use Rattle.s2polygon.specs.declared.directions.Edge.{Edge}
 use Rattle.s2polygon.specs.declared.faces.Tops.{Tops}
@@ -58,6 +59,10 @@ list_of l (suc (suc (suc (suc (suc _))))) = l.five.items
 -- they are the lists of the edges that meet each face
 abbrev pub AreLists : List Edge → ℕ → Lists → Type 0
 AreLists es margin lists = (f : ℕ) → f < 6 → list_of lists f ≡ near_face margin (edges_on f es)
+
+-- each edge of the lists has the product of its ends as its normal
+abbrev pub AreFramed : Lists → Type 0
+AreFramed lists = (f : ℕ) → f < 6 → All IsFramed (list_of lists f)
 
 -- the list of face `f` of a polygon
 abbrev pub face_list : Region → ℕ → List FramedEdge
