@@ -1,3 +1,5 @@
+mod Decimals
+mod Doubles
 mod Signs
 mod Steps
 mod Sums

@@ -7,7 +7,8 @@ use Rattle.std.proofs.Math.Nat.{mul-le-mul_right}
 use Rattle.std.proofs.lemmas.Int.{fits_signed_from_abs, ints, to_z-of_z}
 use Rattle.s2degrees.specs.Degrees.{IsQuarterCosine, IsQuarterSine, IsSineIn}
 use Rattle.s2degrees.specs.Directions.{IsOnGrid}
-use Rattle.s2degrees.specs.Working.Near.{IsNear, IsSignedNear, with_sign}
+use Rattle.s2degrees.specs.Femtodegrees.{with_sign}
+use Rattle.s2degrees.specs.Working.Near.{IsNear, IsSignedNear}
 use Rattle.s2degrees.proofs.Steps.{quotient}
 
 neg_times : (m n : ℕ) → neg_ℤ (pos m) *ℤ pos n ≡ neg_ℤ (pos (m * n))

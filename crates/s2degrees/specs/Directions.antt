@@ -1,6 +1,10 @@
 -- The direction of a place.
-use Rattle.std.specs.Prelude.{ℕ, ◌*◌, ◌≤◌, ◌<◌, ℤ, pos, ◌-ℤ◌, ◌*ℤ◌, unsigned_abs}
+use Rattle.std.specs.Prelude.{ℕ, ◌*◌, ◌^◌, ◌≤◌, ◌<◌, ℤ, pos, ◌-ℤ◌, ◌*ℤ◌, unsigned_abs}
+use Rattle.std.specs.Float.{Float}
 use Rattle.s2degrees.specs.Degrees.{IsCosine, IsSine, quarter}
+use Rattle.s2degrees.specs.Femtodegrees.{IsFemtodegreesOf, IsWithin}
+use Rattle.s2degrees.specs.declared.fault.DegreesFault.{DegreesFault}
+use Rattle.s2degrees.specs.declared.fault.DegreesFault.TheVariants.{Latitude, Longitude}
 use Rattle.s2polygon.specs.Directions.{Point}
 
 -- y is at most 0.501 away from (2^31 - 1) * a / b
@@ -16,6 +20,31 @@ pub record IsDirectionOf (longitude latitude : ℤ) (d : Point) : Type 0 where
 -- a latitude is beyond a pole
 abbrev pub IsBeyondPole : ℤ → Type 0
 IsBeyondPole latitude = quarter < unsigned_abs latitude
+
+-- the direction of a place whose longitude and latitude are doubles, in degrees
+pub record IsDirectionAt (longitude latitude : Float) (d : Point) : Type 0 where
+  pub east : ℤ
+  pub north : ℤ
+  pub east_is : IsFemtodegreesOf longitude east
+  pub north_is : IsFemtodegreesOf latitude north
+  pub near : IsDirectionOf east north d
+
+-- a longitude from -540 to 540
+abbrev pub IsLongitude : Float → Type 0
+IsLongitude x = IsWithin (540 * 10 ^ 15) x
+
+-- a latitude from -90 to 90
+abbrev pub IsLatitude : Float → Type 0
+IsLatitude x = IsWithin quarter x
+
+-- a longitude and a latitude, as maps have them
+abbrev pub IsOnMap : Float → Float → Type 0
+IsOnMap longitude latitude = IsLongitude longitude × IsLatitude latitude
+
+-- what the fault of two doubles says is so
+abbrev pub PlaceFaultIs : Float → Float → DegreesFault → Type 0
+PlaceFaultIs longitude latitude Longitude = ¬ (IsLongitude longitude)
+PlaceFaultIs longitude latitude Latitude = IsLongitude longitude × ¬ (IsLatitude latitude)
 
 -- a sum of the sine of the angle has this place on the grid
 abbrev pub HasSine : ℤ → ℤ → Type 0

@@ -1,4 +1,6 @@
+pub mod Decimals
 pub mod Degrees
 pub mod Directions
+pub mod Femtodegrees
 pub mod Series
 pub mod Working

@@ -1,7 +1,8 @@
 //! Numbers of 62 places with a sign, and their places on the grid.
 ghost use Rattle.std.specs.Prelude.{◌≡◌, ◌≤◌, ◌<◌, ◌+◌, ◌*◌, ◌/◌, ◌^◌, ℕ, ℤ, ◌*ℤ◌, unsigned_abs};
 ghost use Rattle.s2degrees.specs.Directions.{IsOnGrid};
-ghost use Rattle.s2degrees.specs.Working.Near.{IsSignedNear, with_sign};
+ghost use Rattle.s2degrees.specs.Femtodegrees.{with_sign};
+ghost use Rattle.s2degrees.specs.Working.Near.{IsSignedNear};
 
 use crate::series::product;
 
@@ -50,7 +51,7 @@ fn steps(a: u64) -> u64
 }
 
 /// A whole number with a sign.
-fn whole(negative: bool, size: u64) -> i64
+pub(crate) fn whole(negative: bool, size: u64) -> i64
     requires { size < 2 ^ 63 }
     ensures { result ≡ with_sign negative size }
 {

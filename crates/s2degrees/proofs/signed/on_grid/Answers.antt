@@ -1,6 +1,6 @@
 use Rattle.std.proofs.Common.{◌<◌, ◌^◌, subst, sym, unsigned_abs}
 use Rattle.s2degrees.specs.Directions.{IsOnGrid}
-use Rattle.s2degrees.specs.Working.Near.{with_sign}
+use Rattle.s2degrees.specs.Femtodegrees.{with_sign}
 use Rattle.s2degrees.proofs.Signs.{grid_near, read_back, with_sign_below}
 use Rattle.s2degrees.proofs.signed.on_grid.Goals as goal
 
