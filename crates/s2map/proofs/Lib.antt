@@ -1,0 +1,9 @@
+mod Answers
+mod Boxes
+mod Corners
+mod Meanings
+mod Passing
+mod Products
+mod Ringing
+mod Shapes
+mod Sizes

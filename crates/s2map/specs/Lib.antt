@@ -1,0 +1,6 @@
+pub mod Boxes
+pub mod Edges
+pub mod Examples
+pub mod Map
+pub mod Rings
+pub mod Working

@@ -1,0 +1,4 @@
+-- What only private contracts and proofs need.
+pub mod Even
+pub mod Parts
+pub mod Sizes

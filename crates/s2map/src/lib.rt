@@ -1,0 +1,19 @@
+//! The map of longitudes and latitudes, in whole numbers.
+//!
+//! A place of the map is a longitude and a latitude, whole numbers of femtodegrees of which a degree has 10^15. Edges
+//! are straight on the map, as GeoJSON means them. A place is inside a part if the edges that pass north of it, on any
+//! turn of 360 degrees, are odd in number: a sign of a difference of two products for each edge. Nothing is rounded.
+#![tactic(auto)]
+
+mod edge;
+mod fault;
+pub mod laws;
+mod meeting;
+mod part;
+mod place;
+mod shape;
+
+pub use fault::MapFault;
+pub use part::MapPart;
+pub use place::{MapBox, MapEdge, Place};
+pub use shape::{BoxPart, MapShape};
