@@ -918,6 +918,19 @@ int32_t s2u_inner_in(const uint64_t* ids, size_t n, const s2u_rect* bounds, uint
  * of few cells look into no more than `cells`, or 6, at each level.
  * @{ */
 
+/** [pure] The direction of a place in degrees, which is the same on each machine. Each coordinate is at most 0.501
+ * away from 2^31 - 1 times what sine and cosine say: 3 mm on the earth at most.
+ * @param longitude from -540 to 540
+ * @param latitude from -90 to 90
+ * @param direction the result; a refusal doesn't touch it
+ * @return S2U_OK
+ * @retval S2U_ARGUMENT the longitude or the latitude is out of its range, or no number
+ * @s2{S2LatLng::ToPoint}
+ * @since 1.5
+ * @snippet examples.c s2u_direction_of
+ */
+int32_t s2u_direction_of(double longitude, double latitude, s2u_direction* direction);
+
 /** The cells of a level that have an outer leaf of a polygon, normalized: S2's GetCovering with one level.
  * @param corners,n the corners, ring after ring, and how many they are; the first of a ring follows its last
  * @param ends,lists how many corners there are up to the end of each ring, and how many rings

@@ -9,6 +9,7 @@
 
 mod cells;
 mod coverings;
+mod directions;
 mod files;
 pub mod laws;
 mod many;

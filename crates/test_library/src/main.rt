@@ -1,11 +1,12 @@
 //! Worked rows on the calls of the libraries. Standard input is a table (`test_table`), whose rows have calls and what
 //! they must answer. Prints the title of each row with other answers, and how many have theirs.
 //!
-//! Modules, by what is called: `cells` (of `s2cell`), `unions` (`s2union`), `counted` (`s2union`, `s2list` and
-//! `s2room`), `coverings` (`s2cover`), `polygons` (`s2polygon`), `directions` (`s2degrees`), `files` (`s2file`),
-//! `shelves` (`s2shelf`), `edits`, `changes` and `sessions` (`s2edit` and `s2session`). `even` and `weighed` are
-//! regions of its own. `curve`, `rectangles` and `differing` compare calls with other calls, or with plain readings
-//! that stand here as test code. `table` has a row answered, and `texts` reads and writes the words of calls.
+//! Modules, by what is called: `cells` (of `s2cell`), `unions` (`s2union`), `counted` (`s2union` and `s2list`),
+//! `coverings` (`s2cover`), `polygons` (`s2polygon`), `directions` (`s2degrees`), `shapes` (`s2shape`), `files`
+//! (`s2file`), `shelves` (`s2shelf`), `edits`, `changes` and `sessions` (`s2edit` and `s2session`). `even` and
+//! `weighed` are regions of its own. `curve`, `rectangles` and `differing` compare calls with other calls, or with
+//! plain readings that stand here as test code. `table` has a row answered, and `texts` reads and writes the words of
+//! calls.
 #![tactic(auto)]
 
 mod cells;
@@ -21,6 +22,7 @@ mod files;
 mod polygons;
 mod rectangles;
 mod sessions;
+mod shapes;
 mod shelves;
 mod table;
 mod texts;
