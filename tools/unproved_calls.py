@@ -40,7 +40,7 @@ def call(module, name, words, structures):
             variables.append(f"let mut {argument} = {structures.get(kind, '0')};")
             given.append(f"{mode}{argument}")
         else:
-            given.append("0")
+            given.append("0.0" if kind == "f64" else "0")
     return f"    {' '.join(variables)} if {module}::{name}({', '.join(given)}) == 1 {{ odd = !odd; }}"
 
 

@@ -25,6 +25,7 @@ int32_t s2u_denormalised(const uint64_t* ids, size_t n, uint32_t min, uint32_t m
 int32_t s2u_denormalised_len(const uint64_t* ids, size_t n, uint32_t min, uint32_t modulus, uint64_t* len);
 int32_t s2u_difference(const uint64_t* xs, size_t nx, const uint64_t* ys, size_t ny, uint64_t* out, size_t room, size_t*
   len);
+int32_t s2u_direction_of(double longitude, double latitude, s2u_direction* direction);
 int32_t s2u_encode(const uint64_t* ids, size_t n, uint8_t* out, size_t room, size_t* len);
 int32_t s2u_face(uint64_t id);
 int32_t s2u_file_ancestors(const uint8_t* bytes, size_t n, uint64_t* out, size_t room, size_t* len);

@@ -49,17 +49,23 @@ static inline double s2u_geo_uv_of(double place) {
   return s >= 0.5 ? (4 * s * s - 1) / 3 : (1 - 4 * (1 - s) * (1 - s)) / 3;
 }
 
+/* Where the cube has a point of a face, i and j leaves from its corner; the cube's edges are 2 long. */
+static inline void s2u_geo_point_of_cube(uint32_t face, double i, double j, double* x, double* y, double* z) {
+  double u = s2u_geo_uv_of(i), v = s2u_geo_uv_of(j);
+  switch (face) {
+    case 0: *x = 1, *y = u, *z = v; break;
+    case 1: *x = -u, *y = 1, *z = v; break;
+    case 2: *x = -u, *y = -v, *z = 1; break;
+    case 3: *x = -1, *y = -v, *z = -u; break;
+    case 4: *x = v, *y = -1, *z = -u; break;
+    default: *x = v, *y = u, *z = -1;
+  }
+}
+
 /* The longitude, from -180 to 180, and the latitude of a point of a face, i and j leaves from its corner. */
 static inline void s2u_geo_place(uint32_t face, double i, double j, double* longitude, double* latitude) {
-  double u = s2u_geo_uv_of(i), v = s2u_geo_uv_of(j), x, y, z;
-  switch (face) {
-    case 0: x = 1, y = u, z = v; break;
-    case 1: x = -u, y = 1, z = v; break;
-    case 2: x = -u, y = -v, z = 1; break;
-    case 3: x = -1, y = -v, z = -u; break;
-    case 4: x = v, y = -1, z = -u; break;
-    default: x = v, y = u, z = -1;
-  }
+  double x, y, z;
+  s2u_geo_point_of_cube(face, i, j, &x, &y, &z);
   *longitude = atan2(y + 0.0, x + 0.0) * (180 / S2U_GEO_PI); /* as S2: -0 is 0, so never -180 */
   *latitude = atan2(z, sqrt(x * x + y * y)) * (180 / S2U_GEO_PI); /* as S2; hypot is of glibc 2.35 */
 }

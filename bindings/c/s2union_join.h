@@ -158,7 +158,7 @@ static inline uint64_t s2u_join_shorten(const s2u_join_boxes* boxes, const doubl
     last = sides;
   }
   if (all) return 0;
-  for (; is_area && kept < 4; kept++) memcpy(to + 2 * kept, to + 2 * (kept - 1), 2 * sizeof(double));
+  for (; is_area && kept < 4; kept++) to[2 * kept] = to[2 * kept - 2], to[2 * kept + 1] = to[2 * kept - 1];
   return kept;
 }
 

@@ -171,7 +171,7 @@ static inline bool s2u_geo_is_short(const s2u_geo_outliner* o, s2u_geo_corner fr
 /* The place between two that is a multiple of the greatest power of two. */
 static inline int32_t s2u_geo_between(int32_t from, int32_t to) {
   int64_t a = (int64_t)from + S2U_GEO_SIDE, b = (int64_t)to + S2U_GEO_SIDE, step = (int64_t)1 << 31;
-  while ((a / step + 1) * step >= b) step /= 2;
+  while (step > 1 && (a / step + 1) * step >= b) step /= 2;
   return (int32_t)((a / step + 1) * step - S2U_GEO_SIDE);
 }
 
@@ -381,12 +381,13 @@ static inline bool s2u_geo_put_rings(s2u_geo_outliner* o, s2u_geo_rings* rings) 
   return true;
 }
 
-static inline void s2u_geo_put_squares(s2u_geo_outliner* o, const uint64_t* ids, size_t n) {
+static inline int32_t s2u_geo_put_squares(s2u_geo_outliner* o, const uint64_t* ids, size_t n) {
   int64_t least = S2U_GEO_SIDE;
   double length = 0; /* of all sides, in radians, at most */
   for (size_t k = 0; k < n; k++) {
     s2u_square q;
-    s2u_square_of(ids[k], &q);
+    int32_t status = s2u_square_of(ids[k], &q);
+    if (status != S2U_OK) return status;
     bool is_face = o->is_map && q.size == S2U_GEO_SIDE;
     int64_t size = is_face ? q.size / 2 : q.size;
     for (int child = 0; child < (is_face ? 4 : 1); child++)
@@ -396,6 +397,7 @@ static inline void s2u_geo_put_squares(s2u_geo_outliner* o, const uint64_t* ids,
   }
   double longest = length / (100000 + 64 * (double)n); /* that many parts are enough */
   o->most = fmax(0.8 * (double)least / S2U_GEO_SIDE, longest * longest);
+  return S2U_OK;
 }
 
 static inline int32_t s2u_geo_outlined(const uint64_t* ids, size_t n, bool is_map, s2u_geo_rings* rings) {
@@ -408,14 +410,12 @@ static inline int32_t s2u_geo_outlined(const uint64_t* ids, size_t n, bool is_ma
   if (squares > SIZE_MAX / 8 / sizeof *o.marks) return S2U_MEMORY;
   o.marks = (s2u_geo_mark*)malloc(squares * 8 * sizeof *o.marks);
   o.roots = (size_t*)malloc(squares * sizeof *o.roots);
-  bool is_made = false;
-  if (o.marks && o.roots) {
-    s2u_geo_put_squares(&o, ids, n);
-    is_made = s2u_geo_put_parts(&o) && s2u_geo_put_loops(&o) && s2u_geo_put_rings(&o, rings);
-  }
+  int32_t status = o.marks && o.roots ? s2u_geo_put_squares(&o, ids, n) : S2U_MEMORY;
+  if (status == S2U_OK && !(s2u_geo_put_parts(&o) && s2u_geo_put_loops(&o) && s2u_geo_put_rings(&o, rings)))
+    status = S2U_MEMORY;
   free(o.marks), free(o.roots), free(o.parts), free(o.loops), free(o.positions), free(o.path), free(o.places);
-  if (!is_made) s2u_geo_free(rings);
-  return is_made ? S2U_OK : S2U_MEMORY;
+  if (status != S2U_OK) s2u_geo_free(rings);
+  return status;
 }
 
 /* The outline of a union as polygons on a map, in degrees from -180 to 180 and from -90 to 90: for each part that hangs

@@ -58,7 +58,7 @@ func ExampleRegionCoverer_Covering() {
 	_, err := s2union.RegionCoverer{MaxCells: 8, Margin: 1e6}.Covering(circle)
 	fmt.Println(errors.Is(err, s2union.ErrShapeOption))
 	// Output:
-	// 47e66e04 47e66e1c 47e66e24 47e671d8c 47e671dd 47e671df 47e671e4 47e671fc <nil>
+	// 47e66e04 47e66e1c 47e66e21 47e66e23 47e66e27 47e671dc 47e671e4 47e671fc <nil>
 	// true
 }
 

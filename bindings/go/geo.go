@@ -5,22 +5,22 @@ package s2union
 // #pragma STDC FP_CONTRACT OFF
 // #include <s2union_host.h>
 // #if defined(__GLIBC__)
-// static __thread const int32_t* done __attribute__((tls_model("initial-exec")));
+// static __thread const int32_t* go_done __attribute__((tls_model("initial-exec")));
 // #elif defined(__linux__)
-// static __thread const int32_t* done;
+// static __thread const int32_t* go_done;
 // #else
-// static const int32_t* done;
+// static const int32_t* go_done;
 // #endif
-// static int is_done(void* of) { return of && __atomic_load_n((const int32_t*)of, __ATOMIC_RELAXED); }
-// #define S2U_IS_CANCELLED() is_done((void*)done)
+// static int go_is_done(void* of) { return of && __atomic_load_n((const int32_t*)of, __ATOMIC_RELAXED); }
+// #define S2U_IS_CANCELLED() go_is_done((void*)go_done)
 // #include <s2union_cover.h>
 // #include <s2union_outline.h>
 //
 // // From now on, calls in this thread end soon after *flag isn't 0; or go on, if it is NULL.
 // static void end_when(s2u_heap_asked* asked, int32_t* flag) {
 // #ifdef __linux__
-//   asked->is_cancelled = is_done, asked->of = flag;
-//   done = flag;
+//   asked->is_cancelled = go_is_done, asked->of = flag;
+//   go_done = flag;
 //   s2u_heap_ask(flag ? asked : NULL);
 // #endif
 // }
@@ -132,8 +132,8 @@ type RegionCoverer struct {
 	MaxCells int     // the most cells, at most 1,000,000; 0 stands for 200, or for 1,000,000 if Within is given
 	MinLevel int     // cells at the border are at least as deep, even if there are more than MaxCells then
 	MaxLevel int     // no cell is deeper; 0 stands for 30
-	Within   float64 // meters: no place of a covering is farther from the region, if MaxCells allows it; 0: no such wish
-	Margin   float64 // meters by which a covering goes beyond the region, and an interior one stays inside: to 300,000
+	Within   float64 // meters: no place is farther from the region and its margin, if MaxCells allows it; 0: no such wish
+	Margin   float64 // meters, to 300,000, beyond polygons, and inside for an interior; of lines and points, a corridor
 	Edges    Edges   // of shapes, WKB and boxes
 }
 
@@ -155,8 +155,8 @@ type Shape struct {
 // over. An SRID is 0 or 4326.
 type WKB []byte
 
-// Circle is the places that are at most Radius meters, 0 to 9,000,000, from a center, on a sphere with the earth's mean
-// radius: golang/geo's Cap.
+// Circle is the places that are at most Radius meters, 0 to 20,000,000, from a center, on a sphere with the earth's
+// mean radius: golang/geo's Cap.
 type Circle struct {
 	Center Position
 	Radius float64

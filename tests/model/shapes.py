@@ -229,7 +229,7 @@ def circles_and_boxes():
     for k in range(24):
         y = random.uniform(-80, 80) if k % 3 else 90 - 10 ** random.uniform(-6, 1)
         given = options(random.choice((1, 20, 300)), margin=0.0 if k % 5 else 1000.0)
-        place = random.uniform(-180, 180), y, 10 ** random.uniform(0, 6.5)
+        place = random.uniform(-180, 180), y, 10 ** random.uniform(-1, 7.3)
         say("circle", doubles(*place), in_words(given),
             *answers(_library.coverings_of_circle(*place, of_library(given), 3)))
     for west, south, east, north in ((2, 48, 3, 49), (170, -5, -170, 5), (-180, -90, 180, 90), (0, 0, 0, 0)):
@@ -275,7 +275,7 @@ def refusals():
         say("box", doubles(2, 48, 3, 49), in_words(given), "!option")
     for place in ((541, 0, 1), (0, 91, 1), (math.nan, 0, 1)):
         say("circle", doubles(*place), in_words(options()), "!number 0 0")
-    for radius in (-1.0, 9000001.0, math.nan, math.inf):
+    for radius in (-1.0, 20000001.0, math.nan, math.inf):
         say("circle", doubles(0, 0, radius), in_words(options()), "!option")
     say("box", doubles(0, 0, 1, math.nan), in_words(options()), "!number 0 2")
     say("box", doubles(0, 91, 1, 0), in_words(options()), "!number 0 0")

@@ -73,6 +73,7 @@ static size_t points_count;
 static uint32_t level, modulus, i, j;
 static s2u_rect rect;
 static s2u_direction corners[8];
+static double longitude, latitude;
 static size_t corners_count, corner_ends[2], rings;
 static uint64_t outside, margin;
 static uint32_t coarse, least, deepest;
@@ -146,6 +147,8 @@ static void draw_all(void) {
   rect = (s2u_rect){below(7), i / 2, i / 2 + wide, j / 2, j / 2 + high};
   file_size = drawn_file(xs, nx, file), other_size = drawn_file(ys, ny, other_file);
   words_size = drawn_words(words);
+  longitude = (double)below(1100) - 550 + (double)below(1 << 20) / (1 << 20);
+  latitude = (double)below(190) - 95 + (double)below(1 << 20) / (1 << 20);
   draw_polygon();
 }
 
@@ -157,6 +160,7 @@ static char text[18 * MOST];
 static size_t out_room, more_room, work_room, bytes_room, text_room, len, count;
 static uint32_t small;
 static s2u_square square;
+static s2u_direction direction;
 
 static size_t drawn_room(size_t whole) {
   return below(8) ? whole : below(40);

@@ -30,6 +30,7 @@
   ASK(denormalised, (xs, nx, level, modulus, out, out_room, &len), SEE(out) SEE(len)) \
   ASK(denormalised_len, (xs, nx, level, modulus, &number), SEE(number)) \
   ASK(difference, (xs, nx, ys, ny, out, out_room, &len), SEE(out) SEE(len)) \
+  ASK(direction_of, (longitude, latitude, &direction), SEE(direction)) \
   ASK(encode, (xs, nx, bytes, bytes_room, &len), SEE(bytes) SEE(len)) \
   ASK(face, (id), ) \
   ASK(file_ancestors, (file, file_size, out, out_room, &len), SEE(out) SEE(len)) \

@@ -95,7 +95,7 @@ static void check_cancels(const char* name, int32_t (*call)(void), long most) {
   const long all = looks, blocks = blocks_taken(), loops = in_loops;
   check(status == S2U_OK && loops > 2, name);
   for (long k = 0; k < loops; k++) check_cancel(name, call, of_loops[k], most);
-  for (long n = 1; n <= all; n += all / SAMPLES) check_cancel(name, call, n, most);
+  for (long n = 1; n <= all; n += all / SAMPLES + 1) check_cancel(name, call, n, most);
   looks = cancelled = 0, sum = 0;
   check(call() == S2U_OK && sum == wanted && blocks_taken() == blocks, name);
 }

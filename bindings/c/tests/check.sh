@@ -69,6 +69,8 @@ covered() { # shapes in degrees
     program shapes "$static" -fsanitize=address,undefined -fno-sanitize-recover "$work/refuse.o"
 }
 step "coverings of shapes in degrees, and under the sanitizers" covered
+step "coverings of parts that touch, beside whole numbers, under the sanitizers" program parts "$static" \
+  -fsanitize=address,undefined -fno-sanitize-recover
 step "coverings with geodesic edges, beside long doubles" program geodesics "$static"
 around() { # cells around cells
   program neighbors "$static" -fsanitize=address,undefined -fno-sanitize-recover "$work/refuse.o"

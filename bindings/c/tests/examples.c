@@ -391,6 +391,13 @@ int main(void) {
     /* [s2u_inner_in] */
   }
   {
+    /* [s2u_direction_of] */
+    s2u_direction place;
+    check(s2u_direction_of(-90, 0, &place) == S2U_OK && place.x == 0 && place.y == -2147483647 && place.z == 0);
+    check(s2u_direction_of(0, 91, &place) == S2U_ARGUMENT);
+    /* [s2u_direction_of] */
+  }
+  {
     /* [s2u_polygon_outer] */
     s2u_direction corners[] = {{10, 1, 1}, {10, 9, 1}, {10, 1, 9}}; /* a triangle on face 0 */
     size_t ends[] = {3}, len;

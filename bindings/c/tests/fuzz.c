@@ -2,6 +2,7 @@
  * number spoiled, cells in any order, numbers that are no cells, lengths of 0 with no pointer. Whatever they are, what
  * the header promises has to hold: the statuses, the bounds on *len, what is not touched, and not a byte read or
  * written past a list: each ends at a page which may not be touched. bindings/c/tests/check.sh builds it. */
+#include <math.h>
 #include "calls.h"
 #include "tests.h"
 
@@ -415,6 +416,19 @@ static void polygons(void) {
   }
 }
 
+/* Any two doubles: their direction, if they are a place. */
+static void degrees(void) {
+  uint64_t bits[2] = {number(), number()};
+  double place[2];
+  s2u_direction found = {9, 9, 9};
+  memcpy(place, bits, sizeof place);
+  if (byte() % 2) place[0] = (double)(int16_t)bits[0] / 60, place[1] = (double)(int16_t)bits[1] / 360;
+  int is_place = fabs(place[0]) <= 540 && fabs(place[1]) <= 90;
+  MUST(s2u_direction_of(place[0], place[1], &found) == (is_place ? S2U_OK : S2U_ARGUMENT));
+  int64_t size = llabs(found.x) + llabs(found.y) + llabs(found.z);
+  MUST(is_place ? size >= 2147483646 && size <= INT64_C(3719550790) : found.x == 9 && found.y == 9 && found.z == 9);
+}
+
 /* A file before `end`: of a list, and perhaps with a byte changed; or any bytes. Its length. */
 static size_t file_before(uint8_t* end, uint64_t* ids_end) {
   uint8_t kind = byte();
@@ -482,7 +496,8 @@ static void start(void) {
 }
 
 int LLVMFuzzerTestOneInput(const uint8_t* data, size_t size) {
-  static void (*const groups[])(void) = {cells, texts, questions, sets, making, many, each, coverings, polygons, files};
+  static void (*const groups[])(void) = {cells, texts, questions, sets, making, many, each, coverings, polygons, files,
+                                         degrees};
   if (!xs_end) start();
   input = data;
   left = size;

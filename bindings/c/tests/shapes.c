@@ -169,14 +169,14 @@ static void pieces(void) {
   const s2u_cover_ring ring = {5, 0};
   const s2u_cover_shape shape = {positions, &ring, 1};
   const size_t first = 0;
-  const s2u_cover_part part = {&shape, &first, 1};
+  const s2u_cover_part part = {&shape, &first, 1, NULL};
   box_of(0, 40, 20, 60, positions);
   for (int k = 0; k < 3; k++) { /* by few cells, by cells that aren't deep, and by many */
     const s2u_cover_options options = {k == 0 ? 8 : S2U_COVER_MOST_CELLS, 0, k == 1 ? 3 : 30, S2U_COVER_MAP, 0};
     const double length = s2u_cover_length(&part);
     const s2u_cover_wanted wanted = {&options, length, s2u_cover_size(length, &options), NULL, NULL};
     s2u_cover_build build;
-    CHECK(s2u_cover_build_within(&build, &part, &wanted) == S2U_OK);
+    CHECK(s2u_cover_build_within(&build, &part, &wanted, length) == S2U_OK);
     CHECK(k < 2 ? build.corners.count < 50 : build.corners.count > 1000);
     s2u_cover_let_go(&build);
   }
@@ -285,7 +285,11 @@ static void together_everywhere(void) {
     rings[k].end = 5 * (uint64_t)k + 5, rings[k].polygon = (uint64_t)k;
   }
   answer it = cover(boxes, rings, 8, USUAL);
-  CHECK(it.status == S2U_OK && it.outer.count == 6 && has(&it.inner, 45, 45) && !has(&it.inner, 0, 45));
+  CHECK(it.status == S2U_OK && it.outer.count == 6 && it.inner.count == 6); /* no edge is left */
+  drop(&it);
+  boxes[2] = boxes[4] = -89.9; /* and where two of them overlap, their edges stay */
+  it = cover(boxes, rings, 8, USUAL);
+  CHECK(it.status == S2U_OK && it.outer.count == 6 && has(&it.inner, 45, 45) && !has(&it.inner, -90, -45));
   drop(&it);
   double line[] = {-180, -90, 180, -90, 180, 90, -180, 90, -180, -90, 1, 2, 3, 4};
   const s2u_cover_ring both[] = {{5, 0}, {7, S2U_COVER_LINE}};
@@ -510,6 +514,49 @@ static void least_levels(void) {
   CHECK(s2u_cover(&shape, &options, &it.outer, NULL, &it.fault) == S2U_MANY && !it.outer.ids);
 }
 
+static int is_same(const s2u_cover_cells* a, const s2u_cover_cells* b) {
+  return a->count == b->count && memcmp(a->ids, b->ids, 8 * a->count) == 0;
+}
+
+/* Cells of one level are those of the library's call for a level. An outer covering of few cells that are no deeper has
+ * all of them, and an inner one no more. */
+static void one_level(void) {
+  enum { CORNERS = 60 };
+  for (uint32_t level = 1; level <= 12; level++) {
+    double positions[2 * CORNERS + 2], x = between(-170, 170), y = between(-60, 60);
+    for (int k = 0; k < CORNERS; k++) {
+      const double turn = 2 * S2U_GEO_PI * k / CORNERS, far = 4 * between(0.5, 1);
+      positions[2 * k] = x + far * cos(turn), positions[2 * k + 1] = y + far * sin(turn);
+    }
+    memcpy(positions + 2 * CORNERS, positions, 2 * sizeof(double));
+    const s2u_cover_ring ring = {CORNERS + 1, 0};
+    const s2u_cover_shape shape = {positions, &ring, 1};
+    const size_t first = 0;
+    const s2u_cover_part part = {&shape, &first, 1, NULL};
+    s2u_cover_options options = {1 + level * 9, level, level, level % 3, 0}, few = options;
+    few.min_level = 0;
+    answer it = cover_ring(positions, CORNERS + 1, options), rough = cover_ring(positions, CORNERS + 1, few);
+    const double length = s2u_cover_length(&part);
+    const s2u_cover_wanted wanted = {&options, length, s2u_cover_size(length, &options), NULL, NULL};
+    s2u_cover_build build;
+    CHECK(s2u_cover_build_within(&build, &part, &wanted, length) == S2U_OK);
+    for (int is_outer = 0; is_outer < 2; is_outer++) {
+      static uint64_t ids[100000];
+      s2u_cover_cells all = {ids, 0};
+      CHECK((is_outer ? s2u_polygon_outer : s2u_polygon_inner)(
+                (const s2u_direction*)build.corners.at, build.corners.count, (const size_t*)build.ends.at,
+                build.ends.count, s2u_geo_leaf(x + 180, -y), s2u_cover_margin(&build, &options), level, 100000, ids,
+                100000, &all.count) == S2U_OK);
+      CHECK(is_same(is_outer ? &it.outer : &it.inner, &all));
+    }
+    CHECK(s2u_contains(rough.outer.ids, rough.outer.count, it.outer.ids, it.outer.count) == 1);
+    CHECK(s2u_contains(it.inner.ids, it.inner.count, rough.inner.ids, rough.inner.count) == 1);
+    s2u_cover_let_go(&build);
+    drop(&it);
+    drop(&rough);
+  }
+}
+
 static void geodesic(void) {
   double box[10];
   box_of(0, 40, 10, 49, box);
@@ -718,10 +765,6 @@ static int32_t of_bytes(size_t length, s2u_cover_cells* outer, s2u_cover_fault* 
   return status;
 }
 
-static int is_same(const s2u_cover_cells* a, const s2u_cover_cells* b) {
-  return a->count == b->count && memcmp(a->ids, b->ids, 8 * a->count) == 0;
-}
-
 static void wkb(void) {
   static const uint64_t flags[] = {0, 1000, 2000, 3000, 0x80000000, 0x40000000, 0xc0000000, 0x20000000, 0xe0000000};
   static const size_t numbers[] = {2, 3, 3, 4, 3, 3, 4, 2, 4};
@@ -842,6 +885,7 @@ int main(void) {
   circles();
   margins();
   least_levels();
+  one_level();
   geodesic();
   areas();
   few_for_all_faces();

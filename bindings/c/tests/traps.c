@@ -1,4 +1,5 @@
 /* Calls with senseless arguments: no crash, not a byte written past the room, the stated refusal. */
+#include <math.h>
 #include "calls.h"
 #include "tests.h"
 
@@ -333,6 +334,30 @@ static void polygons(void) {
   }
 }
 
+/* Places in degrees: the last that are, and the first that aren't. */
+static void places_in_degrees(void) {
+  const int64_t one = 2147483647, half = 1518500249; /* half of the root of 2 */
+  const double most = 540, more = 0x1.0e00000000001p+9, pole = 90, beyond = 0x1.6800000000001p+6;
+  const double none[][2] = {{NAN, 0}, {0, NAN}, {INFINITY, 0}, {0, -INFINITY}, {more, 0}, {-more, 0}, {0, beyond},
+                            {0, -beyond}, {1e300, 0}, {0, -1e300}, {9223, 0}, {9224, 0}, {16384, 0}};
+  const struct {
+    double longitude, latitude;
+    s2u_direction want;
+  } right[] = {{most, 0, {-one, 0, 0}}, {-most, -0.0, {-one, 0, 0}}, {-450, 0, {0, -one, 0}}, {123, pole, {0, 0, one}},
+               {0, -pole, {0, 0, -one}}, {5e-324, -5e-324, {one, 0, 0}}, {45, 0, {half, half, 0}},
+               {-180, 45, {-half, 0, half}}, {2.2e-308, 1e-300, {one, 0, 0}}};
+  for (size_t k = 0; k < sizeof none / sizeof *none; k++) {
+    s2u_direction found = {9, 8, 7};
+    CHECK(s2u_direction_of(none[k][0], none[k][1], &found) == S2U_ARGUMENT);
+    CHECK(found.x == 9 && found.y == 8 && found.z == 7);
+  }
+  for (size_t k = 0; k < sizeof right / sizeof *right; k++) {
+    s2u_direction found = {9, 8, 7};
+    CHECK(s2u_direction_of(right[k].longitude, right[k].latitude, &found) == S2U_OK);
+    CHECK(found.x == right[k].want.x && found.y == right[k].want.y && found.z == right[k].want.z);
+  }
+}
+
 static void nothing_at_all(void) {
   size_t len = 77, first = 77, count = 77;
   uint64_t id = 77;
@@ -373,6 +398,7 @@ int main(void) {
   lists_as_texts();
   places_of_cells_that_a_union_lacks();
   polygons();
+  places_in_degrees();
   nothing_at_all();
   return report();
 }

@@ -128,7 +128,7 @@ public final class RegionCoverer {
 
   /**
    * With coverings that go these meters beyond the shape, and inner ones that stay as far from its border. The margin
-   * of a line makes a corridor.
+   * of a line or a point makes a corridor, and its inner covering lies in that.
    *
    * <pre>{@code
    * new RegionCoverer().margin(5000).covering(Shape.points(2, 48)).contains(CellId.fromPosition(2.05, 48)) // true

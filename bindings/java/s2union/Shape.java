@@ -148,7 +148,7 @@ public final class Shape {
    *
    * @param longitude from -540 to 540
    * @param latitude from -90 to 90
-   * @param radius meters, 0 to 9,000,000
+   * @param radius meters, 0 to 20,000,000
    * @return the shape
    * @since 1.4
    */

@@ -145,6 +145,7 @@ extern "C" {
         room: usize,
         len: &mut usize,
     ) -> i32;
+    fn s2u_direction_of(longitude: f64, latitude: f64, direction: &mut Direction) -> i32;
     fn s2u_encode(ids: *const u64, n: usize, out: *mut u8, room: usize, len: &mut usize) -> i32;
     fn s2u_face(id: u64) -> i32;
     fn s2u_file_ancestors(bytes: *const u8, n: usize, out: *mut u64, room: usize, len: &mut usize) -> i32;
@@ -424,6 +425,11 @@ pub fn denormalised_len(ids: &[u64], min: u32, modulus: u32, len: &mut u64) -> i
 pub fn difference(xs: &[u64], ys: &[u64], out: &mut [MaybeUninit<u64>], len: &mut usize) -> i32 {
     // SAFETY: each list goes with its length, and what is written is borrowed alone.
     unsafe { s2u_difference(xs.as_ptr(), xs.len(), ys.as_ptr(), ys.len(), out.as_mut_ptr().cast(), out.len(), len) }
+}
+
+pub fn direction_of(longitude: f64, latitude: f64, direction: &mut Direction) -> i32 {
+    // SAFETY: each list goes with its length, and what is written is borrowed alone.
+    unsafe { s2u_direction_of(longitude, latitude, direction) }
 }
 
 pub fn encode(ids: &[u64], out: &mut [MaybeUninit<u8>], len: &mut usize) -> i32 {

@@ -60,10 +60,11 @@ pub struct RegionCoverer {
     pub min_level: u32,
     /// No cell is deeper: 0 to 30.
     pub max_level: u32,
-    /// Meters, more than 0: no place of a covering is farther from the shape, and each place that is farther from the
-    /// border lies in the inner one, if `max_cells` allows it.
+    /// Meters, more than 0: no place of a covering is farther from the shape and its margin, and each place that is
+    /// farther from the border lies in the inner one, if `max_cells` allows it.
     pub within: Option<f64>,
-    /// Meters by which a covering goes beyond the shape, and an inner one stays inside: 0 to 300,000.
+    /// Meters by which a covering goes beyond the shape, and an inner one stays inside: 0 to 300,000. Of lines and
+    /// points it makes corridors, and an inner covering lies in these.
     pub margin: f64,
     /// Of all shapes but circles.
     pub edges: Edges,
@@ -178,7 +179,7 @@ impl<'a> Shape<'a> {
         Shape::of(positions.iter().map(|position| (slice::from_ref(position), LINE)))
     }
 
-    /// The places within a radius of a position, 0 to 9,000,000 meters, on a sphere with the earth's mean radius: S2's
+    /// The places within a radius of a position, 0 to 20,000,000 meters, on a sphere with the earth's mean radius: S2's
     /// `S2Cap`. Since 1.4.
     ///
     /// # Examples
