@@ -27,6 +27,7 @@ if [ "$tier" != quick ]; then
   need frama-c frama-c-base
   need coqc coq
   need ocamlopt ocaml
+  need make make
   need_installed libcoq-equations libzarith-ocaml-dev
 fi
 need_packages
@@ -85,7 +86,7 @@ choose_text
 counted /usr/bin/python3 -B "$top/tests/public/llvm/prove.py" --tier "$tier" --text "$text" "${others[@]}" \
   "${calls[@]}"
 if [ "$tier" != quick ] && [ ${#calls[@]} -eq 0 ]; then
-  counted /usr/bin/python3 "$top/tests/public/headers/check.py"
+  counted /usr/bin/python3 "$top/tests/public/headers/check.py" --tier "$tier"
   choose_library_file
   counted /usr/bin/python3 -B "$top/tests/public/coq/check.py" --tier "$tier" --library "$library"
 fi

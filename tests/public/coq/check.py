@@ -3,11 +3,11 @@
 definitions in Coq's words; then it checks nothing else.
 
 translate.py puts the modules of crates that the laws stand on into Coq's words, anew in each run, and Coq's kernel
-checks each definition and each proof. Then Coq says of each law on which axioms it stands: on none. Lemmas that Coq
-doesn't take stand as axioms by axioms.txt, each with its reason. Then mistakes are planted in copies of crates, and
-each has to be noticed. At last the checker of answers, which Checker.v proves, is made into a program, and is asked
-about answers of the library FILE, about spoilt ones, and about files. It needs Debian's coq, libcoq-equations, ocaml
-and libzarith-ocaml-dev. The last line is 'N passed, M failed'."""
+checks each definition and each proof. Then Coq says of each law on which axioms it stands: on none. Then mistakes are
+planted in copies of crates, and each has to be noticed. At last the checker of answers, which Checker.v proves, is made
+into a program, and is asked about answers of the library FILE, about spoilt ones, and about files. With --sources
+FOLDER it writes there what the program is made of, with all that Coq reads for its proof, and runs nothing. It needs
+Debian's coq, libcoq-equations, ocaml, libzarith-ocaml-dev and make. The last line is 'N passed, M failed'."""
 import argparse
 import re
 import shutil
@@ -30,8 +30,12 @@ CLOSED = "Closed under the global context"
 LAWS = "Laws"
 PAGE = HERE.parents[2] / "docs" / "CHECK.md"
 PROGRAM = "s2union-check"
-OF_CHECKER = tuple(f"Rattle.s2list.{name}" for name in ("proofs.Normal", "proofs.PackedLocal", "specs.Sets",
-                                                        "specs.Denorm"))
+OF_PROGRAM = HERE.parent / "program"
+PROGRAM_FILES = ("Makefile", "checker.ml", "s2union_check.ml")
+CHECKER = ("Checker", "Coverings", "Program")  # in this order
+OF_CHECKER = tuple(f"Rattle.{name}" for name in (
+    "s2list.proofs.Normal", "s2list.proofs.PackedLocal", "s2list.specs.Sets", "s2list.specs.Denorm",
+    "s2cover.specs.Coverings"))
 MODULES = (laws.MODULE, *(law.module for law in laws.ANSWERED), *OF_CHECKER)
 SECONDS = 900  # for a file; each takes less than ten
 AT_ONCE = 3
@@ -58,28 +62,34 @@ CHANGES = (
     Change("s2list/specs/Union.antt", "greatest : 0 < level_of c", "greatest : 1 < level_of c", "s2list_proofs_Normal"),
     Change("s2list/proofs/Normal.antt", "pub normal_from_local : (u : List ℕ) → IsLocal u →",
            "pub normal_from_local : (u : List ℕ) → All IsCell u →", "s2list_proofs_Normal"),
+    Change("s2cell/src/laws.rt", "IsPlaceOf (n + 1) face x y", "IsPlaceOf (n + 2) face x y", "laws_law_of_places"),
+    Change("s2cell/src/laws.rt", "bit_xor (orientation_of c) (turn p)", "bit_xor (orientation_of c) p",
+           "laws_law_of_squares"),
+    Change("s2cell/src/laws.rt", "IsDebug text n ↔ (text ≡ debug_of n)", "IsDebug text n ↔ (text ≡ token_of n)",
+           "laws_law_of_texts"),
+    Change("s2cover/src/laws.rt", "≡ true) ↔ IsInInner R k x", "≡ true) ↔ IsInOuter R k x", "laws_covering_sets"),
     Change("Kit.v", "P (get_or xs k d)", "P d", "Kit"),
 )
-PAIRS = {"gate": 2500, "full": 12500}  # of each, nine questions are asked
-SPOILT = 100
-THEOREMS = ("accepted_is_right", "the_only_one", "refused_is_wrong", "yes_is_right", "no_is_right", "cut_is_right")
+# Random pairs, and pairs of coasts; of each, thirteen questions are asked.
+PAIRS = {"gate": (1500, 100), "full": (9000, 1000)}
+SPOILT = (60, 40)
+THEOREMS = {
+    "Checker": ("accepted_is_right", "the_only_one", "refused_is_wrong", "yes_is_right", "no_is_right", "cut_is_right"),
+    "Coverings": ("accepted_covering_is_right", "the_only_covering", "refused_covering_is_wrong")}
 # A lemma that a law stands on, and the law.
 NEEDED = "s2list_proofs_Shortest.shorter", "shortest"
-
-
-def listed():
-    """The lemmas of axioms.txt, each with its reason."""
-    lines = (HERE / "axioms.txt").read_text(encoding="utf-8").split("\n")
-    rows = [line.split(maxsplit=1) for line in lines if line and not line.startswith("#")]
-    if any(len(row) != 2 for row in rows):
-        raise Bad("axioms.txt: a lemma without a reason")
-    return dict(rows)
 
 
 def by_hand():
     """The proofs of by_hand.v, by the lemmas' names."""
     text = (HERE / "by_hand.v").read_text(encoding="utf-8")
     return dict(re.findall(r"^\(\* (\w+\.\w+) \*\)\n.*?(^Proof\..*?^Qed\.)", text, re.M | re.S))
+
+
+def cited():
+    """The lemmas of crates that the proofs of the checker cite, by their files and names in Coq."""
+    text = "".join((HERE / f"{file}.v").read_text(encoding="utf-8") for file in THEOREMS)
+    return dict.fromkeys(re.findall(r"\b(s2\w+_proofs_\w+)\.(\w+)", text))
 
 
 def compiled(folder, file):
@@ -94,21 +104,39 @@ def compiled(folder, file):
 class Build:
     """A folder with the translated modules of a folder of crates."""
 
-    def __init__(self, folder, modules, crates=CRATES, kit=None, axioms=None):
+    def __init__(self, folder, modules, crates=CRATES, kit=None, axioms=()):
         self.folder = Path(folder)
         (self.folder / "Kit.v").write_text(kit or (HERE / "Kit.v").read_text(encoding="utf-8"), encoding="utf-8")
-        self.library = Library(crates, listed() if axioms is None else axioms, by_hand(), laws.texts(crates, modules))
-        self.files = ["Kit", *self.library.write(folder, modules)]
-        self.below = {"Kit": []} | {module.file: ["Kit", *(
-            self.library.module(each["module"]).file for each in module.uses() if self.library.has(each["module"]))]
-            for module in self.library.modules.values()}
+        self.library = Library(crates, axioms, by_hand(), laws.texts(crates, modules))
+        self.files = ["Kit", *self.library.write(folder, modules, cited() if OF_CHECKER[0] in modules else ())]
+        chosen, module_of = self.library.chosen, self.library.module
+        self.below = {"Kit": []} | {module.file: ["Kit", *(module_of(each["module"]).file for each in module.uses()
+                                                           if each["module"] in chosen)]
+                                    for module in self.library.modules.values()}
 
     def keep(self, other):
-        """Takes what Coq made of the other build's files, up to the first that differs."""
-        while self.files and self.read(self.files[0]) == other.read(self.files[0]):
-            for path in other.folder.glob(f"{self.files[0]}.*"):
-                shutil.copy2(path, self.folder)
-            self.files.pop(0)
+        """Takes what Coq made of the other build's files, of those that are the same and stand on the same."""
+        kept = []
+        for file in self.files:
+            if self.read(file) == other.read(file) and all(each in kept for each in self.below[file]):
+                for path in other.folder.glob(f"{file}.*"):
+                    shutil.copy2(path, self.folder)
+                kept.append(file)
+        self.files = [file for file in self.files if file not in kept]
+
+    def leave_out_others_than(self, modules):
+        """Leaves out the files that these modules, the lemmas that the checker cites, and all below them do without."""
+        wanted = [*(self.library.module(name).file for name in modules), *(file for file, _ in cited())]
+        kept = set()
+        while wanted:
+            file = wanted.pop()
+            if file not in kept:
+                kept.add(file)
+                wanted += self.below[file]
+        for file in self.files:
+            if file not in kept:
+                (self.folder / f"{file}.v").unlink()
+        self.files = [file for file in self.files if file in kept]
 
     def read(self, file):
         path = self.folder / f"{file}.v"
@@ -164,11 +192,10 @@ class Count:
 def check_laws(build, count):
     """Whether Coq takes all files, and no law stands on an axiom."""
     build.check()
-    axioms = listed()
     count.check(True, f"{len(build.files)} files, {build.library.declared} definitions and lemmas of crates: taken by "
-                f"Coq, {len(build.library.assumed)} as axioms, for the reasons in axioms.txt")
-    count.check(build.library.assumed == set(axioms), "the axioms are those of axioms.txt",
-                f"not met: {sorted(set(axioms) - build.library.assumed)}")
+                "Coq")
+    unused = sorted(set(by_hand()) - build.library.proved_by_hand)
+    count.check(not unused, "each proof of by_hand.v is used", f"not used: {', '.join(unused)}")
     for name, found in build.axioms_of(LAWS, list(laws.NAMES)).items():
         count.check(not found, f"{laws.NAMES[name]}: checked by Coq, {standing(found)}")
     for law in laws.ANSWERED:
@@ -185,8 +212,13 @@ def standing(axioms):
 def with_change(change, folder):
     """A copy of the crates, and the kit's words, with a mistake."""
     crates, kit = Path(folder) / "crates", (HERE / "Kit.v").read_text(encoding="utf-8")
-    for name in ("s2cell", "s2list"):
-        shutil.copytree(CRATES / name, crates / name)
+    crates.mkdir()
+    changed = change.file.split("/")[0]
+    for path in CRATES.iterdir():
+        if path.name == changed:
+            shutil.copytree(path, crates / path.name, ignore=shutil.ignore_patterns("out"))
+        else:
+            (crates / path.name).symlink_to(path)
     path = HERE / "Kit.v" if change.file == "Kit.v" else crates / change.file
     text = path.read_text(encoding="utf-8")
     if text.count(change.right) != 1:
@@ -201,7 +233,7 @@ def with_change(change, folder):
 def check_change(change, right, count):
     words = f"{change.file}: {change.wrong} in place of {change.right}"
     with tempfile.TemporaryDirectory() as copy, tempfile.TemporaryDirectory() as folder:
-        build = Build(folder, (laws.MODULE,), *with_change(change, copy))
+        build = Build(folder, MODULES, *with_change(change, copy))
         build.keep(right)
         try:
             build.check()
@@ -215,7 +247,7 @@ def check_axiom(right, count):
     """Whether a law that gains an axiom is noticed."""
     lemma, law = NEEDED
     with tempfile.TemporaryDirectory() as folder:
-        build = Build(folder, (laws.MODULE,), axioms=[*listed(), lemma])
+        build = Build(folder, MODULES, axioms=[lemma])
         build.keep(right)
         build.check()
         found = build.axioms_of(LAWS, [law])[law]
@@ -265,29 +297,33 @@ def write_definitions(folder, count):
     count.check(True, f"{folder}: {len(build.files)} files for Coq")
 
 
-def make_program(build, file):
-    """The checker of answers as a program, of a build that has Checker.vo."""
-    for name in ("Program.v", "s2union_check.ml"):
-        shutil.copy2(HERE / name, build.folder)
-    compiled(build.folder, "Program")
+def make_program(build):
+    """The checker of answers as a program, of a build whose checker Coq has proved."""
+    for name in PROGRAM_FILES:
+        shutil.copy2(OF_PROGRAM / name, build.folder)
     (build.folder / "checker.mli").unlink()
-    run(build.folder, "ocamlopt", "-I", "+zarith", "zarith.cmxa", "checker.ml", "s2union_check.ml", "-o", file)
+    run(build.folder, "make", PROGRAM)
 
 
 def check_checker(build, count):
-    """Whether the checker of answers is proved."""
-    shutil.copy2(HERE / "Checker.v", build.folder)
-    compiled(build.folder, "Checker")
-    for name, found in build.axioms_of("Checker", list(THEOREMS)).items():
-        count.check(not found, f"the checker of answers, {name}: checked by Coq, {standing(found)}")
+    """Whether the checker of answers is proved, and its program is what Coq makes of it."""
+    for name in CHECKER:
+        shutil.copy2(HERE / f"{name}.v", build.folder)
+        compiled(build.folder, name)
+    for file, names in THEOREMS.items():
+        for name, found in build.axioms_of(file, list(names)).items():
+            count.check(not found, f"the checker of answers, {name}: checked by Coq, {standing(found)}")
+    made, kept = build.folder / "checker.ml", OF_PROGRAM / "checker.ml"
+    count.check(made.read_bytes() == kept.read_bytes(),
+                f"tests/public/program/{kept.name} is what Coq makes of the checker")
 
 
 def check_answers(right, library, tier, count):
     """Whether the checker accepts the library's answers and refuses spoilt ones."""
     check_checker(right, count)
-    make_program(right, PROGRAM)
+    make_program(right)
     for pairs, words, wanted in ((PAIRS[tier], (), "accepted"), (SPOILT, ("--spoilt",), "refused")):
-        questions = run(right.folder, "/usr/bin/python3", str(HERE / "questions.py"), library, str(pairs), *words)
+        questions = run(right.folder, "/usr/bin/python3", str(HERE / "questions.py"), library, *map(str, pairs), *words)
         check_verdicts(right.folder, questions.splitlines(), wanted, count)
     check_files(right.folder, count)
 
@@ -302,7 +338,7 @@ def check_verdicts(folder, questions, wanted, count):
         raise Refused(PROGRAM, done.stderr[-2000:])
     asked, others = Counter(), Counter()
     for question, verdict in zip(questions, verdicts):
-        name = question.split()[0]
+        name = f"{question.split()[0]}{' of a rectangle' if ' rectangle ' in question else ''}"
         asked[name] += 1
         if verdict.split(":")[0] != wanted:
             others[name] += 1
@@ -336,6 +372,17 @@ ASKED = {
                             "it", 1),
     "face denormalise 1 1 children": ("accepted", 0),
     "face denormalise 1 1 back": ("refused: the cell at index 0 is another one", 1),
+    "three outer 1 three": ("accepted", 0),
+    "three outer 0 face": ("accepted", 0),
+    "three inner 0 none": ("accepted", 0),
+    "three inner 1 none": ("refused: the leaf 0000000000000001 is missing", 1),
+    "last outer 0 last": ("refused: the leaf 0000000000000001 is missing", 1),
+    "0 0 0 0 0 outer 0 face": ("accepted", 0),
+    "0 0 1073741823 0 1073741823 inner 3 face": ("accepted", 0),
+    "0 1 1073741823 0 1073741823 inner 0 face": ("refused: the leaf 0000000000000001 is too much", 1),
+    "0 1 0 0 0 outer 0 face": ("usage: 0 1 0 0 0 is not a rectangle", 2),
+    "6 0 0 0 0 outer 0 face": ("usage: 6 is not a number from 0 to 5", 2),
+    "three outer 31 face": ("usage: 31 is not a number from 0 to 30", 2),
     "face contains last yes": ("accepted", 0),
     "last contains face yes": ("refused: the answer is no", 1),
     "last intersects three no": ("accepted", 0),
@@ -374,6 +421,7 @@ def check_all(folder, asked, count):
         check_change(change, right, count)
     check_axiom(right, count)
     check_answers(right, str(Path(asked.library).resolve()), asked.tier, count)
+    check_sources(right, count)
 
 
 def write_program(folder, file, count):
@@ -381,8 +429,36 @@ def write_program(folder, file, count):
     build = Build(folder, OF_CHECKER)
     build.check()
     check_checker(build, count)
-    make_program(build, str(Path(file).resolve()))
+    make_program(build)
+    shutil.copy2(build.folder / PROGRAM, file)
     count.check(True, f"{file}: made")
+
+
+def write_sources(folder):
+    """Writes what the program of the checker is made of, and in proof/ what Coq reads for its proof."""
+    proof = Path(folder, "proof")
+    proof.mkdir(parents=True, exist_ok=True)
+    for name in PROGRAM_FILES:
+        shutil.copyfile(OF_PROGRAM / name, Path(folder, name))
+    build = Build(proof, MODULES)
+    build.leave_out_others_than(OF_CHECKER)
+    for name in CHECKER:
+        shutil.copyfile(HERE / f"{name}.v", proof / f"{name}.v")
+    asked = [f"Require {file}.\nPrint Assumptions {file}.{name}." for file, names in THEOREMS.items() for name in names]
+    (proof / "Axioms.v").write_text("\n".join(asked) + "\n", encoding="utf-8")
+    (proof / "order").write_text("\n".join([*build.files, *CHECKER, "Axioms"]) + "\n", encoding="utf-8")
+    return proof
+
+
+def check_sources(right, count):
+    """Whether what the source archive has of the checker is what Coq has taken here."""
+    with tempfile.TemporaryDirectory() as folder:
+        proof = write_sources(folder)
+        names = (proof / "order").read_text(encoding="utf-8").split()
+        others = [name for name in names if name != "Axioms" and
+                  right.read(name) != (proof / f"{name}.v").read_text(encoding="utf-8")]
+        count.check(not others, f"the source archive has the {len(names)} files of its proof",
+                    f"not {', '.join(others)}")
 
 
 def main():
@@ -391,6 +467,7 @@ def main():
     what = parser.add_mutually_exclusive_group(required=True)
     what.add_argument("--library")
     what.add_argument("--program")
+    what.add_argument("--sources")
     what.add_argument("--definitions")
     asked = parser.parse_args()
     count = Count()
@@ -398,6 +475,9 @@ def main():
         try:
             if asked.program:
                 write_program(folder, asked.program, count)
+            elif asked.sources:
+                write_sources(asked.sources)
+                count.check(True, f"{asked.sources}: written")
             elif asked.definitions:
                 write_definitions(asked.definitions, count)
             else:

@@ -1,16 +1,22 @@
-"""Prints questions about random unions near each other, with the library's answers, a line each, as s2union-check
---lines reads them: questions.py LIBRARY PAIRS [--spoilt]. With --spoilt, each answer is changed in one place."""
+"""Prints questions about pairs of unions, with the library's answers, a line each, as s2union-check --lines reads them:
+questions.py LIBRARY PAIRS COASTS [--spoilt]. There are as many pairs of random unions near each other as PAIRS says,
+and as many of pieces of the coasts of the world as COASTS says. With --spoilt, each answer is changed in one place."""
 import ctypes
 import random
 import sys
+from pathlib import Path
 
 OF_TWO = ("union", "intersection", "difference", "symmetric_difference")
 RELATIONS = ("contains", "intersects")
-QUESTIONS = (*OF_TWO, "complement", "normalise", "denormalise", *RELATIONS)
+COVERINGS = ("outer", "inner")
+OF_RECTANGLES = {"outer of a rectangle": "outer", "inner of a rectangle": "inner"}
+QUESTIONS = (*OF_TWO, "complement", "normalise", "denormalise", *COVERINGS, *OF_RECTANGLES, *RELATIONS)
+LAND, LAND_LEVEL = Path(__file__).resolve().parents[3] / "page" / "land.cells", 8  # the land, in cells of this level
 LEAVES = 6 * 4 ** 30
 MOST = 8
 MOST_CUT = 300
 ROOM = 4000
+SIDE = 2 ** 30
 
 
 def array(cells):
@@ -66,6 +72,58 @@ def some_cells(chooser):
     return cells
 
 
+def places_of_land():
+    """The places of the land's cells at their level, in order."""
+    text = LAND.read_bytes()
+    numbers = [int.from_bytes(text[at:at + 8], "little") for at in range(9, len(text), 8)]
+    found = []
+    for number in numbers:
+        leaves, least = number & -number, 4 ** (30 - LAND_LEVEL)
+        first = (number - leaves) // 2 // least
+        found += range(first, first + leaves // least)
+    return found
+
+
+class Coasts:
+    """Pieces of the coasts of the world, at any depth of the curve."""
+
+    def __init__(self):
+        places = places_of_land()
+        self.squares = {}  # by the cell of a level, the places of the land in it
+        for level in (3, 4, 5):
+            within = 4 ** (LAND_LEVEL - level)
+            for place in places:
+                self.squares.setdefault((level, place // within), []).append(place % within)
+        self.coasts = [key for key, land in self.squares.items() if len(land) < 4 ** (LAND_LEVEL - key[0])]
+
+    def pair(self, chooser):
+        """Two pieces, one of them moved along the curve, at one place of one depth."""
+        level, place = chooser.choice(self.coasts)
+        others = chooser.choice([key for key in self.coasts if key[0] == level]) if chooser.random() < .5 else (
+            level, place)
+        deep, many = LAND_LEVEL - level, 4 ** (LAND_LEVEL - level)
+        at_level = chooser.randrange(31 - deep)
+        first = chooser.randrange(6 * 4 ** at_level) * many
+        moved = chooser.randrange(many)
+        return ([cell(at_level + deep, first + it) for it in self.squares[level, place]],
+                [cell(at_level + deep, first + (it + moved) % many) for it in self.squares[others]])
+
+
+class Rect(ctypes.Structure):
+    _fields_ = [(name, ctypes.c_uint32) for name in ("face", "i0", "i1", "j0", "j1")]
+
+
+def rectangle(chooser):
+    """A level, and a rectangle that has few cells of it."""
+    level = chooser.randrange(31)
+    block = 2 ** (30 - level)
+    bounds = []
+    for _ in range(2):
+        least = chooser.randrange(SIDE) // block * block if chooser.random() < .2 else chooser.randrange(SIDE)
+        bounds += [least, min(SIDE - 1, least + chooser.randrange(1 + chooser.choice([1, 3, 15]) * block))]
+    return level, [chooser.randrange(6), *bounds]
+
+
 def spoilt(cells, chooser):
     if not cells:
         return [cell(30, 0)]
@@ -84,6 +142,15 @@ def asked(library, name, cells, others, chooser):
         return name, a, b, made(library, name, *listed(a), *listed(b))
     if name in RELATIONS:
         return name, a, b, getattr(library, f"s2u_{name}")(*listed(a), *listed(b)) == 1
+    if name in OF_RECTANGLES:
+        level, bounds = rectangle(chooser)
+        name = OF_RECTANGLES[name]
+        return f"{name} {level}", bounds, ["rectangle"], made(
+            library, name, ctypes.byref(Rect(*bounds)), ctypes.c_uint32(level), ctypes.c_size_t(ROOM))
+    if name in COVERINGS:
+        level = chooser.randrange(31)
+        return f"{name} {level}", a, [], made(library, f"{name}_of", *listed(a), ctypes.c_uint32(level),
+                                              ctypes.c_size_t(ROOM))
     if name == "complement":
         return name, a, [], made(library, name, *listed(a))
     if name == "normalise":
@@ -97,10 +164,10 @@ def told(answer):
     return " ".join(map(str, answer)) if isinstance(answer, list) else "yes" if answer else "no"
 
 
-def main(path, pairs, spoils):
-    library, chooser = ctypes.CDLL(path), random.Random(20)
-    for _ in range(pairs):
-        cells, others = some_cells(chooser), some_cells(chooser)
+def main(path, pairs, of_coasts, spoils):
+    library, chooser, coasts = ctypes.CDLL(path), random.Random(20), Coasts()
+    for pair in range(pairs + of_coasts):
+        cells, others = (some_cells(chooser), some_cells(chooser)) if pair < pairs else coasts.pair(chooser)
         for name in QUESTIONS:
             name, a, b, out = asked(library, name, cells, others, chooser)
             if spoils:
@@ -109,4 +176,4 @@ def main(path, pairs, spoils):
 
 
 if __name__ == "__main__":
-    main(sys.argv[1], int(sys.argv[2]), "--spoilt" in sys.argv[3:])
+    main(sys.argv[1], int(sys.argv[2]), int(sys.argv[3]), "--spoilt" in sys.argv[4:])

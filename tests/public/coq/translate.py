@@ -1,5 +1,5 @@
 """Definitions and proofs of crates as Coq's: Library(crates, ..).write(folder, modules) writes a file for each module
-and for those that it uses.
+and for those that it uses. Of a module of lemmas below them only those lemmas are written that others stand on.
 
 Definitions become definitions, and lemmas become lemmas with the same terms as proofs, so that Coq checks each again.
 A tactic becomes one of Kit.v, where omega is lia and cc is congruence. A word of the kit becomes the one of Kit.v. What
@@ -30,6 +30,8 @@ DECLARED = re.compile(r"(?:Definition|Fixpoint|Lemma|Notation|Inductive) (\w+)")
 RULES = {"arith", "gets", "rules", "tests", "nat_tests"}
 TACTICS = {"omega": "k_omega", "cc": "k_cc", "grind": "k_grind"}
 WITHIN_LITERAL = {"lit<", "lit≤"}
+GREATEST_LITERAL = 1024
+CLAIMS = {"◌≡◌", "◌≢◌", "◌<◌", "◌≤◌"}
 HEAD = """From Equations Require Import Equations.
 Require Import ZArith Lia ZifyNat ZifyBool.
 Require Kit.
@@ -76,6 +78,18 @@ def is_tactic(term):
     return term[0] in ("tac", "proj") or term[0] == "app" and term[1] in (("var", "rw"), ("var", "rw_at"))
 
 
+def is_bare(term):
+    """Whether a term is a tactic, and no field."""
+    return is_tactic(term) and term[0] != "proj"
+
+
+def has_tactic(term):
+    """Whether a tactic other than a field stands in a term."""
+    if isinstance(term, tuple) and term and isinstance(term[0], str) and is_bare(term):
+        return True
+    return isinstance(term, (tuple, list)) and any(map(has_tactic, term))
+
+
 def tactic_mentions(term, name):
     """Whether a name stands inside of a tactic."""
     if isinstance(term, tuple) and term and isinstance(term[0], str) and is_tactic(term):
@@ -92,6 +106,20 @@ def with_fields(term, fields):
     return term
 
 
+def words_of(part):
+    """All words in a declaration."""
+    if isinstance(part, str):
+        yield part
+    elif isinstance(part, (tuple, list, dict)):
+        for each in part.values() if isinstance(part, dict) else part:
+            yield from words_of(each)
+
+
+def is_of_lemmas(module):
+    """Whether a module has lemmas and what they need, of which a part is written: the lemmas that a law stands on."""
+    return ".proofs." in module or ".Working" in module
+
+
 class Module:
     """A module: its declarations, and the name that its file has in Coq."""
 
@@ -99,12 +127,12 @@ class Module:
         self.name, self.path = name, path
         self.file = "_".join(name.split(".")[1:])
         self.declarations = antt.read_text(text, str(path))
-        self.own = {}
+        self.own, self.taken = {}, None
         for each in self.declarations:
             if "name" in each:
                 self.own[each["name"]] = each
             for name_of_it, _ in each.get("cons", ()):
-                self.own[name_of_it] = {"kind": "constructor"}
+                self.own[name_of_it] = {"kind": "constructor", "name": each["name"]}
 
     def uses(self):
         return [each | {"module": each["module"].removesuffix(".TheVariants")} for each in self.declarations
@@ -119,8 +147,8 @@ class Library:
         self.crates, self.axioms = Path(crates), set(axioms)
         self.by_hand, self.texts = by_hand or {}, texts or {}
         self.words = set(DECLARED.findall((HERE / "Kit.v").read_text(encoding="utf-8")))
-        self.modules = {}
-        self.assumed = set()
+        self.modules, self.chosen = {}, {}
+        self.proved_by_hand = set()
         self.declared = 0
 
     def path(self, name):
@@ -144,14 +172,59 @@ class Library:
             self.modules[name] = Module(name, path or name, text)
         return self.modules[name]
 
+    def choose(self, names, cited=()):
+        """Chooses what is written: all of these modules and of definitions, the lemmas that are cited, and those that
+        all of these stand on."""
+        self.chosen = {}
+        waiting = [(name, each) for name in names for each in self.module(name).own]
+
+        def want(name, each):
+            if each not in self.chosen.setdefault(name, set()):
+                self.chosen[name].add(each)
+                waiting.append((name, each))
+
+        for name in names:
+            self.chosen[name] = set(self.module(name).own)
+        for file, lemma in cited:
+            name = f"Rattle.{file.replace('_', '.')}"
+            want(name, next(each for each in self.module(name).own if coq_name(each) == lemma))
+        while waiting:
+            name, each = waiting.pop()
+            module = self.module(name)
+            declared_, names_there = module.own[each], self.names_in(module)
+            want(name, declared_["name"])
+            for word in words_of(declared_):
+                if word in module.own:
+                    want(name, module.own[word]["name"])
+                elif word in names_there:
+                    other, word = names_there[word]
+                    for part in [word] if is_of_lemmas(other) else self.module(other).own:
+                        want(other, part)
+
+    def names_in(self, module):
+        """The names that a module takes from others: the module and the name there."""
+        if module.taken is None:
+            module.taken = {}
+            for each in module.uses():
+                for name in each["names"] if self.has(each["module"]) else ():
+                    name, _, other = (part.strip() for part in name.partition(" as "))
+                    if name not in self.module(each["module"]).own:
+                        raise Bad(f"{module.path}:{each['line']}: {each['module']} has no {name}")
+                    module.taken[other or name] = each["module"], name
+        return module.taken
+
+    def is_chosen(self, name, each):
+        """Whether a declaration of a module is written."""
+        return "name" not in each or each["name"] in self.chosen[name]
+
     def order(self, names):
-        """These modules and those below them, each after what it uses."""
+        """These modules and those below them of which something is chosen, each after what it uses."""
         found = []
 
         def visit(name):
             if name not in found:
                 for each in self.module(name).uses():
-                    if self.has(each["module"]):
+                    if each["module"] in self.chosen:
                         visit(each["module"])
                 found.append(name)
 
@@ -159,10 +232,11 @@ class Library:
             visit(name)
         return found
 
-    def write(self, folder, names):
+    def write(self, folder, names, cited=()):
         """Writes the modules' files, and gives their names in the order in which Coq has to read them."""
         files = []
-        for name in self.order(names):
+        self.choose(names, cited)
+        for name in self.order(self.chosen):
             module = self.module(name)
             Path(folder, f"{module.file}.v").write_text(Writer(self, module).text(), encoding="utf-8")
             files.append(module.file)
@@ -187,10 +261,12 @@ class Writer:
         below = [self.library.module(name) for name in self.library.order([self.module.name])[:-1]]
         for module in below:
             for name, each in module.own.items():
-                if each["kind"] == "record":
+                if each["kind"] == "record" and self.library.is_chosen(module.name, each):
                     self.records[f"{module.file}.{coq_name(name)}"] = (each, f"{module.file}.")
         lines = [HEAD.format(uses="".join(f"Require {module.file}.\n" for module in below))]
         for each in self.module.declarations:
+            if not self.library.is_chosen(self.module.name, each):
+                continue
             try:
                 lines += DECLARATIONS[each["kind"]](self, each)
             except (Bad, KeyError) as error:
@@ -263,9 +339,9 @@ class Writer:
         arguments, result = arrows(each["type"])
         kind = self.term(each["type"])
         if whole in self.library.by_hand:
+            self.library.proved_by_hand.add(whole)
             yield f"Definition {name} : {kind}.\n{self.library.by_hand[whole]}"
         elif whole in self.library.axioms:
-            self.library.assumed.add(whole)
             yield f"Axiom {name} : {kind}."
         elif self.is_plain(each):
             patterns, body, where = each["clauses"][0]
@@ -405,9 +481,12 @@ class Writer:
         return "self" if self.depth else coq_name(self.defined)
 
     def number(self, term):
-        """A number; a great one by its digits to the base 4096, as Coq would count up to it."""
-        high, low = divmod(term[1], 4096)
-        return f"({self.number(('num', high))} * 4096 + {low})" if high else str(low)
+        """A number; a great one by its digits to the base 16, as Coq would count up to it."""
+        return str(term[1]) if term[1] <= GREATEST_LITERAL else self.digits(term[1])
+
+    def digits(self, number):
+        high, low = divmod(number, 16)
+        return f"({self.digits(high)} * 16 + {low})" if high else str(low)
 
     def lambda_(self, term):
         heads, body = [], self.term(term[2])
@@ -425,16 +504,29 @@ class Writer:
 
     def let(self, term):
         _, pattern, kind, value, body = term
-        if pattern[0] == "var":
-            typed = f" : {self.term(kind)}" if kind else ""
-            head = f"(let {coq_name(pattern[1])}{typed} := {self.term(value)} in\n    "
-            # in the body the name is no longer what a module gives
-            outer = self.known.pop(pattern[1], None)
-            try:
-                return f"{head}{self.term(body)})"
-            finally:
-                self.known |= {pattern[1]: outer} if outer else {}
-        return f"(match {self.term(value)} with {self.pattern(pattern)} => {self.term(body)} end)"
+        if pattern[0] != "var":
+            return f"(match {self.term(value)} with {self.pattern(pattern)} => {self.term(body)} end)"
+        name, typed = coq_name(pattern[1]), f" : {self.term(kind)}" if kind else ""
+        is_proof, given = self.is_proof(kind, value), self.term(value)
+        # in the body the name is no longer what a module gives
+        outer = self.known.pop(pattern[1], None)
+        try:
+            then = self.term(body)
+        finally:
+            self.known |= {pattern[1]: outer} if outer else {}
+        if is_proof:
+            return f"(Kit.have ({given}{typed}) (fun {name} =>\n    {then}))"
+        return f"(let {name}{typed} := {given} in\n    {then})"
+
+    def is_proof(self, kind, value):
+        """Whether a value is a claim's proof, or what a lemma gives: nothing depends on how it was made."""
+        if ".proofs." not in self.module.name or self.defined:
+            return False
+        if kind:
+            return kind[0] == "app" and kind[1][0] == "var" and kind[1][1] in CLAIMS
+        head = value[1] if value[0] == "app" else value
+        whole, each = self.known.get(head[1], (None, None)) if head[0] == "var" else (None, None)
+        return bool(each) and each["kind"] == "def" and "_proofs_" in whole and "unfoldable" not in each["marks"]
 
     def pi(self, term):
         text = ""
@@ -501,9 +593,30 @@ class Writer:
             return self.rewritten(name, *arguments)
         if name == self.defined and name is not None:
             return self.own_call(arguments)
+        if name == "◌∙◌" and has_tactic(arguments[0]) and not has_tactic(arguments[1]):
+            return f"(Kit.before {self.term(arguments[1])} {self.term(arguments[0])})"
+        if name == "⊎_elim" and len(arguments) == 3 and not has_tactic(arguments[2]):
+            return f"(Kit.or_elim_of {' '.join(map(self.term, (arguments[2], *arguments[:2])))})"
+        if name == "ap" and arguments[1][0] == "var":
+            return f"(Kit.ap_of {' '.join(map(self.term, arguments))})"
         words = [f"({coq_name(each[1])} := {self.term(each[2])})" if each[0] == "iarg" else self.term(each)
                  for each in arguments]
-        return f"({self.term(function)} {' '.join(words)})"
+        whole = f"({self.term(function)} {' '.join(words)})"
+        return self.tactics_last(function, arguments, words, whole) if self.is_late(name, arguments) else whole
+
+    def is_late(self, name, arguments):
+        """Whether what a tactic has to prove may be known only by arguments that come after it."""
+        each = self.known.get(name, (None, None))[1] if name else None
+        if self.defined or not each or each["kind"] != "def" or not any(part[2] for part in arrows(each["type"])[0]):
+            return False
+        tactics = [is_bare(part) for part in arguments]
+        return True in tactics and False in tactics[tactics.index(True):]
+
+    def tactics_last(self, function, arguments, words, whole):
+        """An application in which the tactics come last, if they fail where they stand."""
+        holes = ["_" if is_bare(each) else word for each, word in zip(arguments, words)]
+        proofs = " | ".join(f"exact {word}" for each, word in zip(arguments, words) if is_bare(each))
+        return f"ltac:(first [exact {whole} | refine ({self.term(function)} {' '.join(holes)}); [> {proofs}]])"
 
     def own_call(self, arguments):
         """A call of what is defined by cases: Coq wants all arguments there."""
@@ -552,7 +665,8 @@ class Writer:
                         if each[0] != "var" or each[1] not in RULES)
         cleared = f"try clear self; try clear {coq_name(self.defined)}; " if self.defined else ""
         unfolded = f"try unfold {', '.join(self.unfolding)} in *; " if self.unfolding else ""
-        return f"ltac:({posed}k_lets; {cleared}{unfolded}{TACTICS[name]})"
+        tests = "first [k_tests | " if ("var", "nat_tests") in facts else ""
+        return f"ltac:({posed}k_lets; {cleared}{unfolded}{tests}{TACTICS[name]}{']' * bool(tests)})"
 
 
 DECLARATIONS = {"use": lambda *_: (), "record": Writer.record, "data": Writer.data, "def": Writer.definition}

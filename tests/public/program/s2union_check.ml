@@ -10,10 +10,15 @@ s2union-check A symmetric_difference B OUT
 s2union-check A complement OUT
 s2union-check A normalise OUT          A may have any cells, in any order
 s2union-check A denormalise LEAST MODULUS OUT
+s2union-check A outer LEVEL OUT        the cells of a level that share a leaf with A, normalized
+s2union-check A inner LEVEL OUT        the cells of a level that lie inside A, normalized
+s2union-check FACE I0 I1 J0 J1 outer LEVEL OUT     the same of a rectangle of a face, bounds included
+s2union-check FACE I0 I1 J0 J1 inner LEVEL OUT
 s2union-check A contains B ANSWER      ANSWER is yes or no
 s2union-check A intersects B ANSWER
 s2union-check A file                   whether A is the one file of its set
-s2union-check --lines                  lines 'OP / CELL.. / CELL.. / ANSWER' of decimal identifiers
+s2union-check --lines                  lines 'OP / CELL.. / CELL.. / ANSWER' of decimal identifiers, and of
+                                       'OP LEVEL / FACE I0 I1 J0 J1 / rectangle / ANSWER'
 
 prints 'accepted', with status 0, or 'refused: ' and the first place that differs, with status 1.
 An error has status 2: file, short, version, trailing, cell, usage, memory.|}
@@ -26,6 +31,10 @@ let questions =
       ("difference", fun a b -> Difference (a, b)); ("symmetric_difference", fun a b -> SymmetricDifference (a, b)) ]
 
 let questions_of_one = Checker.[ ("complement", fun a -> Complement a); ("normalise", fun a -> Normalise a) ]
+let coverings = Checker.[ ("outer", fun level a -> OuterOf (level, a)); ("inner", fun level a -> InnerOf (level, a)) ]
+let coverings_of_rectangles =
+  Checker.[ ("outer", fun level r -> Outer (level, r)); ("inner", fun level r -> Inner (level, r)) ]
+
 let relations = Checker.[ ("contains", Contains_); ("intersects", Intersects) ]
 let answers = Checker.[ ("yes", Yes); ("no", No) ]
 
@@ -43,8 +52,9 @@ let verdict out = function
   | Differs x -> Some (leaf x ^ " is missing")
   | Unknown -> raise (Wrong ("memory", "the checker came to no end"))
 
-let judged question out =
-  match Checker.judged question out with NotAsked n -> raise (not_a_cell n) | Judged found -> verdict out found
+let judgement out = function Checker.NotAsked n -> raise (not_a_cell n) | Judged found -> verdict out found
+let judged question out = judgement out (Checker.judged question out)
+let covered covering out = judgement out (Checker.judged_covering covering out)
 
 let related relation a b said =
   match Checker.answered relation a b with
@@ -56,6 +66,12 @@ let level least most word =
   match int_of_string_opt word with
   | Some n when least <= n && n <= most -> Z.of_int n
   | _ -> raise (Wrong ("usage", Printf.sprintf "%s is not a number from %d to %d" word least most))
+
+let rectangle words =
+  let most = (1 lsl 30) - 1 in
+  match List.map2 (level 0) [ 5; most; most; most; most ] words with
+  | [ face; i0; i1; j0; j1 ] when Z.leq i0 i1 && Z.leq j0 j1 -> Checker.rectangle face i0 i1 j0 j1
+  | _ -> raise (Wrong ("usage", String.concat " " words ^ " is not a rectangle"))
 
 let cut least modulus a out =
   Option.iter (fun n -> raise (not_a_cell n)) (Checker.first_wrong a);
@@ -94,6 +110,11 @@ let asked = function
   | [ a; name; b; said ] when List.mem_assoc name relations && List.mem_assoc said answers ->
       related (List.assoc name relations) (cells_of a) (cells_of b) said
   | [ a; "denormalise"; least; modulus; out ] -> cut least modulus (cells_of a) (cells_of out)
+  | [ a; name; deep; out ] when List.mem_assoc name coverings ->
+      covered ((List.assoc name coverings) (level 0 30 deep) (cells_of a)) (cells_of out)
+  | [ face; i0; i1; j0; j1; name; deep; out ] when List.mem_assoc name coverings ->
+      let r = rectangle [ face; i0; i1; j0; j1 ] in
+      covered ((List.assoc name coverings_of_rectangles) (level 0 30 deep) r) (cells_of out)
   | [ a; "file" ] ->
       let cells = cells_of a in
       let wrong = Checker.first_wrong cells in
@@ -112,9 +133,16 @@ let asked_in line =
       judged ((List.assoc name questions_of_one) (cells a)) (cells out)
   | [ name; a; b; said ] when List.mem_assoc name relations && List.mem_assoc said answers ->
       related (List.assoc name relations) (cells a) (cells b) said
+  | [ name; a; "rectangle"; out ] -> (
+      match words name with
+      | [ name; deep ] when List.mem_assoc name coverings && List.length (words a) = 5 ->
+          covered ((List.assoc name coverings_of_rectangles) (level 0 30 deep) (rectangle (words a))) (cells out)
+      | _ -> raise (Wrong ("usage", line)))
   | [ name; a; ""; out ] -> (
       match words name with
       | [ "denormalise"; least; modulus ] -> cut least modulus (cells a) (cells out)
+      | [ name; deep ] when List.mem_assoc name coverings ->
+          covered ((List.assoc name coverings) (level 0 30 deep) (cells a)) (cells out)
       | _ -> raise (Wrong ("usage", line)))
   | _ -> raise (Wrong ("usage", line))
 
