@@ -4,14 +4,19 @@ tools/package and tools/portable compile it for the wheels; where it is, that on
 libs2union is, as in what tools/portable makes, the library is compiled into the module by the C compiler's driver.
 Else s2union.h is looked for in the folder $S2UNION_INCLUDE, by pkg-config, and in the compiler's own places, and the
 library is needed at run time.
+
+The land of the world, which maps in a notebook have below unions, lies in page/ of a checkout. Where that isn't, as in
+what the packagers make, it is beside the module already, or maps have none.
 """
 import os
+import shutil
 import subprocess
 import sys
 from pathlib import Path
 
 from setuptools import Distribution, Extension, setup
 from setuptools.command.build_ext import build_ext
+from setuptools.command.build_py import build_py
 
 
 class Compiled(Distribution):
@@ -27,6 +32,17 @@ class Assembling(build_ext):
     def build_extensions(self):
         self.compiler.src_extensions.append(".S")
         super().build_extensions()
+
+
+class WithLand(build_py):
+    """Takes the land of the world from a checkout."""
+
+    def run(self):
+        super().run()
+        land = Path(__file__).resolve().parent / "../../page/land.cells"
+        folder = Path(self.build_lib, "s2union_geo")
+        if land.exists() and folder.is_dir():  # which isn't there if the module is used where it lies
+            shutil.copyfile(land, folder / land.name)
 
 
 def include():
@@ -51,5 +67,5 @@ module = Extension("s2union._library", ["s2union/_library.c", *carried],
                    define_macros=[("S2UNION_WITHIN", None)] if carried else [], py_limited_api=True,
                    extra_link_args=["-Wl,-Bsymbolic"] if carried and sys.platform == "linux" else [],
                    extra_compile_args=["-std=gnu11", "-fvisibility=hidden", "-ffp-contract=off"])
-setup(distclass=Compiled, ext_modules=[] if ready else [module], cmdclass={"build_ext": Assembling},
-      options={"bdist_wheel": {"py_limited_api": "cp38"}})
+setup(distclass=Compiled, ext_modules=[] if ready else [module],
+      cmdclass={"build_ext": Assembling, "build_py": WithLand}, options={"bdist_wheel": {"py_limited_api": "cp38"}})

@@ -30,6 +30,7 @@ class Help(NamedTuple):
 def help_of(launcher, *words):
     text = subprocess.run([launcher, *words, "--help"], capture_output=True, text=True, check=True).stdout
     text, _, beside = text.partition(BESIDE)
+    beside, _, last = beside.partition("\n\n")
     about, usage, body = re.fullmatch(r"(.*?)\n\nUsage: (.*?)\n\n(.*)", text, re.S).groups()
     sections = {}
     while match := re.match(r"(\w+):\n((?: +.*\n?)+)\n?", body):
@@ -41,7 +42,7 @@ def help_of(launcher, *words):
         entry_of = ENTRY.match(line).groups()
         kind = "Options" if entry_of[0][0] == "-" else "Arguments" if words else "Commands"
         sections[kind] = sections.get(kind, []) + [entry_of]
-    return Help(about, usage, sections, body.rstrip("\n"))
+    return Help(about, usage, sections, f"{body}\n{last}".strip("\n"))
 
 
 def options_of(page):

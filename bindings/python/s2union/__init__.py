@@ -29,6 +29,7 @@ import operator as _operator
 import os as _os
 from array import array as _array
 from collections.abc import Set as _Set
+from importlib import import_module as _import_module
 from itertools import accumulate as _accumulate
 from typing import TYPE_CHECKING, Any, Iterable, Iterator, NoReturn, overload
 
@@ -2968,6 +2969,18 @@ class CellUnion:
         shown = [_library.token(cell) for cell in self.ids[:8]]
         more = f" and {len(self) - 8} more" if len(self) > 8 else ""
         return f"<CellUnion of {len(self)} cells: {' '.join(shown)}{more}>"
+
+    def _repr_html_(self) -> str | None:
+        """Its map, which a notebook shows; None without numpy or `s2union_geo`: then the notebook shows the `repr`.
+
+        .. versionadded:: 1.5
+        """
+        try:
+            maps = _import_module("s2union_geo.maps")  # which needs this module
+        except ImportError:
+            return None
+        shown: str = maps.html_of(self)
+        return shown
 
 
 _Set.register(CellUnion)

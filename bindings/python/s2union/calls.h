@@ -2,15 +2,15 @@
 #define CALLS(X) \
   X(ancestors) X(cell_contains) X(cell_intersects) X(cells_at) X(child) X(common_ancestor) X(compare) \
   X(complement) X(contains) X(contains_cell) X(contains_cells) X(debug) X(decode) X(denormalised) \
-  X(denormalised_len) X(difference) X(encode) X(face) X(file_ancestors) X(file_cell) X(file_check) \
-  X(file_contains) X(file_contains_cell) X(file_contains_cells) X(file_count) X(file_intersects) \
-  X(file_intersects_cell) X(file_leaf_count) X(from_debug) X(from_face_ij) X(from_points) X(from_token) \
-  X(from_tokens) X(inner) X(inner_in) X(inner_of) X(intersection) X(intersects) X(intersects_cell) \
-  X(intersects_cells) X(is_cell) X(is_union) X(leaf_count) X(level) X(levels) X(next) X(normalise) \
-  X(outer) X(outer_in) X(outer_of) X(parent) X(parents) X(polygon_inner) X(polygon_inner_up_to) \
-  X(polygon_outer) X(polygon_outer_up_to) X(prev) X(range) X(range_max) X(range_maxes) X(range_min) \
-  X(range_mins) X(size) X(square_of) X(symmetric_difference) X(token) X(token_fields) X(tokens) X(union) \
-  X(union_of_many) X(version)
+  X(denormalised_len) X(difference) X(direction_of) X(encode) X(face) X(file_ancestors) X(file_cell) \
+  X(file_check) X(file_contains) X(file_contains_cell) X(file_contains_cells) X(file_count) \
+  X(file_intersects) X(file_intersects_cell) X(file_leaf_count) X(from_debug) X(from_face_ij) \
+  X(from_points) X(from_token) X(from_tokens) X(inner) X(inner_in) X(inner_of) X(intersection) \
+  X(intersects) X(intersects_cell) X(intersects_cells) X(is_cell) X(is_union) X(leaf_count) X(level) \
+  X(levels) X(next) X(normalise) X(outer) X(outer_in) X(outer_of) X(parent) X(parents) X(polygon_inner) \
+  X(polygon_inner_up_to) X(polygon_outer) X(polygon_outer_up_to) X(prev) X(range) X(range_max) \
+  X(range_maxes) X(range_min) X(range_mins) X(size) X(square_of) X(symmetric_difference) X(token) \
+  X(token_fields) X(tokens) X(union) X(union_of_many) X(version)
 
 #define METHODS(X) \
   X(ancestors, METH_VARARGS) X(cell_contains, METH_VARARGS) X(cell_intersects, METH_VARARGS) \

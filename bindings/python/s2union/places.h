@@ -15,6 +15,7 @@ static Calls there;
 #define s2u_union there.s2u_union
 #define s2u_intersection there.s2u_intersection
 #define s2u_outer_of there.s2u_outer_of
+#define s2u_direction_of there.s2u_direction_of
 #define s2u_polygon_outer there.s2u_polygon_outer
 #define s2u_polygon_inner there.s2u_polygon_inner
 #define s2u_polygon_outer_up_to there.s2u_polygon_outer_up_to
@@ -32,6 +33,7 @@ static Calls there;
 #undef s2u_union
 #undef s2u_intersection
 #undef s2u_outer_of
+#undef s2u_direction_of
 #undef s2u_polygon_outer
 #undef s2u_polygon_inner
 #undef s2u_polygon_outer_up_to

@@ -5,10 +5,10 @@ rest, from degrees to these numbers and back, is tested beside S2. Arrays of poi
 
 `leaves` takes longitudes and latitudes to S2's leaves and `points` goes back; `covering` and `interior` make unions of
 polygons, in GeoJSON or of shapely, and `to_geojson` makes GeoJSON of unions. An `Index` finds which points lie in which
-of many polygons. `area` and `boundary` measure a union, and `outline` draws it. `neighbors` and `expanded` have cells
-around a cell and a union, and `bounds` the box around one. The longitude comes first, as in GeoJSON. Beside these,
-`s2union_geo.frames` gives frames of geopandas and pandas an accessor `.s2`, and gdal_S2UNION.py in this folder lets
-GDAL read union files.
+of many polygons. `area` and `boundary` measure a union, and `outline` draws it; a notebook shows a union
+as a map. `neighbors` and `expanded` have cells around a cell and a union, and `bounds` the box around one. The
+longitude comes first, as in GeoJSON. Beside these, `s2union_geo.frames` gives frames of geopandas and pandas an
+accessor `.s2`, and gdal_S2UNION.py in this folder lets GDAL read union files.
 
 >>> from s2union_geo import covering, interior, leaf
 >>> square = {"type": "Polygon", "coordinates": [[[0, 0], [10, 0], [10, 10], [0, 10], [0, 0]]]}

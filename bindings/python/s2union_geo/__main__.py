@@ -1,55 +1,71 @@
 """Points, polygons and maps from the command line.
 
-python3 -m s2union_geo join POINTS ZONES [--name PROPERTY] [--longitude COLUMN] [--latitude COLUMN] [--separator C]
-    [--skip] [--all] [--borders] [--coverings] [--max-cells N]
-        Each row of a table of points with the name of a zone that contains the point, as CSV. A point in two zones has
-        two rows; one in none has no row, or with --all one with an empty name.
-        POINTS  CSV, with or without names of columns; GeoJSON; a feature of GeoJSON a line; parquet, if pyarrow is
-                there; - for standard input
+python3 -m s2union_geo join POINTS ZONES [--name PROPERTY] [--longitude COLUMN]
+    [--latitude COLUMN] [--separator C] [--skip] [--all] [--borders]
+    [--coverings] [--max-cells N]
+        Each row of a table of points with the name of a zone that contains the
+        point, as CSV. A point in two zones has two rows; one in none has no
+        row, or with --all one with an empty name.
+        POINTS  CSV, with or without names of columns; GeoJSON; a feature of
+                GeoJSON a line; parquet, if pyarrow is there; - for standard
+                input
         ZONES   GeoJSON, a feature a line, or what `index` wrote
         --name  the property with a zone's name; without it, its number from 0
         --longitude, --latitude
-                the columns' names, or numbers from 1, if they aren't called longitude and latitude, lon and lat, lng
-                and lat, long and lat, or x and y, nor are the first two of a table without names
-        --skip  leaves out each row without a point, and each zone whose polygons are refused, and says which on
-                standard error; without it the first one ends the command
+                the columns' names, or numbers from 1, if they aren't called
+                longitude and latitude, lon and lat, lng and lat, long and lat,
+                or x and y, nor are the first two of a table without names
+        --skip  leaves out each row without a point, and each zone whose
+                polygons are refused, and says which on standard error; without
+                it the first one ends the command
         --borders
-                a point on the border of a zone is in it, as for PostGIS's ST_Covers
+                a point on the border of a zone is in it, as for PostGIS's
+                ST_Covers
         --coverings
-                asks coverings alone, not shapely: points near a border may be in zones too many
-python3 -m s2union_geo index ZONES FILE [--name PROPERTY] [--skip] [--max-cells N]
-        Makes the coverings of zones once, for `join` and for Index.load of Python.
+                asks coverings alone, not shapely: points near a border may be
+                in zones too many
+python3 -m s2union_geo index ZONES FILE [--name PROPERTY] [--skip]
+    [--max-cells N]
+        Makes the coverings of zones once, for `join` and for Index.load of
+        Python.
 python3 -m s2union_geo leaves <POINTS
-        The tokens of the leaves of points: a longitude and a latitude a line, in degrees, with a comma or a blank
-        between them; what follows is a name.
+        The tokens of the leaves of points: a longitude and a latitude a line,
+        in degrees, with a comma or a blank between them; what follows is a
+        name.
 python3 -m s2union_geo cover FILE FOLDER MAX_CELLS MAX_LEVEL [--name PROPERTY]
-        Coverings of each feature of a GeoJSON file, as FOLDER/NAME.outer and .inner, by the property 'file' or the one
-        that is named, of which no two features may have the same.
+        Coverings of each feature of a GeoJSON file, as FOLDER/NAME.outer and
+        .inner, by the property 'file' or the one that is named, of which no two
+        features may have the same.
 python3 -m s2union_geo geojson FILE.. [--dissolve]
-        Union files as one collection in GeoJSON: a feature for each cell, or with --dissolve one for each file, without
-        the borders between cells.
+        Union files as one collection in GeoJSON: a feature for each cell, or
+        with --dissolve one for each file, without the borders between cells.
 """
 import argparse
 import contextlib
 import csv
 import io
+import itertools
 import json
 import os
 import re
 import stat
 import sys
 import unicodedata
+import warnings
 from pathlib import Path
 
 import numpy
 from s2union import CellUnion, tokens
 
 from . import Index, coverings, leaves, read_geojson, to_geojson
+from .index import IndexByNeed
 from .places import MOST, range_of
 from .tables import Options, features_of, is_text, number_in, read_points
 
 # Two words with a comma between them and a comma after them, if anything; or with blanks there.
 POINT = re.compile(r"\s*([^\s,]+)(?:\s*,\s*([^\s,]+)\s*(?:,|$)|\s+([^\s,]+)(?:\s|$))")
+PLAIN = re.compile(r"[-+.0-9eE, \n]*").fullmatch
+AT_ONCE = 100_000  # lines
 NOTHING = {"type": "FeatureCollection", "features": []}
 
 
@@ -67,10 +83,41 @@ def point_of(line, number):
     return longitude, latitude
 
 
+def plain_points(lines):
+    """The longitudes and latitudes of lines that are two numbers with a comma or a blank between them, all in range; of
+    others None."""
+    text = "".join(lines)
+    text = text if text.endswith("\n") else f"{text}\n"
+    if not PLAIN(text):
+        return None
+    codes = numpy.frombuffer(text.encode(), "uint8")
+    between = numpy.cumsum((codes == ord(",")) | (codes == ord(" ")))[codes == ord("\n")]
+    if not numpy.array_equal(between, numpy.arange(1, len(lines) + 1)):
+        return None
+    try:
+        with warnings.catch_warnings():
+            warnings.simplefilter("error")  # numbers are read as far as they are some
+            numbers = numpy.fromstring(text.replace(",", " "), sep=" ")
+    except (ValueError, DeprecationWarning):
+        return None
+    if len(numbers) != 2 * len(lines) or (numpy.abs(numbers).reshape(-1, 2) > tuple(MOST.values())).any():
+        return None
+    return numbers
+
+
 def show_leaves():
-    points = [point_of(line, number) for number, line in enumerate(sys.stdin, 1) if line.strip()]
-    if points:
-        print(*tokens(leaves(*zip(*points))), sep="\n")
+    """The tokens of all points, once the last one is read: a wrong one is an error before any."""
+    parts, read = [], 0
+    while lines := list(itertools.islice(sys.stdin, AT_ONCE)):
+        found = plain_points(lines)
+        if found is None:
+            points = [point_of(line, number) for number, line in enumerate(lines, read + 1) if line.strip()]
+            found = numpy.array(points, "float64").ravel()
+        parts.append(found)
+        read += len(lines)
+    for found in parts:
+        if found.size:
+            print(*tokens(leaves(found[::2], found[1::2])), sep="\n")
 
 
 def features_in(file):
@@ -178,8 +225,8 @@ def opened(path):
     return contextlib.nullcontext(sys.stdin.buffer) if path == "-" else open(path, "rb")
 
 
-def read_zones(path, name, max_cells, wrong):
-    """The index of a file of zones, or one that is a file already."""
+def read_zones(path, name, max_cells, wrong, kind):
+    """An index of some kind of a file of zones, or one that is a file already."""
     with opened(path) as file:
         if file.peek(2)[:2] == b"PK" and path != "-":
             made = Index.load(path)
@@ -193,7 +240,7 @@ def read_zones(path, name, max_cells, wrong):
         except (ValueError, RecursionError) as error:
             raise ValueError(f"{path}: {error}") from None
     names = list(range(len(features))) if name is None else [name_of(*it, name) for it in features]
-    made = Index(counted([feature for _, feature in features]), names, int(max_cells), leave=wrong.skips)
+    made = kind(counted([feature for _, feature in features]), names, int(max_cells), leave=wrong.skips)
     for zone, why in made.left:
         wrong(f"zone {made.names[zone]!r}: {why}")
     return made
@@ -210,7 +257,7 @@ def name_of(where, feature, name):
 
 
 def make_index(zones, file, name, skip, max_cells):
-    made = read_zones(zones, name, max_cells, Wrong(skip))
+    made = read_zones(zones, name, max_cells, Wrong(skip), Index)
     made.save(file)
     print(f"{len(made)} zones")
 
@@ -219,7 +266,7 @@ def join(points, zones, name, longitude, latitude, separator, skip, max_cells, a
     wrong = Wrong(skip)
     if points == zones == "-":
         raise ValueError("points and zones can't both be standard input")
-    made = read_zones(zones, name, max_cells, wrong)
+    made = read_zones(zones, name, max_cells, wrong, IndexByNeed)
     asked = {"exact": not coverings, "predicate": "intersects" if borders else "within"}
     made.join([], [], **asked)  # an error before any output if shapely is missing
     with opened(points) as file:

@@ -38,10 +38,11 @@ def covering(shape: Any, max_cells: int | None = None, max_level: int = 30, *, m
     min_level : int
         0 to ``max_level``: cells at the border are at least as deep, even if there are more than ``max_cells`` then.
     within : float, optional
-        Meters: cells at the border are so small that no place of the covering is farther from the shape, if
-        ``max_cells`` allows it.
+        Meters: cells at the border are so small that no place of the covering is farther from the shape, or from its
+        margin, if ``max_cells`` allows it.
     margin : float
-        Meters by which the covering goes beyond the shape, 0 to 300,000.
+        Meters by which the covering goes beyond the shape, 0 to 300,000: a corridor, whose cells have a place within
+        the margin, or at most 1% of it beyond.
     edges : str
         ``"map"``: straight in longitude and latitude. ``"geodesic"``: the shortest ways on the sphere, and of each ring
         the smaller side is inside. ``"left"``: the same, and what the rings have on their left is inside.
@@ -100,7 +101,7 @@ def interior(shape: Any, max_cells: int | None = None, max_level: int = 30, *, m
     within : float, optional
         Meters: each place of the polygons that is farther from their border lies in a cell, if ``max_cells`` allows it.
     margin : float
-        Meters by which the cells stay away from the border, 0 to 300,000.
+        Meters by which the cells stay away from the border, 0 to 300,000. Of lines and points the cells lie within it.
     edges : str
         As `covering` has it.
 
@@ -194,7 +195,7 @@ def circle(longitude: float, latitude: float, radius: float, max_cells: int | No
     latitude : float
         From -90 to 90 degrees.
     radius : float
-        Meters, 0 to 9,000,000.
+        Meters, 0 to 20,000,000.
     max_cells : int, optional
         The most cells of each, 0 to 1,000,000: 200 if nothing is said, and 1,000,000 with ``within``.
     max_level : int
@@ -235,16 +236,16 @@ def circle(longitude: float, latitude: float, radius: float, max_cells: int | No
     look_at(*place)
     meters = number_of(radius, "radius")
     if not 0 <= meters <= 9_000_000:
-        raise ValueError(f"a radius is from 0 to 9000000 meters: {radius!r}")
+        raise ValueError(f"a radius is from 0 to 20000000 meters: {radius!r}")
     options = _options(max_cells, max_level, min_level, within, 0.0, "geodesic")
     return _unions(_library.coverings_of_circle(*place, meters, options, BOTH), None)
 
 
-def look_at_wkb(wkb: bytes) -> None:
-    """An error if `covering` would refuse these bytes, in time by their number."""
-    answer = _library.coverings_of_wkb(wkb, _USUAL_OPTIONS, NONE)
-    if len(answer) > 2:
-        _unions(answer, None)
+def look_at_shape(shape: Any) -> None:
+    """The error of a `covering` of a shape, in time by its positions. Two errors aren't found so: that of edges which
+    are too long for so few, and that of a shape without a place outside. A shape that is less than 90 degrees wide and
+    high has neither."""
+    _covered(shape, _USUAL_OPTIONS, NONE)
 
 
 def _options(max_cells: int | None, max_level: int, min_level: int, within: float | None, margin: float,

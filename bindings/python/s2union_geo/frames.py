@@ -14,7 +14,7 @@ from typing import Any
 import pandas
 
 from .coverer import coverings
-from .index import Index
+from .index import Index, IndexByNeed
 from .sphere import leaves
 
 __all__ = ["Frame"]
@@ -179,7 +179,7 @@ class Frame:
         ([['sea', 'one']], [['sea', 'one']])
         """
         is_made = isinstance(points, Index)
-        made = points if is_made else Index(self._whole(), max_cells=max_cells)
+        made = points if is_made else IndexByNeed(self._whole(), max_cells=max_cells)
         rows, *places = (self if is_made else points.s2)._points(longitude, latitude)
         point, zone = made.join(*places, predicate=predicate)
         order = zone.argsort(kind="stable")

@@ -9,20 +9,22 @@ import math
 import os
 import struct
 import zipfile
-from typing import Any, Iterator
+from typing import Any, Callable, Iterator
 
 import numpy
 from s2union import CellUnion, range_maxes, range_mins
 
-from .coverer import covering, interior, look_at_wkb
+from .boxes import box_of, may_have_points
+from .coverer import covering, interior, look_at_shape
 from .places import MOST, leaf
-from .reading import parsed, polygons_of, wkb_of
+from .reading import LINE, Shape, parsed, polygons_of, shape_of, wkb_of
 from .sphere import leaves
 
 __all__ = ["Index"]
 
 KIND = "s2union_geo.Index 1"  # of the files
 PREDICATES = ("within", "intersects")  # of which the second has points on borders too, as in geopandas
+MOST_SURE = 90  # degrees: shapes less wide and high are covered if they pass `look_at_shape`
 MANY = 1000  # points of one zone: shapely takes as long for them as its interior covering takes to make
 ARRAYS = {"cell": "u", "begin": "i", "zone": "i", "sure": "b", "shape": "u", "ends": "i", "spans": "f", "names": "u"}
 
@@ -87,26 +89,40 @@ class Index:
                  leave: bool = False) -> None:
         shapes, self.names = _named(shapes, names)
         self.left: list[tuple[int, str]] = []
-        nothing, none = _covered(_NOTHING, max_cells, max_level)  # an error if they are out of range
-        self._shapes, self._spans = [none] * len(shapes), numpy.zeros((len(shapes), 2))
-        made = []
+        _, none = _asked(lambda it: covering(it, max_cells, max_level), _NOTHING)  # an error if they are out of range
+        self._begin_with([none] * len(shapes), numpy.zeros((len(shapes), 4)), (max_cells, max_level))
+        self._outers: list[tuple[int, bool, CellUnion]] = []
         for zone, shape in enumerate(shapes):
             try:
-                outer, wkb = (nothing, none) if shape is None else _covered(shape, max_cells, max_level)
+                if shape is not None:
+                    self._take(zone, _read(shape))
             except ValueError as error:
                 if not leave:
                     raise ValueError(f"zone {self.names[zone]!r}: {error}") from None
                 self.left.append((zone, str(error)))
-                continue
-            self._shapes[zone], self._spans[zone] = wkb, _span_of(wkb)
-            made.append((zone, False, outer))
-        self._arrange(*_sorted(made), (max_cells, max_level))
+        self._arrange(*_sorted(self._outers))
 
-    def _arrange(self, cell: Any, begin: Any, zone: Any, sure: Any, most: tuple[int, int] | None) -> None:
+    def _begin_with(self, shapes: list[bytes], boxes: Any, most: Any) -> None:
+        """Takes the zones' polygons and boxes. `most` says how coverings are made: not at all, if the cells have them
+        all."""
+        self._shapes, self._boxes, self._most = shapes, boxes, most
+        self._prepared: dict[int, list[Any]] = {}
+        self._interiors: dict[int, CellUnion] = {}
+        self._asked = numpy.zeros(len(shapes), "int64")  # how many points of each zone
+
+    def _take(self, zone: int, shape: Any) -> None:
+        """Covers a zone."""
+        outer, wkb = _asked(lambda it: covering(it, *self._most), shape)
+        self._shapes[zone], self._boxes[zone] = wkb, box_of(wkb)
+        self._outers.append((zone, False, outer))
+
+    def _cover(self, x: Any, y: Any, exact: bool) -> None:
+        """Covers what a join of points needs: nothing, since all zones are covered."""
+
+    def _arrange(self, cell: Any, begin: Any, zone: Any, sure: Any) -> None:
         """Takes the cells, each once and each before those in it. Of each the places from `begin` on have the zones,
-        and whether the zone contains all of the cell. `most` says how interior coverings are made: not at all, if the
-        cells have them."""
-        self._cell, self._begin, self._zone, self._sure, self._most = cell, begin, zone, sure, most
+        and whether the zone contains all of the cell."""
+        self._cell, self._begin, self._zone, self._sure = cell, begin, zone, sure
         self._first, self._last = range_mins(cell), range_maxes(cell)
         number = numpy.arange(len(cell))
         depth = number - numpy.sort(self._last).searchsorted(self._first)  # without the cells that ended before it
@@ -114,9 +130,6 @@ class Index:
         for deep in range(1, depth.max(initial=0) + 1):
             above, here = number[depth == deep - 1], number[depth == deep]
             self._above[here] = above[above.searchsorted(here) - 1]
-        self._prepared: dict[int, list[Any]] = {}
-        self._interiors: dict[int, CellUnion] = {}
-        self._asked = numpy.zeros(len(self.names), "int64")  # how many points of each zone
 
     def _interior(self, zone: int) -> CellUnion:
         """The interior covering of a zone; nothing, if the cells have it."""
@@ -174,12 +187,13 @@ class Index:
         """
         _check(predicate)
         found, here = [], numpy.uint64(leaf(longitude, latitude))
+        x, y = numpy.array([[longitude], [latitude]], "float64")
+        self._cover(x, y, exact)
         cell = self._first.searchsorted(here, "right") - 1
         while cell >= 0:
             if self._last[cell] >= here:
                 found += range(self._begin[cell], self._begin[cell + 1])
             cell = self._above[cell]
-        x, y = numpy.array([[longitude], [latitude]], "float64")
         sure = {int(self._zone[k]): self._sure[k] for k in found}
         return [self.names[zone] for zone in sorted(sure) if sure[zone] or not exact
                 or here in self._interior(zone) or self._contains(zone, x, y, predicate)[0]]
@@ -244,6 +258,8 @@ class Index:
         if exact:
             _shapely()  # an error before any work
         leaf_of = leaves(x, y)
+        x, y = x.astype("float64"), y.astype("float64")  # which has room for a turn more
+        self._cover(x, y, exact)
         point, zone, sure = self._pairs(leaf_of)
         if exact:
             keep = sure.copy()
@@ -284,7 +300,7 @@ class Index:
     def _contains(self, zone: int, x: Any, y: Any, predicate: str) -> Any:
         """Whether a zone's polygons contain points, which they may have some turns to the east or west."""
         contains = _shapely()[2 + PREDICATES.index(predicate)]
-        west, east = self._spans[zone]
+        west, east = self._boxes[zone, ::2]
         turns = range(math.ceil((west - x.max()) / 360), math.floor((east - x.min()) / 360) + 1)
         if east - west > 360:
             return self._contains_by_turns(zone, x, y, predicate, turns)
@@ -316,7 +332,7 @@ class Index:
             wkb, prepared, *_ = _shapely()
             try:
                 shape = wkb.loads(self._shapes[zone])
-                west, east = self._spans[zone]
+                west, east = self._boxes[zone, ::2]
                 parts = getattr(shape, "geoms", [shape]) if east - west > 360 else [shape]
                 self._prepared[zone] = [prepared(part) for part in parts]
             except Exception as error:  # shapely's own differ between its versions
@@ -357,7 +373,7 @@ class Index:
         text = json.dumps([KIND, *self.names], default=_number_of).encode()
         cell, begin, zone, sure = self._with_interiors()
         arrays = {"cell": cell, "begin": begin.astype("int64"), "zone": zone.astype("int32"),
-                  "sure": sure, "spans": self._spans.ravel(),
+                  "sure": sure, "spans": self._boxes[:, ::2].ravel(),
                   "shape": numpy.frombuffer(b"".join(self._shapes), "uint8"),
                   "ends": numpy.cumsum([len(shape) for shape in self._shapes], dtype="int64"),
                   "names": numpy.frombuffer(text, "uint8")}
@@ -381,6 +397,7 @@ class Index:
         """The cells of both coverings, as `_arrange` takes them."""
         if self._most is None:
             return self._cell, self._begin, self._zone, self._sure
+        self._cover(numpy.zeros(0), numpy.zeros(0), False)
         made: list[tuple[int, bool, CellUnion]] = []
         cell = numpy.repeat(self._cell, numpy.diff(self._begin))
         for zone, places in _groups(self._zone, numpy.arange(len(self._zone))):
@@ -441,12 +458,38 @@ class Index:
         self = cls.__new__(cls)
         self.names, self.left = names, []
         text = shape.tobytes()
-        self._spans = spans.reshape(-1, 2)
-        self._shapes = [text[a:b] for a, b in zip([0, *ends.tolist()], ends.tolist())]
-        for name, wkb in zip(names, self._shapes):
+        shapes = [text[a:b] for a, b in zip([0, *ends.tolist()], ends.tolist())]
+        for name, wkb in zip(names, shapes):
             _look_at(wkb, name)
-        self._arrange(cell, begin.astype("int64"), zone.astype("int64"), sure, None)
+        boxes = numpy.zeros((len(names), 4))
+        boxes[:, ::2] = spans.reshape(-1, 2)
+        self._begin_with(shapes, boxes, None)
+        self._arrange(cell, begin.astype("int64"), zone.astype("int64"), sure)
         return self
+
+
+class IndexByNeed(Index):
+    """The same for a single join, maybe by parts of a table: a zone is only covered when a point lies in its box. All
+    zones are looked at before, so the errors are the same."""
+
+    def _take(self, zone: int, shape: Any) -> None:
+        """Looks at a zone, and covers it if it may be refused all the same, or has more than polygons."""
+        _, wkb = _asked(look_at_shape, shape)
+        west, south, east, north = box = box_of(wkb)
+        is_polygons = LINE not in shape.rings[1::2] if isinstance(shape, Shape) else _has_polygons(shape)
+        if is_polygons and max(east - west, north - south) < MOST_SURE:
+            self._shapes[zone], self._boxes[zone] = wkb, box
+        else:
+            super()._take(zone, shape)
+
+    def _cover(self, x: Any, y: Any, exact: bool) -> None:
+        """Covers the zones in whose boxes points lie; all, if coverings alone are asked, which reach beyond boxes."""
+        waiting = numpy.setdiff1d(numpy.arange(len(self)), [zone for zone, *_ in self._outers])
+        if exact:
+            waiting = waiting[may_have_points(self._boxes[waiting], x, y)]
+        self._outers += [(zone, False, covering(self._shapes[zone], *self._most)) for zone in waiting.tolist()]
+        if len(waiting):
+            self._arrange(*_sorted(self._outers))
 
 
 _NOTHING = {"type": "MultiPolygon", "coordinates": []}
@@ -493,15 +536,25 @@ def _property(feature: Any, name: str, place: int) -> Any:
     return properties[name]
 
 
-def _covered(shape: Any, max_cells: int, max_level: int) -> tuple[CellUnion, bytes]:
-    """The covering of a shape, and its polygons in well-known binary, little-endian."""
-    if getattr(shape, "geom_type", None) not in ("Polygon", "MultiPolygon"):
-        return covering(shape, max_cells, max_level), _wkb_of(shape)
+def _has_polygons(shape: Any) -> bool:
+    """Whether it is an object as shapely has them for polygons."""
+    return getattr(shape, "geom_type", None) in ("Polygon", "MultiPolygon")
+
+
+def _read(shape: Any) -> Any:
+    """GeoJSON that is read, so that it is read once; what has WKB as it is."""
+    return shape if _has_polygons(shape) or wkb_of(shape) is not None else shape_of(shape)
+
+
+def _asked(ask: Callable[[Any], Any], shape: Any) -> tuple[Any, bytes]:
+    """What is answered about a shape, and its polygons in well-known binary, little-endian."""
+    if not _has_polygons(shape):
+        return ask(shape), _wkb_of(shape)
     wkb = bytes(shape.wkb)
     try:
-        return covering(wkb, max_cells, max_level), wkb
+        return ask(wkb), wkb
     except ValueError:  # the shape's own error has names of polygons and rings
-        return covering(shape, max_cells, max_level), wkb
+        return ask(shape), wkb
 
 
 def _wkb_of(shape: Any) -> bytes:
@@ -515,29 +568,13 @@ def _wkb_of(shape: Any) -> bytes:
     return b"".join(found)
 
 
-def _span_of(wkb: bytes) -> tuple[float, float]:
-    """The least and the greatest longitude of polygons in such binary; 0 of none."""
-    longitudes: list[Any] = []
-    at, waiting = 0, 1
-    while waiting:
-        kind, count = struct.unpack_from("<II", wkb, at + 1)
-        at += 9
-        waiting += count - 1 if kind & 7 == 6 else -1
-        numbers = 2 + (kind >> 31) + (kind >> 30 & 1)  # of a position, which may have a height and a measure
-        for _ in range(0 if kind & 7 == 6 else count):
-            corners, = struct.unpack_from("<I", wkb, at)
-            longitudes.append(numpy.frombuffer(wkb, "<f8", numbers * corners, at + 4)[::numbers])
-            at += 4 + 8 * numbers * corners
-    return (min(it.min() for it in longitudes), max(it.max() for it in longitudes)) if longitudes else (0, 0)
-
-
 def _look_at(wkb: bytes, name: Any) -> None:
     """An error if these bytes of a file aren't polygons in such binary."""
     kind, = struct.unpack_from("<I", wkb, 1) if len(wkb) > 4 else (0,)
     if wkb[:1] != b"\1" or kind & 0x3fffffff not in (3, 6):  # of 3D and more, the first two bits
         raise ValueError(f"zone {name!r}: it has no polygons as `save` writes them")
     try:
-        look_at_wkb(wkb)
+        look_at_shape(wkb)
     except ValueError as error:
         raise ValueError(f"zone {name!r}: {error}") from None
 

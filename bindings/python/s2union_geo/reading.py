@@ -2,8 +2,10 @@
 
 from __future__ import annotations
 
+import difflib
 import json
 import os
+import re
 from array import array
 from itertools import chain
 from typing import Any, Iterable, NamedTuple
@@ -18,6 +20,8 @@ NO_LISTS = (str, bytes, dict)  # which have lengths and parts all the same
 PARTS = {"FeatureCollection": "features", "GeometryCollection": "geometries"}
 LINE = 2**64 - 1  # in the place of a polygon's number: a line or a point
 KINDS = {several + one for several in ("", "Multi") for one in ("Point", "LineString", "Polygon")}
+TYPES = {name.lower(): name for name in (*KINDS, *PARTS, "Feature")}
+IS_WKT = re.compile(rf"\s*(SRID=\d+;)?({'|'.join((*KINDS, 'GeometryCollection'))})\b", re.IGNORECASE).match
 
 
 class Shape(NamedTuple):
@@ -82,7 +86,9 @@ def parsed(text: str | bytes, name: str = "the text") -> Any:
     try:
         return json.loads(text)
     except (ValueError, RecursionError) as error:
-        raise ValueError(f"{name} is no GeoJSON: {error}") from None
+        is_wkt = isinstance(text, str) and IS_WKT(text)
+        why = "WKT isn't taken, but shapely.wkt.loads makes a shape of it" if is_wkt else error
+        raise ValueError(f"{name} is no GeoJSON: {why}") from None
 
 
 def wkb_of(shape: Any) -> bytes | None:
@@ -92,7 +98,10 @@ def wkb_of(shape: Any) -> bytes | None:
 
 
 def shape_of(given: Any) -> Shape:
-    """The rings and lines of GeoJSON, as objects of Python or as a text, or of what has a __geo_interface__."""
+    """The rings and lines of GeoJSON, as objects of Python or as a text, or of what has a __geo_interface__; what has
+    been read as it is."""
+    if isinstance(given, Shape):
+        return given
     found, polygons, parts = Shape(array("d"), array("Q"), []), 0, 0
     waiting = [parsed(given) if isinstance(given, (str, bytes)) else given]
     while waiting:
@@ -104,7 +113,7 @@ def shape_of(given: Any) -> Shape:
         it = getattr(it, "__geo_interface__", it)
         kind = it.get("type") if isinstance(it, dict) else None
         if not isinstance(kind, str):
-            raise ValueError(f"it is no shape: {type(it).__name__}")
+            raise ValueError(f"it is no shape: {_said_without_type(it)}")
         if kind in PARTS:
             waiting += reversed(_list_of(it, PARTS[kind], kind))
         elif kind == "Feature":
@@ -112,8 +121,21 @@ def shape_of(given: Any) -> Shape:
         elif kind in KINDS:
             polygons += _add_geometry(found, it, kind, polygons)
         else:
-            raise ValueError(f"it is no shape: {kind[:99]!r}")
+            raise ValueError(f"it is no shape: {kind[:99]!r}{_meant(kind)}")
     return found
+
+
+def _said_without_type(it: Any) -> str:
+    """What is said of an object that has no text as its type."""
+    if not isinstance(it, dict):
+        return type(it).__name__
+    return 'a dict whose "type" is no text' if "type" in it else 'a dict without "type"'
+
+
+def _meant(kind: str) -> str:
+    """The type that was meant by one which GeoJSON doesn't have, if there is one like it."""
+    found = difflib.get_close_matches(kind[:99].lower(), TYPES, 1)
+    return f"; did you mean {TYPES[found[0]]!r}?" if found else ""
 
 
 def polygons_of(given: Any) -> list[list[Any]]:

@@ -27,7 +27,7 @@ from s2union import CellUnion, Union, from_face_ij, from_token, level, parent, s
 from s2union_geo import (area, boundary, bounds, circle, covering, coverings, edge_neighbors, expanded, interior, leaf,
                          leaves, neighbors, outline, points, read_geojson, to_geojson, vertex_neighbors)
 from s2union_geo import coverer, geojson, interrupts, places, reading, sphere
-from s2union_geo.__main__ import main
+from s2union_geo.__main__ import main, plain_points
 from s2union_geo import outlines
 from s2union_geo.geojson import rings
 from s2union_geo.sphere import geographic, on_cube
@@ -302,7 +302,7 @@ class Polygons(unittest.TestCase):
                                "min_level is out of range: 9 is more than max_level")):
             with self.assertRaisesRegex(ValueError, said):
                 covering(polygon(SQUARE), **options)
-        with self.assertRaisesRegex(ValueError, "a radius is from 0 to 9000000 meters: -1"):
+        with self.assertRaisesRegex(ValueError, "a radius is from 0 to 20000000 meters: -1"):
             circle(0, 0, -1)
         with self.assertRaisesRegex(ValueError, "a latitude is from -90 to 90"):
             circle(0, 91, 1)
@@ -460,7 +460,10 @@ REFUSED = [
     ({"type": "MultiPolygon", "coordinates": [[], {}]}, "polygon 1 has a list of rings"),
     (polygon({}), "polygon 0, ring 0: a position is a longitude and a latitude"),
     (ENDLESS, "there are more than 4000000 parts"),
-    ({"type": []}, "it is no shape: dict"),
+    ({"type": []}, 'it is no shape: a dict whose "type" is no text'), ({}, 'it is no shape: a dict without "type"'),
+    ({"type": "polygon", "coordinates": []}, r"it is no shape: 'polygon'; did you mean 'Polygon'\?"),
+    ("POLYGON ((0 0, 1 0, 1 1, 0 0))", "the text is no GeoJSON: WKT isn't taken, but shapely.wkt.loads makes a shape"),
+    (" srid=4326;multipoint z (0 0 1)", "WKT isn't taken"), ("POLYGONS", "the text is no GeoJSON: Expecting value"),
     (None, "it is no shape: NoneType"), ("{", "the text is no GeoJSON"),
     ("[" * 100000, "the text is no GeoJSON"),
     ({"type": "GeometryCollection", "geometries": ['{"type": "Point", "coordinates": [1, 2]}']}, "it is no shape: str"),
@@ -684,6 +687,15 @@ class Maps(unittest.TestCase):
                          [{"type": "Feature", "properties": {"name": "x"},
                            "geometry": outline(Union.from_tokens("14 1c"))}])
 
+    def test_lines_that_are_read_at_once(self):
+        plain = ["1,2", "3 4", "-540,-90", "540 90", "+.5,5.", "1e-3 2E1", "0.1,0.30000000000000004", "-0 0"]
+        self.assertEqual(plain_points([f"{line}\n" for line in plain]).reshape(-1, 2).tolist(),
+                         [[*map(float, line.replace(",", " ").split())] for line in plain])
+        self.assertEqual(plain_points(["1,2\n", "3,4"]).tolist(), [1, 2, 3, 4])
+        for line in ("", "1", "1,2 3", "1,,2", "1, 2", " 1 2", "1,2,", "1e 2", "1-2 3", "541 0", "0 90.5", "1e400 0",
+                     "1\t2", "nan 1", "1_0 2", "1,2 name", "+ 1", "1 ,2"):
+            self.assertIsNone(plain_points(["0,0\n", f"{line}\n", "0,0\n"]), line)
+
     def test_the_command_line(self):
         self.assertEqual(said("leaves", text="2.3522 48.8566 Paris\n\n0 90 North Pole\n").stdout,
                          "47e66e1d8f8be23b\n5000000000000001\n")
@@ -705,6 +717,7 @@ class Maps(unittest.TestCase):
                                     (("leaves",), "7\n", "s2union_geo: line 1 has no longitude and latitude at .*'7'"),
                                     (("leaves",), "1 91\n", r"s2union_geo: line 1: a latitude .*comes first\): 91.0\n"),
                                     (("leaves",), "1 1_0\n", "s2union_geo: line 1 has no longitude and .*'1 1_0'"),
+                                    (("leaves",), "1 2\n" * 100_000 + "1,2\n3 91\n", "line 100002: a latitude is"),
                                     (("leaves",), "\nnan 1\n", "line 2: a longitude is from -540 to 540: nan\n"),
                                     (("geojson", "none"), "", "s2union_geo: .*'none'\n"), ((), "", "Points, polygons"),
                                     (("leaves", "more"), "", "Points, polygons")):

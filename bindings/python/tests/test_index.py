@@ -4,6 +4,7 @@ and `index` of the command line."""
 import contextlib
 import csv
 import io
+import itertools
 import json
 import os
 import pty
@@ -20,7 +21,9 @@ import unittest.mock
 import numpy
 import pytest
 import s2union_geo
-from s2union_geo import Index, index, tables
+import shapely.geometry
+import shapely.ops
+from s2union_geo import Index, boxes, index, tables
 from s2union_geo.__main__ import COMMANDS, main
 
 import docstrings
@@ -124,8 +127,6 @@ class Joins(unittest.TestCase):
     def test_zones_in_wkb(self):
         """As objects of shapely, whose corners may have heights, and as bytes in either order, which may have the
         system of coordinates in degrees."""
-        import shapely.geometry
-        import shapely.ops
         from shapely import geos
         chance = random.Random(7)
         zones = [zone for zone in some_zones(chance) if zone["type"] == "Polygon"]
@@ -180,6 +181,92 @@ class Joins(unittest.TestCase):
             self.assertEqual(pairs(made.join([0.5, 2, 1], [0.5, 0.5, 1])), [(0, 0)])
             self.assertEqual(pairs(made.join([0.5, 2, 1], [0.5, 0.5, 1], predicate="intersects")), [(0, 0), (2, 0)])
             self.assertEqual(len(prepared), 1)
+
+
+class ByNeed(unittest.TestCase):
+    """An index that covers zones when points lie in their boxes, beside one that covers all at once."""
+
+    HOSTILE = [polygon(box(*it)) for it in (
+        (-540, -90, 540, 90), (-200, -10, 200, 10), (170, 60, 260, 90), (-10, -90, 80, -89.9999999), (0, 80, 359.9, 90),
+        (-540, 3, -530, 4), (530, -4, 540, -3), (359.9999, 0, 360, 1), (5, 5, 5, 5), (-95, 0, 0, 2))] + [
+        None, polygon(), {"type": "GeometryCollection", "geometries": []},
+        {"type": "GeometryCollection", "geometries": [{"type": "Point", "coordinates": [50, 50]},
+                                                      polygon(box(0, 0, 1, 1))]}]
+
+    def test_the_same_pairs(self):
+        """By each predicate and by coverings alone, of points in two parts, of which the first are few."""
+        chance = random.Random(57)
+        zones = some_zones(chance) + self.HOSTILE
+        zones += [shapely.geometry.shape(zone) for zone in zones if zone and zone.get("coordinates")]
+        x, y = some_points(chance, 400)
+        ends = numpy.array([*itertools.product((-540, -360, -180, -0.0, 5, 179.9999999, 360.0000001, 535),
+                                               (-90, -89.99999, 0, 3.5, 60, 89.9999999, 90))]).T
+        x, y = numpy.append(ends[0], x), numpy.append(ends[1], y)
+        for exact, predicate in ((True, "within"), (True, "intersects"), (False, "within")):
+            plain, by_need = Index(zones, max_cells=8), index.IndexByNeed(zones, max_cells=8)
+            for part in (slice(0, 0), slice(9, 13), slice(None)):
+                self.assertEqual(pairs(by_need.join(x[part], y[part], exact, predicate)),
+                                 pairs(plain.join(x[part], y[part], exact, predicate)))
+        for looks in (0, 5):
+            with unittest.mock.patch.object(boxes, "MOST_LOOKS", looks):
+                self.assertEqual(pairs(index.IndexByNeed(zones, max_cells=8).join(x, y)),
+                                 pairs(Index(zones, max_cells=8).join(x, y)))
+        plain, by_need = Index(zones, max_cells=8), index.IndexByNeed(zones, max_cells=8)
+        for at in range(0, len(x), 7):
+            self.assertEqual(by_need.find(x[at], y[at]), plain.find(x[at], y[at]))
+        with tempfile.TemporaryDirectory() as folder:
+            plain.save(f"{folder}/plain")
+            index.IndexByNeed(zones, max_cells=8).save(f"{folder}/by_need")
+            with numpy.load(f"{folder}/plain") as wanted, numpy.load(f"{folder}/by_need") as found:
+                self.assertEqual(found.files, wanted.files)
+                for name in wanted:
+                    self.assertTrue(numpy.array_equal(found[name], wanted[name]), name)
+
+    def test_which_are_covered(self):
+        """Each in whose box a point lies, and no other one; all, for coverings alone."""
+        zones = [polygon(box(x, y, x + 10, y + 10)) for x in range(-180, 180, 10) for y in range(-90, 90, 10)]
+        for places, exact, wanted in (([], True, 0), ([(5, 5)], True, 1), ([(5, 5), (6, 6), (-535, 55)], True, 2),
+                                      ([(360, 0)], True, 4), ([(180, 5)], True, 2), ([(5, 90)], True, 36),
+                                      ([(5, -89.9995)], True, 36), ([(5, 89)], True, 1), ([], False, 648)):
+            made = index.IndexByNeed(zones)
+            with unittest.mock.patch.object(index, "covering", wraps=index.covering) as asked:
+                for _ in range(2):
+                    made.join([x for x, _ in places], [y for _, y in places], exact)
+            self.assertEqual(asked.call_count, wanted, places)
+
+    def test_boxes_of_polygons(self):
+        """Beside shapely's bounds, with holes, several parts and heights."""
+        zones = [shapely.geometry.shape(zone) for zone in some_zones(random.Random(3)) if zone["type"] != "Feature"]
+        for zone in zones:
+            high = shapely.ops.transform(lambda x, y: (x, y, [-700] * len(x)), zone)
+            for shape in (zone, high):
+                self.assertEqual(boxes.box_of(shape.wkb), zone.bounds)
+        self.assertEqual(boxes.box_of(shapely.geometry.MultiPolygon().wkb), (0, 0, 0, 0))
+
+    def test_the_same_errors(self):
+        """A shape that is refused is an error with the same message, though no point is near; or it is left."""
+        good, long = polygon(box(0, 0, 1, 1)), [[500 * (k % 2), k % 3] for k in range(3000)]
+        bad = [polygon(box(0, 0, 1, 1)[1:]), polygon(box(0, 0, 1, 1)[2:]), polygon(box(0, 0, 541, 1)), 7, "{", b"\1",
+               polygon(box(0, 0, 1, 91)), polygon(box(0, 0, 1, float("nan"))), polygon([[0, 0], [1], [1, 1], [0, 0]]),
+               polygon(long + long[:1]), {"type": "polygon"}, {"type": "Polygon"}, {"type": "LineString"},
+               shapely.geometry.Polygon(box(0, 0, 541, 1)), polygon(box(0, 0, 1, 1), [])]
+        for shape in bad:
+            said = []
+            for kind in (Index, index.IndexByNeed):
+                with self.assertRaisesRegex(ValueError, "^zone 1: ") as caught:
+                    kind([good, shape, 8])
+                said.append((str(caught.exception), kind([good, shape, good], leave=True).left))
+            self.assertEqual(said[1], said[0])
+        for most in (-1, 1_000_001, "8"):
+            for kind in (Index, index.IndexByNeed):
+                self.assertRaises((ValueError, TypeError), kind, [], max_cells=most)
+
+    def test_degrees_of_few_bits(self):
+        """Those of arrays in float32 and float16 are taken a turn away without being rounded again."""
+        made = Index([polygon(box(355, 0, 359.99999, 1))])
+        for kind in ("float16", "float32", "float64"):
+            x = numpy.array([-0.000008, -0.000012, -3], kind)
+            self.assertEqual(made.join(x, x * 0 + 0.5)[0].tolist(), [1, 2], kind)
 
 
 class Files(unittest.TestCase):

@@ -528,6 +528,12 @@ class TheModule(unittest.TestCase):
         self.assertEqual(repr(more), "<CellUnion of 9 cells: " + " ".join(few.tokens()) + " and 1 more>")
         self.assertEqual(repr(Union()), "<CellUnion of 0 cells: >")
 
+    def test_no_map_where_something_is_missing(self):
+        with mock.patch.dict(sys.modules, {"s2union_geo": None}):
+            self.assertIsNone(Union.from_tokens("04")._repr_html_())
+        if numpy is None:
+            self.assertIsNone(Union.from_tokens("04")._repr_html_())
+
     def test_subsets_both_ways(self):
         part, whole, other = Union.from_tokens("04"), Union.from_tokens("04 0c"), Union.from_tokens("14")
         for a, b, is_subset in ((part, whole, True), (whole, part, False), (part, part, True), (part, other, False),
