@@ -45,6 +45,8 @@ const PAGE_SIZE = 65536;
 const MOST_KEPT = 2 ** 29;
 /** A list that stays takes a multiple of this, which keeps their number low. */
 const SPACE = 1024;
+/** As many cells are asked one by one. */
+const FEW = 12;
 
 /** What the module imports: of C's library, what JavaScript has. */
 const IMPORTS = {
@@ -313,6 +315,16 @@ class Core {
 
   // ---- degrees
 
+  /** The leaf of one place, without an array on the way. */
+  leafOf(longitude, latitude) {
+    this.reach(24);
+    const view = new DataView(this.calls.memory.buffer, this.front, 24);
+    view.setFloat64(0, longitude, true);
+    view.setFloat64(8, latitude, true);
+    this.calls.s2js_leaves(BigInt(this.front), 2n, BigInt(this.front + 16));
+    return view.getBigUint64(16, true);
+  }
+
   /** The leaves of places, which are a Float64Array of longitude and latitude. */
   leavesOf(positions) {
     return this.computed("s2js_leaves", positions, BigUint64Array, positions.length / 2);
@@ -500,11 +512,23 @@ class Core {
 
   /** 1 or 0 for each of the cells, of a list or the bytes of a file. */
   marks(name, of, cells) {
+    if (cells.length <= FEW) return this.marksOfFew(this.calls[name.slice(0, -1)], of, cells);
     this.stay(of);
     const [words, [out, bad]] = this.passed([of, cells], [cells.length, 8]);
     const status = this.calls[name](...words, BigInt(out), BigInt(cells.length), BigInt(bad));
     if (status < 0) throw new Refusal(status, Number(this.number(bad)));
     return this.bytes(out, cells.length).slice();
+  }
+
+  /** The same of few cells by the call for one, since to pass lists takes as long as some of these calls. */
+  marksOfFew(call, of, cells) {
+    this.turn++;
+    const {at, length} = this.asked(of);
+    return Uint8Array.from(cells, (cell, place) => {
+      const status = call(at, length, cell);
+      if (status < 0) throw new Refusal(status, place);
+      return status;
+    });
   }
 
   containsUnion(xs, ys) {

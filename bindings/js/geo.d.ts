@@ -17,9 +17,12 @@ export interface CoveringOptions {
   minLevel?: number;
   /** 0 to 30: no cell is deeper. 30 if not given. */
   maxLevel?: number;
-  /** Meters: no place of a covering is farther from the shape, if `maxCells` allows it. */
+  /** Meters: no place of a covering is farther from the shape and its margin, if `maxCells` allows it. */
   within?: number;
-  /** Meters by which a covering goes beyond the shape and an interior stays inside, 0 to 300,000. 0 if not given. */
+  /**
+   * Meters by which a covering goes beyond the shape and an interior stays inside, 0 to 300,000; of lines and points a
+   * corridor, and what lies in it. 0 if not given.
+   */
   margin?: number;
   /**
    * "map", which is usual: straight in longitude and latitude. "geodesic": shortest ways on the sphere, and of each
@@ -75,8 +78,8 @@ export function interior(shape: Shape, options?: CoveringOptions): CellUnion;
 /** Both, of a shape that is read once. @throws as `covering` */
 export function coverings(shape: Shape, options?: CoveringOptions): Coverings;
 /**
- * Both coverings of the places within a radius in meters, 0 to 9,000,000, on a sphere with the earth's mean radius. S2:
- * S2Cap. A covering of a line with a `margin` is a corridor.
+ * Both coverings of the places within a radius in meters, 0 to 20,000,000, on a sphere with the earth's mean radius.
+ * S2: S2Cap. A covering of a line with a `margin` is a corridor.
  * @throws RangeError, TypeError, Refusal -2
  */
 export function circle(longitude: number, latitude: number, radius: number,

@@ -18,8 +18,9 @@ function wholeIn(value, least, most, what) {
   return value;
 }
 
-const placeOf = ([longitude, latitude]) =>
-  [numberIn(longitude, -540, 540, "longitude"), numberIn(latitude, -90, 90, "latitude")];
+const longitudeOf = (value) => numberIn(value, -540, 540, "longitude");
+const latitudeOf = (value) => numberIn(value, -90, 90, "latitude");
+const placeOf = ([longitude, latitude]) => [longitudeOf(longitude), latitudeOf(latitude)];
 
 /** What the module takes of the options of a covering. */
 function optionsOf({maxCells, minLevel = 0, maxLevel = 30, within, margin = 0, edges = "map"} = {}) {
@@ -37,8 +38,15 @@ function optionsOf({maxCells, minLevel = 0, maxLevel = 30, within, margin = 0, e
 
 // ---- places
 
-export const fromLngLat = (longitude, latitude) => fromLngLats([[longitude, latitude]])[0];
-export const fromLngLats = (positions) => calls().leavesOf(Float64Array.from(Array.from(positions, placeOf).flat()));
+export const fromLngLat = (longitude, latitude) => calls().leafOf(longitudeOf(longitude), latitudeOf(latitude));
+
+export function fromLngLats(positions) {
+  const given = Array.from(positions), numbers = new Float64Array(2 * given.length);
+  given.forEach(([longitude, latitude], k) => {
+    numbers[2 * k] = longitudeOf(longitude), numbers[2 * k + 1] = latitudeOf(latitude);
+  });
+  return calls().leavesOf(numbers);
+}
 
 export function toLngLat(cell) {
   const {face, i, j, size} = square(cell);
@@ -70,7 +78,7 @@ function bothBy(name, ...words) {
 
 export function circle(longitude, latitude, radius, options) {
   const place = placeOf([longitude, latitude]);
-  const meters = numberIn(radius, 0, 9_000_000, "radius");
+  const meters = numberIn(radius, 0, 20_000_000, "radius");
   const {cells, least, deepest, margin} = optionsOf(options);
   return bothBy("s2js_circle", ...place, meters, BigInt(cells), least, deepest, margin);
 }

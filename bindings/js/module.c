@@ -90,6 +90,14 @@ __int128 __multi3(__int128 a, __int128 b) {
   return (__int128)((unsigned __int128)upper << 64 | third << 32 | (first & UINT32_MAX));
 }
 
+/* A number of 128 bits, shifted to the right by fewer than 128 places, which the compiler calls by this name. */
+unsigned __int128 __lshrti3(unsigned __int128 a, int places) {
+  uint64_t low = (uint64_t)a, high = (uint64_t)(a >> 64);
+  if (places >= 64) return high >> (places - 64);
+  if (places == 0) return a;
+  return (unsigned __int128)(high >> places) << 64 | high << (64 - places) | low >> places;
+}
+
 /* ---- calls */
 
 enum { S2JS_OUTER = 1, S2JS_INNER = 2 };

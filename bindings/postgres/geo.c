@@ -15,7 +15,8 @@
 double degrees_of(double number, double most, const char* what) {
   if (!(fabs(number) <= most)) /* nor is it NaN */
     ereport(ERROR, errcode(ERRCODE_NUMERIC_VALUE_OUT_OF_RANGE),
-            errmsg("s2union: a %s is a number from -%g to %g: %g", what, most, most, number));
+            errmsg("s2union: a %s is a number from -%g to %g: %g", what, most, most, number),
+            errhint("The longitude comes first."));
   return number;
 }
 

@@ -37,7 +37,8 @@ static int is_number(sqlite3_value* v, double most) { /* SQLite has no NaN: it i
 /* Whether a longitude and a latitude are in their ranges. */
 static int check_place(sqlite3_value** v, char** text) {
   if (!is_number(v[0], S2U_GEO_MOST_LONGITUDE)) return wrong(text, "a longitude is a number from -540 to 540", v[0]);
-  if (!is_number(v[1], S2U_GEO_MOST_LATITUDE)) return wrong(text, "a latitude is a number from -90 to 90", v[1]);
+  if (!is_number(v[1], S2U_GEO_MOST_LATITUDE))
+    return wrong(text, "a latitude is a number from -90 to 90 (the longitude comes first)", v[1]);
   return SQLITE_OK;
 }
 

@@ -34,6 +34,7 @@ void heap_free(void* at);
 #define realloc heap_realloc
 #define free heap_free
 #define __multi3 product
+#define __lshrti3 shifted
 #include "module.c"
 #undef malloc
 #undef calloc
@@ -67,6 +68,8 @@ static void products(void) {
     __int128 a = (__int128)((unsigned __int128)half() << 64 | half());
     __int128 b = (__int128)((unsigned __int128)half() << 64 | half());
     is(product(a, b) == (__int128)((unsigned __int128)a * (unsigned __int128)b), "a product");
+    int places = (int)(k & 127);
+    is(shifted((unsigned __int128)a, places) == (unsigned __int128)a >> places, "a shift");
   }
 }
 

@@ -365,6 +365,21 @@ const TESTS = {
     unions[0].cells().fill(0n);
     for (const it of unions) wanted(it);
   },
+  "a number that is no cell, among few and among many": () => {
+    const union = CellUnion.fromNormalized([FACE]), file = new UnionFile(union.encode());
+    for (const length of [1, 12, 13, 100]) {
+      const cells = BigUint64Array.from({length}, (_, place) => (place % 2 ? 3n * FACE : LEAF));
+      const wanted = Array.from(cells, (_, place) => (place % 2 ? 0 : 1));
+      for (const ask of [(it) => union.hasEach(it), (it) => union.intersectsEach(it), (it) => file.hasEach(it)]) {
+        assert.deepEqual([...ask(cells)], wanted);
+        for (const place of [0, length - 1]) {
+          const wrong = cells.map((it, k) => (k === place ? 2n : it));
+          assert.throws(() => ask(wrong), {name: "Error", kind: "NO_CELL", place});
+        }
+      }
+    }
+    assert.equal(union.hasEach([]).length, 0);
+  },
   "a union never changes": () => {
     const given = BigUint64Array.of(FACE);
     const union = new CellUnion(given);

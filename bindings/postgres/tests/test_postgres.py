@@ -1382,7 +1382,7 @@ class Points(Tests):
 
     def test_points_that_are_refused(self):
         for call, said in (("s2_box(2)", "s2union: not a cell: 2"), ("s2_box('zz')", 's2union: not a cell: "zz"'),
-                           ("s2_leaf_at(0, 91)", "s2union: a latitude is a number from -90 to 90: 91"),
+                           ("s2_leaf_at(0, 91)", "a latitude is a number from -90 to 90: 91\nHINT:  The longitude"),
                            ("s2_leaf_at(0, 'NaN')", "s2union: a latitude is a number from -90 to 90: NaN"),
                            ("s2_leaf_at('-Infinity', 0)", "a longitude is a number from -540 to 540: -Infinity"),
                            ("s2_leaf_at(540.1, 0)", "s2union: a longitude is a number from -540 to 540: 540.1"),

@@ -64,7 +64,8 @@ def test_bytes_that_the_heap_has_no_room_for():
 SQUARE = [(2.0, 48.0), (3.0, 48.0), (3.0, 49.0), (2.0, 49.0), (2.0, 48.0)]
 
 
-LONGITUDE, LATITUDE = "s2: a longitude is a number from -540 to 540: ", "s2: a latitude is a number from -90 to 90: "
+LONGITUDE = "s2: a longitude is a number from -540 to 540: "
+LATITUDE = "s2: a latitude is a number from -90 to 90 (the longitude comes first): "
 
 
 @pytest.mark.parametrize("call,values,wanted", [

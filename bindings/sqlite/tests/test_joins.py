@@ -268,7 +268,7 @@ class Joins(unittest.TestCase):
     ("SELECT s2_covers(1, 0, 0)", "s2: a shape is a BLOB of WKB: 1"),
     ("SELECT s2_covers(x'', 0, 0)", "s2: the bytes are no WKB: at byte 0"),
     ("SELECT s2_covers(:square, 541, 0)", "s2: a longitude is a number from -540 to 540: 541"),
-    ("SELECT s2_covers(:square, 0, '1')", "s2: a latitude is a number from -90 to 90: '1'"),
+    ("SELECT s2_covers(:square, 0, '1')", "s2: a latitude is a number from -90 to 90 (the longitude comes first): '1'"),
     ("SELECT s2_covers(:open, 0, 1)", "s2: a ring is open: its last position is not its first: ring 0, position 3"),
     ("SELECT s2_clip('x', '04')", "s2: a shape is a BLOB of WKB: 'x'"),
     ("SELECT s2_clip(:square, 2)", "s2: not a cell: 2"), ("SELECT s2_clip(:square, 'zz')", "s2: not a cell: 'zz'"),

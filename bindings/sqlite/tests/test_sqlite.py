@@ -684,7 +684,8 @@ class WhatIsRefused(Tests):
             self.assertEqual(str(caught.exception), said)
 
     def test_the_page_lists_the_errors(self):
-        reasons = {"s2: a longitude is a number from -540 to 540", "s2: a latitude is a number from -90 to 90"}
+        reasons = {"s2: a longitude is a number from -540 to 540",
+                   "s2: a latitude is a number from -90 to 90 (the longitude comes first)"}
         for expression in (
             "s2_count(1.5)", "s2_level(1.5)", "s2_parent('1', 1.5)", "s2_level(0)", "s2_leaf(6, 0, 0)",
             "s2_outer(0, 0, 1073741823, 5, 5, 30)", "s2_count(x'01')", "s2_count(x'02')",
