@@ -35,21 +35,86 @@ def both(*words, **how):
             yield done.returncode, done.stdout, done.stderr
 
 
-SAME = ["run", "run --explain", "run --prompt", "run --limit=1 --dir . --depth 2 --explain", "run --limit 0",
+SAME = ["run --explain", "run --prompt", "run --limit=1 --dir . --depth 2 --explain", "run --limit 0",
         "run --limit", "run --dir", "run --dir=", "run --colour", "run --prompt --prompt", "run --limit -5",
         "run --lim 5", "cell 64c", "cell", "check",
-        "draw --cells 1 3/021", "draw --curve --cells 1 -- f", "draw --help", "--version", "-V", "ru", "-- run",
-        "help draw", "help help", "--x", "adds", ".*"]
+        "draw --cells 1 3/021", "draw --curve --cells 1 -- f", "--version", "-V", "ru", "-- run",
+        "help check", "help help", "--x", "adds", ".*"]
 
 
 @pytest.mark.parametrize("words", [
-    *(line.split() for line in SAME), [""], ["run", "--dir", "no such"], ["check", "a b"], ["cell", b"\xff"],
+    *(line.split() for line in SAME), [""], ["check", "a b"], ["cell", b"\xff"],
     ["run", "--dir", b"\xff"]],
     ids=str)
 def test_same_bytes(words):
     """The launcher adds nothing."""
     wanted, found = both(*words, input=SCRIPT)
     assert found == wanted
+
+
+def counted(notes):
+    """The one line for these notes."""
+    lines = re.findall(rb"^line (\d+): ", notes, re.M)
+    others = {1: b"", 2: b" and 1 other"}.get(len(lines), b" and %d others" % (len(lines) - 1))
+    return b"s2calc: line %s%s had an error; --explain says why\n" % (lines[0], others) if lines else b""
+
+
+FAULTY = SCRIPT, b"\n" * 99 + b"undo", b"cuont\nundo\n", b"# one\n\nadd a zz\n" + b"undo\n" * 5000, b"count a\n"
+
+
+@pytest.mark.parametrize("script", FAULTY, ids=range(5))
+@pytest.mark.parametrize("words", [["run"], ["run", "--dir", "no such"], [], ["-"], ["run", "-", "--limit=1"],
+                                   ["run", "--go-on"], ["run", "--depth", "3", "--no-prompt"]], ids=str)
+def test_one_line_for_all_errors(words, script, tmp_path):
+    """It names the first line, and how many others there are; the answers and the status are the program's."""
+    options = [word for word in words[1:] if word not in ("-", "--go-on", "--no-prompt")]
+    status, out, notes = ran("run", "--explain", *options, script=script, cwd=tmp_path)
+    assert launched(*words, input=script, cwd=tmp_path) == (status, out, counted(notes))
+    (tmp_path / "python3").symlink_to("/nowhere")
+    alone = {"S2CALC_PROGRAM": PROGRAM, "PATH": str(tmp_path)}
+    found = launched(*words, input=script, cwd=tmp_path, env=alone)
+    assert found == (status, out, re.sub(rb" and \d+ others?", b"", counted(notes)))
+
+
+@pytest.mark.parametrize("said", ["pipe", "file"])
+@pytest.mark.parametrize("answers", ["pipe", "file"])
+def test_where_errors_are_counted(said, answers, tmp_path):
+    """Who reads a pipe to its end has the line then. Two files are whole as soon as the program has ended."""
+    with open(tmp_path / "said", "w+b") as error, open(tmp_path / "answers", "wb") as out:
+        for _ in range(20):
+            done = subprocess.run([LAUNCHER], input=SCRIPT, env=ENVIRONMENT, cwd=tmp_path, timeout=SECONDS, check=False,
+                                  stdout=subprocess.PIPE if answers == "pipe" else out,
+                                  stderr=subprocess.PIPE if said == "pipe" else error)
+            found = done.stderr if said == "pipe" else (tmp_path / "said").read_bytes()
+            assert found == (b"" if said == answers == "file" else counted(b"line 3: \nline 5: \n"))
+            error.truncate(0)
+            error.seek(0)
+
+
+def test_an_error_before_a_signal():
+    """Then the line comes too; and the program answers no more."""
+    with subprocess.Popen([LAUNCHER], 0, env=ENVIRONMENT, stdin=subprocess.PIPE, stdout=subprocess.PIPE,
+                          stderr=subprocess.PIPE) as process:
+        process.stdin.write(b"count a\nundo\ncount a\n")
+        assert [process.stdout.readline() for _ in range(3)][1] == b"error nothing\n"
+        process.kill()
+        assert process.wait(SECONDS) == -signal.SIGKILL
+        assert (process.stdout.read(), process.stderr.read()) == (b"", counted(b"line 2: "))
+
+
+def test_errors_that_nobody_reads(tmp_path):
+    """Neither the answers nor the line."""
+    (tmp_path / "script").write_bytes(b"undo\ncell 1\n" * 1000)
+    for stream in "stdout", "stderr":
+        reader, writer = os.pipe()
+        os.close(reader)
+        with open(writer, "wb") as pipe, open(tmp_path / "script", "rb") as script:
+            streams = {"stdout": subprocess.PIPE, "stderr": subprocess.PIPE, stream: pipe}
+            done = subprocess.run([LAUNCHER], env=ENVIRONMENT, stdin=script, timeout=SECONDS, check=False, **streams)
+        if stream == "stdout":
+            assert (done.returncode, done.stderr) == (2, b"")
+        else:
+            assert (done.returncode, done.stdout) == ran("run", script=b"undo\ncell 1\n" * 1000)[:2]
 
 
 CELLS = "X", " 3/021 ", "$(x) `x` *", "", "0c\nadd a 04\nsave a made", "18446744073709551617", "-9223372036854775809"
@@ -131,7 +196,8 @@ def test_what_is_said_comes_before_the_end():
 
 def test_a_script_needs_no_word(tmp_path):
     for words in [], ["-"]:
-        assert launched(*words, input=SCRIPT, cwd=tmp_path) == ran("run", script=SCRIPT, cwd=tmp_path)
+        wanted = ran("run", script=SCRIPT, cwd=tmp_path)[:2]
+        assert launched(*words, input=SCRIPT, cwd=tmp_path)[:2] == wanted
         assert launched(*words) == (0, b"", b"")
 
 
@@ -176,8 +242,10 @@ def test_options_of_the_program_are_handed_on(tmp_path):
     for words, options, given in [
             (["script", "--stop"], b" --explain --stop", b"lines\n"), (["script"], b" --explain --stop", b"lines\n"),
             (["--stop", "-c", "x"], b" --explain --stop", b"x\n"), (["-c", "x"], b" --explain --stop", b"x\n"),
-            (["script", "--go-on"], b"", b"lines\n"), (["--go-on", "-c", "x"], b"", b"x\n"),
-            (["--stop"], b" --stop", b""), (["--go-on"], b"", b"")]:
+            (["script", "--go-on"], b" --explain", b"lines\n"), (["--go-on", "-c", "x"], b" --explain", b"x\n"),
+            (["--stop"], b" --explain --stop", b""), (["--go-on"], b" --explain", b""), (["--x"], b" --x", b""),
+            (["--limit"], b" --explain --limit", b""), (["--dir", "--x"], b" --explain --dir --x", b""),
+            (["script", "--x"], b" --stop --x", b"lines\n"), (["--", "--stop"], b" -- --stop", b"")]:
         assert launched("run", *words, cwd=tmp_path, env=environment) == (0, b"run" + options + b"\n" + given, b"")
 
 
@@ -200,10 +268,10 @@ def test_output_that_can_not_be_written():
 def test_two_programs_at_most(line, to_file, tmp_path):
     """A call without an error starts the shell, and the program once; strace sees it."""
     (tmp_path / "script").write_bytes(b"cell 1\n")
-    with open(tmp_path / "answer", "wb") as file:
+    with open(tmp_path / "answer", "wb") as file, open(tmp_path / "script", "rb") as script:
         subprocess.run(["strace", "-ff", "-qq", "-e", "trace=execve", "-o", tmp_path / "trace", LAUNCHER,
                         *line.split()], cwd=tmp_path, env=ENVIRONMENT, timeout=SECONDS, check=False,
-                       stdin=subprocess.DEVNULL, stdout=file if to_file else subprocess.PIPE)
+                       stdin=script, stdout=file if to_file else subprocess.PIPE, stderr=subprocess.PIPE)
     calls = "".join(path.read_text() for path in tmp_path.glob("trace.*"))
     assert sorted(re.findall(r'^execve\("([^"]*)".* = 0$', calls, re.M)) == sorted([LAUNCHER, PROGRAM])
 
@@ -287,7 +355,7 @@ class Scripts(unittest.TestCase):
             named = error.replace(b"line ", words[0].encode() + b": line ")
             self.assertEqual(launched("run", "--explain", *words, "--go-on", **self.how), (status, out, named))
             self.assertEqual(launched("run", "--go-on", *words, "--explain", **self.how), (status, out, named))
-            self.assertEqual(launched("run", *words, "--go-on", **self.how), (status, out, b""))
+            self.assertEqual(launched("run", *words, "--go-on", **self.how), (status, out, counted(error)))
         self.assertEqual(launched("run", "-", "--explain", **{**self.how, "input": SCRIPT}), wanted)
         self.assertEqual(launched("run", "--no-prompt", "--explain", **{**self.how, "input": SCRIPT}), wanted)
 
@@ -304,12 +372,12 @@ class Scripts(unittest.TestCase):
                 with open(parks, "rb") as it:
                     self.assertEqual(len(it.read()), 17)
             status, out, error = launched("run", "script", "--go-on", **how)
-            self.assertEqual((status, out[-5:], error), (1, b"g\nok\n", b""))
+            self.assertEqual((status, out[-5:], error), (1, b"g\nok\n", counted(b"line 3: ")))
             with open(parks, "rb") as it:
                 self.assertEqual(len(it.read()), 9)
         for words in ["-"], ["--go-on"], []:
             self.assertEqual(launched("run", *words, **{**self.how, "input": b"\n".join(lines)}),
-                             (1, b"ok 0 1\nok\nerror missing\nok\n", b""))
+                             (1, b"ok 0 1\nok\nerror missing\nok\n", counted(b"line 3: ")))
 
     def test_a_file_that_is_written_meanwhile(self):
         """It is opened once."""
@@ -337,7 +405,8 @@ class Scripts(unittest.TestCase):
             it.write(SCRIPT)
         for words in ["--go-on"], ["--go-on", "--limit", "2"], ["--depth=1", "--no-prompt", "--go-on"]:
             options = (word for word in words if word not in ("--go-on", "--no-prompt"))
-            wanted = ran("run", *options, script=SCRIPT, cwd=self.room)
+            status, out, _ = ran("run", *options, script=SCRIPT, cwd=self.room)
+            wanted = status, out, counted(b"line 3: ")
             self.assertEqual(launched("run", *words, path, **self.without_python()), wanted)
             self.assertEqual(launched("run", path, *words, **self.without_python()), wanted)
 
@@ -413,11 +482,24 @@ class Scripts(unittest.TestCase):
 class Help(unittest.TestCase):
     def test_what_is_added(self):
         """The program's help stays as it is, and what stands beside the program comes after it."""
-        for words, added in ((["--help"], "cells"), (["run", "--help"], "-c"), (["cell", "-h"], "--explain")):
+        for words, added in ((["--help"], "cells"), (["run", "--help"], "-c"), (["cell", "-h"], "--explain"),
+                             (["draw", "--help"], "[FILE]... ")):
             own, whole = (said(*words)[1].decode() for said in (ran, launched))
             self.assertEqual(whole[:len(own)], own)
-            self.assertRegex(whole[len(own):], rf"\A\nBeside the proved program, s2calc takes:\n(?:  .*\n)*  {added} ")
+            self.assertRegex(whole[len(own):],
+                             rf"\A\nBeside the proved program, s2calc takes:\n(?:  .*\n)*  {re.escape(added)} ")
         self.assertEqual(launched("help", "run"), launched("run", "--limit", "5", "-h"))
+        self.assertEqual(launched("help", "draw"), launched("draw", "-h"))
+        self.assertRegex(launched("help", "draw")[1],
+                         rb"\n\nThe picture is no map: [^.]*\. For a map, '.*' prints .*\n\Z")
+
+    def test_lines_of_help_in_few_columns(self):
+        """A table's last column goes on below itself, unless it is too narrow; and nothing is cut within a word."""
+        for line, columns, wanted in (
+                ("  a b   one two", 15, ["  a b   one two"]), ("  a b   one two", 14, ["  a b   one", "      two"]),
+                ("  a b   " + "four " * 9, 32, ["  a b   four four four four four", "        four four four four"]),
+                ("one two", 6, ["one", "two"]), ("  $ one two", 6, ["  $ one two"]), ("word-word", 4, ["word-word"])):
+            self.assertEqual(prompt.broken(line, columns), wanted)
         self.assertEqual(launched("help", "cell"), launched("cell", "--help"))
         for command in "cell", "check", "draw":
             for words in ["1", "--help"], ["1", "-h"], ["-h", "1"]:

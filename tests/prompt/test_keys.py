@@ -12,7 +12,7 @@ import pexpect
 
 TESTS = os.path.dirname(os.path.dirname(os.path.realpath(__file__)))
 sys.path.append(os.path.join(TESTS, "program"))
-from process import LAUNCHER, PROGRAM, TOP, ran  # noqa: E402
+from process import LAUNCHER, PROGRAM, TOP, launched, ran  # noqa: E402
 import prompt  # noqa: E402: which process finds
 
 PROMPT = "s2calc> "
@@ -41,10 +41,10 @@ class Keys(unittest.TestCase):
             "XDG_STATE_HOME": os.path.join(self.room, "state"), "INPUTRC": os.path.join(self.room, "inputrc"),
         }
 
-    def spawned(self, command, *words, **environment):
+    def spawned(self, command, *words, columns=200, **environment):
         """A program at a terminal of its own. A shell has Ctrl-C ignored in what it puts into the background."""
         session = pexpect.spawn(command, list(words), cwd=self.room, env={**self.environment, **environment},
-                                timeout=SECONDS, encoding="utf-8", codec_errors="replace", dimensions=(60, 200),
+                                timeout=SECONDS, encoding="utf-8", codec_errors="replace", dimensions=(60, columns),
                                 preexec_fn=lambda: signal.signal(signal.SIGINT, signal.SIG_DFL))
         session.delaybeforesend = None
         self.addCleanup(session.close, True)
@@ -55,9 +55,9 @@ class Keys(unittest.TestCase):
         session.expect_exact(end) if isinstance(end, str) else session.expect(end)
         return session.before.replace("\r\n", "\n")
 
-    def started(self, *words, **environment):
+    def started(self, *words, **how):
         """A session whose first prompt is shown."""
-        session = self.spawned(LAUNCHER, *(words or ["run"]), **environment)
+        session = self.spawned(LAUNCHER, *(words or ["run"]), **how)
         session.banner = self.shown(session)
         return session
 
@@ -170,6 +170,18 @@ class Keys(unittest.TestCase):
         self.assertEqual(self.answered(session, "help quit"), whole)
         self.assertEqual(self.status(session), 0)
 
+    def test_help_in_few_columns(self):
+        """It has the words that it has elsewhere, in lines that fit. Commands of a shell stay whole."""
+        for columns in 80, 60:
+            for line in "run --help", "help", "help outerof", "draw --help", "help cells", "cell -h":
+                whole = launched(*line.split())[1].decode()
+                session = self.spawned(LAUNCHER, *line.split(), columns=columns)
+                shown = self.shown(session, pexpect.EOF)
+                self.assertEqual(shown.split(), whole.split())
+                self.assertEqual([it for it in shown.splitlines() if len(it) > columns and "  $ " not in it], [])
+            session = self.started(columns=columns)
+            self.assertLessEqual(max(map(len, self.answered(session, "help").splitlines())), columns)
+
     def test_hints(self):
         session = self.started()
         for line, hint in (("hlep", "; did you mean 'help'?"), (".help", "; did you mean 'help'?"),
@@ -232,14 +244,15 @@ class Keys(unittest.TestCase):
         self.assertEqual(self.answered(session, "registers"), "no line has changed a register\n")
         for line in "add c 04 0c", "add b", "has d 04", "add a 1", "copy e a", "dump x":
             self.answered(session, line)
-        counts = {"a": "cells 1 leaves 1152921504606846976", "c": "cells 2 leaves 576460752303423488"}
+        counts = {"a": "cells 1 leaves 1152921504606846976  85011012 km2",
+                  "c": "cells 2 leaves 576460752303423488  42505506 km2"}
         counts["e"] = counts["a"]
         said = "".join(f"{name}  {count}\n" for name, count in counts.items())
         self.assertEqual(self.answered(session, "registers"), said)
         self.answered(session, "restore x")
         shown = self.answered(session, "registers").splitlines()
         self.assertEqual([line[0] for line in shown], list("abcdefghijklmnopqrstuvwxyz"))
-        self.assertEqual([line for line in shown if "cells 0" not in line], said.splitlines())
+        self.assertEqual([line for line in shown if "cells 0 leaves 0  0 km2" not in line], said.splitlines())
         self.assertEqual(self.answered(session, "registers a"), "error syntax\n  'registers' takes no word\n")
         for name, (form, _) in prompt.help_of(PROGRAM)[1].items():
             self.assertEqual(name in prompt.CHANGE, form.split()[1:2] == ["r"] and not re.search(
@@ -500,6 +513,22 @@ class Keys(unittest.TestCase):
             self.assertEqual(self.shown(session, pexpect.EOF), f"error cell\n{answers}")
             with open(os.path.join(self.room, "reasons"), encoding="utf-8") as it:
                 self.assertEqual(it.read(), reasons)
+
+    def test_a_script_on_standard_input(self):
+        """Its errors are explained at a terminal, wherever the answers go. Between a terminal and a file nothing is."""
+        with open(os.path.join(self.room, "script"), "wb") as it:
+            it.write(b"add a zz\ncount a\nundo\n")
+        reasons = [f"line {line}: error {why}" for line, why in (
+            (1, "cell: 'zz' is not a cell (a token or a debug text)"),
+            (3, "nothing: there is nothing to undo or redo"))]
+        answers = ["error cell", "cells 0 leaves 0", "error nothing"]
+        for line, wanted in (("<script", reasons + answers), ("<script >answers", reasons), ("<script | cat", None),
+                             ("<script 2>reasons", answers), ("--stop <script", [reasons[0], answers[0]])):
+            session = self.spawned("sh", "-c", f"{LAUNCHER} run {line}")
+            shown = self.shown(session, pexpect.EOF).splitlines()
+            self.assertEqual(sorted(shown), sorted(wanted or reasons + answers), line)
+        with open(os.path.join(self.room, "reasons"), encoding="utf-8") as it:
+            self.assertEqual(it.read(), "")
 
     def test_reasons_in_a_file(self):
         """Where standard error is no terminal, the prompt is at standard output."""

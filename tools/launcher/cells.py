@@ -162,9 +162,6 @@ def print_all(lines):
 
 def main(words):
     try:
-        if "-h" in words or "--help" in words:
-            print_all([__doc__])
-            return 0
         file, head, is_decimal = options(words)
         text = Text(lines_of(file), is_decimal)
         print_all(filled(text.tokens(), head))

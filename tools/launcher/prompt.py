@@ -1,8 +1,9 @@
 """The prompt of s2calc at a terminal, and help on a script's commands, for words.py; not proved.
 
 The proved program runs as a child, in a process group of its own, as `run --prompt` with these options. It gets the
-lines by a pipe and writes its answers to standard output itself. Its own prompt on standard error says that an answer
-is whole. So registers and history are the program's alone. No line ends it, but 'quit' and 'exit', and no Ctrl-C.
+lines by a pipe and writes its answers to standard output itself; or if that is a terminal, to a pipe, of which they go
+there. Its own prompt on standard error says that an answer is whole. So registers and history are the program's alone.
+No line ends it, but 'quit' and 'exit', and no Ctrl-C.
 """
 import ctypes
 import difflib
@@ -14,16 +15,19 @@ import signal
 import stat
 import subprocess
 import sys
+import textwrap
 
+from areas import area
 from cells import DECIMAL, token
 
 PROMPT = "s2calc> "
 LONGEST = 4096  # bytes of a line; every longer one is answered alike
+NARROW = 24  # columns, the fewest that a meaning in a table of help has to itself
 LEAVING = "Ctrl-D or 'quit' leaves"
 ALL = "abcdefghijklmnopqrstuvwxyz"  # the registers
 OWN = {
     "help [COMMAND]": "this list, or a command with its errors and an example; also '?'",
-    "registers": "counts each register that a line has changed",
+    "registers": "counts each register that a line has changed, with its area",
     "quit": "leaves, as 'exit' and Ctrl-D do",
 }
 WORDS = ("help", "quit", "exit", "registers")  # of the prompt, beside the commands of a script
@@ -72,6 +76,29 @@ def say(text):
 # ---- help
 
 
+def fitted(text):
+    """The text, for the terminal at standard output. If that is narrower, paragraphs are filled anew, and what doesn't
+    fit into a line of a table goes on below its last column. A command for a shell stays one line."""
+    try:
+        columns = os.get_terminal_size(1).columns
+    except OSError:  # it is no terminal
+        return text
+    if not columns or max(map(len, text.split("\n"))) <= columns:
+        return text
+    lines = re.sub(r"^(\S.{80,})\n(?=\S)", r"\1 ", text, flags=re.M).split("\n")
+    return "\n".join("\n".join(broken(line, columns)) for line in lines)
+
+
+def broken(line, columns):
+    """The lines that a line takes in this many columns."""
+    blanks = len(line) - len(line.lstrip())
+    if len(line) <= columns or line.startswith("$ ", blanks):
+        return [line]
+    column = len(re.match(r" *(\S+( \S+)*  +)*", line)[0])
+    column = column if column + NARROW <= columns else blanks + 4 * (column > blanks)
+    return textwrap.wrap(line, columns, subsequent_indent=" " * column, break_long_words=False, break_on_hyphens=False)
+
+
 @functools.lru_cache(maxsize=None)
 def help_of(program):
     """The program's help on scripts, and the form and the meaning of each command in it."""
@@ -101,10 +128,10 @@ def near(word, names):
 
 def show_help(program, words):
     if not words or words[0] in WORDS:
-        print(whole_help(program))
+        print(fitted(whole_help(program)))
         return 0
     if words[0] in COMMANDS:
-        print(help_on(program, words[0]))
+        print(fitted(help_on(program, words[0])))
         return 0
     print(f"'{words[0]}' is not a command{near(words[0], [*COMMANDS, *WORDS])}", file=sys.stderr)
     return 2
@@ -124,23 +151,44 @@ class Program:
         answers = os.dup(1)
         if os.isatty(2):
             os.dup2(2, 1)  # lines are typed, and help is shown, where the prompt is
-        self.path, self.is_seen = program, os.isatty(answers)
-        self.child = subprocess.Popen([program, "run", "--prompt", *options], stdin=subprocess.PIPE, stdout=answers,
-                                      stderr=subprocess.PIPE, bufsize=0, preexec_fn=of_its_own)
-        os.close(answers)
-        self.notes()
+        self.path, self.is_seen, self.answers = program, os.isatty(answers), answers
+        self.child = subprocess.Popen([program, "run", "--prompt", *options], stdin=subprocess.PIPE,
+                                      stdout=subprocess.PIPE if self.is_seen else answers, stderr=subprocess.PIPE,
+                                      bufsize=0, preexec_fn=of_its_own)
+        if not self.is_seen:
+            os.close(answers)
+        self.notes(self.show)
 
-    def notes(self):
-        """What the program says up to its next prompt."""
-        said = b""
-        while not re.search(rb"(?:^|\n)s2calc> $", said):
-            more = os.read(self.child.stderr.fileno(), 65536)
-            if not more:  # it has ended, and said why
+    def notes(self, take):
+        """What the program says up to its next prompt. Answers that come by a pipe are taken. All of one are in it when
+        the prompt is there."""
+        said, is_whole = b"", False
+        streams = [stream for stream in (self.child.stdout, self.child.stderr) if stream]
+        while ready := select.select(streams, [], [], 0 if is_whole else None)[0]:
+            more = os.read(ready[0].fileno(), 65536)
+            if ready[0] is self.child.stdout and more:
+                take(more)
+            elif ready[0] is self.child.stdout:
+                streams.remove(ready[0])
+            elif not more:  # it has ended, and said why
                 self.end(said)
-            said += more
+            else:
+                said += more
+                is_whole = bool(re.search(rb"(?:^|\n)s2calc> $", said))
         return said[: -len(PROMPT)].decode(errors="replace")
 
-    def carry_out(self, line):
+    def show(self, answer):
+        """Writes a part of an answer to the terminal."""
+        while answer:
+            answer = answer[os.write(self.answers, answer):]
+
+    def answer_to(self, question):
+        """The words of the answer to a line, which isn't shown."""
+        held = []
+        self.carry_out(question.encode(), held.append)
+        return b"".join(held).decode().split()
+
+    def carry_out(self, line, take=None):
         """Hands a line to the program, which answers it, and gives the reason if it was refused. The answer has the
         error's name, if it goes to the terminal."""
         try:
@@ -148,7 +196,7 @@ class Program:
         except BrokenPipeError:
             pass  # it has ended, and has said why
         head = r"line \d+: error [a-z-]+: " if self.is_seen else r"line \d+: "
-        return re.sub(rf"^{head}", "", self.notes())
+        return re.sub(rf"^{head}", "", self.notes(take or self.show))
 
     def close(self):
         """Ends the script, and this process as the program ends."""
@@ -370,7 +418,7 @@ MEANT = {
     **dict.fromkeys(("equal", "equals"), "two registers are equal if 'covers a b' and 'covers b a' both say yes"),
     **dict.fromkeys(("xor", "symmetric_difference"), "'subtract' each from a copy of the other, and 'union' the two"),
     **dict.fromkeys(("complement", "invert"), "'add b 1 3 5 7 9 b' is the sphere, and 'subtract b a' what a lacks"),
-    "area": "'count' has the leaves, each of 0.7 square centimeters on average",
+    "area": "'registers' shows the area of each register",
     "parent": "'outerof b a LEVEL' has the parents of the cells of a",
     "level": "'cell CELL' has its level",
 }
@@ -415,8 +463,8 @@ def show_registers(program, changed):
     elif not changed:
         print("no line has changed a register")
     for name in sorted(changed) if program.is_seen else ():
-        print(name, end="  ", flush=True)
-        program.carry_out(f"count {name}".encode())
+        count, cells = (program.answer_to(f"{command} {name}") for command in ("count", "show"))
+        print(name, "", *count, "", area(cells[:-1]), flush=True)
 
 
 def keys():

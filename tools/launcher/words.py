@@ -3,7 +3,8 @@
     words.py PROGRAM WORD..
 
 The launcher itself says `--prompt OPTION..` for a run at a terminal, `--notes SCRIPT OPTION..` for one whose reasons
-are to be shown with the script's name, and `--unread FILE WORD..` for a script that can't be read. `cell` takes several
+are to be shown with the script's name, `--counted LINE` for one whose errors are counted from that line on, and
+`--unread FILE WORD..` for a script that can't be read. `cell` takes several
 cells with commas between them, decimal identifiers and --explain; `check` and `draw` take paths of files that lie in
 one folder. Where one of them has an error, standard error says why. A picture goes out only if it is whole. Help is the
 program's, with what stands beside it after it; and a word that is no command may mean one.
@@ -23,7 +24,7 @@ import sys  # noqa: E402
 sys.path.append(os.path.dirname(os.path.realpath(__file__)))
 import cells  # noqa: E402
 from cells import DECIMAL, token  # noqa: E402
-from prompt import COMMANDS, session, show_help  # noqa: E402
+from prompt import COMMANDS, fitted, session, show_help  # noqa: E402
 
 BESIDE = "Beside the proved program, s2calc takes:"
 # What it takes, after the help of each command, or of all.
@@ -35,7 +36,13 @@ MORE = {
             ("--no-prompt", "No prompt at a terminal, where there is one")],
     "cell": [("--explain", "Says on standard error the identifier too"),
              ("CELL", "Also a decimal identifier, with a sign or of more than 16 digits; or several, with commas")],
+    "draw": [("[FILE]...", "Also paths, if all files are in one folder and there is no --dir")],
 }
+# What its help ends with.
+LAST = {"draw": """
+The picture is no map: it shows the faces unfolded, so north isn't up, and of several files each covers
+those before it. For a map, 'python3 -m s2union_geo geojson --dissolve FILE..' prints GeoJSON.
+"""}
 # Words that can stand in a line of a script.
 IN_CELL, IN_NAME = re.compile(r"[0-9A-Za-z/+-]+"), re.compile(r"[0-9A-Za-z_][0-9A-Za-z._-]*")
 
@@ -101,6 +108,21 @@ def noted(program, script, *options):
             if line != b"s2calc: output\n" or not is_pipe(1):
                 os.write(2, os.fsencode(f"{script}: ") + line if line.startswith(b"line") else line)
     return process.returncode if process.returncode >= 0 else 128 - process.returncode
+
+
+def counted(first):
+    """One line for all notes of a run: the number of the first, which was read, and how many come on standard input.
+    If the program says that the run has failed, that goes on instead; not if nobody reads the pipe any more."""
+    others = 0
+    for line in sys.stdin.buffer:
+        if not line.startswith(b"line "):
+            rest = b"" if line == b"s2calc: output\n" and is_pipe(1) else line
+            os.write(2, rest + sys.stdin.buffer.read())
+            return 0
+        others += 1
+    more = f" and {others} other{'s' * (others > 1)}" if others else ""
+    say(f"line {first}{more} had an error; --explain says why")
+    return 0
 
 
 def prompted(program, options):
@@ -207,17 +229,17 @@ def help_of(program, command):
     """The program's help, and what stands beside the program."""
     text = program(*filter(None, [command]), "--help").stdout.decode()
     more = "\n".join(f"  {words:13}  {meaning}" for words, meaning in MORE.get(command, []))
-    put(f"{text}\n{BESIDE}\n{more}\n".encode())
+    put(fitted(f"{text}\n{BESIDE}\n{more}\n{LAST.get(command, '')}").encode())
     return 0
 
 
 def helped(program, words):
     topic = words[0] if words else ""
     if topic == "cells":
-        return cells.main(["--help"])
+        return main(program.path, "cells", "--help")
     if topic in MORE:
         return help_of(program, topic)
-    if topic in ("check", "draw", "help") or topic.startswith("-"):
+    if topic in ("check", "help") or topic.startswith("-"):
         program.instead("help", *words)
     status = show_help(program.path, words)
     put(b"")  # what is printed
@@ -234,8 +256,13 @@ def main(path, *words):
         return prompted(program, rest)
     if first == "--notes":
         return noted(program, *rest)
+    if first == "--counted":
+        return counted(*rest)
     if first == "--unread":
         return unread(program, *rest)
+    if first == "cells" and {"-h", "--help"}.intersection(rest):
+        put(fitted(cells.__doc__).encode())
+        return 0
     if first == "cells":
         return cells.main(rest)
     if first == "cell":
