@@ -31,9 +31,16 @@ WORDS = {
     "bit_xor": ("bit_xor m n", "the number whose binary digits are 1 where those of m and n differ"),
     "count_trailing_zeros": ("count_trailing_zeros k n", "how many of the k lowest binary digits of n are below its "
                                                          "lowest 1; k if all of these are 0"),
+    # doubles
+    "Float": ("Float", "a double's value: `nan` (no number), an infinity, or `fin s m e`"),
+    "nan": ("nan", "no number"), "inf": ("inf s", "infinity, negative if `s` is `true`"),
+    "fin": ("fin s m e", "m * 2^e, negative if `s` is `true`; m is odd, or m and e are 0"),
+    "up": ("up e", "2^e, or 1 if e is below 0; 2^e is up e / down e"), "down": ("down e", "1, or 2^-e if e is below 0"),
+    "float_is_finite": ("float_is_finite x", "whether it is a `fin`"),
     # a value, or none
     "Option": ("Option A", "a value, or none"), "Some": ("Some x", "the value"), "None": ("None", "none"),
     "is_some": ("is_some o", "whether there is one"), "IfSome": ("IfSome o P", "P holds of the value, if there is one"),
+    "option_and_then": ("option_and_then f o", "what `f` gives of the value, if there is one"),
     "option_map": ("option_map f o", "`f` of the value, if there is one"),
     "Result": ("Result A E", "a value, or an error"), "Ok": ("Ok x", "the value"), "Err": ("Err e", "the error"),
     "MatchResult": ("MatchResult r P Q", "P holds of the value, or Q of the error"),
@@ -81,13 +88,42 @@ WORDS = {
     "ItemsMapTo": ("ItemsMapTo p f xs", "`f` of each item of the run is the item of `xs` in its place, and if the run "
                                         "came to its end, `xs` has no others"),
     # texts: lists of bytes
+    "big_bytes": ("big_bytes n x", "the n bytes of a number, the highest first"),
+    "big_number": ("big_number n bytes", "the number in the first n bytes, the highest first"),
+    "little_number": ("little_number n bytes", "the number in the first n bytes, the lowest first"),
+    # floats
+    "Float": ("Float", "the floats of IEEE 754"), "binary64": ("binary64", "those of 64 bits, doubles"),
+    "is_nan": ("is_nan x", "whether it is not a number"), "to_bits": ("to_bits binary64 x", "its 64 bits, as a number"),
+    "parse_float": ("parse_float binary64 text", "the double that is nearest to a text, if that is a number's"),
+    # JSON
+    "Json": ("Json", "a value of JSON: `null`, a `boolean`, `number`, `string`, `array` or `object`"),
+    "document": ("document text", "the value that a text is by RFC 8259, if it is one, and has lists and objects in at "
+                                  "most 128 others"),
+    "HasUniqueKeys": ("HasUniqueKeys j", "no object in the value has a name twice"),
+    "Items": ("Items", "the items of a list"), "no_items": ("no_items", "none"),
+    "item": ("item j js", "`j`, and then `js`"), "as_array": ("as_array j", "the items of a list, if it is one"),
+    "as_number": ("as_number j", "the text of a number, if it is one"),
+    "as_str": ("as_str j", "the bytes of a string, if it is one"), "is_null": ("is_null j", "whether it is `null`"),
+    "at": ("at n j", "the item of a list that n others come before, if there is one"),
+    "get": ("get name j", "the last member of an object with that name, if there is one"),
     "codes": ("codes \"..\"", "the bytes of a text"), "string_bytes": ("string_bytes s", "the bytes of a `String`"),
+    "IsUtf8": ("IsUtf8 bytes", "they are UTF-8"),
     "bytes_eq": ("bytes_eq xs ys", "whether they are the same bytes"),
     "decimal": ("decimal n", "the decimal digits of n, without a 0 in front; `0` for 0"),
     "digit_char": ("digit_char d", "the digit of d: `0` to `9`, and then `a` to `z`"),
     "is_digit": ("is_digit c radix", "whether `c` is a digit or a letter of a value below the radix, in either case"),
     "AllDigits": ("AllDigits radix cs", "each byte is such a digit"),
     "digits_value": ("digits_value radix cs", "the number that they write"),
+    "Parts": ("Parts", "an unsigned decimal number in a text: the bytes of its `whole` part, whether it has a `point`, "
+                       "its `fraction`, whether its exponent is negative, the digits of its `exponent`, and its `len`"),
+    "scan_numeral": ("scan_numeral bs", "the longest decimal number that a text begins with: digits, or none; a point "
+                                        "and digits, or none; `e` or `E`, a sign or none, and digits, or none of this"),
+    "has_digits": ("has_digits p", "whether a digit stands before the exponent"),
+    "numeral_digits": ("numeral_digits p", "the number that the digits of the whole part and of the fraction write"),
+    "tens_up": ("tens_up p", "the exponent, and 0 if it is negative"),
+    "tens_down": ("tens_down p", "how many digits the fraction has, and the size of the exponent more if that is "
+                                 "negative: the number is numeral_digits p * 10^tens_up p / 10^tens_down p"),
+    "minus": ("minus", "the byte of `-`"),
     "IsNumeral": ("IsNumeral radix cs", "`cs` has such digits alone, and one at least"),
     "without_leading_plus": ("without_leading_plus cs", "`cs` without a `+` at its beginning"),
     "little_bytes": ("little_bytes n m", "the lowest n bytes of m, the lowest first"),

@@ -9,6 +9,7 @@ docs/HEADLINE.md and others are what they count (tests/docs/figures.py); docs/TR
 sources make, and no others; docs/CONCEPTS.md has the edges and numbers of cells of all levels;
 bindings/mariadb/README.md lists the functions of install.sql; docs/README.md leads to each page for users; README.md
 has fewer than 10,000 bytes; a page that names the kit names the one of the file KIT; CHANGELOG.md says nothing twice;
+what a page names in code is in the release, or is said to come with the next one (tests/docs/released.py);
 each part that a text names after `tests/run` is one, and has beside it the Debian packages that its script installs;
 each command of tools/, bench/ and bindings/ prints its usage with --help, and does nothing else; and what is a command,
 a file whose name has no ending and which names its interpreter, is executable, and no other file is. The last line is
@@ -31,6 +32,7 @@ import documents  # noqa: E402
 from checks import has_wrong, tracked  # noqa: E402
 from figures import wrong_figures  # noqa: E402
 from mutant_texts import mutants_of  # noqa: E402
+from released import unreleased  # noqa: E402
 
 LINK = re.compile(r"\]\((?!https?://)([^)#\s]*)(?:#([^)\s]+))?[^)]*\)")
 BLOCK = re.compile(r"^```.*?^```", re.S | re.M)
@@ -393,6 +395,7 @@ CHECKS = {
     "a crate that uses one of no lower layer": wrong_layers,
     "a contract that isn't in the sources": changed_contracts,
     "CHANGELOG.md says twice": said_twice,
+    "not in the release, without 'since' and the next version": unreleased,
     "no part of tests/run": unknown_parts,
     "installed by a part, which doesn't name it": unnamed_packages,
     "--help is not answered by its usage": without_usage,

@@ -28,8 +28,8 @@ import sys
 import tempfile
 from pathlib import Path
 
-from mutant_texts import (ALWAYS, FUNCTION, all_functions, drop_bodies, files_of_mutants, functions_at, functions_of,
-                          make, misfit, mutants_of)
+from mutant_texts import (ALWAYS, FUNCTION, all_functions, drop_bodies, files_of_mutants, functions_at,
+                          functions_in_cycles, functions_of, make, misfit, mutants_of)
 
 sys.path.insert(0, str(Path(__file__).resolve().parents[2] / "tools"))
 import verdicts  # noqa: E402
@@ -168,7 +168,8 @@ class Copy:
         no end, or something was missing in what was taken so."""
         changed = set().union(*(mutant.changed for mutant in together))
         others = [words for words in all_functions(self.folder) if not any(ends_in(words, it) for it in changed)]
-        others = [words for words in others if not self.folder_of(words, "+").exists()]
+        cycles = functions_in_cycles(self.folder)
+        others = [words for words in others if words not in cycles and not self.folder_of(words, "+").exists()]
         written = {}
         for words in others:
             written.update(self.put_hole(words))

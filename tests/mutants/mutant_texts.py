@@ -167,6 +167,19 @@ def all_functions(folder):
                    for block, name in blocks if block[4] in homes and not block[3]}
 
 
+def functions_in_cycles(folder):
+    """The free functions of a crate's sources that call each other in a cycle, which an attribute above them names; in
+    the form of `all_functions`. Without the body of one the others are in no cycle, and their attribute is refused."""
+    root, found = Path(folder, "src"), set()
+    for path in sorted(root.rglob("*.rt")):
+        above = []
+        for line, (block, name) in zip(path.read_text().split("\n"), places_of_lines(path.read_text())):
+            if FN.match(line) and not block and any(it.startswith("#[cycle(") for it in above):
+                found.add((*modules_of(path.relative_to(root)), name))
+            above = [*above, line] if line.startswith("#[") else []
+    return found
+
+
 def drop_bodies(folder, functions):
     """Drops the bodies of these functions in a copy of the sources, except those that constants call, and answers the
     texts that it has replaced, by their paths. A function is given as `all_functions` has it."""
