@@ -27,8 +27,9 @@ import tempfile
 from pathlib import Path
 
 ROOT = Path(__file__).resolve().parents[2]
-sys.path += [str(ROOT / "tests"), str(ROOT / "tests" / "mutants"), str(ROOT / "tools" / "packaging")]
+sys.path += [str(ROOT / folder) for folder in ("tests", "tests/mutants", "tools", "tools/packaging")]
 import documents  # noqa: E402
+import methods  # noqa: E402
 from checks import has_wrong, tracked  # noqa: E402
 from figures import wrong_figures  # noqa: E402
 from mutant_texts import mutants_of  # noqa: E402
@@ -163,7 +164,7 @@ def names_on_the_walk():
 
 def calls_from_s2():
     """Each name in a table of docs/FROM_S2.md, with the text of its column's files and how they would define it."""
-    texts = {column: "\n".join(file.read_text() for glob in globs for file in ROOT.glob(glob))
+    texts = {column: "\n".join(methods.filled(file, ROOT) for glob in globs for file in ROOT.glob(glob))
              for column, (_, globs, _) in CALLS.items()}
     columns = []
     for line in (ROOT / "docs" / "FROM_S2.md").read_text().splitlines():

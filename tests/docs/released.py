@@ -14,8 +14,9 @@ import zipfile
 from pathlib import Path
 
 ROOT = Path(__file__).resolve().parents[2]
-sys.path += [str(ROOT / "tests"), str(ROOT / "tools" / "packaging")]
+sys.path += [str(ROOT / "tests"), str(ROOT / "tools"), str(ROOT / "tools" / "packaging")]
 import documents  # noqa: E402
+import methods  # noqa: E402
 from checks import tracked  # noqa: E402
 
 DIST = ROOT / "dist"
@@ -67,7 +68,8 @@ def released(patterns):
 def declared(sources, declares):
     """The names that sources declare, tests aside."""
     paths = [path for source in sources for path in sorted(ROOT.glob(source)) if "_test." not in path.name]
-    return {name for path in paths for name in re.findall(declares, path.read_text(), re.M) if WORD.fullmatch(name)}
+    texts = [methods.filled(path, ROOT) for path in paths]
+    return {name for text in texts for name in re.findall(declares, text, re.M) if WORD.fullmatch(name)}
 
 
 def said_of(page):

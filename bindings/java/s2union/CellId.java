@@ -13,33 +13,13 @@ public final class CellId {
 
   private CellId() {}
 
-  /**
-   * The version of the library.
-   *
-   * <pre>{@code
-   * CellId.version().startsWith("1.") // true
-   * }</pre>
-   *
-   * @return major, minor and patch, such as "1.1.0"
-   * @since 1.1
-   */
+  // comment: version
   public static String version() {
     long number = Calls.number(Calls.VERSION, 0, 0);
     return number / 10000 + "." + number / 100 % 100 + "." + number % 100;
   }
 
-  /**
-   * Whether a number is a cell.
-   * S2: {@code S2CellId::is_valid}.
-   *
-   * <pre>{@code
-   * CellId.isCell(0x1000000000000000L) // true
-   * }</pre>
-   *
-   * @param id any number
-   * @return true if it is
-   * @since 1.1
-   */
+  // comment: is_cell
   public static boolean isCell(long id) {
     return id >>> 61 < 6 && (lowest(id) & MARKERS) != 0;
   }
@@ -54,423 +34,78 @@ public final class CellId {
     return id;
   }
 
-  /**
-   * The level of a cell.
-   * S2: {@code S2CellId::level}.
-   *
-   * <pre>{@code
-   * CellId.level(CellId.fromToken("89c25")) // 8
-   * }</pre>
-   *
-   * @param id a cell
-   * @return 0, a face, to 30, a leaf
-   * @throws Refusal {@link Refusal.Kind#NO_CELL} if the number is no cell
-   * @since 1.1
-   */
+  // comment: level
   public static int level(long id) {
     return Calls.LAST_LEVEL - Long.numberOfTrailingZeros(checked(id)) / 2;
   }
 
-  /**
-   * The face of a cell.
-   * S2: {@code S2CellId::face}.
-   *
-   * <pre>{@code
-   * CellId.face(CellId.fromToken("89c25")) // 4
-   * }</pre>
-   *
-   * @param id a cell
-   * @return 0 to 5
-   * @throws Refusal {@link Refusal.Kind#NO_CELL} if the number is no cell
-   * @since 1.1
-   */
+  // comment: face
   public static int face(long id) {
     return (int) (checked(id) >>> 61);
   }
 
-  /**
-   * The cell of a level that contains a cell; at its own level, itself.
-   * S2: {@code S2CellId::parent}.
-   *
-   * <pre>{@code
-   * CellId.toToken(CellId.parent(CellId.fromToken("89c25"), 5)) // 89c4
-   * }</pre>
-   *
-   * @param id a cell
-   * @param level 0, a face, to 30, a leaf
-   * @return the cell, or 0 if the level is deeper than its own
-   * @throws Refusal {@link Refusal.Kind#NO_CELL} if the number is no cell, or {@link Refusal.Kind#ARGUMENT} if the
-   *     level is not from 0 to 30
-   * @since 1.1
-   */
+  // comment: parent
   public static long parent(long id, int level) {
     int own = level(id);
     long lowest = 1L << 2 * (Calls.LAST_LEVEL - Calls.within(level, Calls.LAST_LEVEL));
     return level > own ? 0 : id & -lowest | lowest;
   }
 
-  /**
-   * The child of a cell.
-   * S2: {@code S2CellId::child}.
-   *
-   * <pre>{@code
-   * CellId.toToken(CellId.child(CellId.fromToken("1"), 2)) // 14
-   * }</pre>
-   *
-   * @param id a cell
-   * @param position 0 to 3, along the curve
-   * @return the child, or 0 of a leaf
-   * @throws Refusal {@link Refusal.Kind#NO_CELL} if the number is no cell, or {@link Refusal.Kind#ARGUMENT} if the
-   *     number is not from 0 to 3
-   * @since 1.1
-   */
-  public static long child(long id, int position) {
-    return Calls.number(Calls.CHILD, checked(id), Calls.within(position, 3));
-  }
+  // methods: child
 
-  /**
-   * The first leaf of a cell. Another cell is in it if its unsigned number is from {@code rangeMin} to {@code
-   * rangeMax}.
-   * S2: {@code S2CellId::range_min}.
-   *
-   * <pre>{@code
-   * CellId.toToken(CellId.rangeMin(CellId.fromToken("04"))) // 0000000000000001
-   * }</pre>
-   *
-   * @param id a cell
-   * @return a leaf
-   * @throws Refusal {@link Refusal.Kind#NO_CELL} if the number is no cell
-   * @since 1.1
-   */
+  // comment: range_min
   public static long rangeMin(long id) {
     return checked(id) - (lowest(id) - 1);
   }
 
-  /**
-   * The last leaf of a cell.
-   * S2: {@code S2CellId::range_max}.
-   *
-   * <pre>{@code
-   * CellId.toToken(CellId.rangeMax(CellId.fromToken("04"))) // 07ffffffffffffff
-   * }</pre>
-   *
-   * @param id a cell
-   * @return a leaf
-   * @throws Refusal {@link Refusal.Kind#NO_CELL} if the number is no cell
-   * @since 1.1
-   */
+  // comment: range_max
   public static long rangeMax(long id) {
     return checked(id) + (lowest(id) - 1);
   }
 
-  /**
-   * How many leaves a cell has.
-   * S2: {@code S2CellUnion::LeafCellsCovered} of one cell.
-   *
-   * <pre>{@code
-   * CellId.leafCellsCovered(CellId.fromToken("04")) == 1L << 58 // true
-   * }</pre>
-   *
-   * @param id a cell
-   * @return 4^(30 - level)
-   * @throws Refusal {@link Refusal.Kind#NO_CELL} if the number is no cell
-   * @since 1.1
-   */
+  // comment: size
   public static long leafCellsCovered(long id) {
     return lowest(checked(id));
   }
 
-  /**
-   * The next cell of its level along the curve, across faces.
-   * S2: {@code S2CellId::next}.
-   *
-   * <pre>{@code
-   * CellId.toToken(CellId.next(CellId.fromToken("1c"))) // 24
-   * }</pre>
-   *
-   * @param id a cell
-   * @return the cell, or 0 after the last
-   * @throws Refusal {@link Refusal.Kind#NO_CELL} if the number is no cell
-   * @since 1.1
-   */
-  public static long next(long id) {
-    return Calls.number(Calls.NEXT, checked(id), 0);
-  }
+  // methods: next, prev, common_ancestor
 
-  /**
-   * The cell of its level before it along the curve, across faces.
-   * S2: {@code S2CellId::prev}.
-   *
-   * <pre>{@code
-   * CellId.toToken(CellId.prev(CellId.fromToken("24"))) // 1c
-   * }</pre>
-   *
-   * @param id a cell
-   * @return the cell, or 0 before the first
-   * @throws Refusal {@link Refusal.Kind#NO_CELL} if the number is no cell
-   * @since 1.1
-   */
-  public static long prev(long id) {
-    return Calls.number(Calls.PREV, checked(id), 0);
-  }
-
-  /**
-   * The smallest cell that contains both.
-   * S2: {@code S2CellId::GetCommonAncestorLevel}.
-   *
-   * <pre>{@code
-   * CellId.toToken(CellId.commonAncestor(CellId.fromToken("04"), CellId.fromToken("14"))) // 1
-   * }</pre>
-   *
-   * @param a a cell
-   * @param b a cell
-   * @return the cell, or 0 if they are on two faces
-   * @throws Refusal {@link Refusal.Kind#NO_CELL} if the number is no cell
-   * @since 1.1
-   */
-  public static long commonAncestor(long a, long b) {
-    return Calls.number(Calls.COMMON_ANCESTOR, checked(a), checked(b));
-  }
-
-  /**
-   * Whether all leaves of a part are in a whole; a cell contains itself.
-   * S2: {@code S2CellId::contains}.
-   *
-   * <pre>{@code
-   * CellId.contains(CellId.fromToken("1"), CellId.fromToken("04")) // true
-   * }</pre>
-   *
-   * @param whole the cell that may contain the other
-   * @param part the cell that may lie in it
-   * @return true if they are
-   * @throws Refusal {@link Refusal.Kind#NO_CELL} if the number is no cell
-   * @since 1.1
-   */
+  // comment: cell_contains
   public static boolean contains(long whole, long part) {
     return Long.compareUnsigned(rangeMin(whole), checked(part)) <= 0
         && Long.compareUnsigned(part, rangeMax(whole)) <= 0;
   }
 
-  /**
-   * Whether two cells share a leaf.
-   * S2: {@code S2CellId::intersects}.
-   *
-   * <pre>{@code
-   * CellId.intersects(CellId.fromToken("04"), CellId.fromToken("14")) // false
-   * }</pre>
-   *
-   * @param a a cell
-   * @param b a cell
-   * @return true if one contains the other
-   * @throws Refusal {@link Refusal.Kind#NO_CELL} if the number is no cell
-   * @since 1.1
-   */
+  // comment: cell_intersects
   public static boolean intersects(long a, long b) {
     return Long.compareUnsigned(rangeMin(a), rangeMax(b)) <= 0 && Long.compareUnsigned(rangeMin(b), rangeMax(a)) <= 0;
   }
 
-  /**
-   * The leaf at a place of a face.
-   * S2: {@code S2CellId::FromFaceIJ}.
-   *
-   * <pre>{@code
-   * CellId.toToken(CellId.fromFaceIJ(0, 0, 0)) // 0000000000000001
-   * }</pre>
-   *
-   * @param face 0 to 5
-   * @param i the first coordinate, 0 to 2^30 - 1
-   * @param j the second coordinate, 0 to 2^30 - 1
-   * @return a leaf
-   * @throws Refusal {@link Refusal.Kind#ARGUMENT} if the face or a coordinate is out of range
-   * @since 1.1
-   */
+  // comment: from_face_ij
   public static long fromFaceIJ(int face, int i, int j) {
     long id = Calls.leafAt(face, i, j);
     if (id == 0) throw new Refusal(Refusal.ARGUMENT, 0);
     return id;
   }
 
-  /**
-   * The square of a cell on its face.
-   * S2: {@code S2CellId::ToFaceIJOrientation}.
-   *
-   * <pre>{@code
-   * CellId.square(CellId.fromToken("14"))[3] == 1 << 29 // true
-   * }</pre>
-   *
-   * @param id a cell
-   * @return the face, the least i and j there, and the side, in leaves
-   * @throws Refusal {@link Refusal.Kind#NO_CELL} if the number is no cell
-   * @since 1.1
-   */
+  // comment: square_of
   public static int[] square(long id) {
     long[] found = new long[4];
     Calls.checked(Calls.square(id, found), 0);
     return new int[] {(int) found[0], (int) found[1], (int) found[2], (int) found[3]};
   }
 
-  /**
-   * The token of a cell: its number in hexadecimal without the zeros at its end.
-   * S2: {@code S2CellId::ToToken}.
-   *
-   * <pre>{@code
-   * CellId.toToken(0x0c00000000000000L) // 0c
-   * }</pre>
-   *
-   * @param id a cell
-   * @return 1 to 16 digits, such as "89c25"
-   * @throws Refusal {@link Refusal.Kind#NO_CELL} if the number is no cell
-   * @since 1.1
-   */
-  public static String toToken(long id) {
-    return text(Calls.TOKEN, id);
-  }
-
-  /**
-   * The cell of a token, in either case.
-   * S2: {@code S2CellId::FromToken}.
-   *
-   * <pre>{@code
-   * CellId.level(CellId.fromToken("0C")) // 1
-   * }</pre>
-   *
-   * @param token at most 16 hexadecimal digits, in either case
-   * @return the cell
-   * @throws Refusal {@link Refusal.Kind#NO_CELL} if the text is the token of no cell
-   * @since 1.1
-   */
-  public static long fromToken(String token) {
-    return named(Calls.FROM_TOKEN, token);
-  }
-
-  /**
-   * The debug text of a cell: its face, a slash, and a digit for each level.
-   * S2: {@code S2CellId::ToString}.
-   *
-   * <pre>{@code
-   * CellId.toDebugString(CellId.fromToken("0c")) // 0/1
-   * }</pre>
-   *
-   * @param id a cell
-   * @return 2 to 32 characters, such as "4/032212"
-   * @throws Refusal {@link Refusal.Kind#NO_CELL} if the number is no cell
-   * @since 1.1
-   */
-  public static String toDebugString(long id) {
-    return text(Calls.DEBUG, id);
-  }
-
-  /**
-   * The cell of a debug text.
-   * S2: {@code S2CellId::FromDebugString}.
-   *
-   * <pre>{@code
-   * CellId.toToken(CellId.fromDebugString("0/1")) // 0c
-   * }</pre>
-   *
-   * @param text a face, a slash, and digits from 0 to 3
-   * @return the cell
-   * @throws Refusal {@link Refusal.Kind#NO_CELL} if the text is the debug text of no cell
-   * @since 1.1
-   */
-  public static long fromDebugString(String text) {
-    return named(Calls.FROM_DEBUG, text);
-  }
+  // methods: token, from_token, debug, from_debug
 
   private static String text(int call, long id) {
     return new String(Calls.written(Calls.MOST_DEBUG, call, null, id), StandardCharsets.US_ASCII);
   }
 
-  private static long named(int call, String text) {
-    return Calls.found(call, text.getBytes(StandardCharsets.UTF_8), 0, 0);
-  }
-
   // Many cells in one call.
 
-  /**
-   * The level of each cell, in one call.
-   * S2: {@code S2CellId::level}.
-   *
-   * <pre>{@code
-   * CellId.levels(CellId.fromToken("1"), CellId.fromToken("04"))[1] // 1
-   * }</pre>
-   *
-   * @param cells cells
-   * @return as many numbers, 0 to 30
-   * @throws Refusal {@link Refusal.Kind#NO_CELL} if a number is no cell; the place is that of the first
-   * @since 1.1
-   */
-  public static byte[] levels(long... cells) {
-    return Calls.bytesOfEach(Calls.LEVELS, cells, 1);
-  }
+  // methods: all others
 
-  /**
-   * The cell of a level that contains each cell, in one call.
-   * S2: {@code S2CellId::parent}.
-   *
-   * <pre>{@code
-   * CellId.toToken(CellId.parents(new long[] {CellId.fromToken("89c25")}, 0)[0]) // 9
-   * }</pre>
-   *
-   * @param cells cells
-   * @param level 0, a face, to 30, a leaf
-   * @return as many cells
-   * @throws Refusal {@link Refusal.Kind#NO_CELL} if a number is no cell; the place is that of the first, or {@link
-   *     Refusal.Kind#ARGUMENT} if the level is not from 0 to 30, or is deeper than a cell's own, whose place it has
-   * @since 1.1
-   */
-  public static long[] parents(long[] cells, int level) {
-    return Calls.entries(Calls.PARENTS, cells, Calls.within(level, Calls.LAST_LEVEL));
-  }
-
-  /**
-   * The first leaf of each cell, in one call.
-   * S2: {@code S2CellId::range_min}.
-   *
-   * <pre>{@code
-   * CellId.toToken(CellId.rangeMins(CellId.fromToken("04"))[0]) // 0000000000000001
-   * }</pre>
-   *
-   * @param cells cells
-   * @return as many leaves
-   * @throws Refusal {@link Refusal.Kind#NO_CELL} if a number is no cell; the place is that of the first
-   * @since 1.1
-   */
-  public static long[] rangeMins(long... cells) {
-    return Calls.entries(Calls.RANGE_MINS, cells, 0);
-  }
-
-  /**
-   * The last leaf of each cell, in one call.
-   * S2: {@code S2CellId::range_max}.
-   *
-   * <pre>{@code
-   * CellId.toToken(CellId.rangeMaxes(CellId.fromToken("04"))[0]) // 07ffffffffffffff
-   * }</pre>
-   *
-   * @param cells cells
-   * @return as many leaves
-   * @throws Refusal {@link Refusal.Kind#NO_CELL} if a number is no cell; the place is that of the first
-   * @since 1.1
-   */
-  public static long[] rangeMaxes(long... cells) {
-    return Calls.entries(Calls.RANGE_MAXES, cells, 0);
-  }
-
-  /**
-   * The leaves at points, in one call.
-   * S2: {@code S2CellId::FromFaceIJ}.
-   *
-   * <pre>{@code
-   * CellId.fromPoints(0, 0, 0, 5, 1, 2)[0] // 1
-   * }</pre>
-   *
-   * @param points points, each of which is three numbers: a face, 0 to 5, and i and j, 0 to 2^30 - 1
-   * @return as many leaves
-   * @throws Refusal {@link Refusal.Kind#ARGUMENT} if a number is out of range; the place is that of the first such
-   *     point
-   * @since 1.1
-   */
+  // comment: from_points
   public static long[] fromPoints(int... points) {
     if (points.length % 3 != 0) throw new Refusal(Refusal.ARGUMENT, points.length / 3);
     long[] out = new long[points.length / 3];
@@ -618,19 +253,7 @@ public final class CellId {
     return Calls.around(Calls.VERTEX_NEIGHBORS, level, id);
   }
 
-  /**
-   * The token of each cell, in one call.
-   * S2: {@code S2CellId::ToToken}.
-   *
-   * <pre>{@code
-   * String.join(",", CellId.toTokens(0x1c00000000000000L, 0x0400000000000000L)) // 1c,04
-   * }</pre>
-   *
-   * @param cells cells
-   * @return as many texts
-   * @throws Refusal {@link Refusal.Kind#NO_CELL} if a number is no cell; the place is that of the first
-   * @since 1.1
-   */
+  // comment: token_fields
   public static String[] toTokens(long... cells) {
     byte[] fields = Calls.bytesOfEach(Calls.TOKEN_FIELDS, cells, Calls.MOST_TOKEN);
     String text = new String(fields, StandardCharsets.US_ASCII);
@@ -643,22 +266,5 @@ public final class CellId {
     return tokens;
   }
 
-  /**
-   * The cells that the words of a text name, in their order and each time that it names one.
-   * S2: {@code S2CellId::FromToken}.
-   *
-   * <pre>{@code
-   * CellId.fromTokens("1c, 0/0").length // 2
-   * }</pre>
-   *
-   * @param text words with blanks, tabs, line ends or commas between them, each a token or a debug text
-   * @return the cells
-   * @throws Refusal {@link Refusal.Kind#NO_CELL} if a word names no cell; the place is that of the byte at which the
-   *     word begins
-   * @since 1.1
-   */
-  public static long[] fromTokens(String text) {
-    byte[] bytes = text.getBytes(StandardCharsets.UTF_8);
-    return Calls.made(Calls.FROM_TOKENS, bytes, null);
-  }
+  // methods: from_tokens
 }

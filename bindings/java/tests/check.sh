@@ -36,17 +36,21 @@ unpacked() { # libraries, each for its processor
 step "the library for each processor is in it" unpacked
 compiled() { # with the class of the page
   block bindings/java/README.md "java region" >"$work/Region.java" &&
-    javac -Xlint:all -Werror -cp "$jar" -d "$work/tests" "$tests"/*.java "$work/Region.java"
+    /usr/bin/python3 -B "$top/tools/methods.py" "$work/asking" "$tests"/*.java &&
+    javac -Xlint:all -Werror -cp "$jar" -d "$work/tests" "$work"/asking/*.java "$work/Region.java"
 }
 step "compile the tests" compiled
-commented() { javadoc -quiet -Xdoclint:all -Werror -d "$work/reference" "$top"/bindings/java/s2union/*.java; }
+commented() { # of the sources that are in the package
+  mkdir "$work/sources" && (cd "$work/sources" && jar --extract --file "$work/java/s2union-sources.jar") &&
+    javadoc -quiet -Xdoclint:all -Werror -d "$work/reference" "$work"/sources/s2union/*.java
+}
 step "javadoc, each warning an error" commented
 by_java() { # WORD..: nothing may stay in the folder for temporary files
   mkdir -p "$work/temporary" && java -Djava.io.tmpdir="$work/temporary" "$@" &&
     { [ -z "$(ls "$work/temporary")" ] || { ls "$work/temporary" && return 1; }; }
 }
 by_comments() {
-  mkdir "$work/examples" && /usr/bin/python3 "$top/tests/docs/examples.py" java "$top"/bindings/java/s2union/*.java \
+  mkdir "$work/examples" && /usr/bin/python3 "$top/tests/docs/examples.py" java "$work"/sources/s2union/*.java \
     >"$work/examples/Examples.java" && javac -cp "$jar" -d "$work/tests" "$work/examples/Examples.java" &&
     by_java -cp "$jar:$work/tests" Examples
 }

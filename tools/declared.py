@@ -1,0 +1,125 @@
+"""The table of the library's calls, as the sources declare them.
+
+The exports of crates/s2union_c have the name of each call, its arguments with their kinds, which of them are lists and
+which are written, and its result. The comment before its prototype in s2union.h has what is said of it: a sentence, its
+cost, each argument, the result, the errors, S2's name, and since when it is there.
+"""
+import re
+from pathlib import Path
+from typing import NamedTuple
+
+SOURCES = "crates/s2union_c/src"
+HEADER = "crates/s2union_c/include/s2union.h"
+
+EXPORT = re.compile(r'^pub extern "C" fn s2u_(\w+)\((.*?)\) -> (\w+)$', re.S | re.M)
+C_TYPES = {"i64": "int64_t", "u8": "uint8_t", "u32": "uint32_t", "u64": "uint64_t", "i32": "int32_t", "usize": "size_t",
+           "f64": "double"}
+# What the length of a list is called in C; of one that is written, `room`; of any other, `n`.
+LENGTHS = {"xs": "nx", "ys": "ny", "cells": "m", "ends": "lists", "work": "work_room"}
+IN_PLACE = "ids"  # a list that is written under this name is read too
+SAID = re.compile(r"/\*\*((?:(?!\*/)[\s\S])*?)\*/\n(?:u?int\d+_t) s2u_(\w+)\([^()]*\);")
+STEPS = re.compile(r" ((?:N|Log n|N log n) steps\b[^.]*)\.")
+
+
+class Argument(NamedTuple):
+    """An argument: its name, what it consists of, whether it is a list, and whether it is written."""
+
+    name: str
+    kind: str
+    is_list: bool
+    is_written: bool
+
+    @property
+    def length(self):
+        own = "room" if self.is_written and self.name != IN_PLACE else "n"
+        return LENGTHS.get(self.name, own)
+
+    @property
+    def is_pointer(self):
+        return self.is_list or self.is_written or self.kind not in C_TYPES
+
+    @property
+    def is_text(self):
+        return self.is_list and self.name == "text"
+
+
+class Call(NamedTuple):
+    """An export: its name without s2u_, its arguments, its result, and whether it takes memory."""
+
+    name: str
+    arguments: list
+    result: str
+    takes_memory: bool
+
+    @property
+    def form(self):
+        """What calls have in common that can be called in one loop."""
+        return tuple(it[1:] for it in self.arguments), self.result
+
+    @property
+    def given(self):
+        return [it for it in self.arguments if not it.is_written]
+
+    @property
+    def out(self):
+        """The list that it makes, if it makes one."""
+        return next((it for it in self.arguments if it.is_list and it.is_written), None)
+
+    @property
+    def answers_each(self):
+        """Whether it answers each number of a list."""
+        return self.arguments[-1:] != [] and self.arguments[-1].name == "bad"
+
+
+class Said(NamedTuple):
+    """What the header says of a call: a sentence, its steps, its result, the statuses with their reasons, what it is in
+    S2, and since when it is there."""
+
+    sentence: str
+    steps: str
+    returns: str
+    refusals: dict
+    s2: str
+    since: str
+
+
+def text_of(path):
+    return path.read_text(encoding="utf-8")
+
+
+def argument_of(word):
+    name, _, kind = word.strip().partition(": ")
+    mode, bare = re.fullmatch(r"(&mut |&)?(.*)", kind).groups()
+    is_list = bare.startswith("[")
+    return Argument(name, bare.strip("[]"), is_list, mode == "&mut ")
+
+
+def calls(top):
+    """The exports, in the order of their names."""
+    found = []
+    for source in sorted(Path(top, SOURCES).glob("*.rt")):
+        for name, words, result in EXPORT.findall(text_of(source)):
+            arguments = [word for word in re.split(r",\s*", words.strip().rstrip(",")) if word]
+            own = [word for word in arguments if word != "alloc: Global"]
+            found.append(Call(name, [argument_of(word) for word in own], result, own != arguments))
+    return sorted(found)
+
+
+def said_in(comment):
+    """What a comment of the header says; of the text before its tags the first sentence, which may have steps."""
+    text, *tags = re.split(r"\s@(?=\w)", re.sub(r"\s*\n \* ?", " ", comment).strip())
+    words = [tag.partition(" ") for tag in tags]
+    found = {name: rest.strip() for name, _, rest in words}
+    refused = [rest.strip().removeprefix("S2U_").partition(" ") for name, _, rest in words if name == "retval"]
+    refusals = {name: why for name, _, why in refused}
+    steps = STEPS.search(text)
+    sentence = re.match(r"(?:\[pure\] )?(.*?\.)(?: |$)(?!g\.)", text)[1]
+    s2 = next((f"{name} {rest}".strip() for name, _, rest in words if name.startswith("s2{")), "")
+    s2 = re.sub(r"^s2\{(.*)\}", r"`\1`", s2)
+    return Said(sentence, steps[1][0].lower() + steps[1][1:] if steps else "", found.get("return", ""), refusals, s2,
+                found.get("since", ""))
+
+
+def said(header):
+    """What the header says of each call, by its name."""
+    return {name: said_in(comment) for comment, name in SAID.findall(header)}

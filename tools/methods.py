@@ -1,0 +1,209 @@
+"""The methods of languages that make a call of the library each: methods.py FOLDER SOURCE..
+
+It writes each SOURCE to FOLDER with what is made in the place of these lines, where NAME is a call of s2union.h:
+
+  // methods: NAME, ..           each as a method with its comment, which forwards to the call
+  // methods: all others         each other method of the class
+  // comment: NAME               the comment of the call, whose method stands below it by hand
+  // questions: all but NAME, .. what the tests ask of each method, for which a question is in tests/model/vectors.py
+
+It takes a call from the exports and s2union.h (declared.py) and from its row of methods.toml. The form of a language is
+that of in_LANGUAGE.py.
+"""
+import re
+import sys
+import tomllib
+from functools import cached_property
+from pathlib import Path
+
+import declared
+import in_java
+import usage
+
+TOP = Path(__file__).resolve().parents[1]
+TABLE = "tools/methods.toml"
+LANGUAGES = {".java": in_java}
+MARK = re.compile(r"^ *// (methods|comment|questions): ((?:.*,\n *// +)*.*)\n", re.M)
+UNION = "a new union"
+
+
+class Method:
+    """A call as a method: what the exports, the header and its row in the table say of it."""
+
+    def __init__(self, call, said, row, general):
+        self.call = call
+        self.said = said
+        self.row = row
+        self.general = general  # what the table says of arguments and errors of all calls
+
+    @property
+    def given(self):
+        """What it is given; a list that is changed in place is given too."""
+        return self.call.given or [it for it in self.call.arguments if it.is_list]
+
+    @property
+    def written(self):
+        """The number that it writes, if it makes no list."""
+        numbers = [it for it in self.call.arguments if it.is_written and not it.is_list]
+        return numbers[0] if numbers and not self.call.out else None
+
+    @property
+    def makes_union(self):
+        out = self.call.out
+        is_list = self.row.get("list") or self.call.answers_each
+        return out is not None and out.kind == "u64" and not is_list
+
+    @property
+    def is_of_union(self):
+        """Whether it is asked of a union: a list that isn't answered number by number, or not alone."""
+        first = self.call.given[0] if self.call.given else None
+        lists = [it for it in self.call.given if it.is_list]
+        return first is not None and first.is_list and first.kind == "u64" and \
+            not (self.call.answers_each and len(lists) == 1)
+
+    @property
+    def is_count(self):
+        return self.sentence.startswith("How many")
+
+    @property
+    def is_question(self):
+        return self.returns.startswith("true if")
+
+    def own(self, language):
+        return self.row.get(language, {})
+
+    # ---- what is said of it
+
+    @cached_property
+    def sentence(self):
+        own = self.row.get("says") or self.said.sentence
+        return f"{own} It takes {self.said.steps}." if self.said.steps else own
+
+    @property
+    def s2(self):
+        return self.row.get("s2", self.said.s2)
+
+    @property
+    def returns(self):
+        return self.row.get("returns") or (UNION if self.makes_union else self.said.returns)
+
+    @property
+    def example(self):
+        own = self.row["example"]
+        base = self.call.name.removeprefix("file_")
+        return own if "file" in own or base == self.call.name else re.sub(
+            rf"\.{base}\(", f".{self.call.name}(", own.replace("union(", "file("))
+
+    @property
+    def answer(self):
+        return self.row["answer"]
+
+    @property
+    def question(self):
+        name = self.call.name if self.row.get("static") else self.call.name.removeprefix("file_")
+        return self.row.get("question", name)
+
+    def argument(self, name, renamed, language):
+        """What is said of an argument, by the name that it has in the language."""
+        own = {there: it for it, there in [*renamed.items(), *self.own(language).items()]}
+        names = {it.name for it in self.given}
+        word = own[name] if own.get(name) in names else name
+        return self.row.get(word) or self.general["argument"][word]
+
+    def answers_none(self, status):
+        """Whether the call answers nothing where a method has this error."""
+        return status not in self.said.refusals and status in dict(self.errors())
+
+    def errors(self):
+        """The errors that a method has, each with when it comes. What has been checked before can't come."""
+        is_checked = self.call.name.startswith("file_") and not self.row.get("static")
+        names = [it for it in self.said.refusals if it not in ("ROOM", "MEMORY")
+                 and not (is_checked and it.startswith("FILE_"))]
+        is_of_cells = not self.is_of_union and not self.row.get("static")
+        if is_of_cells and "not a cell" in self.said.sentence + self.said.returns:
+            names.insert(0, "NO_CELL")
+        names += [it for it in self.row if it.isupper() and it not in names]
+        return [(name, self.reason(name)) for name in names if name not in self.row.get("never", [])]
+
+    def reason(self, name):
+        is_of_many = name == "NO_CELL" and any(it.is_list for it in self.given) and \
+            (self.call.answers_each or not self.call.given)
+        own = self.general["error"].get(f"{name}_OF_MANY" if is_of_many else name)
+        return self.row.get(name) or own or self.said.refusals[name]
+
+
+def row_of(rows, name):
+    """The row of a call; one of a file goes on from that of a union."""
+    base = rows.get(name.removeprefix("file_"), {})
+    return base | rows.get(name, {}) if name.startswith("file_") else base
+
+
+def table(top=TOP):
+    return tomllib.loads(declared.text_of(Path(top, TABLE)))
+
+
+def methods(top=TOP):
+    """The methods, by the names of their calls."""
+    general, said = table(top), declared.said(declared.text_of(Path(top, declared.HEADER)))
+    rows = {call.name: row_of(general["call"], call.name) for call in declared.calls(top)}
+    return {call.name: Method(call, said[call.name], rows[call.name], general)
+            for call in declared.calls(top) if rows[call.name] and call.name in said}
+
+
+OTHERS = "all others"
+
+
+def names_in(mark):
+    return [] if mark[2] == OTHERS else re.findall(r"\w+", mark[2].removeprefix("all but "))
+
+
+def named(text):
+    """The calls that a source names."""
+    return [name for mark in MARK.finditer(text) for name in names_in(mark)]
+
+
+def lost(path, top=TOP):
+    """The calls that a source names and that have no row, or are no exports."""
+    names = named(declared.text_of(path)) if path.suffix in LANGUAGES else []
+    found = methods(top) if names else {}
+    return [name for name in names if name not in found]
+
+
+def filled(path, top=TOP):
+    """The text of a source with what is made in it."""
+    language, text = LANGUAGES.get(path.suffix), declared.text_of(path)
+    found = methods(top) if language and MARK.search(text) else {}
+
+    def of(mark):
+        """The methods that a line stands for."""
+        if mark[2] == OTHERS:
+            return [it for name, it in found.items() if name not in named(text) and language.owner(it) == path.stem]
+        if mark[1] == "questions":
+            return [it for name, it in found.items() if name not in names_in(mark)]
+        return [found[name] for name in names_in(mark) if name in found]
+
+    def made(mark):
+        form = {"methods": language.whole, "comment": language.comment, "questions": language.question}[mark[1]]
+        between = "\n\n" if mark[1] == "methods" else "\n"
+        return between.join("\n".join(form(found, it)) for it in of(mark)) + "\n"
+
+    return MARK.sub(made, text) if found else text
+
+
+def write(folder, sources):
+    """Writes sources to a folder, with what is made in them."""
+    folder.mkdir(parents=True, exist_ok=True)
+    for source in sources:
+        for name in lost(source):
+            sys.exit(f"{source}: {TABLE} has no row for {name}")
+        (folder / source.name).write_text(filled(source), encoding="utf-8")
+
+
+def main():
+    usage.print_if_asked(__doc__)
+    folder, *sources = map(Path, sys.argv[1:])
+    write(folder, sources)
+
+
+if __name__ == "__main__":
+    main()
