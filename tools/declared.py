@@ -71,6 +71,14 @@ class Call(NamedTuple):
         return self.arguments[-1:] != [] and self.arguments[-1].name == "bad"
 
 
+class Status(NamedTuple):
+    """A status: its name without S2U_, its number, and its text if it is a refusal."""
+
+    name: str
+    number: int
+    text: str
+
+
 class Said(NamedTuple):
     """What the header says of a call: a sentence, its steps, its result, the statuses with their reasons, what it is in
     S2, and since when it is there."""
@@ -123,3 +131,31 @@ def said_in(comment):
 def said(header):
     """What the header says of each call, by its name."""
     return {name: said_in(comment) for comment, name in SAID.findall(header)}
+
+
+def statuses(header):
+    enum = re.search(r"/\*\* The statuses\. \*/\nenum \{(.*?)\};", header, re.S)[1]
+    texts = dict(re.findall(r'case S2U_(\w+): return "(.*?)";', header))
+    return [Status(name, int(number), texts.get(name, "")) for name, number in re.findall(r"S2U_(\w+) = (-?\d+)", enum)]
+
+
+def limits(header):
+    """The limits that are numbers, by their names without S2U_, and the names of those that are computed."""
+    numbers = {name: int(number) for name, number in re.findall(r"#define S2U_(MOST_\w+) (\d+)\b", header)}
+    return numbers, re.findall(r"#define S2U_(MOST_\w+)\(", header)
+
+
+def constants(header, *names):
+    """The statuses and limits with these names, or all refusals, as 'NAME = NUMBER'."""
+    numbers = {status.name: status.number for status in statuses(header)} | limits(header)[0]
+    refusals = [status.name for status in statuses(header) if status.text]
+    return [f"{name} = {numbers[name]}" for name in names or refusals]
+
+
+def is_of_polygon(call):
+    return call.name.startswith("polygon_") or is_of_degrees(call)
+
+
+def is_of_degrees(call):
+    """Whether a call takes degrees: s2union_cover.h makes it, with which each language covers polygons."""
+    return any(it.kind == "f64" for it in call.arguments)

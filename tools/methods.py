@@ -3,9 +3,13 @@
 It writes each SOURCE to FOLDER with what is made in the place of these lines, where NAME is a call of s2union.h:
 
   // methods: NAME, ..           each as a method with its comment, which forwards to the call
-  // methods: all others         each other method of the class
+  // methods: all others         each other method of the class, or in JavaScript of the module; `but NAME, ..` leaves
+                                 out what stands there by hand
   // comment: NAME               the comment of the call, whose method stands below it by hand
   // questions: all but NAME, .. what the tests ask of each method, for which a question is in tests/model/vectors.py
+  // numbers: of the calls       those of Calls.java
+
+SOURCE may also be bindings/java/calls.h, which is made whole: the same numbers for s2union.c, and what makes each call.
 
 It takes a call from the exports and s2union.h (declared.py) and from its row of methods.toml. The form of a language is
 that of in_LANGUAGE.py.
@@ -18,12 +22,14 @@ from pathlib import Path
 
 import declared
 import in_java
+import in_types
+import java_calls
 import usage
 
 TOP = Path(__file__).resolve().parents[1]
 TABLE = "tools/methods.toml"
-LANGUAGES = {".java": in_java}
-MARK = re.compile(r"^ *// (methods|comment|questions): ((?:.*,\n *// +)*.*)\n", re.M)
+LANGUAGES = {".java": in_java, ".ts": in_types, ".mjs": in_types}
+MARK = re.compile(r"^ *// (methods|comment|questions|numbers): ((?:.*,\n *// +)*.*)\n", re.M)
 UNION = "a new union"
 
 
@@ -62,12 +68,25 @@ class Method:
             not (self.call.answers_each and len(lists) == 1)
 
     @property
+    def is_of_file(self):
+        return self.call.name.startswith("file_")
+
+    @property
+    def has_receiver(self):
+        """Whether its first list is that of the union or the file itself."""
+        return (self.is_of_union or self.is_of_file) and not self.row.get("static")
+
+    @property
     def is_count(self):
         return self.sentence.startswith("How many")
 
     @property
     def is_question(self):
         return self.returns.startswith("true if")
+
+    @property
+    def lacked_by(self):
+        return self.row.get("lacks", [])
 
     def own(self, language):
         return self.row.get(language, {})
@@ -116,7 +135,7 @@ class Method:
 
     def errors(self):
         """The errors that a method has, each with when it comes. What has been checked before can't come."""
-        is_checked = self.call.name.startswith("file_") and not self.row.get("static")
+        is_checked = self.is_of_file and not self.row.get("static")
         names = [it for it in self.said.refusals if it not in ("ROOM", "MEMORY")
                  and not (is_checked and it.startswith("FILE_"))]
         is_of_cells = not self.is_of_union and not self.row.get("static")
@@ -150,11 +169,14 @@ def methods(top=TOP):
             for call in declared.calls(top) if rows[call.name] and call.name in said}
 
 
-OTHERS = "all others"
+MADE_WHOLE = {"calls.h": java_calls.in_c}
+FORMS = {"methods": "whole", "comment": "comment", "questions": "question"}
+CLASS = re.compile(r"^(?:export |public |final )*class (\w+)", re.M)
 
 
 def names_in(mark):
-    return [] if mark[2] == OTHERS else re.findall(r"\w+", mark[2].removeprefix("all but "))
+    """The calls that a line names; after `all` those that it leaves out."""
+    return [] if mark[1] == "numbers" else re.findall(r"\w+", re.sub(r"^all(?: others)?(?: but)?\b", "", mark[2]))
 
 
 def named(text):
@@ -171,20 +193,25 @@ def lost(path, top=TOP):
 
 def filled(path, top=TOP):
     """The text of a source with what is made in it."""
+    if path.name in MADE_WHOLE and not path.exists():
+        return MADE_WHOLE[path.name](top)
     language, text = LANGUAGES.get(path.suffix), declared.text_of(path)
     found = methods(top) if language and MARK.search(text) else {}
 
     def of(mark):
-        """The methods that a line stands for."""
-        if mark[2] == OTHERS:
-            return [it for name, it in found.items() if name not in named(text) and language.owner(it) == path.stem]
-        if mark[1] == "questions":
-            return [it for name, it in found.items() if name not in names_in(mark)]
-        return [found[name] for name in names_in(mark) if name in found]
+        """The methods that a line stands for; after `all others` those of the class in which it stands."""
+        if not mark[2].startswith("all "):
+            return [found[name] for name in names_in(mark) if name in found]
+        left_out = names_in(mark) if mark[1] == "questions" else named(text)
+        there = [it for name, it in found.items() if name not in left_out and language.NAME not in it.lacked_by]
+        owner = CLASS.findall(text[:mark.start()])[-1] if mark[0].startswith(" ") else ""
+        return there if mark[1] == "questions" else [it for it in there if language.owner(it) == owner]
 
     def made(mark):
-        form = {"methods": language.whole, "comment": language.comment, "questions": language.question}[mark[1]]
-        between = "\n\n" if mark[1] == "methods" else "\n"
+        if mark[1] == "numbers":
+            return "\n".join([*java_calls.in_java(top), ""])
+        form = getattr(language, FORMS[mark[1]])
+        between = language.BETWEEN if mark[1] == "methods" else "\n"
         return between.join("\n".join(form(found, it)) for it in of(mark)) + "\n"
 
     return MARK.sub(made, text) if found else text

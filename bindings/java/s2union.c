@@ -1,8 +1,8 @@
-/* The calls of s2union.h for Java: Calls.java has the natives. One of them makes nearly all calls, as calls.h has them,
- * which tools/calls makes of the exports; it has their numbers too, and those of the cases here. A list is a long[],
- * whose signs mean nothing. Lists of up to SHORT elements are passed where they lie, which holds the collector up
- * meanwhile. So are lists of any length to calls that end soon. To others longer ones are copied. There is no
- * arithmetic on cells here. */
+/* The calls of s2union.h for Java: Calls.java has the natives. One of them makes nearly all calls, as calls.h has them.
+ * tools/methods.py makes that of the exports, with their numbers and those of the cases here. A list is a long[], whose
+ * signs mean nothing. Lists of up to SHORT elements are passed where they lie, which holds the collector up meanwhile.
+ * So are lists of any length to calls that end soon. To others longer ones are copied. There is no arithmetic on cells
+ * here. */
 #include <jni.h>
 #include <s2union_cover.h>
 #include <s2union_outline.h>

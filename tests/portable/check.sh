@@ -237,8 +237,9 @@ step "the jar, with the library for other systems" jar
 asked_as_java_does() { # on Linux and in Windows: one sum
   local java file=$top/tests/portable/hosted.c flags
   java=$(dirname "$(dirname "$(realpath "$(command -v javac)")")")
-  flags=(-std=gnu11 -O2 -Wall -Wextra -Werror -I"$java/include" -I"$top/bindings/java")
-  cd "$work/hosted" && gcc "${flags[@]}" -I"$java/include/linux" "$file" -ldl -o here &&
+  flags=(-std=gnu11 -O2 -Wall -Wextra -Werror -I"$java/include" -I.)
+  cd "$work/hosted" && /usr/bin/python3 -B "$top/tools/methods.py" . "$top/bindings/java/calls.h" &&
+    gcc "${flags[@]}" -I"$java/include/linux" "$file" -ldl -o here &&
     x86_64-w64-mingw32-gcc "${flags[@]}" -I"$top/bindings/java/windows" "$file" -o there.exe &&
     ./here s2union/amd64/libs2union_java.so "$rounds" >wanted && grep '^sum ' wanted &&
     in_windows ./there.exe s2union/windows-amd64/libs2union_java.dll "$rounds" | tr -d '\r' | diff wanted -

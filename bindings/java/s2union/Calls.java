@@ -17,45 +17,7 @@ final class Calls {
   static final int LAST_LEVEL = 30;
   static final long[] NONE = {};
 
-  // made by tools/calls, of s2union.h and of the cases of s2union.c
-  static final int ROOM = -1, MEMORY = -2, MOST_TOKEN = 16, MOST_DEBUG = 32;
-  static final int ANCESTORS = 0, CHILD = 1, COMMON_ANCESTOR = 2, COMPARE = 3, COMPLEMENT = 4,
-      CONTAINS = 5, CONTAINS_CELL = 6, CONTAINS_CELLS = 7, DEBUG = 8, DECODE = 9, DENORMALISED = 10,
-      DENORMALISED_LEN = 11, DIFFERENCE = 12, ENCODE = 13, FILE_ANCESTORS = 14, FILE_CELL = 15,
-      FILE_CHECK = 16, FILE_CONTAINS = 17, FILE_CONTAINS_CELL = 18, FILE_CONTAINS_CELLS = 19,
-      FILE_COUNT = 20, FILE_INTERSECTS = 21, FILE_INTERSECTS_CELL = 22, FILE_LEAF_COUNT = 23,
-      FROM_DEBUG = 24, FROM_TOKEN = 25, FROM_TOKENS = 26, INNER = 27, INNER_IN = 28, INNER_OF = 29,
-      INTERSECTION = 30, INTERSECTS = 31, INTERSECTS_CELL = 32, INTERSECTS_CELLS = 33, IS_UNION = 34,
-      LEAF_COUNT = 35, LEVELS = 36, NEXT = 37, NORMALISE = 38, OUTER = 39, OUTER_IN = 40, OUTER_OF = 41,
-      PARENTS = 42, PREV = 43, RANGE = 44, RANGE_MAXES = 45, RANGE_MINS = 46, SYMMETRIC_DIFFERENCE = 47,
-      TOKEN = 48, TOKEN_FIELDS = 49, TOKENS = 50, UNION = 51, UNION_OF_MANY = 52, VERSION = 53;
-  static final int COVER = 54, COVER_WKB = 55, COVER_CIRCLE = 56, COVER_BOX = 57;
-  static final int NEIGHBORS = 58, EXPANDED = 59, EDGE_NEIGHBORS = 60, VERTEX_NEIGHBORS = 61;
-  static final int OUTLINE = 62, BOUNDARY = 63;
-  /** The room that what a call makes is first given, by the lengths of its lists. */
-  private static long roomOf(int call, long n, long m) {
-    switch (call) {
-      case UNION: return n + m;
-      case INTERSECTION: return 2 * Math.min(n, m);
-      case DIFFERENCE: return n + Math.min(n, m) + 90;
-      case SYMMETRIC_DIFFERENCE: return n + m + 90;
-      case COMPLEMENT: return 2 * n + 90;
-      case RANGE: return 184;
-      case ANCESTORS: return 2 * n + 30;
-      case FILE_ANCESTORS: return n / 4 + 30;
-      case OUTER: return 64;
-      case INNER: return 64;
-      case OUTER_IN: return 64;
-      case INNER_IN: return 64;
-      case OUTER_OF: return n;
-      case INNER_OF: return n;
-      case ENCODE: return 8 * n + 9;
-      case DECODE: return n / 8;
-      case TOKENS: return 17 * n;
-      case FROM_TOKENS: return n / 2 + 1;
-      default: throw new Refusal(Refusal.ARGUMENT, 0);
-    }
-  }
+  // numbers: of the calls
 
   private Calls() {}
 

@@ -74,7 +74,8 @@ copying() { # a library that copies lists of more than three elements, and refus
 JNIEXPORT jlong JNICALL Java_Memory_refuse(JNIEnv* env, jclass of, jlong n) { return refuse_memory(n); }
 JNIEXPORT jlong JNICALL Java_Memory_taken(JNIEnv* env, jclass of) { return blocks_taken(); }
 END
-    flags+=(-I"$java/include" -I"$java/include/linux" -I"$top/tests" -I"$work/usr/include") &&
+    flags+=(-I"$java/include" -I"$java/include/linux" -I"$top/tests" -I"$work/usr/include" -I"$work/natives") &&
+    /usr/bin/python3 -B "$top/tools/methods.py" "$work/natives" "$top/bindings/java/calls.h" &&
     gcc "${flags[@]}" "$top/tests/refuse.c" "$work/refuse_java.c" -o "$work/refuse.so" &&
     gcc "${flags[@]}" -DSHORT=3 "$top/bindings/java/s2union.c" "$work/usr/lib/libs2union.a" -lm \
       -o "$work/copying.so"

@@ -23,7 +23,8 @@ need_page
 
 questions() { PYTHONPATH=$top/tests /usr/bin/python3 -B -m model.vectors "$rounds" >"$work/vectors"; }
 step "questions" questions
-step "against the model" node "$tests/vectors.mjs" "$module" "$work/vectors"
+step "its questions" /usr/bin/python3 -B "$top/tools/methods.py" "$work" "$tests/vectors.mjs"
+step "against the model" node "$work/vectors.mjs" "$module" "$work/vectors"
 step "what is refused, and what stays" node "$tests/refusals.mjs" "$module" "$version" "$cells"
 step "the page's own code, without a browser" node "$top/page/tests/page.mjs" "$top"
 heap() {

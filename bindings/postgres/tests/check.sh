@@ -93,9 +93,9 @@ by_jdbc() { # which knows no socket in a folder, so another server listens to th
   local jar=/usr/share/java/postgresql.jar jdk port to=$work/jdbc
   jdk=$(dirname "$(dirname "$(realpath "$(command -v javac)")")")
   port=$(/usr/bin/python3 -c 'import socket; print(socket.create_server(("127.0.0.1", 0)).getsockname()[1])')
-  mkdir -p "$to" && gcc -std=c11 -O2 -fPIC -shared -I"$jdk/include" -I"$jdk/include/linux" -I"$work/usr/include" \
-    "$top/bindings/java/s2union.c" "$work/usr/lib/libs2union.a" -o "$to/libs2union_java.so" &&
-    /usr/bin/python3 -B "$top/tools/methods.py" "$to/sources" "$top"/bindings/java/s2union/*.java &&
+  /usr/bin/python3 -B "$top/tools/methods.py" "$to/sources" "$top"/bindings/java/{s2union/*.java,calls.h} &&
+    gcc -std=c11 -O2 -fPIC -shared -I"$jdk/include" -I"$jdk/include/linux" -I"$work/usr/include" -I"$to/sources" \
+      "$top/bindings/java/s2union.c" "$work/usr/lib/libs2union.a" -o "$to/libs2union_java.so" &&
     javac -d "$to" "$to"/sources/*.java "$top/bindings/java/tests/drivers/Drivers.java" &&
     begun network "listen_addresses = '127.0.0.1'" "port = $port" &&
     PGHOST=127.0.0.1 PGPORT=$port psql -qc "CREATE EXTENSION s2union" &&

@@ -1,0 +1,114 @@
+"""What Java and JavaScript share as to the table of methods: names in camel case, examples, and questions."""
+import ast
+import re
+
+SINCE = 1.1  # the first version with packages for them
+
+
+def camel(name):
+    return re.sub(r"_(.)", lambda it: it[1].upper(), name)
+
+
+def name_of(method, language):
+    """The name of a method: its own one in the language or in both, or that of the call without its class."""
+    own = method.own(language).get("name") or method.row.get("camel")
+    return own or camel(re.sub("^(?:file|cell)_", "", method.call.name))
+
+
+def since(method):
+    return max(SINCE, float(method.said.since or 0))
+
+
+class Expression(ast.NodeVisitor):
+    """An expression of the table, as a language writes it that has words of C for it: `language` is its module."""
+
+    def __init__(self, language, methods):
+        self.language = language
+        self.methods = methods
+
+    def visit_Constant(self, it):
+        if isinstance(it.value, str):
+            return f'"{it.value}"'
+        return str(it.value) if it.value < 2 ** 31 else f"0x{it.value:016x}{self.language.LONG}"
+
+    def visit_List(self, it):
+        return self.language.listed(", ".join(map(self.visit, it.elts)))
+
+    def visit_Tuple(self, it):
+        return ", ".join(map(self.visit, it.elts))
+
+    def visit_Subscript(self, it):
+        return f"{self.visit(it.value)}[{self.visit(it.slice)}]"
+
+    def visit_BinOp(self, it):
+        sign = {ast.LShift: "<<", ast.Sub: "-"}[type(it.op)]
+        left = f"({self.visit(it.left)})" if isinstance(it.left, ast.BinOp) else self.visit(it.left)
+        return f"{left} {sign} {self.visit(it.right)}"
+
+    def visit_Compare(self, it):
+        own = self.visit(it.comparators[0])
+        return self.language.compared(self.visit(it.left), own if isinstance(it.left, ast.Subscript) else
+                                      self.language.long(own))
+
+    def visit_Call(self, it):
+        name = it.func.attr if isinstance(it.func, ast.Attribute) else it.func.id
+        given = ", ".join(self.passed(word, len(it.args) == 1) for word in it.args)
+        if isinstance(it.func, ast.Attribute):
+            own = self.visit(it.func.value)
+            if name == "join":
+                return self.language.JOINED.format(own, given)
+            method = self.methods.get(name)
+            return f"{own}.{name_of(method, self.language.NAME) if method else camel(name)}({given})"
+        if name in self.language.MADE:
+            return self.language.MADE[name].format(given)
+        return self.language.called(self.methods[name], given)
+
+    def passed(self, word, is_alone):
+        """An argument; Java makes an array of a list that others follow."""
+        words = self.visit(word)
+        return words if is_alone or not isinstance(word, ast.List) else self.language.array(words)
+
+
+def example(language, methods, method, indent):
+    """The lines of an example, which is cut before the method if it is too long for one."""
+    own = method.own(language.NAME)
+    text = own.get("example") or language.shown(method, Expression(language, methods).visit(
+        ast.parse(method.example, mode="eval").body))
+    text += f" // {own.get('answer', method.answer)}"
+    if len(indent + text) <= language.WIDTH:
+        return [indent + text]
+    at = text.rfind(f".{name_of(method, language.NAME)}(")
+    return [indent + text[:at], indent + " " * language.CUT + text[at:]]
+
+
+def wrapped_code(methods, language, text):
+    """A text whose words in `..` are told as the language does: the calls among them by the names of their methods."""
+    return re.sub(r"`(.*?)`", lambda it: language.code(
+        name_of(methods[it[1]], language.NAME) if it[1] in methods else it[1]), text.replace("{none}", language.NONE))
+
+
+# ---- the questions of the tests
+
+
+def fields(method):
+    """Each argument with the field of a question that has it, and its place there: each list, cell and rectangle has a
+    field, and other numbers share one, but for a level."""
+    field, shared = -1, 0
+    for it in method.given:
+        if it.name == "most":
+            continue
+        is_number = it.kind == "u32" and it.name != "level"
+        if not (is_number and shared):
+            field, shared = field + 1, 0
+        yield it, field, shared if is_number else None
+        shared += is_number
+
+
+def form_of(method, it):
+    """How a question has an argument."""
+    is_free = method.row.get("static")
+    if not it.is_list:
+        return "cell" if it.kind == "u64" else "number"
+    if it.is_text or it.kind == "u8":
+        return "text" if it.is_text else "bytes" if is_free or not method.is_of_file else "file"
+    return "union" if method.is_of_union and it.name != "cells" and not is_free else "cells"
