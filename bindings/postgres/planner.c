@@ -301,8 +301,7 @@ static double part_of(question* ask, const Sample* x, const Sample* y) {
 
 /* If a column is known and nothing of the other side, that one may be a value like those of the column. A constant says
  * nothing of a column without statistics. */
-static double part_for(PlannerInfo* root, Oid function, List* arguments, int relation) {
-  question* ask = question_of(function);
+static double part_for(PlannerInfo* root, Oid function, question* ask, List* arguments, int relation) {
   if (ask == NULL || list_length(arguments) != 2) return DEFAULT;
   Sample* x = sample_of(root, linitial(arguments), relation, function);
   Sample* y = sample_of(root, lsecond(arguments), relation, function);
@@ -312,16 +311,20 @@ static double part_for(PlannerInfo* root, Oid function, List* arguments, int rel
   return part_of(ask, x, y);
 }
 
-/* The planner asks this for each element of a constant array, of which there may be millions: so it can be cancelled,
- * and no sample stays in memory. */
-static double selectivity(PlannerInfo* root, Oid function, List* arguments, int relation) {
+/* The part for which a question holds of the arguments of a function. The planner asks this for each element of a
+ * constant array, of which there may be millions: so it can be cancelled, and no sample stays in memory. */
+static double part_found(PlannerInfo* root, Oid function, question* ask, List* arguments, int relation) {
   MemoryContext samples = AllocSetContextCreate(CurrentMemoryContext, "s2union samples", ALLOCSET_DEFAULT_SIZES);
   MemoryContext context = MemoryContextSwitchTo(samples);
   CHECK_FOR_INTERRUPTS();
-  double part = part_for(root, function, arguments, relation);
+  double part = part_for(root, function, ask, arguments, relation);
   MemoryContextSwitchTo(context);
   MemoryContextDelete(samples);
   return part;
+}
+
+static double selectivity(PlannerInfo* root, Oid function, List* arguments, int relation) {
+  return part_found(root, function, question_of(function), arguments, relation);
 }
 
 /* The part of the outer rows that have a match among the inner ones, if of all pairs this part matches. It is a power,
@@ -413,6 +416,29 @@ static Expr* compared_with_edge(SupportRequestIndexCondition* request, Expr* lea
   return make_opclause(operator, BOOLOID, false, leaf, at, InvalidOid, InvalidOid);
 }
 
+/* Whether a cell lies between the least leaf of a union and its greatest, and the same with the union first. */
+static int32_t between(const uint64_t* xs, size_t nx, const uint64_t* ys, size_t ny) {
+  if (nx == 0 || ny == 0) return 0;
+  return edge_of(ys, ny, true) <= (int64)xs[0] && (int64)xs[0] <= edge_of(ys, ny, false);
+}
+static int32_t around(const uint64_t* xs, size_t nx, const uint64_t* ys, size_t ny) {
+  return between(ys, ny, xs, nx);
+}
+
+/* Both comparisons, as often as tells the planner which part of the index lies between the edges. It takes each
+ * comparison with a value of another table for a third of the index, and rather reads the table than a ninth of the
+ * index, once there are further conditions. The index drops all comparisons that stand twice. */
+static List* counted(SupportRequestIndexCondition* request, Expr* least, Expr* greatest) {
+  const double of_pair = 1.0 / 9;
+  List* pairs = list_make2(least, greatest);
+  if (!contain_var_clause(lsecond(((OpExpr*)least)->args))) return pairs;
+  question* ask = request->indexarg == 0 ? between : around;
+  double part = part_found(request->root, request->funcid, ask, arguments_of(request->node), 0);
+  for (double so_far = of_pair; so_far / 3 > Max(part, LEAST); so_far *= of_pair)
+    pairs = lappend(lappend(pairs, copyObject(least)), copyObject(greatest));
+  return pairs;
+}
+
 /* A leaf that lies in a union lies between its least leaf and its greatest, which an index of leaves is asked for. So
  * does any cell in it. The rows that are found are looked at. */
 static List* conditions_of_leaves(SupportRequestIndexCondition* request, Expr* indexed, Expr* other) {
@@ -423,7 +449,7 @@ static List* conditions_of_leaves(SupportRequestIndexCondition* request, Expr* i
   Expr* greatest = compared_with_edge(request, indexed, other, BTLessEqualStrategyNumber, "s2union_greatest");
   if (least == NULL || greatest == NULL) return NIL;
   request->lossy = true;
-  return list_make2(least, greatest);
+  return counted(request, least, greatest);
 }
 
 static List* conditions(SupportRequestIndexCondition* request) {

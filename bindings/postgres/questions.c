@@ -38,16 +38,20 @@ FUNCTION(s2union_cell_within, of_asked_and_cell(fcinfo, s2u_contains_cell, 1, 0)
 FUNCTION(s2union_intersects_cell, of_asked_and_cell(fcinfo, s2u_intersects_cell, 0, 1))
 FUNCTION(s2union_cell_intersects, of_asked_and_cell(fcinfo, s2u_intersects_cell, 1, 0))
 
-/* The least or the greatest leaf of a union in SQL's order, in which faces 4 and 5 come first; NULL if it has none. An
- * index of leaves is asked for what lies between them. */
+int64 edge_of(const uint64_t* cells, size_t n, bool least) {
+  int64 found = (int64)cells[0];
+  for (size_t k = 0; k < n; k++) {
+    int64 leaf = (int64)(least ? s2u_range_min(cells[k]) : s2u_range_max(cells[k]));
+    if (least ? leaf < found : leaf > found) found = leaf;
+  }
+  return found;
+}
+
+/* NULL if the union has no cell. */
 static Datum edge(FunctionCallInfo fcinfo, bool least) {
   S2Union* region = ARGUMENT(0);
   size_t n = count_of(region);
-  int64 found = n == 0 ? 0 : (int64)region->cells[0];
-  for (size_t k = 0; k < n; k++) {
-    int64 leaf = (int64)(least ? s2u_range_min(region->cells[k]) : s2u_range_max(region->cells[k]));
-    if (least ? leaf < found : leaf > found) found = leaf;
-  }
+  int64 found = n == 0 ? 0 : edge_of(LIST(region), least);
   PG_FREE_IF_COPY(region, 0);
   if (n == 0) PG_RETURN_NULL();
   PG_RETURN_INT64(found);

@@ -126,6 +126,10 @@ S2Union* s2union_of_cell(int64 cell);
 /* An answer of the library by yes or no, or its error. */
 Datum answer(int32_t status);
 
+/* The least or the greatest leaf of one cell or more, in SQL's order, in which faces 4 and 5 come first. An index of
+ * leaves is asked for what lies between them. */
+int64 edge_of(const uint64_t* cells, size_t n, bool least);
+
 /* Argument k, a cell in SQL's bigint; the cell that a text names. */
 uint64_t cell_argument(FunctionCallInfo fcinfo, int k);
 uint64_t cell_named(const text* word);

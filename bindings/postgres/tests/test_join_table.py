@@ -465,6 +465,31 @@ class InStep(Joined):
         self.assertGreater(int(ask("SELECT count(*) FROM maps.plain")[0]), 3)
 
 
+class PointsOfAZone(Joined):
+    def test_an_index_of_leaves_is_used_whatever_else_is_asked(self):
+        """And finds what plain comparisons find, of each of some zones."""
+        ask("""
+            CREATE TABLE maps.zones (id int PRIMARY KEY, x float8, y float8,
+                shape bytea GENERATED ALWAYS AS (public.rectangle(x, y)) STORED);
+            INSERT INTO maps.zones SELECT k, k * 17 % 350 - 175.3, k * 7 % 140 - 70.6
+                FROM generate_series(1, 2000) AS k;
+            CREATE TABLE maps.points AS SELECT k AS id, k % 10 AS kind, k * 0.61803398875 % 1 * 360::float8 - 180 AS x,
+                k * 0.0009::float8 - 90 AS y FROM generate_series(1, 200000) AS k;
+            SELECT s2_join_table('maps.zones', 'shape'); CREATE INDEX leaves ON maps.points (s2_leaf_at(x, y)); ANALYZE;
+        """)
+        asked = "SELECT z.id, p.id FROM maps.points p, maps.zones_at(p.x, p.y) z WHERE z.id {}"
+        for more in "", " AND kind = 3", " AND kind = 3 AND p.id > 100 AND p.x < 170":
+            plan = "\n".join(ask("SET max_parallel_workers_per_gather = 0; EXPLAIN " + asked.format("= 7") + more))
+            self.assertRegex(plan, "(on|using) leaves ")
+            self.assertNotIn("Seq Scan on points", plan)
+        places = "p.x BETWEEN z.x AND z.x + 1 AND p.y BETWEEN z.y AND z.y + 1"
+        plain = ask("SELECT z.id, p.id FROM maps.zones z, maps.points p WHERE z.id % 40 = 0 AND"
+                    f" {places} ORDER BY 1, 2")
+        found = ask(";".join(asked.format(f"= {zone} ORDER BY 2") for zone in range(40, 2001, 40)))
+        self.assertGreater(len(plain), 100)
+        self.assertEqual(found, plain)
+
+
 class TakesNothing(Joined):
     def test_functions_and_tables_of_the_user(self):
         for own, said in (

@@ -1051,6 +1051,9 @@ class Planner(Tests):
         """)
         self.assertEqual(self.expected(self.plan("SELECT * FROM nulls WHERE region && '1'")), 1)
         self.assertEqual(self.expected(self.plan("SELECT * FROM one WHERE region && '1'")), 1)
+        psql(VISITS)
+        plan = self.plan("SELECT * FROM nulls, visits WHERE leaf <@ region", "SET enable_seqscan = off;")
+        self.assertEqual(plan.count("s2union_least"), 4)  # as for the least part that is estimated
 
     def test_functions_that_are_renamed_keep_their_estimates_and_their_indexes(self):
         psql(VISITS)
@@ -1084,6 +1087,48 @@ class Planner(Tests):
             """)).split("\nand then\n")
             self.assertIn("Index Cond", plans[0])
             self.assertEqual(plans[1:], plans[:1] * 2)
+
+    def test_a_join_with_leaves_uses_their_index_whatever_else_is_asked(self):
+        """The planner knows no edge of a region that another table has, and would read the table for each further
+        condition. All faces have leaves, one row none, and some larger cells; and what is found is what a plain join of
+        all pairs finds. Regions are empty, NULL, and of parts on two faces; cells are of any level."""
+        psql("""
+            SET client_min_messages = error;
+            DROP TABLE IF EXISTS seen, areas, parts;
+            CREATE TABLE seen AS SELECT k AS id, k % 10 AS kind, CASE WHEN k % 5000 > 0 THEN
+                s2_parent(s2_leaf(k % 6, k * 7919 % 99991 * 10700, k * 33013 % 99989 * 10700),
+                    CASE WHEN k % 100 = 0 THEN 24 ELSE 30 END) END AS leaf FROM generate_series(1, 60000) AS k;
+            CREATE INDEX ON seen (leaf);
+            CREATE TABLE areas AS SELECT k AS id, CASE WHEN k % 50 > 0 THEN s2_outer(k % 6, k * 800000,
+                k * 800000 + 9000000, k * 700000, k * 700000 + 8000000, 8) END AS region
+                FROM generate_series(1, 1200) AS k;
+            INSERT INTO areas VALUES (0, ''), (-1, '1001 b001'), (-2, '7 9');
+            CREATE TABLE parts AS SELECT id, cell FROM areas, unnest(region) AS cell;
+            ANALYZE seen; ANALYZE areas; ANALYZE parts;
+        """)
+        regions = "leaf <@ region", "region @> leaf", "s2_within(leaf, region)", "s2_contains(region, leaf)"
+        cells = "s2_within(leaf, cell)", "s2_contains(cell, leaf)", "leaf <@ cell::s2union"
+        unnested = "(SELECT id, unnest(region) AS cell FROM areas)"
+        for table, asked in (("areas", regions), ("parts", cells), (unnested, cells)):
+            for condition in asked:
+                pairs = f"FROM seen s, {table} a WHERE {condition}"
+                few = f"SELECT s.id, a.id {pairs} AND a.id BETWEEN 40 AND 42"
+                for more in "", "AND kind = 3", "AND kind = 3 AND s.id > 7":
+                    plan = self.plan(f"{few} {more}")
+                    self.assertIn("seen_leaf_idx", plan, (few, more))
+                    self.assertNotIn("Seq Scan on seen", plan, (few, more))
+                plain = psql(f"SET enable_indexscan = off; SET enable_bitmapscan = off; {few} ORDER BY 1, 2")
+                self.assertGreater(len(plain), 3, few)
+                self.assertEqual(psql(f"{few} ORDER BY 1, 2"), plain)
+                whole = f"SELECT count(*), sum(s.id * 7 + a.id) {pairs} AND a.id % 20 < 1"
+                self.assertEqual(psql(f"SET enable_seqscan = off; {whole}"),
+                                 psql(f"SET enable_indexscan = off; SET enable_bitmapscan = off; {whole}"))
+        far = self.plan("SELECT FROM seen, areas a WHERE leaf <@ region AND kind = 3 AND a.id = -2", "DELETE FROM areas"
+                        " WHERE id > -2; ANALYZE areas;")
+        self.assertEqual(far.count("s2union_least"), 1)  # from the one face to the other lies a third of the index
+        for cell in 2, 0:
+            with self.assertRaisesRegex(AssertionError, f"not a cell: {cell}"):
+                psql(f"SELECT FROM seen, (VALUES ({cell}::bigint)) AS c (cell) WHERE s2_within(leaf, cell)")
 
     def test_an_operator_of_other_types_that_is_estimated_as_ours_are(self):
         def plan(kind, constant, function="LANGUAGE c AS 's2union', 's2union_contains'"):
