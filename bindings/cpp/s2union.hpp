@@ -305,18 +305,43 @@ MadeOf<X> made_as(CellsOf<X>&& cells) {
   }
 }
 
+/// Whether all leaves of one cell come before those of another.
+inline bool comes_before(uint64_t cell, uint64_t other) {
+  return cell < other && s2u_range_max(cell) < s2u_range_min(other);
+}
+
+/// Whether all leaves of one union come before those of the other, so that they share none. It looks at four cells.
+template <class Id>
+bool lie_apart(const std::vector<Id>& xs, const std::vector<Id>& ys) {
+  if (xs.empty() || ys.empty()) return true;
+  const uint64_t *x = numbers(xs), *y = numbers(ys);
+  return comes_before(x[xs.size() - 1], y[0]) || comes_before(y[ys.size() - 1], x[0]);
+}
+
+/// The result of an operation on two unions that lie apart: it has to be asked for, is empty, or is the first.
+enum class Apart { kAsked, kEmpty, kFirst };
+
+/// The list that a call makes of those of two unions. What is known at once takes no memory but its own.
+template <class Id, class Call>
+int32_t made_of_lists(Call call, size_t most, const std::vector<Id>& xs, const std::vector<Id>& ys, Apart apart,
+                      std::vector<Id>* made) {
+  if (apart != Apart::kAsked && lie_apart(xs, ys)) {
+    return apart == Apart::kFirst ? copied(numbers(xs), xs.size(), made) : S2U_OK;
+  }
+  return listed(most, made, [&](uint64_t* out, size_t room, size_t* len) {
+    return call(numbers(xs), xs.size(), numbers(ys), ys.size(), out, room, len);
+  });
+}
+
 /// The list that a call makes of two, each a list or a union.
 template <class Call, class X, class Y>
-CellsOf<X> made_of(Call call, size_t most(size_t, size_t), const X& x, const Y& y, int32_t* status) {
+CellsOf<X> made_of(Call call, size_t most(size_t, size_t), const X& x, const Y& y, int32_t* status,
+                   Apart apart = Apart::kAsked) {
   static_assert(std::is_same_v<CellsOf<X>, CellsOf<Y>>, "both have cells of one type");
   CellsOf<X> made;
   const CellsOf<X>&xs = list_of(x), &ys = list_of(y);
   int32_t found = checked(x) == S2U_OK ? checked(y) : S2U_NO_UNION;
-  if (found == S2U_OK) {
-    found = listed(most(xs.size(), ys.size()), &made, [&](uint64_t* out, size_t room, size_t* len) {
-      return call(numbers(xs), xs.size(), numbers(ys), ys.size(), out, room, len);
-    });
-  }
+  if (found == S2U_OK) found = made_of_lists(call, most(xs.size(), ys.size()), xs, ys, apart, &made);
   succeeded(found, status);
   return made;
 }
@@ -625,7 +650,7 @@ class CellUnionOf {
   /// The leaves that both have. S2U_MEMORY. @since 0.1
   /// @snippet examples.cc Intersection
   CellUnionOf Intersection(const CellUnionOf& y, int32_t* status = nullptr) const {
-    return Both(s2u_intersection, internal::rooms::of_intersection, y, status);
+    return Both(s2u_intersection, internal::rooms::of_intersection, y, status, internal::Apart::kEmpty);
   }
   /// The leaves of the cell that the union has. S2U_NO_CELL. log n steps, and one for each cell of the result.
   /// @since 0.1
@@ -647,7 +672,7 @@ class CellUnionOf {
   /// The leaves that y doesn't have. S2U_MEMORY. @since 0.1
   /// @snippet examples.cc Difference
   CellUnionOf Difference(const CellUnionOf& y, int32_t* status = nullptr) const {
-    return Both(s2u_difference, internal::rooms::of_difference, y, status);
+    return Both(s2u_difference, internal::rooms::of_difference, y, status, internal::Apart::kFirst);
   }
 
   /// The leaves that exactly one of them has. S2U_MEMORY. @since 1.1
@@ -905,7 +930,8 @@ class CellUnionOf {
   static void GetIntersection(const std::vector<Id>& x, const std::vector<Id>& y, std::vector<Id>* out,
                               int32_t* status = nullptr) {
     int32_t found = S2U_OK;
-    std::vector<Id> cells = internal::made_of(s2u_intersection, internal::rooms::of_intersection, x, y, &found);
+    std::vector<Id> cells = internal::made_of(s2u_intersection, internal::rooms::of_intersection, x, y, &found,
+                                              internal::Apart::kEmpty);
     if (internal::succeeded(found, status)) *out = std::move(cells);
   }
 
@@ -950,9 +976,10 @@ class CellUnionOf {
   }
 
   template <class Call>
-  CellUnionOf Both(Call call, size_t room(size_t, size_t), const CellUnionOf& y, int32_t* status) const {
+  CellUnionOf Both(Call call, size_t room(size_t, size_t), const CellUnionOf& y, int32_t* status,
+                   internal::Apart apart = internal::Apart::kAsked) const {
     CellUnionOf made;
-    made.cell_ids_ = internal::made_of(call, room, *this, y, status);
+    made.cell_ids_ = internal::made_of(call, room, *this, y, status, apart);
     return made;
   }
 
@@ -1150,13 +1177,15 @@ internal::MadeOf<X> Union(const X& x, const Y& y, int32_t* status = nullptr) {
 /// @snippet examples.cc Intersection of lists
 template <class X, class Y>
 internal::MadeOf<X> Intersection(const X& x, const Y& y, int32_t* status = nullptr) {
-  return internal::made_as<X>(internal::made_of(s2u_intersection, internal::rooms::of_intersection, x, y, status));
+  return internal::made_as<X>(internal::made_of(s2u_intersection, internal::rooms::of_intersection, x, y, status,
+                                                internal::Apart::kEmpty));
 }
 /// The leaves of x that y doesn't have. S2U_NO_UNION, S2U_MEMORY. @since 1.4
 /// @snippet examples.cc Difference of lists
 template <class X, class Y>
 internal::MadeOf<X> Difference(const X& x, const Y& y, int32_t* status = nullptr) {
-  return internal::made_as<X>(internal::made_of(s2u_difference, internal::rooms::of_difference, x, y, status));
+  return internal::made_as<X>(
+      internal::made_of(s2u_difference, internal::rooms::of_difference, x, y, status, internal::Apart::kFirst));
 }
 /// The leaves that exactly one of them has. S2U_NO_UNION, S2U_MEMORY. @since 1.4
 /// @snippet examples.cc SymmetricDifference of lists

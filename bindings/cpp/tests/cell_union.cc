@@ -214,6 +214,8 @@ static void unions() {
   REFUSES(S2U_MEMORY, two.Intersection(face, status));
   REFUSES(S2U_MEMORY, two.Intersection(Id(kFace), status));
   REFUSES(S2U_MEMORY, face.Difference(two, status));
+  REFUSES(S2U_MEMORY, two.Difference(rest, status));
+  REFUSES(S2U_OK, two.Intersection(rest, status));  // they lie apart, and what they share takes no memory
   REFUSES(S2U_MEMORY, two.SymmetricDifference(face, status));
   REFUSES(S2U_MEMORY, two.Complement(status));
   REFUSES(S2U_MEMORY, two.ContainsCells(two.cell_ids(), status));
@@ -439,6 +441,40 @@ static void orders(const std::vector<uint64_t>& list) {
   }
 }
 
+/// Two unions in either order: what they share and what one has alone is what the calls of s2union.h make.
+static void of_two(const std::vector<uint64_t>& xs, const std::vector<uint64_t>& ys) {
+  using s2union::CellUnion;
+  uint64_t out[4000];
+  size_t len = 0;
+  auto is_out = [&](const std::vector<uint64_t>& made) { return made == std::vector<uint64_t>(out, out + len); };
+  const CellUnion x(xs), y(ys);
+  std::vector<uint64_t> shared = {7};
+  CHECK(s2u_intersection(xs.data(), xs.size(), ys.data(), ys.size(), out, 4000, &len) == S2U_OK);
+  CHECK(is_out(x.Intersection(y).cell_ids()) && is_out(y.Intersection(x).cell_ids()));
+  CHECK(is_out(s2union::Intersection(xs, y)) && is_out(s2union::Intersection(y, xs)));
+  CellUnion::GetIntersection(xs, ys, &shared);
+  CHECK(is_out(shared));
+  CHECK(s2u_difference(xs.data(), xs.size(), ys.data(), ys.size(), out, 4000, &len) == S2U_OK);
+  CHECK(is_out(x.Difference(y).cell_ids()) && is_out(s2union::Difference(xs, ys)));
+  CHECK(s2u_difference(ys.data(), ys.size(), xs.data(), xs.size(), out, 4000, &len) == S2U_OK);
+  CHECK(is_out(y.Difference(x).cell_ids()) && is_out(s2union::Difference(ys, x)));
+}
+
+/// A union cut in two at each place: the parts lie apart, side by side perhaps, or share a child of the cell there.
+static void unions_that_lie_apart(const std::vector<uint64_t>& list) {
+  for (size_t cut = 0; cut <= list.size(); cut++) {
+    const auto at = list.begin() + static_cast<ptrdiff_t>(cut);
+    std::vector<uint64_t> head(list.begin(), at), tail(at, list.end());
+    of_two(head, tail);
+    if (head.empty() || s2u_level(head.back()) == 30) continue;
+    for (uint32_t child : {0u, 3u}) {
+      tail.insert(tail.begin(), s2u_child(head.back(), child));
+      of_two(head, tail);
+      tail.erase(tail.begin());
+    }
+  }
+}
+
 /// Random unions: what the methods answer is what the calls of s2union.h do.
 static void random_unions() {
   using s2union::CellUnion;
@@ -457,6 +493,7 @@ static void random_unions() {
     CHECK(s2u_contains(xs, nx, ys, ny) == x.Contains(y) && s2u_intersects(xs, nx, ys, ny) == x.Intersects(y));
     orders(x.cell_ids());
     order(x.cell_ids(), y.cell_ids());
+    if (round % 20 == 0) unions_that_lie_apart(x.cell_ids());
     CHECK((x == y) == (x.cell_ids() == y.cell_ids()));
     uint64_t cell = random_cell(0, 8, 6);
     CHECK(s2u_intersection(xs, nx, &cell, 1, out, 4000, &len) == S2U_OK && is_out(x.Intersection(cell)));
