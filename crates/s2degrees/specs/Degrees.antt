@@ -58,6 +58,11 @@ abbrev pub IsQuarterCosine : ℕ → ℕ → ℕ → Type 0
 IsQuarterCosine angle p d =
     ((angle ≤ eighth) × IsCosineSum angle p d) ⊎ ((eighth < angle) × IsSineSum (quarter - angle) p d)
 
+-- a sum of the sine of an angle of at most 90 degrees by either series: at 45 degrees both serve
+abbrev pub IsEitherSine : ℕ → ℕ → ℕ → Type 0
+IsEitherSine angle p d =
+    ((angle ≤ eighth) × IsSineSum angle p d) ⊎ ((eighth ≤ angle) × IsCosineSum (quarter - angle) p d)
+
 -- the sine of an angle that is `rest` beyond the beginning of quarter `q` of the circle: in quarter 0 that of the rest,
 -- in quarter 1 its cosine, and two quarters on the same with the other sign
 abbrev pub IsSineIn : ℕ → ℕ → ℤ → ℕ → Type 0

@@ -1,3 +1,4 @@
 -- What only private contracts and proofs need.
 pub mod Digits
 pub mod Near
+pub mod Numbers

@@ -17,7 +17,7 @@ pub(crate) const QUARTER: u64 = 90_000_000_000_000_000;
 const TURN: i64 = 360_000_000_000_000_000;
 
 /// The sine of an angle of at most 90 degrees.
-fn quarter_sine(angle: u64) -> u64
+pub(crate) fn quarter_sine(angle: u64) -> u64
     requires { angle ≤ quarter }
     ensures small { result ≤ 2 ^ 62 }
     ensures large { eighth < angle → 2 ^ 61 ≤ result }

@@ -6,6 +6,7 @@
 #![tactic(auto)]
 
 mod angle;
+mod bounds;
 mod decimal;
 mod direction;
 mod double;
@@ -13,8 +14,11 @@ mod fault;
 pub mod laws;
 mod series;
 mod signed;
+mod tangent;
 
+pub use bounds::{sine_at_least, sine_at_most};
 pub use decimal::femtodegrees_of_text;
 pub use direction::{direction_at, direction_of};
 pub use double::femtodegrees_of;
 pub use fault::{DegreesFault, NumberFault, TextFault};
+pub use tangent::{angle_at_least, angle_at_most};

@@ -1,12 +1,12 @@
 //! Sine and cosine of an angle of at most 45 degrees, by their series. A number of 62 places is a whole number that
 //! stands for itself over 2^62.
-ghost use Rattle.std.specs.Prelude.{◌≡◌, ◌≤◌, ◌<◌, ◌+◌, ◌*◌, ◌/◌, ◌^◌, ℕ, suc};
-ghost use Rattle.s2degrees.specs.Degrees.{IsCosineSum, IsRadians, IsSineSum, eighth};
-ghost use Rattle.s2degrees.specs.Series.{over, under};
+ghost use Rattle.std.specs.Prelude.{◌≡◌, ◌≤◌, ◌<◌, ◌+◌, ◌*◌, ◌/◌, ◌^◌, ℕ};
+ghost use Rattle.s2degrees.specs.Degrees.{IsCosineSum, IsSineSum, eighth};
 ghost use Rattle.s2degrees.specs.Working.Near.{IsNear};
+ghost use Rattle.s2degrees.specs.Working.Numbers.{cosine_number, radians_number, sine_number, step_number};
 
 /// 1, as a number of 62 places.
-const ONE: u64 = 1 << 62;
+pub(crate) const ONE: u64 = 1 << 62;
 
 /// Radians of a femtodegree, as a number of 122 places.
 const RADIAN: u128 = 92797620144528363529;
@@ -29,10 +29,9 @@ fn step(q: u64, y: u64, k: u64) -> u64
     requires y { y ≤ 2 ^ 62 }
     requires k { 0 < k }
     requires few { k < 1000 }
+    ensures exact { result ≡ step_number q y k }
     ensures small { result ≤ 2 ^ 62 }
     ensures large { 2 ^ 61 ≤ result }
-    ensures near { (c p d e g m : ℕ) → p ≤ d → IsNear c q p d → IsNear e y (over p d (k + 2) m) (under d (k + 2) m)
-        → c + e + k * (k + 1) ≤ g * (k * (k + 1)) → IsNear g result (over p d k (suc m)) (under d k (suc m)) }
 {
     ONE - product(q, y) / (k * (k + 1))
 }
@@ -40,8 +39,8 @@ fn step(q: u64, y: u64, k: u64) -> u64
 /// Radians of an angle.
 fn radians(angle: u64) -> u64
     requires { angle ≤ eighth }
+    ensures exact { result ≡ radians_number angle }
     ensures small { result ≤ 2 ^ 62 }
-    ensures near { (s t : ℕ) → IsRadians angle s t → IsNear 2 result s t }
 {
     ((angle as u128 * RADIAN) >> 60) as u64
 }
@@ -49,6 +48,7 @@ fn radians(angle: u64) -> u64
 /// The sine of an angle of at most 45 degrees.
 pub(crate) fn sine(angle: u64) -> u64
     requires { angle ≤ eighth }
+    ensures exact { result ≡ sine_number angle }
     ensures small { result ≤ 2 ^ 62 }
     ensures near { (p d : ℕ) → IsSineSum angle p d → (p ≤ d) × IsNear 13000 result p d }
 {
@@ -66,6 +66,7 @@ pub(crate) fn sine(angle: u64) -> u64
 /// The cosine of an angle of at most 45 degrees.
 pub(crate) fn cosine(angle: u64) -> u64
     requires { angle ≤ eighth }
+    ensures exact { result ≡ cosine_number angle }
     ensures small { result ≤ 2 ^ 62 }
     ensures large { 2 ^ 61 ≤ result }
     ensures near { (p d : ℕ) → IsCosineSum angle p d → (p ≤ d) × IsNear 13000 result p d }
