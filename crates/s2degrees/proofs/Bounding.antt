@@ -177,7 +177,7 @@ at_most_one m r p d e h k = elim (cases_lt (2 ^ 62) r) [
 ]
 
 -- ---- angles by their tangents
-some_under : (x p d : ℕ) → IsEitherSine x p d → 1 ≤ d
+pub some_under : (x p d : ℕ) → IsEitherSine x p d → 1 ≤ d
 some_under x p d (inl i) =
     let s = i.1 in
     let some = s.radians.some in

@@ -1,8 +1,8 @@
-mod Bounding
+pub mod Bounding
 mod Decimals
 mod Doubles
 mod Numbers
-mod Rising
-mod Signs
-mod Steps
+pub mod Rising
+pub mod Signs
+pub mod Steps
 mod Sums

@@ -1,9 +1,12 @@
 mod Answers
 mod Boxes
 mod Corners
+mod Folding
 mod Meanings
+mod Octants
 mod Passing
 mod Products
 mod Ringing
 mod Shapes
+mod Sides
 mod Sizes

@@ -1,4 +1,5 @@
 pub mod Boxes
+pub mod Cells
 pub mod Edges
 pub mod Examples
 pub mod Map

@@ -5,6 +5,8 @@
 //! turn of 360 degrees, are odd in number: a sign of a difference of two products for each edge. Nothing is rounded.
 #![tactic(auto)]
 
+mod angles;
+mod cells;
 mod edge;
 mod fault;
 pub mod laws;
