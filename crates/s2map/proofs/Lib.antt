@@ -1,6 +1,7 @@
 mod Answers
 mod Boxes
 mod Corners
+mod Coverings
 mod Folding
 mod Meanings
 mod Octants
@@ -10,3 +11,4 @@ mod Ringing
 mod Shapes
 mod Sides
 mod Sizes
+mod Turns

@@ -1,5 +1,7 @@
 -- Which places of the map lie in a leaf.
 use Rattle.std.specs.Prelude.{◌≡◌, ℕ, ◌*◌, ◌/◌, ◌^◌, ◌<◌, ◌⊎◌, ℤ, pos, neg_ℤ, ◌*ℤ◌, ◌≤ℤ◌, ◌<ℤ◌, unsigned_abs}
+use Rattle.std.specs.Prelude.{All, List, false, true}
+use Rattle.s2cell.specs.Cell.{covers, level_of}
 use Rattle.s2cell.specs.Curve.{i_of, j_of}
 use Rattle.s2cell.specs.declared.TheConstants.{LEAVES}
 use Rattle.s2degrees.specs.Degrees.{IsCosine, IsSine, quarter}
@@ -7,10 +9,13 @@ use Rattle.s2polygon.specs.Cells.{square}
 use Rattle.s2polygon.specs.Directions.{Point}
 use Rattle.s2polygon.specs.Frames.{in_frame}
 use Rattle.s2polygon.specs.Meets.{InSquare}
-use Rattle.s2map.specs.Boxes.{InBox}
-use Rattle.s2map.specs.Map.{place_turned}
+use Rattle.s2map.specs.Boxes.{InBox, part_of}
+use Rattle.s2map.specs.Map.{inside, place_turned}
 use Rattle.s2map.specs.declared.place.MapBox.{MapBox}
+use Rattle.s2map.specs.declared.place.MapEdge.{MapEdge}
 use Rattle.s2map.specs.declared.place.Place.{Place}
+use Rattle.s2map.specs.declared.shape.BoxPart.{BoxPart}
+use Rattle.s2map.specs.declared.shape.BoxPart.TheVariants.{Met}
 
 -- the sine of the angle is s / d and its cosine c / d, by a sum of each
 pub record HasSides (angle s c : ℤ) (d : ℕ) : Type 0 where
@@ -55,3 +60,23 @@ pub record IsProperPlace (p : Place) : Type 0 where
 -- the place, or it a turn farther east, lies in the box
 abbrev pub InBoxOnTurn : MapBox → Place → Type 0
 InBoxOnTurn q p = InBox q p ⊎ InBox q (place_turned (pos 1) p)
+
+-- the box has each place that a leaf of the cell `c` holds
+abbrev pub IsBoxOf : ℕ → MapBox → Type 0
+IsBoxOf c q = (n : ℕ) (p : Place) → covers c n ≡ true → IsProperPlace p → HoldsPlace n p → InBoxOnTurn q p
+
+-- all places that the leaf `n` holds lie inside the shape
+abbrev pub LeafInside : List (List MapEdge) → ℕ → Type 0
+LeafInside shape n = (p : Place) → IsProperPlace p → HoldsPlace n p → inside shape p ≡ true
+
+-- none of them does
+abbrev pub LeafOutside : List (List MapEdge) → ℕ → Type 0
+LeafOutside shape n = (p : Place) → IsProperPlace p → HoldsPlace n p → inside shape p ≡ false
+
+-- the cell `c` lies relative to the shape as a box of it does
+abbrev pub IsPartOfCell : List (List MapEdge) → ℕ → BoxPart → Type 0
+IsPartOfCell shape c part = (q : MapBox) × IsBoxOf c q × (part ≡ part_of shape q)
+
+-- the cells `u` are of level `k`, and an edge meets a box of each, which no part has whole inside
+abbrev pub AreMet : List (List MapEdge) → ℕ → List ℕ → Type 0
+AreMet shape k u = All (λ c. (level_of c ≡ k) × IsPartOfCell shape c Met) u

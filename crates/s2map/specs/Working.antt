@@ -1,4 +1,5 @@
 -- What only private contracts and proofs need.
+pub mod Covering
 pub mod Even
 pub mod Octants
 pub mod Parts

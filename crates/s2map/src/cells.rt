@@ -1,10 +1,9 @@
 //! Boxes of cells.
-ghost use Rattle.std.specs.Prelude.{◌≡◌, ◌+◌, ◌-◌, ◌*◌, ◌^◌, ◌≤◌, ◌<◌, IfSome, ℕ, true};
-ghost use Rattle.s2cell.specs.Cell.{covers};
+ghost use Rattle.std.specs.Prelude.{◌≡◌, ◌+◌, ◌-◌, ◌*◌, ◌^◌, ◌≤◌, ◌<◌, IfSome};
 ghost use Rattle.s2degrees.specs.Degrees.{quarter};
 ghost use Rattle.s2polygon.specs.Directions.{Point};
 ghost use Rattle.s2map.specs.Boxes.{IsBox};
-ghost use Rattle.s2map.specs.Cells.{HasDirection, HoldsPlace, InBoxOnTurn, IsProperPlace};
+ghost use Rattle.s2map.specs.Cells.{HasDirection, InBoxOnTurn, IsBoxOf, IsProperPlace};
 ghost use Rattle.s2map.specs.Working.Octants.{AreAngles, IsAngleSpan, IsInOctant, IsRangeOf, IsSeen, IsSideOf, IsSpan};
 ghost use Rattle.s2map.specs.Working.Octants.{whole};
 ghost use Rattle.s2map.specs.declared.place.Place.{Place};
@@ -197,15 +196,13 @@ fn map() -> MapBox
 
 impl MapBox {
     /// The box of a cell: each place of the map that a leaf of the cell holds lies in it, on this turn or on the next.
-    /// Its longitudes go from -180 to 180 degrees, and its latitudes end a femtodegree below the poles.
     ///
     /// Of a face it is the whole map. Of a smaller cell it is at most some 3,000 femtodegrees, a third of a micrometer,
     /// wider on each side than the cell's own longitudes and latitudes. It takes the time of up to some 30 sines.
     /// S2: `S2Cell::GetRectBound`, in floating point.
     pub fn of_cell(cell: CellId) -> MapBox
         ensures bounds { IsBox result }
-        ensures all { (n : ℕ) (p : Place) → covers cell n ≡ true → IsProperPlace p → HoldsPlace n p
-            → InBoxOnTurn result p }
+        ensures all { IsBoxOf cell result }
     {
         let square = cell.square();
         let Some(u) = side_of(square.i, square.size) else {

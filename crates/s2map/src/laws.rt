@@ -1,7 +1,7 @@
 //! Laws about the definitions themselves: functions that do nothing, whose clauses are proved.
-ghost use Rattle.std.specs.Prelude.{◌≡◌, ◌<◌, ◌<ℤ◌, ℤ, false, neg_ℤ, pos, true, unsigned_abs};
+ghost use Rattle.std.specs.Prelude.{◌≡◌, ◌<◌, ◌<ℤ◌, All, List, ℤ, false, neg_ℤ, pos, true, unsigned_abs};
 ghost use Rattle.s2map.specs.Boxes.{InBox, meets};
-ghost use Rattle.s2map.specs.Map.{IsMapEdge, IsMapPlace, passes_north, turned};
+ghost use Rattle.s2map.specs.Map.{IsMapEdge, IsMapPlace, inside, passes_north, place_turned, turned};
 ghost use Rattle.s2map.specs.Edges.{LiesOn};
 ghost use Rattle.s2map.specs.Examples.{degrees, inside_cap, inside_dateline, inside_slant, inside_square};
 ghost use Rattle.s2map.specs.declared.place.MapBox.{MapBox};
@@ -46,4 +46,10 @@ pub fn known_places()
     ensures in_cap { inside_cap (degrees (pos 0) (pos 85)) ≡ true }
     ensures in_cap_at_date_line { inside_cap (degrees (neg_ℤ (pos 180)) (pos 85)) ≡ true }
     ensures south_of_cap { inside_cap (degrees (pos 0) (pos 75)) ≡ false }
+{}
+
+/// Places a turn apart are one place: both lie inside a shape, or neither does. The parts are those of closed rings.
+pub fn law_of_places_turned()
+    ensures { (shape : List (List MapEdge)) (p : Place) → All (All IsMapEdge) shape → IsMapPlace p
+        → IsMapPlace (place_turned (pos 1) p) → inside shape (place_turned (pos 1) p) ≡ inside shape p }
 {}

@@ -7,6 +7,7 @@
 
 mod angles;
 mod cells;
+mod covering;
 mod edge;
 mod fault;
 pub mod laws;
@@ -15,6 +16,7 @@ mod part;
 mod place;
 mod shape;
 
+pub use covering::MapCovering;
 pub use fault::MapFault;
 pub use part::MapPart;
 pub use place::{MapBox, MapEdge, Place};

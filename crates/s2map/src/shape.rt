@@ -1,7 +1,8 @@
 //! Shapes: which places lie inside, and how boxes lie.
-ghost use Rattle.std.specs.Prelude.{◌≡◌, ◌++◌, [], ◌∷◌, IfErr, IfOk, OnErr, OnOk, false, true};
+ghost use Rattle.std.specs.Prelude.{◌≡◌, ◌++◌, [], ◌∷◌, All, IfErr, IfOk, OnErr, OnOk, false, true};
 ghost use Rattle.s2map.specs.Boxes.{InBox, IsBox, part_of};
 ghost use Rattle.s2map.specs.Map.{IsMapPlace, inside};
+ghost use Rattle.s2map.specs.Working.Even.{IsPart};
 ghost use Rattle.s2map.specs.declared.fault.MapFault.TheVariants.{OutOfRange, WrongBox};
 ghost use Rattle.s2map.specs.declared.place.Place.{Place};
 
@@ -83,6 +84,13 @@ impl MapShape {
         MapShape {
             parts: Vec::new(alloc),
         }
+    }
+
+    /// Does nothing: the parts are those of closed rings.
+    pub(crate) fn are_parts(&self)
+        ensures { All IsPart self.now }
+    {
+        let _ = &self.parts;
     }
 
     /// Adds a part. Fails only if there is no memory for it, and then the shape stays as it was.

@@ -1,0 +1,11 @@
+use Rattle.std.proofs.Common.{◌-◌}
+use Rattle.s2cell.specs.Cell.{level_of}
+use Rattle.s2map.proofs.Coverings.{Visited}
+use Rattle.s2map.proofs.covering.+visit.Given as goal
+
+abbrev pub decreases-visit : goal.decreases-visit
+decreases-visit l = 30 - level_of l.cell
+
+abbrev pub invariant-loop-digit : goal.invariant-loop-digit
+invariant-loop-digit l =
+    Visited l.shape l.level l.cell l.digit l.fn.met.items l.fn.within.items l.met.items l.within.items

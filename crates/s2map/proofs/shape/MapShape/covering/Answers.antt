@@ -1,0 +1,19 @@
+use Rattle.std.proofs.Common.{◌≡◌, arith}
+use Rattle.s2map.proofs.Coverings.{next_topped, none_lost}
+use Rattle.s2map.proofs.shape.MapShape.covering.Goals as goal
+
+pub loop-face-preserved : goal.loop-face-preserved
+loop-face-preserved c =
+    next_topped c.args.self.now c.args.level c.loop-face.face c.face.result.cell c.loop-face.met.items
+    c.loop-face.within.items c.visit.new.met.items c.visit.new.within.items c.loop-face.invariant
+    c.face.ensures.placed.cell c.face.ensures.level c.face.ensures.face c.in_ok-visit.ensures.sorted
+    c.in_ok-visit.ensures.keeps_met c.in_ok-visit.ensures.keeps_within c.in_ok-visit.ensures.found
+
+pub returns-clause-outer : goal.returns-clause-outer
+returns-clause-outer c =
+    let end : c.loop-face.face ≡ 6 = omega arith in
+    let topped = c.loop-face.invariant in
+    none_lost c.args.self.now c.args.level c.loop-face.met.items c.loop-face.within.items (rw end at topped)
+
+pub returns-clause-inner : goal.returns-clause-inner
+returns-clause-inner c n p h = c.loop-face.invariant.sorted.are_inside n h p
