@@ -1,6 +1,6 @@
 //! The calls of a row, made in turn.
 use crate::{
-    cells, changes, counted, coverings, curve, differing, directions, edits, files, polygons,
+    cells, changes, counted, coverings, curve, differing, directions, edits, files, maps, polygons,
     rectangles, sessions, shapes, shelves, unions,
 };
 use s2edit::{Editor, MOST_REGISTER, MOST_STATES};
@@ -124,7 +124,7 @@ fn answer_on_cells(
     counted::answer(alloc, name, words, found)
 }
 
-/// The same for a call of `s2cover`, `s2polygon`, `s2degrees`, `s2shape` or `s2file`.
+/// The same for a call of `s2cover`, `s2polygon`, `s2degrees`, `s2map`, `s2shape` or `s2file`.
 fn answer_on_values(
     alloc: Global,
     name: &str,
@@ -138,6 +138,9 @@ fn answer_on_values(
         return Ok(true);
     }
     if directions::answer(alloc, name, words, found)? {
+        return Ok(true);
+    }
+    if maps::answer(alloc, name, words, found)? {
         return Ok(true);
     }
     if shapes::answer(alloc, name, words, found)? {
