@@ -153,13 +153,14 @@ def with_many(session, many):
             AS geom FROM generate_series(1, {many});
         VACUUM ANALYZE many;""")
     tiles = session.timed("SELECT count(*) FROM many AS p, provinces_at(p.geom);")
+    parts = session.timed("SELECT count(*) FROM many AS p JOIN parts AS z ON ST_Covers(z.geom, p.geom);")
     index = session.timed("CREATE INDEX ON many USING gist (geom);\n\\echo 1")[1]
     session.ask("VACUUM ANALYZE many;")
     covers = session.timed("SELECT count(*) FROM many AS p JOIN provinces AS z ON ST_Covers(z.geom, p.geom);")
-    if tiles[0] != covers[0]:
-        sys.exit(f"of {many} points provinces_at finds {tiles[0]}, and ST_Covers {covers[0]}")
+    if not tiles[0] == covers[0] == parts[0]:  # no point lies on a cut
+        sys.exit(f"of {many} points provinces_at finds {tiles[0]}, ST_Covers {covers[0]}, and of parts {parts[0]}")
     print(f"\n{many} points, {tiles[0]} pairs: provinces_at {tiles[1]:.1f} s; "
-          f"ST_Covers {covers[1]:.1f} s, the index of the points {index:.1f} s")
+          f"ST_Covers {covers[1]:.1f} s, the index of the points {index:.1f} s; of parts {parts[1]:.1f} s")
     of_one_zone(session)
     for table in "provinces", "provinces_tiles", "many_geom_idx", "many_s2_leaf_at_idx":
         print(f"{table}:", session.ask(f"SELECT pg_size_pretty(pg_total_relation_size('{table}'));")[0].strip())

@@ -294,8 +294,19 @@ template <class X>
 constexpr bool is_ours = false;
 template <class Id>
 constexpr bool is_ours<CellUnionOf<Id>> = true;
+/// Whether a class of unions isn't ours; and whether it has cells of this type, or of another one.
 template <class X>
-using MadeOf = std::conditional_t<is_class_of_unions<X> && !is_ours<X>, X, CellsOf<X>>;
+constexpr bool is_theirs = is_class_of_unions<X> && !is_ours<X>;
+template <class X, class Id, class = void>
+constexpr bool is_class_of_unions_of = false;
+template <class X, class Id>
+constexpr bool is_class_of_unions_of<X, Id, std::enable_if_t<is_theirs<X>>> =
+    std::is_same_v<ListOf<X>, std::vector<Id>>;
+template <class X, class Id>
+constexpr bool is_class_of_unions_of_others = is_theirs<X> && !is_class_of_unions_of<X, Id>;
+
+template <class X>
+using MadeOf = std::conditional_t<is_theirs<X>, X, CellsOf<X>>;
 template <class X>
 MadeOf<X> made_as(CellsOf<X>&& cells) {
   if constexpr (std::is_same_v<MadeOf<X>, CellsOf<X>>) {
@@ -424,28 +435,27 @@ class CellUnionOf {
     Take(theirs.cell_ids(), status);
   }
 
-  /// The same union in another class, such as S2CellUnion. @since 0.1
+  /// The same union in another class of the same cells, such as S2CellUnion of S2CellId: so it goes where S2 asks for
+  /// one, as S2CellIndex::Add does. @since 0.1
   /// @snippet examples.cc operator Theirs
-  template <class Theirs, class = decltype(Theirs::FromNormalized(std::declval<internal::ListOf<Theirs>>()))>
-  explicit operator Theirs() const& {
-    if constexpr (std::is_same_v<internal::ListOf<Theirs>, std::vector<Id>>) {
-      return Theirs::FromNormalized(cell_ids_);
-    } else {
-      internal::ListOf<Theirs> cells;
-      cells.reserve(size());
-      for (Id id : cell_ids_) cells.emplace_back(internal::number_of(id));
-      return Theirs::FromNormalized(std::move(cells));
-    }
+  template <class Theirs, std::enable_if_t<internal::is_class_of_unions_of<Theirs, Id>, int> = 0>
+  operator Theirs() const& {
+    return Theirs::FromNormalized(cell_ids_);
   }
   /// The same without a copy, of a union that is used no more. @since 1.4
   /// @snippet examples.cc operator Theirs of a result
-  template <class Theirs, class = decltype(Theirs::FromNormalized(std::declval<internal::ListOf<Theirs>>()))>
-  explicit operator Theirs() && {
-    if constexpr (std::is_same_v<internal::ListOf<Theirs>, std::vector<Id>>) {
-      return Theirs::FromNormalized(Release());
-    } else {
-      return static_cast<Theirs>(static_cast<const CellUnionOf&>(*this));
-    }
+  template <class Theirs, std::enable_if_t<internal::is_class_of_unions_of<Theirs, Id>, int> = 0>
+  operator Theirs() && {
+    return Theirs::FromNormalized(Release());
+  }
+  /// The same in a class of other cells, such as S2CellUnion where ours are numbers. @since 0.1
+  /// @snippet examples.cc operator Theirs of numbers
+  template <class Theirs, std::enable_if_t<internal::is_class_of_unions_of_others<Theirs, Id>, int> = 0>
+  explicit operator Theirs() const {
+    internal::ListOf<Theirs> cells;
+    cells.reserve(size());
+    for (Id id : cell_ids_) cells.emplace_back(internal::number_of(id));
+    return Theirs::FromNormalized(std::move(cells));
   }
 
   /// All leaves. S2U_MEMORY. @since 0.1
@@ -805,6 +815,24 @@ class CellUnionOf {
   /// Whether one has a leaf that the other hasn't. @since 0.1
   /// @snippet examples.cc operator==
   friend bool operator!=(const CellUnionOf& x, const CellUnionOf& y) { return x.Order(y) != 0; }
+  /// The same beside another class of the same cells, such as S2CellUnion. @since 1.5
+  /// @snippet examples.cc operator== of another class
+  template <class Theirs, std::enable_if_t<internal::is_class_of_unions_of<Theirs, Id>, int> = 0>
+  friend bool operator==(const CellUnionOf& x, const Theirs& y) {
+    return x == CellUnionOf(y);
+  }
+  template <class Theirs, std::enable_if_t<internal::is_class_of_unions_of<Theirs, Id>, int> = 0>
+  friend bool operator==(const Theirs& x, const CellUnionOf& y) {
+    return y == x;
+  }
+  template <class Theirs, std::enable_if_t<internal::is_class_of_unions_of<Theirs, Id>, int> = 0>
+  friend bool operator!=(const CellUnionOf& x, const Theirs& y) {
+    return !(x == y);
+  }
+  template <class Theirs, std::enable_if_t<internal::is_class_of_unions_of<Theirs, Id>, int> = 0>
+  friend bool operator!=(const Theirs& x, const CellUnionOf& y) {
+    return !(y == x);
+  }
 #if defined(__cpp_impl_three_way_comparison) && defined(__cpp_lib_three_way_comparison)
   /// The order of lists, element by element and then by length, for maps and for sorting. @since 1.1
   /// @snippet examples.cc order

@@ -40,6 +40,10 @@ struct Short {
   std::vector<int32_t> cell_ids() const { return {1}; }
 };
 static_assert(!std::is_convertible_v<Short, s2union::CellUnion> && std::is_convertible_v<Theirs, s2union::CellUnion>);
+static_assert(std::is_convertible_v<s2union::CellUnionOf<Cell>, Theirs>, "where S2 asks for its own union");
+static_assert(!std::is_convertible_v<s2union::CellUnion, Theirs> && std::is_constructible_v<Theirs, s2union::CellUnion>);
+static_assert(!std::is_convertible_v<s2union::CellUnionOf<Cell>, Short> &&
+              !std::is_convertible_v<s2union::CellUnionOf<Cell>, std::vector<Cell>>);
 
 /// That a call is refused with this status, and tells it in both ways. `call` takes the place for the status.
 template <class Call>
@@ -414,6 +418,9 @@ static void conversions() {
   CHECK(ours.ToString() == "Size:2 S2CellIds:04,0c" && ours == theirs && ours.Contains(theirs));
   CHECK(ours.Union(theirs) == ours && ours.Intersection(theirs) == ours);
   CHECK(Theirs(ours).cell_ids() == ours.cell_ids() && static_cast<Theirs>(Union()).cell_ids().empty());
+  const Theirs copied = ours, moved = Union(ours);
+  CHECK(copied == ours && ours == moved && !(copied != ours) && !(ours != moved));
+  CHECK(Union() != copied && copied != Union() && !(Union() == copied) && !(copied == Union()));
   const s2union::CellUnion numbers = ours;
   CHECK(numbers.size() == 2 && numbers[0] == s2u_child(kFace, 0) && Union(numbers) == ours);
   CHECK(Theirs(numbers).cell_ids() == ours.cell_ids());

@@ -61,16 +61,31 @@ int main() {
   {
     // [operator Theirs]
     s2union::CellUnionOf<S2CellId> ours = s2union::CellUnionOf<S2CellId>::FromTokens("04 14");
-    S2CellUnion theirs(ours);
+    S2CellUnion theirs = ours;
     check(theirs.cell_ids() == ours.cell_ids());
     // [operator Theirs]
   }
   {
     // [operator Theirs of a result]
-    const CellUnion x = CellUnion::FromTokens("04 14"), y = CellUnion::FromTokens("0c");
-    S2CellUnion theirs(x.Union(y));
+    using Ours = s2union::CellUnionOf<S2CellId>;
+    const Ours x = Ours::FromTokens("04 14"), y = Ours::FromTokens("0c");
+    S2CellUnion theirs = x.Union(y);
     check(theirs.cell_ids().size() == 3);
     // [operator Theirs of a result]
+  }
+  {
+    // [operator Theirs of numbers]
+    const CellUnion numbers = CellUnion::FromTokens("04 14");
+    S2CellUnion theirs(numbers);
+    check(theirs.cell_ids().size() == 2);
+    // [operator Theirs of numbers]
+  }
+  {
+    // [operator== of another class]
+    const S2CellUnion theirs = S2CellUnion::FromNormalized({S2CellId(0x0400000000000000)});
+    const auto ours = s2union::CellUnionOf<S2CellId>::FromTokens("04");
+    check(ours == theirs && !(theirs != ours));
+    // [operator== of another class]
   }
   {
     // [WholeSphere]

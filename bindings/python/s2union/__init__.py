@@ -2982,6 +2982,40 @@ class CellUnion:
         shown: str = maps.html_of(self)
         return shown
 
+    def plot(self, ax: Any = None, **style: Any) -> Any:
+        """Draws the outline with matplotlib, by longitudes and latitudes, as ``plot`` of geopandas does.
+
+        .. versionadded:: 1.5
+
+        Parameters
+        ----------
+        ax : matplotlib.axes.Axes, optional
+            Where to draw, such as on the axes that ``plot`` of a GeoDataFrame returns. If none are given, on new ones.
+        **style
+            Options of ``matplotlib.patches.Patch``, such as ``color``, ``alpha``, ``hatch`` and ``label``.
+
+        Returns
+        -------
+        matplotlib.axes.Axes
+            The axes. On new ones a degree of longitude is as wide as in the middle of the map.
+
+        Raises
+        ------
+        ModuleNotFoundError
+            There is no matplotlib, no numpy or no `s2union_geo`.
+        OutOfMemoryError
+            There is no memory for the outline.
+
+        Examples
+        --------
+        >>> import matplotlib
+        >>> matplotlib.use("agg")  # without a window
+        >>> axes = CellUnion.from_tokens("04 0c").plot(color="tab:green", label="zone")
+        >>> [round(degree) for degree in axes.dataLim.extents]  # west, south, east, north
+        [-45, -45, 0, 45]
+        """
+        return _import_module("s2union_geo.plots").plot(self, ax, style)
+
 
 _Set.register(CellUnion)
 

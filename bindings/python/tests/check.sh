@@ -10,6 +10,7 @@ need_pytest
 need_modules numpy python3-numpy
 need_modules shapely python3-shapely
 need_modules hypothesis python3-hypothesis
+need_modules matplotlib python3-matplotlib
 need_modules pip,setuptools,wheel python3-{pip,setuptools,wheel}
 need_headers
 . "$top/tests/library.sh"

@@ -176,3 +176,50 @@ def test_lines_are_a_round_number_of_degrees_apart(apart, wanted):
     (1e-9, 1e-7, "0.0000000°")])
 def test_degrees_have_the_digits_of_the_step(number, step, wanted):
     assert maps.in_degrees(number, step, "EW") == wanted
+
+
+matplotlib = pytest.importorskip("matplotlib")
+matplotlib.use("agg")
+
+
+@pytest.mark.parametrize("name", UNIONS)
+def test_a_plot_has_the_outline(name):
+    axes = UNIONS[name].plot()
+    rings = places_of(UNIONS[name])
+    drawn = [patch.get_path() for patch in axes.patches]
+    assert len(drawn) == bool(rings)
+    for path in drawn:
+        assert numpy.array_equal(path.vertices, numpy.concatenate(rings))
+        assert (path.codes == path.MOVETO).sum() == (path.codes == path.CLOSEPOLY).sum() == len(rings)
+    matplotlib.pyplot.close(axes.figure)
+
+
+def test_a_plot_fills_no_hole():
+    figure, axes = matplotlib.pyplot.subplots(figsize=(4, 4), dpi=50)
+    axes.set_position([0, 0, 1, 1])
+    axes.axis("off")
+    zone = box(0, 0, 3, 3)
+    zone["coordinates"].append([[1, 1], [1, 2], [2, 2], [2, 1], [1, 1]])
+    assert covering(zone, max_cells=2000).plot(ax=axes, color="black") is axes
+    axes.set(xlim=(0, 3), ylim=(0, 3))
+    figure.canvas.draw()
+    pixels = numpy.asarray(figure.canvas.buffer_rgba())[:, :, 0]
+    assert pixels.shape == (200, 200) and pixels[100, 100] == 255 and pixels[30, 30] == pixels[100, 30] == 0
+    matplotlib.pyplot.close(figure)
+
+
+def test_a_plot_takes_options_and_has_the_width_of_its_middle():
+    near, far = circle(10, 0, 90000)[0].plot(), circle(10, 60, 90000)[0].plot(hatch="/", edgecolor="red")
+    assert near.get_aspect() == pytest.approx(1, abs=1e-3) and far.get_aspect() == pytest.approx(2, abs=1e-2)
+    assert far.patches[0].get_hatch() == "/" and far.patches[0].get_edgecolor()[:3] == (1, 0, 0)
+    assert CellUnion().plot(ax=near) is near and len(near.patches) == 1
+    with pytest.raises(AttributeError, match="colour"):
+        WORLD.plot(ax=near, colour="red")
+    for axes in near, far:
+        matplotlib.pyplot.close(axes.figure)
+
+
+def test_a_plot_says_what_is_missing():
+    with unittest.mock.patch.dict("sys.modules", {"s2union_geo.plots": None, "matplotlib": None}):
+        with pytest.raises(ModuleNotFoundError, match="s2union_geo.plots"):
+            WORLD.plot()
