@@ -76,6 +76,19 @@ def test_one_line_for_all_errors(words, script, tmp_path):
     assert found == (status, out, re.sub(rb" and \d+ others?", b"", counted(notes)))
 
 
+@pytest.mark.parametrize("word,shown", [
+    ("é", "é"), ("it's", "it's"), ('"zz"', '"zz"'), ("\\", "\\"), ("\\x41", "\\x41"), ("\\\\xc3", "\\\\xc3"),
+    ("日本\u0301", "日本\u0301"), (b"\xff\xc3", r"\xff\xc3"), (b"\xc3\xa9\xc3", "é" + r"\xc3"),
+    ("\x1b[31m", r"\x1b[31m"), ("\x7f", r"\x7f"), ("a\u202eb", r"a\xe2\x80\xaeb"), ("\u009b31m", r"\xc2\x9b31m"),
+    ("\ud800", r"\xed\xa0\x80")], ids=str)
+def test_a_note_shows_a_word_as_it_was_given(word, shown, tmp_path):
+    """Except for bytes that are no text, and for characters that don't print or that turn the text around."""
+    raw = word if isinstance(word, bytes) else word.encode(errors="surrogatepass")
+    (tmp_path / "script").write_bytes(b"add a " + raw + b"\n")
+    wanted = f"script: line 1: error cell: '{shown}' is not a cell (a token or a debug text)\n"
+    assert launched("run", "--explain", "script", cwd=tmp_path)[2].decode() == wanted
+
+
 @pytest.mark.parametrize("said", ["pipe", "file"])
 @pytest.mark.parametrize("answers", ["pipe", "file"])
 def test_where_errors_are_counted(said, answers, tmp_path):

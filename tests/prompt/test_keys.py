@@ -429,7 +429,8 @@ class Keys(unittest.TestCase):
         self.assertRegex(self.shown(session), "\nerror line\n  .*4096 bytes")
         session.send("add a " + "1 " * 2045 + "\r")
         self.assertTrue(self.shown(session).endswith("\nok 0 1\n"))
-        self.assertIn(r"'\xc3\xa9' is not a command", self.answered(session, "é"))
+        self.assertIn("'é' is not a command", self.answered(session, "é"))
+        self.assertIn("'it's' is not a command", self.answered(session, "it's"))
         self.assertEqual(self.answered(session, ""), "")
         self.assertEqual(self.answered(session, "# count b"), "")
 

@@ -424,6 +424,15 @@ MEANT = {
 }
 
 
+def as_given(reason):
+    """A reason of the program, which escapes what isn't ASCII, and quotes: with the words as they were given, except
+    for bytes that are no text, and characters that don't print or that turn the text around."""
+    def given(escaped):
+        text = escaped[1] or bytes.fromhex(escaped[0].replace("\\x", "")).decode(errors="backslashreplace")
+        return "".join(it if it.isprintable() else "".join(f"\\x{byte:02x}" for byte in it.encode()) for it in text)
+    return re.sub(r"""\\(['"\\])|(?:\\x[0-9a-f]{2})+""", given, reason)
+
+
 def hinted(reason):
     """The reason why a line has an error, with a hint at a habit of other places, at a word of the prompt, or at an
     upper-case command."""
@@ -447,7 +456,7 @@ def answer(program, line):
     except Exception:  # pylint: disable=broad-except
         pass  # nobody needs a hint as much as the registers
     if reason:
-        print(f"  {reason}", file=sys.stderr, flush=True)
+        print(f"  {as_given(reason)}", file=sys.stderr, flush=True)
     return not reason
 
 

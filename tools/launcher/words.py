@@ -24,7 +24,7 @@ import sys  # noqa: E402
 sys.path.append(os.path.dirname(os.path.realpath(__file__)))
 import cells  # noqa: E402
 from cells import DECIMAL, token  # noqa: E402
-from prompt import COMMANDS, fitted, session, show_help  # noqa: E402
+from prompt import COMMANDS, as_given, fitted, session, show_help  # noqa: E402
 
 BESIDE = "Beside the proved program, s2calc takes:"
 # What it takes, after the help of each command, or of all.
@@ -62,7 +62,7 @@ class Program:
     def reason(self, line, *options):
         """Why a line of a script has an error, or nothing."""
         said = self("run", "--explain", *options, script=line.encode() + b"\n").stderr.decode()
-        return re.sub(r"^line 1: error \S*: ", "", said.rstrip("\n"))
+        return as_given(re.sub(r"^line 1: error \S*: ", "", said.rstrip("\n")))
 
 
 def say(reason):
@@ -106,7 +106,8 @@ def noted(program, script, *options):
                           preexec_fn=ends_with_this) as process:
         for line in process.stderr:
             if line != b"s2calc: output\n" or not is_pipe(1):
-                os.write(2, os.fsencode(f"{script}: ") + line if line.startswith(b"line") else line)
+                note = as_given(line.decode(errors="surrogateescape"))
+                os.write(2, os.fsencode(f"{script}: {note}") if line.startswith(b"line") else line)
     return process.returncode if process.returncode >= 0 else 128 - process.returncode
 
 

@@ -41,7 +41,8 @@ struct Short {
 };
 static_assert(!std::is_convertible_v<Short, s2union::CellUnion> && std::is_convertible_v<Theirs, s2union::CellUnion>);
 static_assert(std::is_convertible_v<s2union::CellUnionOf<Cell>, Theirs>, "where S2 asks for its own union");
-static_assert(!std::is_convertible_v<s2union::CellUnion, Theirs> && std::is_constructible_v<Theirs, s2union::CellUnion>);
+static_assert(!std::is_convertible_v<s2union::CellUnion, Theirs>, "of numbers the class has to be named");
+static_assert(std::is_constructible_v<Theirs, s2union::CellUnion>);
 static_assert(!std::is_convertible_v<s2union::CellUnionOf<Cell>, Short> &&
               !std::is_convertible_v<s2union::CellUnionOf<Cell>, std::vector<Cell>>);
 
