@@ -11,7 +11,10 @@
 cells=${1:-2000} before=${2:-} provinces=/usr/share/qgis/resources/data/world_map.gpkg
 
 . "$top/tests/geo/countries.sh"
-[ "$cells" != joins ] || need_file "$provinces" qgis-common
+if [ "$cells" = joins ]; then
+  need_file "$provinces" qgis-common
+  need_file /usr/include/geos_c.h libgeos-dev
+fi
 need_countries libsqlite3-dev postgresql-15-postgis-3 python3-rtree libsqlite3-mod-spatialite
 . "$top/bindings/postgres/tests/server.sh"
 
@@ -36,6 +39,12 @@ step "a cluster on a socket" begun data "max_parallel_workers_per_gather = 0"
 export PATH=/usr/bin:$PATH PYTHONDONTWRITEBYTECODE=1 PYTHONWARNINGS=ignore
 export PYTHONPATH=$work/usr/lib/python:$top/docs/examples:$top/tests/geo
 if [ "$cells" = joins ]; then
+  others() { # GEOS's and S2's own ways of asking
+    g++ -std=c++17 -O2 -DNDEBUG -march=x86-64-v2 -fPIC -shared "$top/bench/others.cc" -o "$work/others.so" \
+      -lgeos_c -ls2 -Wl,--as-needed /usr/lib/*/libabsl_*.so -lcrypto
+  }
+  step "GEOS and S2" others
+  export S2UNION_OTHERS=$work/others.so
   /usr/bin/python3 "$top/bench/joins.py" "$work" "$work/now/sqlite" "$provinces" || failed=1
   finish
 fi

@@ -8,6 +8,7 @@ to find the same pairs, all of them. With --check the countries and a tenth of t
 points, of which a part are corners, which are in, as for ST_Covers; the last line is then 'N passed, M failed'.
 """
 import csv
+import ctypes
 import os
 import sqlite3
 import subprocess
@@ -273,6 +274,36 @@ def in_python(job):
     ], lambda found: zip(*(column.tolist() for column in found)))
 
 
+class Asked(ctypes.Structure):
+    """Points and zones, as others.cc has them."""
+
+    _fields_ = [("x", ctypes.c_void_p), ("y", ctypes.c_void_p), ("points", ctypes.c_int64), ("wkb", ctypes.c_char_p),
+                ("ends", ctypes.c_void_p), ("zones", ctypes.c_int64)]
+
+
+def pairs_of(call, x, y, shapes):
+    """The pairs that a call of others.cc finds, and the seconds of its index and of its questions."""
+    ends = numpy.cumsum([len(shape) for shape in shapes]).astype("int64")
+    found, seconds = numpy.zeros((20 * len(x), 2), "int64"), (ctypes.c_double * 2)()
+    call.restype = ctypes.c_int64
+    asked = Asked(x.ctypes.data, y.ctypes.data, len(x), b"".join(shapes), ends.ctypes.data, len(shapes))
+    length = call(ctypes.byref(asked), found.ctypes.data_as(ctypes.c_void_p), seconds)
+    return {*map(tuple, found[:length].tolist())}, [*seconds]
+
+
+def beside_others(job, x, y):
+    """Prints what an `Index`, GEOS's tree of the points and S2's index of the shapes take, the least of three."""
+    library, shapes = ctypes.CDLL(os.environ["S2UNION_OTHERS"]), [shape.wkb for shape in job.zones.geometry]
+    index, made = clocked(lambda: Index(job.zones))
+    (point, zone), _ = clocked(lambda: index.join(x, y))
+    ours, least = {*zip(point.tolist(), zone.tolist())}, min(clocked(lambda: index.join(x, y))[1] for _ in range(3))
+    print(f"\n{len(job.zones)} zones, {len(x)} points, {len(ours)} pairs: Index {made:.2f} s, join {least:.2f} s")
+    for name, call in ("GEOS", library.pairs_of_geos), ("S2", library.pairs_of_s2):
+        turns = [pairs_of(call, x, y, shapes) for _ in range(3)]
+        before, asked = map(min, zip(*(seconds for _, seconds in turns)))
+        print(f"{name}: its index {before:.2f} s, to ask {asked:.2f} s, {len(turns[0][0] ^ ours)} other pairs")
+
+
 PLAIN = """import sys, geopandas, pandas
 points, zones, out, predicate = sys.argv[1:]
 points = pandas.read_csv(points, float_precision="round_trip")  # as corners of zones have it
@@ -339,6 +370,9 @@ def main(folder, modules, file, *words):
             are_provinces = layer == "states_provinces"
             job = Job(folder, modules, zones, *points, 3, "within", are_provinces, 10_000_000 * are_provinces)
             joined(job)
+            if "S2UNION_OTHERS" in os.environ:
+                beside_others(job, job.x, job.y)
+                beside_others(job, *points_of_the_sphere(1_000_000))
             if are_provinces:
                 in_python(job._replace(predicate="intersects"))
         return
