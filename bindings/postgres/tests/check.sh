@@ -70,7 +70,6 @@ page() { # PAGE DATABASE: its examples, in a database of their own, without noti
   createdb "$2" && S2UNION_FIRST=$work/data S2UNION_SHARD=$work/shard PGOPTIONS="-c client_min_messages=warning" \
     /usr/bin/python3 "$top/tests/docs/documented.py" "$top/$1" psql -XAqt -d "$2"
 }
-step "README.md" page README.md readme
 step "docs/COOKBOOK.md" page docs/COOKBOOK.md cookbook
 own_page=bindings/postgres/README.md
 step "$own_page" page $own_page page
@@ -116,6 +115,13 @@ else
 fi
 step "docs/SCALE.md" page docs/SCALE.md scale
 step "docs/ENGINES.md, without the extension" page docs/ENGINES.md engines
+managed() ( # what a managed server is given, in an empty database
+  local ask=(/usr/bin/python3 "$top/tests/docs/documented.py")
+  createdb managed && mkdir "$work/managed" && cd "$work/managed" &&
+    "${ask[@]}" --python --only managed "$top/docs/ENGINES.md" &&
+    "${ask[@]}" --only managed "$top/docs/ENGINES.md" psql -XAqt -d managed
+)
+step "docs/ENGINES.md, managed PostgreSQL" managed
 step "its joins by tile, beside loops over all pairs" tests Tiles
 step "200 questions over two servers" tests Servers
 
