@@ -176,6 +176,16 @@ block() { # PAGE FENCE: the first block of a page, by its path from the top, tha
   awk -v start="\`\`\`$2" '$0 == start && !done { on = 1; next } /^```/ { if (on) done = 1; on = 0 } on' "$top/$1"
 }
 
+# ---- the lines of README.md for a language, whose last one says what it prints
+
+lines_of() { # LANGUAGE BEFORE AFTER FILE: a program of these, between what each program there has
+  printf '%s\n' "$2" "$(block README.md "$1")" "$3" >"$4" && block README.md "$1" | sed -n 's|.* // ||p' | tail -1 \
+    >"$work/first-lines" && [ -s "$work/first-lines" ]
+}
+first_says() { # COMMAND..: whether the program prints that
+  "$@" | diff "$work/first-lines" -
+}
+
 # ---- mutants, in the form of tests/mutants/mutant_texts.py
 
 mutant_texts() { # FILE [NAME FOLDER]

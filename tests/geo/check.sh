@@ -55,6 +55,14 @@ first_screen() { # PAGE DATABASE: its examples that need PostGIS, which the part
     --only postgis "$top/$1" psql -XAqt -d "$2"
 }
 step "README.md, what needs PostGIS" first_screen README.md readme
+managed() ( # in a database that has PostGIS alone
+  local ask=(/usr/bin/python3 "$top/tests/docs/documented.py") page=$top/docs/ENGINES.md
+  createdb managed && mkdir "$work/managed" && cd "$work/managed" && "${ask[@]}" --python --only managed "$page" &&
+    "${ask[@]}" --only managed "$page" psql -XAqt -d managed && "${ask[@]}" --only exact "$page" psql -XAqt -d managed
+)
+step "docs/ENGINES.md, managed PostgreSQL with PostGIS" managed
+of_frames() { /usr/bin/python3 "$top/tests/docs/documented.py" --python --only geopandas "$top/README.md"; }
+step "README.md, what needs GeoPandas" of_frames
 step "bindings/postgres/README.md, what needs PostGIS" first_screen bindings/postgres/README.md first
 modules=$work/node/debian/usr/share/nodejs
 driver_of_node() { # Debian's, unpacked: as a package it would want Debian's Node too
@@ -72,6 +80,16 @@ node_page() {
 step "Debian's driver of Node" driver_of_node
 step "the driver of Node: pg" by_node drivers.mjs
 step "bindings/js/README.md, a region in PostgreSQL" node_page
+sqlite_of_node() ( # Debian's driver, which links Debian's Node: another Node has what it asks for itself
+  local page=bindings/sqlite/README.md to=$work/node/sqlite
+  mkdir "$to" && unpacked "$to" node-sqlite3 &&
+    cp -r "$to/usr/lib/x86_64-linux-gnu/nodejs/sqlite3" "$work/node/node_modules/" && cd "$work/node" &&
+    echo 'module.exports = require("./binding/napi-v6-linux-glibc-x64/node_sqlite3.node");' \
+      >node_modules/sqlite3/lib/sqlite3-binding.js &&
+    gcc -shared -x c /dev/null -o "$to/libnode.so.108" -Wl,-soname,libnode.so.108 && block $page "js sqlite" >s.mjs &&
+    LD_LIBRARY_PATH=$to:$PREFIX/lib/sqlite3 node s.mjs | diff <(block $page "text js sqlite") -
+)
+step "bindings/sqlite/README.md, from Node" sqlite_of_node
 step "docs/GEO.md" pages test_geo.py
 step "docs/TUTORIAL.md" pages test_tutorial.py
 finish

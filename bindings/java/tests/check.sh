@@ -93,6 +93,11 @@ by_page() {
     by_java "$@" "$work/Program.java" >"$work/printed" && diff "$work/wanted" "$work/printed"
 }
 step "bindings/java/README.md" by_page -cp "$jar"
+first_lines() {
+  lines_of java "import s2union.*; public class First { public static void main(String[] words) {" "}}" \
+    "$work/First.java" && first_says by_java -cp "$jar" "$work/First.java"
+}
+step "README.md" first_lines
 by_property() ( # named from the root and from here, where the classes have none
   cd "$work" && mv classes/s2union/amd64/libs2union_java.so named.so &&
     by_page -cp classes -Ds2union.library="$work/named.so" && by_page -cp classes -Ds2union.library=named.so &&

@@ -54,6 +54,11 @@ by_name() { # NAME: a program of the page, in a package that has ours
 }
 step "$page" by_name ""
 step "$page: points and GeoJSON" by_name " geo"
+first_lines() {
+  lines_of js 'import {load} from "s2union"; import {box, fromLngLat} from "s2union/geo";' "" \
+    "$work/program/first.mjs" && first_says node "$work/program/first.mjs"
+}
+step "README.md" first_lines
 served() { # the page's web service, asked as the page does
   local server status
   block $page "js service" >"$work/program/service.mjs" && block $page "sh service" >"$work/program/asks" &&

@@ -25,6 +25,11 @@ by_rust() (
       "s2union = { path = \"$work/for-rust\" }" >Cargo.toml &&
     CARGO_TARGET_DIR=$work/target cargo build -q --offline && says $page rust "$work/target/debug/program"
 )
+first_lines() (
+  cp -r "$work/by-rust" "$work/first" && cd "$work/first" && lines_of rust \
+    "use s2union::{CellId, Error, RegionCoverer, Shape}; fn main() -> Result<(), Error> {" "Ok(()) }" src/main.rs &&
+    CARGO_TARGET_DIR=$work/target cargo build -q --offline && first_says "$work/target/debug/program"
+)
 with_serde() ( # by Debian's sources of serde, in place of a registry
   cd "$work/for-rust/serde" && RUSTFLAGS=-Dwarnings CARGO_TARGET_DIR=$work/target timeout 7200 cargo \
     --config 'source.crates-io.replace-with="debian"' \
@@ -32,6 +37,7 @@ with_serde() ( # by Debian's sources of serde, in place of a registry
 )
 step "against the model, the edges, what is refused, and the examples" for_rust
 step "$page" by_rust
+step "README.md" first_lines
 by_cargo() ( # COMMAND WORD..: in the program's folder
   cd "$work/by-rust" && CARGO_TARGET_DIR=$work/target "$@" 2>&1
 )

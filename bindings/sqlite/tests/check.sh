@@ -83,6 +83,22 @@ documented() { # FOLDER
 }
 step "bindings/sqlite/README.md" documented plain
 step "docs/ENGINES.md, without the extension" /usr/bin/python3 "$top/tests/docs/documented.py" "$top/docs/ENGINES.md"
+from_go() ( # the page's program, with Debian's sources of the driver
+  local path
+  path=$(sed -n 's/^module //p' "$top/bindings/go/go.mod")
+  mkdir "$work/from-go" && cd "$work/from-go" && block bindings/sqlite/README.md "go sqlite" >main.go &&
+    [ -z "$(gofmt -l .)" ] && export GOPATH=$work/go GOCACHE=$work/go-cache GOFLAGS=-mod=mod GOPROXY=off \
+    GOTOOLCHAIN=local PKG_CONFIG_PATH=$work/usr/lib/pkgconfig LD_LIBRARY_PATH=$work/usr/lib:$work/plain &&
+    go mod init program && go mod edit -require "$path@v0.0.0" -replace "$path=$top/bindings/go" \
+    -require github.com/mattn/go-sqlite3@v1.0.0 -replace "github.com/mattn/go-sqlite3=$driver" &&
+    go build -tags libsqlite3 -o program && ./program | diff <(block bindings/sqlite/README.md "text go sqlite") -
+)
+driver=/usr/share/gocode/src/github.com/mattn/go-sqlite3
+if command -v go >/dev/null && [ -d $driver ]; then
+  step "bindings/sqlite/README.md, from Go" from_go
+else
+  echo "       left out: the page's program in Go (golang-go, golang-github-mattn-go-sqlite3-dev)"
+fi
 covered() {
   build covered CFLAGS="-O0 -g --coverage" && export S2UNION_ROUNDS=300 &&
     tests covered test_sqlite.py::{AgainstTheModel,WhatIsRefused} test_geo.py test_joins.py &&
