@@ -1,6 +1,7 @@
 """Facts that stand in more than one file: where each stands, for tools/calls, which writes them.
 
-The version is that of the file VERSION, and the extensions for PostgreSQL have one of their own. The statuses, their
+The version is that of the file VERSION, and the extensions for PostgreSQL have one of their own. The maintainers and
+the address of the repository are those of CITATION.cff, where who publishes it writes them; before, placeholders. The statuses, their
 numbers and texts are those of s2union.h. The commands of a script, with the forms of their words, are those of HELP in
 crates/s2script/src/table.rt; their errors and examples are those of docs/SCRIPT.md. The limits are constants of the
 crates. A file that tools/calls makes, whole or in part, isn't here.
@@ -74,6 +75,13 @@ def versions_of_sql(control):
              "expected/s2union.out": r"^ (?P<value>\d+\.\d+\.\d+)$"}
     found = {"": {"value": CONTROL.search(control)["value"]}}
     return [Place(f"bindings/postgres/{file}", pattern, found) for file, pattern in files.items()]
+
+
+def of_maintainers(citation):
+    """The place of the maintainers and their address, beside CITATION.cff, which has this text."""
+    found = re.search(r"^  - name: (?P<name>.*)\n(?:    #.*\n)*    email: (?P<email>.*)$", citation, re.M)
+    return [Place("bindings/r/DESCRIPTION", r"^Maintainer: (?P<whole>.*)$",
+                  {"": {"whole": f"{found['name']} <{found['email']}>"}})]
 
 
 def of_statuses(statuses):

@@ -815,20 +815,27 @@ class CellUnionOf {
   /// Whether one has a leaf that the other hasn't. @since 0.1
   /// @snippet examples.cc operator==
   friend bool operator!=(const CellUnionOf& x, const CellUnionOf& y) { return x.Order(y) != 0; }
-  /// The same beside another class of the same cells, such as S2CellUnion. @since 1.5
+  /// Whether a class of the same cells, such as S2CellUnion, has the same leaves; its cells need not be normalized.
+  /// @since 1.5
   /// @snippet examples.cc operator== of another class
   template <class Theirs, std::enable_if_t<internal::is_class_of_unions_of<Theirs, Id>, int> = 0>
   friend bool operator==(const CellUnionOf& x, const Theirs& y) {
     return x == CellUnionOf(y);
   }
+  /// The same, the other way round. @since 1.5
+  /// @snippet examples.cc operator== of another class
   template <class Theirs, std::enable_if_t<internal::is_class_of_unions_of<Theirs, Id>, int> = 0>
   friend bool operator==(const Theirs& x, const CellUnionOf& y) {
     return y == x;
   }
+  /// Whether one has a leaf that the other hasn't. @since 1.5
+  /// @snippet examples.cc operator== of another class
   template <class Theirs, std::enable_if_t<internal::is_class_of_unions_of<Theirs, Id>, int> = 0>
   friend bool operator!=(const CellUnionOf& x, const Theirs& y) {
     return !(x == y);
   }
+  /// The same, the other way round. @since 1.5
+  /// @snippet examples.cc operator== of another class
   template <class Theirs, std::enable_if_t<internal::is_class_of_unions_of<Theirs, Id>, int> = 0>
   friend bool operator!=(const Theirs& x, const CellUnionOf& y) {
     return !(y == x);

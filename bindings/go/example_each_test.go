@@ -5,7 +5,7 @@ import (
 	"encoding/json"
 	"errors"
 	"fmt"
-	s2union "s2union.example.org/s2union/bindings/go"
+	s2union "not-published.invalid/s2union/bindings/go"
 )
 
 func ExampleCellIDFromToken() {

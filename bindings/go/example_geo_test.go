@@ -8,7 +8,7 @@ import (
 	"strings"
 	"time"
 
-	s2union "s2union.example.org/s2union/bindings/go"
+	s2union "not-published.invalid/s2union/bindings/go"
 )
 
 // Where is a place: surely in the park, surely not, or near its border?

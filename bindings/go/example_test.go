@@ -3,7 +3,7 @@ package s2union_test
 import (
 	"fmt"
 
-	s2union "s2union.example.org/s2union/bindings/go"
+	s2union "not-published.invalid/s2union/bindings/go"
 )
 
 func ExampleNewCellUnion() {

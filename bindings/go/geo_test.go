@@ -12,7 +12,7 @@ import (
 	"strings"
 	"testing"
 
-	s2union "s2union.example.org/s2union/bindings/go"
+	s2union "not-published.invalid/s2union/bindings/go"
 )
 
 type (

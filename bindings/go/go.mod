@@ -1,3 +1,3 @@
-module s2union.example.org/s2union/bindings/go
+module not-published.invalid/s2union/bindings/go
 
 go 1.18

@@ -16,7 +16,7 @@ import (
 	"testing"
 	"testing/iotest"
 
-	s2union "s2union.example.org/s2union/bindings/go"
+	s2union "not-published.invalid/s2union/bindings/go"
 )
 
 const face CellID = 0x1000000000000000

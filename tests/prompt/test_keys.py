@@ -264,8 +264,8 @@ class Keys(unittest.TestCase):
         degrees = "'python3 -m s2union_geo leaves' makes cells of degrees"
         for line, reason in (("show a;", "register\n  'a;' is not a register (a to z); a command ends without ';'"),
                              ("add a 04;", f"cell\n  '04;' {cell}; a command ends without ';'"),
-                             ("add a '04' '0c';", f"cell\n  '\\'04\\'' {cell}; words stand without quotes"),
-                             ("add b '04';", f"cell\n  '\\'04\\';' {cell}; words stand without quotes"),
+                             ("add a '04' '0c';", f"cell\n  ''04'' {cell}; words stand without quotes"),
+                             ("add b '04';", f"cell\n  ''04';' {cell}; words stand without quotes"),
                              ("cell 0x89C25", f"cell\n  '0x89C25' {cell}; a token stands without '0x'"),
                              ("has a -2.35 48.85", f"cell\n  '-2.35' {cell}; {degrees}"),
                              ("at 48.85 2.35", f"face\n  '48.85' is not a face (0 to 5); {degrees}"),

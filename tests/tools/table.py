@@ -136,7 +136,7 @@ MISTAKES = [
             "func ExampleCellID_Faces() {", "Go: cell: CellID.Face: its comment lacks an Example function"),
     Mistake("a version of Go left out", "bindings/go/cell.go", "Face is 0 to 5. Since 0.2.", "Face is 0 to 5.",
             "Go: cell: CellID.Face: its comment lacks Since"),
-    Mistake("another address of the repository than the path of Go", "CITATION.cff", "s2union.example.org",
+    Mistake("another address of the repository than the path of Go", "CITATION.cff", "not-published.invalid",
             "example.com", "bindings/go/go.mod: not what tools/calls makes"),
     Mistake("a list that JavaScript leaves out", "bindings/js/core.js", '"s2u_union", xs, ys', '"s2u_union", xs',
             "s2u_union: it takes 2 lists, not 1"),

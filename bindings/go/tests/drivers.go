@@ -12,7 +12,7 @@ import (
 	_ "github.com/jackc/pgx/v4/stdlib"
 	_ "github.com/lib/pq"
 
-	s2union "s2union.example.org/s2union/bindings/go"
+	s2union "not-published.invalid/s2union/bindings/go"
 )
 
 var passed, failed int
