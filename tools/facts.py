@@ -1,10 +1,10 @@
 """Facts that stand in more than one file: where each stands, for tools/calls, which writes them.
 
 The version is that of the file VERSION, and the extensions for PostgreSQL have one of their own. The maintainers and
-the address of the repository are those of CITATION.cff, where who publishes it writes them; before, placeholders. The statuses, their
-numbers and texts are those of s2union.h. The commands of a script, with the forms of their words, are those of HELP in
-crates/s2script/src/table.rt; their errors and examples are those of docs/SCRIPT.md. The limits are constants of the
-crates. A file that tools/calls makes, whole or in part, isn't here.
+the address of the repository are those of CITATION.cff, where its publisher writes them; before, they are placeholders.
+The statuses, their numbers and texts are those of s2union.h. The commands of a script, with the forms of their words,
+are those of HELP in crates/s2script/src/table.rt; their errors and examples are those of docs/SCRIPT.md. The limits are
+constants of the crates. A file that tools/calls makes, whole or in part, isn't here.
 """
 import re
 import sys

@@ -113,13 +113,13 @@ class PostGIS(unittest.TestCase):
         """Where a superuser has made PostGIS. A function of his that fits as well as PostGIS's isn't run."""
         made = "SET ROLE stranger; CREATE EXTENSION s2union_postgis SCHEMA trap CASCADE"
         self.said("CREATE ROLE stranger; GRANT CREATE ON DATABASE strange TO stranger; SET ROLE stranger;"
-                  " CREATE SCHEMA trap; CREATE FUNCTION trap.st_srid(public.geometry) RETURNS int LANGUAGE plpgsql IMMUTABLE AS"
-                  " 'BEGIN ALTER ROLE stranger SUPERUSER; RETURN 0; END'")
+                  " CREATE SCHEMA trap; CREATE FUNCTION trap.st_srid(public.geometry) RETURNS int LANGUAGE plpgsql"
+                  " IMMUTABLE AS 'BEGIN ALTER ROLE stranger SUPERUSER; RETURN 0; END'")
         self.assertIn("function trap.st_srid(public.geometry) of role stranger is in the way", error_of(made))
         self.said(f"DROP FUNCTION trap.st_srid(public.geometry); {made}; CREATE TABLE trap.zones (id int PRIMARY KEY,"
                   " geom public.geometry)")
-        self.assertEqual(self.said("SET ROLE stranger; INSERT INTO trap.zones VALUES (1, public.ST_MakeEnvelope(2, 48, 3,"
-                                   " 49, 4326)); SELECT trap.s2_join_table('trap.zones');"
+        self.said("SET ROLE stranger; INSERT INTO trap.zones VALUES (1, public.ST_MakeEnvelope(2, 48, 3, 49, 4326))")
+        self.assertEqual(self.said("SET ROLE stranger; SELECT trap.s2_join_table('trap.zones');"
                                    " SELECT id FROM trap.zones_at(2.3, 48.8)"), ["trap.zones_tiles", "1"])
         self.assertEqual(self.said("SELECT rolsuper FROM pg_roles WHERE rolname = 'stranger'"), ["f"])
         self.said("DROP OWNED BY stranger")
