@@ -1,6 +1,6 @@
-/* Points in degrees for s2union.h: the leaf of a place, as S2 has it, the middle and the box of a cell, and the cells
- * beside a cell. All of it is in this header, in plain floating point or whole numbers, and needs the library for cells
- * and -lm. It is tested beside S2, not proved. The longitude comes first. */
+/* Points in degrees for s2union.h: the leaf of a place, as S2 has it, the middle and the box of a cell, the cells
+ * beside a cell, and the area of cells. All of it is in this header, in plain floating point or whole numbers, and
+ * needs the library for cells and -lm. It is tested beside S2, not proved. The longitude comes first. */
 #ifndef S2UNION_GEO_H
 #define S2UNION_GEO_H
 
@@ -205,6 +205,53 @@ static inline int32_t s2u_geo_box_of(uint64_t cell, s2u_geo_box* box) {
   *box = square.size == S2U_GEO_SIDE ? s2u_geo_box_of_face(square.face, longitude)
                                      : s2u_geo_box_of_corners(&square, longitude);
   return S2U_OK;
+}
+
+/* ---- the area of cells */
+
+#define S2U_GEO_EARTH 6371.01 /* the earth's mean radius in kilometers, as S2Earth has it */
+
+/* Where a side of a square begins on its face, from -1 to 1, and how long it is there: no small difference of two large
+ * numbers. It doesn't go over the middle of the face. */
+static inline double s2u_geo_side_on_face(double begin, double length, double* side) {
+  double s = begin / S2U_GEO_SIDE, part = length / S2U_GEO_SIDE;
+  *side = 4 * part * (s >= 0.5 ? 2 * s + part : 2 - 2 * s - part) / 3;
+  return s2u_geo_uv_of(begin);
+}
+
+/* The area of a square of a face on a sphere of radius 1, by the rule of Gauss and Legendre: with six nodes along a
+ * side, or two of a small square, which give it to its last digits. One wider than an eighth of a face is cut. */
+static inline double s2u_geo_area_of_square(double i, double j, double size) {
+  static const double nodes[8][2] = {
+      {-0.9324695142031521, 0.1713244923791704}, {-0.6612093864662645, 0.3607615730481386},
+      {-0.2386191860831969, 0.4679139345726910}, {0.2386191860831969, 0.4679139345726910},
+      {0.6612093864662645, 0.3607615730481386},  {0.9324695142031521, 0.1713244923791704},
+      {-0.5773502691896257, 1},                  {0.5773502691896257, 1}};
+  const int begin = size < (1 << 18) ? 6 : 0, end = size < (1 << 18) ? 8 : 6;
+  double half = size / 2, width, height, sum = 0;
+  if (size > S2U_GEO_SIDE / 8)
+    return s2u_geo_area_of_square(i, j, half) + s2u_geo_area_of_square(i + half, j, half) +
+           s2u_geo_area_of_square(i, j + half, half) + s2u_geo_area_of_square(i + half, j + half, half);
+  const double u = s2u_geo_side_on_face(i, size, &width), v = s2u_geo_side_on_face(j, size, &height);
+  for (int a = begin; a < end; a++) {
+    for (int b = begin; b < end; b++) {
+      double x = u + width * (1 + nodes[a][0]) / 2, y = v + height * (1 + nodes[b][0]) / 2, square = 1 + x * x + y * y;
+      sum += nodes[a][1] * nodes[b][1] / (square * sqrt(square));
+    }
+  }
+  return sum * width * height / 4;
+}
+
+/* The area of cells in square kilometers, on a sphere with the earth's mean radius: of a union S2CellUnion::ExactArea,
+ * which is that on a sphere of radius 1. The earth is flattened, so an area there differs by less than 1 percent. A
+ * number that is no cell has none. */
+static inline double s2u_geo_area(const uint64_t* ids, size_t count) {
+  double sum = 0;
+  for (size_t k = 0; k < count; k++) {
+    s2u_square at;
+    if (s2u_square_of(ids[k], &at) == S2U_OK) sum += s2u_geo_area_of_square(at.i, at.j, at.size);
+  }
+  return sum * S2U_GEO_EARTH * S2U_GEO_EARTH;
 }
 
 #endif

@@ -45,6 +45,13 @@ func (cu CellUnion) ExpandedAtLevel(level int) (CellUnion, error) {
 	return cu.ExpandedAtLevelContext(context.Background(), level)
 }
 
+// Area is that of the union in square kilometers, on a sphere with the earth's mean radius: golang/geo's ExactArea,
+// which is on a sphere of radius 1. The earth is flattened, so an area there differs by less than 1 percent. Since 1.5.
+func (cu CellUnion) Area() float64 {
+	at, n := pointerTo(cu.ids)
+	return float64(C.s2u_geo_area(at, n))
+}
+
 // RectBound is the narrowest box of degrees in which the union lies. East is less than West if it crosses the date
 // line. With a pole, or without a gap, it has all longitudes, from -180 to 180. That of no cell has a South of 90 and a
 // North of -90. The one error is ErrMemory. Since 1.4.

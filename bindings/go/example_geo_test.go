@@ -194,6 +194,12 @@ func ExampleCellUnion_ExpandedAtLevel() {
 	// s2union: too many cells
 }
 
+func ExampleCellUnion_Area() {
+	face, _ := s2union.CellUnionFromTokens("1")
+	fmt.Printf("%.0f %v\n", face.Area(), s2union.CellUnion{}.Area())
+	// Output: 85011012 0
+}
+
 func ExampleCellUnion_RectBound() {
 	cells, _ := s2union.CellUnionFromTokens("7")
 	box, err := cells.RectBound()

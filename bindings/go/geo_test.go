@@ -32,7 +32,7 @@ func TestShapes(t *testing.T) {
 		}
 		asked[fields[0]]++
 	}
-	if len(asked) != 14 {
+	if len(asked) != 15 {
 		t.Fatal(asked)
 	}
 }
@@ -52,7 +52,7 @@ func answersOf(fields []string) (found, wanted string) {
 	case "boundary":
 		shape, err := given(fields[1:]).union(0).Boundary()
 		return shown(shownShape(shape), err), wanted
-	case "neighbors", "edge_neighbors", "vertex_neighbors", "expanded", "bounds":
+	case "neighbors", "edge_neighbors", "vertex_neighbors", "expanded", "bounds", "area":
 		return around(fields), fields[len(fields)-1]
 	case "holds":
 		outer, inner, err := covererIn(fields[2]).Coverings(shapeIn(fields[1]))
@@ -86,6 +86,8 @@ func around(fields []string) (found string) {
 	case "expanded":
 		cells, err := union.ExpandedAtLevel(level)
 		return shown(shown(cells), err)
+	case "area":
+		return fmt.Sprintf("%016x", math.Float64bits(union.Area()))
 	}
 	box, err := union.RectBound()
 	if box.South > box.North {

@@ -319,6 +319,17 @@ CALL(jint, bounds)(JNIEnv* env, jclass of, jlongArray cells, jdoubleArray sides)
   return status;
 }
 
+/* In square kilometers. */
+CALL(jint, area)(JNIEnv* env, jclass of, jlongArray cells, jdoubleArray one) {
+  (void)of;
+  jlong* ids = (*env)->GetLongArrayElements(env, cells, NULL);
+  if (ids == NULL) return S2U_MEMORY;
+  const jdouble area = s2u_geo_area((const uint64_t*)ids, (size_t)(*env)->GetArrayLength(env, cells));
+  (*env)->ReleaseLongArrayElements(env, cells, ids, JNI_ABORT);
+  (*env)->SetDoubleArrayRegion(env, one, 0, 1, &area);
+  return S2U_OK;
+}
+
 static int32_t drawn(jint call, const uint64_t* ids, size_t n, s2u_geo_rings* rings) {
   switch (call) {
     case OUTLINE: return s2u_geo_outline(ids, n, rings);

@@ -383,6 +383,10 @@ class Core {
     return Array.from(new Float64Array(this.calls.memory.buffer, this.madeAt(32, "s2js_bounds", ids), 4));
   }
 
+  areaOf(ids) {
+    return new Float64Array(this.calls.memory.buffer, this.madeAt(8, "s2js_area", ids), 1)[0];
+  }
+
   /** The level of cells at the border that keep within some meters. */
   levelWithin(meters) {
     return this.calls.s2js_level_within(meters);

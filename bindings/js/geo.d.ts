@@ -146,3 +146,8 @@ export function expanded(union: CellUnion, level: number): CellUnion;
  * to 180. Null of the union without cells. S2: S2CellUnion::GetRectBound. Since 1.4.1. @throws Refusal -2
  */
 export function bounds(union: CellUnion): [west: number, south: number, east: number, north: number] | null;
+/**
+ * The area of a union in square kilometers, on a sphere with the earth's mean radius. The earth is flattened, so an
+ * area there differs by less than 1 percent. S2: S2CellUnion::ExactArea, on a sphere of radius 1. Since 1.5.
+ */
+export function area(union: CellUnion): number;

@@ -121,4 +121,6 @@ export function bounds(union) {
   return sides[1] <= sides[3] ? sides : null;
 }
 
+export const area = (union) => calls().areaOf(cellsIn(union));
+
 export {ShapeError};

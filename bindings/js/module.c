@@ -194,6 +194,11 @@ int32_t s2js_expanded(const uint64_t* ids, size_t n, uint32_t level, s2u_cover_c
 
 int32_t s2js_bounds(const uint64_t* ids, size_t n, s2u_cover_bounds* box) { return s2u_cover_rect_bound(ids, n, box); }
 
+int32_t s2js_area(const uint64_t* ids, size_t n, double* area) {
+  *area = s2u_geo_area(ids, n);
+  return S2U_OK;
+}
+
 /* The deepest level of cells at the border that keep within some meters. */
 uint32_t s2js_level_within(double meters) {
   s2u_cover_options options = s2js_options(0, 0, 30, S2U_COVER_MAP, 0);

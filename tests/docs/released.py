@@ -2,7 +2,8 @@
 
 A page describes the checkout, and its reader installs what dist/ has. A name that the sources of a language declare,
 and that no text of its package in dist/ has, is new. Where a page has it in code, the row, the paragraph, or the
-paragraph before the program says `since` and a version that is later than the release's.
+paragraph before the program says `since` and a version that is later than the release's. If the release has the name in
+another language, only the pages of those that don't have it yet are looked at.
 """
 import functools
 import io
@@ -26,6 +27,8 @@ CODE = re.compile(r"`([^`\n]+)`")
 SINCE = re.compile(r"\bsince (\d+(?:\.\d+)+)")
 # Pages for those who change the project.
 OF_THE_HOUSE = {"docs/DECISIONS.md", "docs/EXTENDING.md", "docs/MUTANTS.md"}
+# The folder of a language in bindings/, where it isn't the name.
+OF_OTHER_NAME = {"C++": "c", "JavaScript": "js", "PostgreSQL": "postgres"}
 # The sources that declare the names of a language, how, and the package in dist/ that has them.
 PACKAGES = {
     "C": (["crates/s2union_c/include/s2union.h", "bindings/c/s2union_*.h"],
@@ -43,6 +46,9 @@ PACKAGES = {
     "the command line": (["tools/launcher/words.py", "bindings/python/s2union_geo/__main__.py"],
                          r"(--[a-z][a-z-]+)", "s2calc_*.deb s2union-*manylinux*.whl"),
 }
+
+# The page of a language: JS's of JavaScript, and so on.
+PAGES = {language: f"bindings/{OF_OTHER_NAME.get(language, language.lower())}/README.md" for language in PACKAGES}
 
 
 def texts(path):
@@ -90,11 +96,14 @@ def is_announced(text):
 
 def unreleased():
     """How many names the languages declare, and where a page has a new one without a word."""
-    names, new = 0, {}
+    names, new, old = 0, {}, set()
     for language, (sources, declares, packages) in PACKAGES.items():
         here = declared(sources, declares)
         names += len(here)
-        new.update(dict.fromkeys(here - released(packages), language))
+        old |= here & released(packages)
+        for name in here - released(packages):
+            new.setdefault(name, []).append(language)
     pages = [page for page in tracked(ROOT, "README.md", *documents.PAGES) if page not in OF_THE_HOUSE]
-    return names, [f"{page}: {name} of {new[name]}: {text.strip()[:99]!r}" for page in pages
-                   for text, words in said_of(page) for name in sorted(words & set(new)) if not is_announced(text)]
+    return names, [f"{page}: {name} of {', '.join(new[name])}: {text.strip()[:99]!r}" for page in pages
+                   for text, words in said_of(page) for name in sorted(words & set(new))
+                   if (name not in old or page in map(PAGES.get, new[name])) and not is_announced(text)]

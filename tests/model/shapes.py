@@ -9,7 +9,7 @@ answers of 'rings', 'wkb', 'circle' and 'box' are the cells of the outer and the
 an error, with the ring and the position or the byte if it has a place. 'holds' has no answer: the first places lie in
 the shape, and the others outside. An outline has its polygons as a shape, and a boundary its lines. 'neighbors',
 'edge_neighbors', 'vertex_neighbors' and 'expanded' take cells, and all but the second a level; 'bounds' answers four
-numbers, or 'none'.
+numbers, or 'none', and 'area' one.
 """
 
 import contextlib
@@ -19,7 +19,7 @@ import struct
 from random import Random
 
 from s2union import CellUnion, OutOfRangeError, TooManyCellsError, _library
-from s2union_geo import bounds, edge_neighbors, expanded, neighbors, vertex_neighbors
+from s2union_geo import area, bounds, edge_neighbors, expanded, neighbors, vertex_neighbors
 
 from model.places import MIDDLES, POINTS
 
@@ -335,6 +335,7 @@ def around():
     unions += [CellUnion(random.sample(cells_of_levels, count)) for count in (0, 1, 1, 2, 3, 5, 9) * 4]
     for union in unions:
         say("bounds", in_hex(union), doubles(*bounds(union)) if union else "none")
+        say("area", in_hex(union), doubles(area(union)))
         for level in (0, random.randint(1, 9), 30 if len(union) < 3 else 10, 31):
             say("expanded", in_hex(union), level, answered(expanded, union, level))
 

@@ -128,6 +128,16 @@ static void box(const S2CellUnion& cells, size_t* same) {
   check(has_all, "places in the box", cells.cell_id(0), 0);
 }
 
+// Square kilometers, where S2's sphere has a radius of 1. S2 makes triangles of a cell, and rounds them the more the
+// smaller they are.
+static void area(const S2CellUnion& cells) {
+  const std::vector<uint64_t> ids = ids_of(cells.cell_ids());
+  const double found = s2u_geo_area(ids.data(), ids.size()) / S2U_GEO_EARTH / S2U_GEO_EARTH;
+  double allowed = 0;
+  for (S2CellId id : cells) allowed += S2Cell(id).ExactArea() * std::ldexp(4e-15, id.level());
+  check(std::abs(found - cells.ExactArea()) <= allowed, "area", cells.cell_id(0), 0);
+}
+
 int main(int count, char** words) {
   const long cases = count > 1 ? std::atol(words[1]) : 20000;
   size_t same = 0;
@@ -136,6 +146,7 @@ int main(int count, char** words) {
     const S2CellUnion cells = some_union();
     around(cells);
     box(cells, &same);
+    area(cells);
   }
   check(same > 0.8 * cases, "boxes that are S2's", S2CellId::Begin(0), 0);
   std::printf("%zu of %ld boxes are as wide as S2's\n%zu passed, %zu failed\n", same, cases, passed, failed);

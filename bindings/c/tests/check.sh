@@ -75,7 +75,7 @@ step "coverings with geodesic edges, beside long doubles" program geodesics "$st
 around() { # cells around cells
   program neighbors "$static" -fsanitize=address,undefined -fno-sanitize-recover "$work/refuse.o"
 }
-step "cells around cells, and the boxes of unions, under the sanitizers" around
+step "cells around cells, the boxes and the areas of unions, under the sanitizers" around
 step "long calls cancelled at each look, under the sanitizers" program cancels "$noheap" \
   -fsanitize=address,undefined -fno-sanitize-recover "$work/refuse.o"
 included() { echo '#include <s2union_join.h>' | "$@" "${strict[@]}" -I"$include" -fsyntax-only -; }

@@ -130,6 +130,21 @@ static void boxes(void) {
   CHECK(s2u_cover_rect_bound(NULL, 0, &box) == S2U_OK && box.south > box.north && box.west > box.east);
 }
 
+/* The sphere has the area of its faces, and a cell that of its children; what is no cell has none. */
+static void areas(void) {
+  const double sphere = 4 * S2U_GEO_PI * S2U_GEO_EARTH * S2U_GEO_EARTH;
+  uint64_t faces[7] = {0};
+  for (uint64_t face = 0; face < 6; face++) faces[face] = nth_cell(0, face);
+  CHECK(fabs(s2u_geo_area(faces, 7) / sphere - 1) < 1e-14 && s2u_geo_area(NULL, 0) == 0);
+  for (int turn = 0; turn < 5000; turn++) {
+    const uint64_t cell = random_cell(0, 29, 6);
+    uint64_t children[4];
+    for (uint32_t k = 0; k < 4; k++) children[k] = s2u_child(cell, k);
+    const double area = s2u_geo_area(&cell, 1), average = sphere / 6 / (double)(1ull << 2 * s2u_level(cell));
+    CHECK(area > 0.6 * average && area < 1.4 * average && fabs(s2u_geo_area(children, 4) / area - 1) < 1e-13);
+  }
+}
+
 /* The cells around the nearest corner of a larger cell have the four places that are half its side away. */
 static void corners(void) {
   for (int turn = 0; turn < 5000; turn++) {
@@ -203,6 +218,7 @@ int main(void) {
   neighbors();
   expanded();
   boxes();
+  areas();
   corners();
   as_many_as_allowed();
   refused();

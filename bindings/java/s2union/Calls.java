@@ -109,6 +109,8 @@ final class Calls {
 
   static native int bounds(long[] cells, double[] sides);
 
+  static native int area(long[] cells, double[] one);
+
   /** The status of a call, which is refused if it is negative. */
   static int checked(int status, long place) {
     if (status == MEMORY) throw new OutOfMemoryError("s2union: out of memory");

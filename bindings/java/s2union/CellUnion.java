@@ -276,6 +276,24 @@ public final class CellUnion implements Comparable<CellUnion> {
     return sides[1] <= sides[3] ? sides : new double[0];
   }
 
+  /**
+   * The area in square kilometers, on a sphere with the earth's mean radius. The earth is flattened, so an area there
+   * differs by less than 1 percent.
+   * S2: {@code S2CellUnion::ExactArea}, which is that on a sphere of radius 1.
+   *
+   * <pre>{@code
+   * Math.round(CellUnion.fromTokens("1").area()) // 85011012
+   * }</pre>
+   *
+   * @return the area; without cells 0
+   * @since 1.5
+   */
+  public double area() {
+    double[] one = new double[1];
+    Calls.checked(Calls.area(ids, one), 0);
+    return one[0];
+  }
+
   /** The union of cells that a call has made, which become its own. */
   static CellUnion holding(long[] ids) {
     return new CellUnion(ids);

@@ -158,6 +158,7 @@ final class Shapes extends Checks {
       case "bounds":
         double[] sides = union(fields[1]).bounds();
         return sides.length == 0 ? "none" : shown(sides);
+      case "area": return shown(new double[] {union(fields[1]).area()});
       case "outline": return shown(union(fields[1]).outline());
       case "boundary":
         return Arrays.stream(union(fields[1]).boundary()).map(line -> "-:" + shown(line))
@@ -176,13 +177,13 @@ final class Shapes extends Checks {
     Set<String> calls = new HashSet<>();
     for (String line : Files.readAllLines(path)) {
       String[] fields = line.split("\t", -1);
-      int given = fields[0].matches("leaf|middle|outline|boundary|edge_neighbors|bounds") ? 2 : 3;
+      int given = fields[0].matches("leaf|middle|outline|boundary|edge_neighbors|bounds|area") ? 2 : 3;
       String wanted = String.join("\t", Arrays.copyOfRange(fields, given, fields.length));
       String found = answer(fields);
       check(found.equals(wanted), String.format("%.200s is %.200s, not %.200s", line, found, wanted));
       calls.add(fields[0]);
     }
-    check(calls.size() == 14, "14 calls are asked: " + calls);
+    check(calls.size() == 15, "15 calls are asked: " + calls);
   }
 
   // ---- what the questions don't ask

@@ -131,6 +131,7 @@ const TESTS = {
     const found = geo.bounds(unionOf(cells));
     assert.ok(wanted === "none" ? found === null : isNear(found, doubles(wanted)), found);
   },
+  area: (cells, wanted) => assert.deepEqual([geo.area(unionOf(cells))], doubles(wanted)),
 };
 /** A line without positions is nothing in GeoJSON. */
 const isLeftOut = (shape) => /(^| )-:( |$)/.test(shape);

@@ -301,6 +301,13 @@ static PyObject* py_expanded(PyObject* module, PyObject* words) {
   return cells_of(status, &found, 0, level);
 }
 
+/* In square kilometers. */
+static PyObject* py_area(PyObject* module, PyObject* given) {
+  HELD List cells = {0};
+  (void)module;
+  return as_list(given, sizeof(uint64_t), &cells) ? PyFloat_FromDouble(s2u_geo_area(cells.at, cells.n)) : NULL;
+}
+
 /* West, south, east and north in degrees; of no cell the south is more than the north. */
 static PyObject* py_rect_bound(PyObject* module, PyObject* given) {
   HELD List cells = {0};

@@ -5,14 +5,7 @@ from __future__ import annotations
 from typing import Any
 
 import numpy
-from s2union import CellUnion, _library, levels
-
-from .sphere import SIDE, on_cube_line, points
-
-EARTH = 6371.01  # its mean radius in km, as S2Earth has it
-NODES, NODES_OF_TINY = 6, 2  # of Gauss and Legendre's rule, along a side
-TINY = 12  # the level below which two nodes are as good as six
-SMALL = 3  # the level from which on so few nodes give the area of a cell to its last digits
+from s2union import CellUnion, _library
 
 
 def area(union: CellUnion) -> float:
@@ -30,14 +23,9 @@ def area(union: CellUnion) -> float:
     float
         Square kilometers. The earth is flattened, so an area there differs by less than 1 percent.
 
-    Raises
-    ------
-    OutOfMemoryError
-        There is no memory for the cells.
-
     Notes
     -----
-    S2: ``S2CellUnion::ExactArea``.
+    S2: ``S2CellUnion::ExactArea``, which is that on a sphere of radius 1.
 
     Examples
     --------
@@ -45,35 +33,7 @@ def area(union: CellUnion) -> float:
     >>> round(area(CellUnion.from_tokens("1"))), area(CellUnion())
     (85011012, 0.0)
     """
-    cells = numpy.array(union.denormalised(SMALL), "uint64")
-    depth = levels(cells)
-    return float(sum(_areas(cells[those], depth[those], nodes).sum() for those, nodes in (
-        (depth <= TINY, NODES), (depth > TINY, NODES_OF_TINY))) * EARTH**2)
-
-
-def _areas(cells: Any, depth: Any, count: int) -> Any:
-    """The areas of cells of these levels on a sphere of radius 1."""
-    side = numpy.ldexp(1.0, 30 - depth.astype(int))
-    (u, width), (v, height) = (_on_face(begin, side / SIDE) for begin in _corners(cells, side))
-    nodes = [*zip(*numpy.polynomial.legendre.leggauss(count))]
-    parts = sum(a * b * (1 + (u + width * (1 + x) / 2)**2 + (v + height * (1 + y) / 2)**2)**-1.5
-                for x, a in nodes for y, b in nodes)
-    return parts * width * height / 4
-
-
-def _corners(cells: Any, side: Any) -> Any:
-    """Where squares of these sides begin on their faces, as far as areas want it: each brought to the upper half of i
-    and of j, and the two in order. The middle of a cell is within a millionth of a leaf."""
-    longitude, latitude = numpy.radians(points(cells))
-    x, y = numpy.cos(latitude) * [numpy.cos(longitude), numpy.sin(longitude)]
-    less, more, most = numpy.sort(abs(numpy.array([x, y, numpy.sin(latitude)])), axis=0)
-    return [numpy.rint(numpy.sqrt(1 + 3 * place / most) / 2 * SIDE - side / 2) for place in (less, more)]
-
-
-def _on_face(begin: Any, length: Any) -> tuple[Any, Any]:
-    """Where squares begin on a face, from -1 to 1, and their sides there; no small difference of two large numbers."""
-    s = begin / SIDE
-    return on_cube_line(begin), 4 * length * numpy.where(s >= 0.5, 2 * s + length, 2 - 2 * s - length) / 3
+    return _library.area(union.ids)
 
 
 def boundary(union: CellUnion) -> dict[str, Any]:

@@ -95,6 +95,23 @@ impl CellUnion {
         Cells::union_by(|cells| unsafe { s2union_rust_expanded(ids.as_ptr(), ids.len(), level, cells) })
     }
 
+    /// The area of the union in square kilometers, on a sphere with the earth's mean radius: S2's `ExactArea`, which is
+    /// on a sphere of radius 1. The earth is flattened, so an area there differs by less than 1 percent. Since 1.5.
+    ///
+    /// # Examples
+    ///
+    /// ```
+    /// # use s2union::*;
+    /// let face: CellUnion = "1".parse()?;
+    /// assert_eq!((face.area().round(), CellUnion::default().area()), (85_011_012.0, 0.0));
+    /// # Ok::<(), Error>(())
+    /// ```
+    pub fn area(&self) -> f64 {
+        let ids: &[u64] = self.as_ref();
+        // SAFETY: the list goes with its length.
+        unsafe { s2union_rust_area(ids.as_ptr(), ids.len()) }
+    }
+
     /// A box of degrees in which the union lies, at most 1e-13 degrees wider on each side than the narrowest one: west,
     /// south, east and north. It goes over the date line if the east is less than the west. With a pole, or where there
     /// is no gap, it has all longitudes, from -180 to 180. None of no cell. S2's `GetRectBound`. Since 1.4.1.
@@ -125,5 +142,6 @@ extern "C" {
     fn s2union_rust_edge_neighbors(cell: u64, four: *mut CellId) -> i32;
     fn s2union_rust_vertex_neighbors(cell: u64, level: u32, four: *mut CellId, count: &mut usize) -> i32;
     fn s2union_rust_expanded(ids: *const u64, n: usize, level: u32, cells: &mut Cells) -> i32;
+    fn s2union_rust_area(ids: *const u64, n: usize) -> f64;
     fn s2union_rust_bounds(ids: *const u64, n: usize, sides: *mut f64) -> i32;
 }

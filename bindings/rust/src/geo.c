@@ -61,6 +61,8 @@ int32_t s2union_rust_expanded(const uint64_t* ids, size_t n, uint32_t level, s2u
   return s2u_cover_expanded(ids, n, level, cells);
 }
 
+double s2union_rust_area(const uint64_t* ids, size_t n) { return s2u_geo_area(ids, n); }
+
 int32_t s2union_rust_bounds(const uint64_t* ids, size_t n, double* sides) {
   s2u_cover_bounds box;
   int32_t status = s2u_cover_rect_bound(ids, n, &box);

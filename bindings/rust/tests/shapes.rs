@@ -16,12 +16,12 @@ fn shapes() {
     let mut asked = BTreeSet::new();
     for line in lines.lines() {
         let fields: Vec<&str> = line.split('\t').collect();
-        let of_one = ["leaf", "middle", "outline", "boundary", "edge_neighbors", "bounds"];
+        let of_one = ["leaf", "middle", "outline", "boundary", "edge_neighbors", "bounds", "area"];
         let given = if of_one.contains(&fields[0]) { 2 } else { 3 };
         assert_eq!(answer(&fields), fields[given..].join("\t"), "{line:.200}");
         asked.insert(fields[0]);
     }
-    assert_eq!(asked.len(), 14);
+    assert_eq!(asked.len(), 15);
 }
 
 fn answer(fields: &[&str]) -> String {
@@ -49,6 +49,7 @@ fn answer(fields: &[&str]) -> String {
             found.map_or_else(named, |cells| listed(&cells))
         }
         "expanded" => made(union(fields[1]).expanded(fields[2].parse().unwrap())),
+        "area" => format!("{:016x}", union(fields[1]).area().to_bits()),
         "bounds" => union(fields[1]).bounds().unwrap().map_or("none".to_string(), |sides| {
             in_words(&[[sides[0], sides[1]], [sides[2], sides[3]]])
         }),
