@@ -96,6 +96,32 @@ fn most_by_sine(to: u64, n: u64, d: u64) -> u64
     angle_at_most(scaled(n, sine_at_most(to)) + 1, d)
 }
 
+/// The longitude of a corner, a little nearer to 45 degrees: the sine and the cosine there are bounds without a loss.
+fn corner_inward(x: u64, y: u64) -> u64
+    requires x { x ≤ whole }
+    requires y { y ≤ whole }
+    ensures { result ≤ quarter }
+{
+    if x < y {
+        angle_at_least(y, x)
+    } else {
+        angle_at_most(y, x)
+    }
+}
+
+/// The same, a little farther from 45 degrees.
+fn corner_outward(x: u64, y: u64) -> u64
+    requires x { x ≤ whole }
+    requires y { y ≤ whole }
+    ensures { result ≤ quarter }
+{
+    if x < y {
+        angle_at_most(y, x)
+    } else {
+        angle_at_least(y, x)
+    }
+}
+
 /// At most the latitude of each place of a face around a pole that is no farther from the pole than a column and a row:
 /// it is near enough by the column or by the row, whichever counts on its side of the corner.
 fn farthest(x: u64, y: u64) -> u64
@@ -104,7 +130,7 @@ fn farthest(x: u64, y: u64) -> u64
     ensures within { result ≤ quarter }
     ensures least { (t m p q z : ℕ) → IsAt t m p q z → whole * p ≤ x * z → whole * q ≤ y * z → result ≤ m }
 {
-    let corner = angle_at_most(y, x);
+    let corner = corner_inward(x, y);
     least_by_cosine(corner, WHOLE, x).min(least_by_sine(corner, WHOLE, y))
 }
 
@@ -120,7 +146,7 @@ fn nearest(x: u64, y: u64) -> u64
     } else if y == 0 {
         most_by_cosine(0, WHOLE, x)
     } else {
-        let corner = angle_at_most(y, x);
+        let corner = corner_outward(x, y);
         most_by_cosine(corner, WHOLE, x).max(most_by_sine(corner, WHOLE, y))
     }
 }

@@ -9,7 +9,7 @@ pub returns-then-y-eq0-clause-most : goal.returns-then-y-eq0-clause-most
 returns-then-y-eq0-clause-most c t m p q z at hx hy = c.most_by_cosine.ensures.most t m p q z at (omega arith) hx
 
 pub returns-else-y-eq0-clause-most : goal.returns-else-y-eq0-clause-most
-returns-else-y-eq0-clause-most c t m p q z at hx hy = elim (cases_lt c.angle_at_most-corner.result t) [
+returns-else-y-eq0-clause-most c t m p q z at hx hy = elim (cases_lt c.corner_outward-corner.result t) [
   | inl g ↦
       let s : m ≤ c.most_by_cosine-else-y-eq0.result = c.most_by_cosine-else-y-eq0.ensures.most t m p q z at (omega (arith, g)) hx in
       omega (arith, s)
