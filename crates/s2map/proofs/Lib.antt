@@ -3,6 +3,7 @@ mod Boxes
 mod Corners
 mod Coverings
 mod Folding
+mod Leaves
 mod Meanings
 mod Octants
 mod Passing

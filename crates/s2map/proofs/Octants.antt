@@ -46,14 +46,14 @@ rounded n v r e =
     (low, omega (arith, high))
 
 module _ (t m x y z : ℕ) (p : IsAt t m x y z) where
-  sine_under_some : 1 ≤ p.b
+  pub sine_under_some : 1 ≤ p.b
   sine_under_some = some_under t p.a p.b p.east_sine
 
-  cosine_under_some : 1 ≤ p.e
+  pub cosine_under_some : 1 ≤ p.e
   cosine_under_some = some_under (quarter - t) p.k p.e p.east_cosine
 
   -- a place off the poles has a cosine of its latitude
-  axis_some : 1 ≤ p.g * p.h
+  pub axis_some : 1 ≤ p.g * p.h
   axis_some = elim (cases_lt 0 p.g) [
     | inl some ↦ mul-le 1 1 p.g p.h some (some_under m p.f p.h p.north_sine)
     | inr none ↦

@@ -47,7 +47,7 @@ pub negated : (a : ℤ) (r : Bool) (n : ℕ) → neg_ℤ a ≡ with_sign r n →
 negated a true n h = sym (neg_ℤ-neg_ℤ a) ∙ (ap neg_ℤ h ∙ neg_ℤ-neg_ℤ (pos n))
 negated a false n h = sym (neg_ℤ-neg_ℤ a) ∙ ap neg_ℤ h
 
-none_of : (k c r : ℕ) → 1 ≤ c → 1 ≤ r → k * c * r ≡ 0 → k ≡ 0
+pub none_of : (k c r : ℕ) → 1 ≤ c → 1 ≤ r → k * c * r ≡ 0 → k ≡ 0
 none_of k c r hc hr e =
     let h = mul-le 1 1 c r hc hr in
     let h2 = mul-le-mul_left k h in

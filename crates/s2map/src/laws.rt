@@ -1,12 +1,15 @@
 //! Laws about the definitions themselves: functions that do nothing, whose clauses are proved.
-ghost use Rattle.std.specs.Prelude.{◌≡◌, ◌<◌, ◌<ℤ◌, All, List, ℤ, false, neg_ℤ, pos, true, unsigned_abs};
+ghost use Rattle.std.specs.Prelude.{◌≡◌, ◌<◌, ◌<ℤ◌, All, List, ℕ, ℤ, false, neg_ℤ, pos, true, unsigned_abs};
 ghost use Rattle.s2map.specs.Boxes.{InBox, meets};
+ghost use Rattle.s2map.specs.Cells.{HoldsPlace, IsProperPlace};
 ghost use Rattle.s2map.specs.Map.{IsMapEdge, IsMapPlace, inside, passes_north, place_turned, turned};
 ghost use Rattle.s2map.specs.Edges.{LiesOn};
 ghost use Rattle.s2map.specs.Examples.{degrees, inside_cap, inside_dateline, inside_slant, inside_square};
 ghost use Rattle.s2map.specs.declared.place.MapBox.{MapBox};
 ghost use Rattle.s2map.specs.declared.place.MapEdge.{MapEdge};
 ghost use Rattle.s2map.specs.declared.place.Place.{Place};
+
+use s2degrees::laws::law_of_sums;
 
 /// Seven turns are all: an edge of the map passes north of no place of the map on any other.
 pub fn law_of_turns()
@@ -53,3 +56,10 @@ pub fn law_of_places_turned()
     ensures { (shape : List (List MapEdge)) (p : Place) → All (All IsMapEdge) shape → IsMapPlace p
         → IsMapPlace (place_turned (pos 1) p) → inside shape (place_turned (pos 1) p) ≡ inside shape p }
 {}
+
+/// Each place of the map but the poles is held by a leaf, so no clause about the places of leaves is about nothing.
+pub fn law_of_leaves()
+    ensures { (p : Place) → IsProperPlace p → (n : ℕ) × HoldsPlace n p }
+{
+    law_of_sums();
+}
