@@ -94,7 +94,8 @@ module _ (angle r x p d : ℕ) (within : angle ≤ quarter) (number : IsNumberOf
           (less_alike (sine_over x) (sine_over angle) sine_under (sine_rises x angle h k))
       | inl g ↦
           let h1 = mul-le-mul_right cosine_under (sine_rises x eighth l (omega arith)) in
-          let h2 = mul-le-mul_right sine_under (cosine_falls (quarter - angle) eighth (omega (arith, g)) (omega arith)) in
+          let h2 = mul-le-mul_right sine_under
+          (cosine_falls (quarter - angle) eighth (omega (arith, g)) (omega arith)) in
           let h3 = eighth_rises in
           below (sine_number x) r p d (sine_over x) sine_under (cosine_over (quarter - angle)) cosine_under
           sine_under_some cosine_under_some sum_low.1 own_low (high_number g)
@@ -119,7 +120,8 @@ module _ (angle r x p d : ℕ) (within : angle ≤ quarter) (number : IsNumberOf
     sum_high = cosine_near (quarter - x) p d rest i
 
     own_high : IsNear 13000 (cosine_number (quarter - x)) (cosine_over (quarter - x)) cosine_under
-    own_high = (cosine_near (quarter - x) (cosine_over (quarter - x)) cosine_under rest (cosine_sum (quarter - x) rest)).1
+    own_high =
+        (cosine_near (quarter - x) (cosine_over (quarter - x)) cosine_under rest (cosine_sum (quarter - x) rest)).1
 
     most_high : x ≤ angle → 2 ^ 62 * p ≤ (r + 40000) * d
     most_high h = elim (cases_lt eighth angle) [
@@ -132,8 +134,8 @@ module _ (angle r x p d : ℕ) (within : angle ≤ quarter) (number : IsNumberOf
           let f : eighth ≡ angle = omega (arith, g, h, k) in
           let at : IsLess (cosine_over (quarter - x)) cosine_under (sine_over angle) sine_under =
           rw (e, ← f) (record { is = eighth_near }) in
-          below (cosine_number (quarter - x)) r p d (cosine_over (quarter - x)) cosine_under (sine_over angle) sine_under
-          cosine_under_some sine_under_some sum_high.1 own_high (low_number k) at
+          below (cosine_number (quarter - x)) r p d (cosine_over (quarter - x)) cosine_under (sine_over angle)
+          sine_under cosine_under_some sine_under_some sum_high.1 own_high (low_number k) at
     ]
 
     least_high : angle ≤ x → (r - 40000) * d ≤ 2 ^ 62 * p
@@ -146,8 +148,8 @@ module _ (angle r x p d : ℕ) (within : angle ≤ quarter) (number : IsNumberOf
           let h1 = mul-le-mul_right cosine_under (sine_rises angle eighth k (omega arith)) in
           let h2 = mul-le-mul_right sine_under (cosine_falls (quarter - x) eighth rest (omega arith)) in
           let h3 = eighth_rises in
-          above (cosine_number (quarter - x)) r p d (cosine_over (quarter - x)) cosine_under (sine_over angle) sine_under
-          cosine_under_some sine_under_some sum_high.1 own_high (low_number k)
+          above (cosine_number (quarter - x)) r p d (cosine_over (quarter - x)) cosine_under (sine_over angle)
+          sine_under cosine_under_some sine_under_some sum_high.1 own_high (low_number k)
           (less (sine_over angle) sine_under (cosine_over (quarter - x)) cosine_under (chained _ _ _ _ h1 h3 h2))
     ]
       where

@@ -82,7 +82,8 @@ module _ (q p d : ℕ) (small : q ≤ 2 ^ 62) (sq : p ≤ d) (near-q : IsNear 5 
       stepped q g 2 5 p d 77795 12968 (suc (suc (suc (suc (suc (suc m)))))) small (step_small q f 4) (omega arith) sq
       near-q near-f (lit≤ tt)
 
-  cosine_steps_near : (m : ℕ) → IsNear 725 (cosine_steps q) (over p d 1 (suc (suc (suc (suc (suc (suc (suc (suc m)))))))))
+  cosine_steps_near : (m : ℕ) → IsNear 725 (cosine_steps q)
+      (over p d 1 (suc (suc (suc (suc (suc (suc (suc (suc m)))))))))
       (under d 1 (suc (suc (suc (suc (suc (suc (suc (suc m)))))))))
   unfolding cosine_steps
   cosine_steps_near m =

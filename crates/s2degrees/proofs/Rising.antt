@@ -118,7 +118,8 @@ pub eighth_rises : sine_over eighth * cosine_under ≤ cosine_over eighth * sine
 unfolding over under
 eighth_rises = lit≤ tt
 
-pub eighth_near : 2 ^ 62 * (cosine_over eighth * sine_under) ≤ (2 ^ 62 * sine_over eighth + 1000 * sine_under) * cosine_under
+pub eighth_near : 2 ^ 62 * (cosine_over eighth * sine_under)
+    ≤ (2 ^ 62 * sine_over eighth + 1000 * sine_under) * cosine_under
 unfolding over under
 eighth_near = lit≤ tt
 

@@ -2,7 +2,7 @@
 use Rattle.std.specs.Prelude.{ℕ, ◌-◌, ◌*◌, ◌≤◌}
 use Rattle.s2degrees.specs.Degrees.{IsEitherSine, quarter}
 
--- the tangent of an angle is at most n / d, by a sum of its sine and one of its cosine; of 90 degrees no such fraction is
+-- the tangent of an angle is at most n / d, by a sum of its sine and one of its cosine
 pub record HasTangentAtMost (angle n d : ℕ) : Type 0 where
   pub within : angle ≤ quarter
   pub a : ℕ

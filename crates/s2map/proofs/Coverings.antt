@@ -1,5 +1,6 @@
 -- How cells lie by their boxes, and what is known of a covering on its way.
-use Rattle.std.proofs.Common.{◌≡◌, refl, sym, ap, ◌∙◌, subst, ℕ, ◌+◌, ◌-◌, ◌*◌, ◌/◌, ◌^◌, ◌<◌, ◌≤◌, arith, inl, inr, ◌⊎◌}
+use Rattle.std.proofs.Common.{◌≡◌, refl, sym, ap, ◌∙◌, subst, ℕ, ◌+◌, ◌-◌, ◌*◌, ◌/◌, ◌^◌, ◌<◌, ◌≤◌, arith, inl, inr}
+use Rattle.std.proofs.Common.{◌⊎◌}
 use Rattle.std.proofs.Common.{Bool, true, false, ◌||◌, ℤ, pos, List, [], ◌∷◌, ◌++◌, All, div-one}
 use Rattle.std.proofs.lemmas.Bool.{cases_lt, or_left, or_right}
 use Rattle.std.proofs.lemmas.Int.{ints}
@@ -155,7 +156,8 @@ module _ (shape : List (List MapEdge)) (k : ℕ) where
       | inl m ↦ found_more met within more_met more_within n a b (t.found n m)
       | inr g ↦
           let on : n / 4 ^ 30 ≡ face = omega (arith, l, g) in
-          let one : place_of c / 4 ^ level_of c ≡ place_of c = ap (λ z. place_of c / 4 ^ z) top ∙ div-one (place_of c) in
+          let one : place_of c / 4 ^ level_of c ≡ place_of c = ap (λ z. place_of c / 4 ^ z) top ∙ div-one
+          (place_of c) in
           let d : n / 4 ^ (30 - level_of c) ≡ n / 4 ^ 30 = ap (λ z. n / 4 ^ (30 - z)) top in
           all n (covers_block c (level_of c) (place_of c) n (own_place c is) (d ∙ on ∙ sym ef ∙ one))
     ];

@@ -1,6 +1,8 @@
 -- An angle of the circle by an angle of at most 90 degrees: its sine and its cosine but for their signs.
-use Rattle.std.proofs.Common.{ℕ, zero, suc, ◌+◌, ◌-◌, ◌*◌, ◌/◌, ◌%◌, ◌^◌, ◌≤◌, ◌<◌, ◌≡◌, arith, inl, inr, refl, ap, sym, ◌∙◌}
-use Rattle.std.proofs.Common.{Bool, true, false, ◌⊎◌, ℤ, pos, negsuc, neg_ℤ, ◌+ℤ◌, ◌-ℤ◌, ◌≤ℤ◌, ◌<ℤ◌, unsigned_abs, lit≤, subst}
+use Rattle.std.proofs.Common.{ℕ, zero, suc, ◌+◌, ◌-◌, ◌*◌, ◌/◌, ◌%◌, ◌^◌, ◌≤◌, ◌<◌, ◌≡◌, arith, inl, inr, refl, ap}
+use Rattle.std.proofs.Common.{sym, ◌∙◌}
+use Rattle.std.proofs.Common.{Bool, true, false, ◌⊎◌, ℤ, pos, negsuc, neg_ℤ, ◌+ℤ◌, ◌-ℤ◌, ◌≤ℤ◌, ◌<ℤ◌, unsigned_abs}
+use Rattle.std.proofs.Common.{lit≤, subst}
 use Rattle.std.proofs.Math.IntN.{neg_ℤ-neg_ℤ}
 use Rattle.std.proofs.Math.Nat.{mul-le-mul_left}
 use Rattle.std.proofs.lemmas.Bool.{cases_lt}
@@ -133,7 +135,8 @@ pub folded : (angle a : ℤ) (b : ℕ) (k : ℤ) (e : ℕ) → neg_ℤ (pos (2 *
 folded (pos n) a b k e low high i j = elim (cases_lt n quarter) [
   | inl l ↦
       let at : around (pos n) ≡ 0 * quarter + n = around_up n (omega (arith, l)) ∙ omega arith in
-      first (pos n) a b k e n (omega (arith, l)) refl (sine_at (pos n) 0 n a b at l i) (cosine_at (pos n) 0 n k e at l j)
+      first (pos n) a b k e n (omega (arith, l)) refl (sine_at (pos n) 0 n a b at l i)
+      (cosine_at (pos n) 0 n k e at l j)
   | inr g ↦
       let r : ℕ = n - quarter in
       let l : r < quarter = omega (arith, ints, g, high) in
@@ -162,7 +165,8 @@ pub latitude_folded : (angle a : ℤ) (b : ℕ) (k : ℤ) (e : ℕ) → unsigned
     → IsCosine angle k e → (f : Folded angle a b k e) × (f.behind ≡ false)
 latitude_folded (pos n) a b k e l i j =
     let at : around (pos n) ≡ 0 * quarter + n = around_up n (omega (arith, l)) ∙ omega arith in (
-      first (pos n) a b k e n (omega (arith, l)) refl (sine_at (pos n) 0 n a b at l i) (cosine_at (pos n) 0 n k e at l j),
+      first (pos n) a b k e n (omega (arith, l)) refl (sine_at (pos n) 0 n a b at l i)
+          (cosine_at (pos n) 0 n k e at l j),
       refl,
     )
 latitude_folded (negsuc n) a b k e l i j =

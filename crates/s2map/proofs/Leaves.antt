@@ -1,5 +1,6 @@
 -- Each place of the map is held by a leaf.
-use Rattle.std.proofs.Common.{◌≡◌, refl, sym, subst, ◌∙◌, ℕ, zero, suc, ◌+◌, ◌-◌, ◌*◌, ◌/◌, ◌%◌, ◌^◌, ◌<◌, ◌≤◌, arith, inl, inr}
+use Rattle.std.proofs.Common.{◌≡◌, refl, sym, subst, ◌∙◌, ℕ, zero, suc, ◌+◌, ◌-◌, ◌*◌, ◌/◌, ◌%◌, ◌^◌, ◌<◌, ◌≤◌, arith}
+use Rattle.std.proofs.Common.{inl, inr}
 use Rattle.std.proofs.Common.{Bool, true, false, ℤ, pos, negsuc, neg_ℤ, ◌-ℤ◌, ◌*ℤ◌, ◌≤ℤ◌, ◌<ℤ◌, int_le, ap, lit<, lit≤}
 use Rattle.std.proofs.lemmas.Bool.{cases_lt}
 use Rattle.std.proofs.lemmas.Int.{ints}
@@ -24,7 +25,8 @@ use Rattle.s2map.specs.Working.Octants.{IsAt, whole}
 use Rattle.s2map.specs.declared.place.Place.{Place}
 
 -- ---- a direction of the place
-pub sides_by : (angle : ℤ) (sine : (a : ℤ) × (b : ℕ) × IsSine angle a b) (cosine : (a : ℤ) × (b : ℕ) × IsCosine angle a b)
+pub sides_by : (angle : ℤ) (sine : (a : ℤ) × (b : ℕ) × IsSine angle a b)
+    (cosine : (a : ℤ) × (b : ℕ) × IsCosine angle a b)
     → HasSides angle (sine.0 *ℤ pos cosine.1) (cosine.0 *ℤ pos sine.1) (sine.1 * cosine.1)
 sides_by angle sine cosine = record {
   a = sine.0;

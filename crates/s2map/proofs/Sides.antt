@@ -1,5 +1,6 @@
 -- Where the places of a cell lie, by its columns and rows.
-use Rattle.std.proofs.Common.{ℕ, suc, ◌+◌, ◌-◌, ◌*◌, ◌^◌, ◌≤◌, ◌<◌, ◌≡◌, arith, inl, inr, refl, ap, sym, ◌∙◌, ◌⊎◌, subst}
+use Rattle.std.proofs.Common.{ℕ, suc, ◌+◌, ◌-◌, ◌*◌, ◌^◌, ◌≤◌, ◌<◌, ◌≡◌, arith, inl, inr, refl, ap, sym, ◌∙◌, ◌⊎◌}
+use Rattle.std.proofs.Common.{subst}
 use Rattle.std.proofs.Common.{Bool, true, false, not, cond, nat_lt, ℤ, pos, negsuc, neg_ℤ, ◌+ℤ◌, ◌-ℤ◌, ◌*ℤ◌, ◌≤ℤ◌, ◌<ℤ◌}
 use Rattle.std.proofs.Common.{unsigned_abs, lt-ltb, le-ltb, of_z, to_z, w64}
 use Rattle.std.proofs.Math.IntN.{neg_ℤ-neg_ℤ}
@@ -102,7 +103,8 @@ module _ (p : Place) (d : Point) (proper : IsProperPlace p) (has : HasDirection 
       let axis : 1 ≤ n.k_size * h = elim (cases_lt 0 n.k_size) [
         | inl some ↦ mul-le 1 1 n.k_size h some h-some
         | inr none ↦
-            let q = none_at_0 (quarter - n.t) n.k_size j (omega (arith, none)) n.cosine in absurd (omega (arith, q, below))
+            let q = none_at_0 (quarter - n.t) n.k_size j (omega (arith, none)) n.cosine in absurd
+            (omega (arith, q, below))
       ] in
       let g = times_of has.g has.north.k (pos h) false n.k_size h has.north.c_is cosine refl in
       let c = times_of has.c has.east.k (pos b) e.behind e.k_size b has.east.c_is e.k_is refl in
@@ -287,7 +289,8 @@ module _ (p : Place) (d : Point) (u v : Side) (angles : Angles) (proper : IsProp
         → IsSeen 4 d u v
         → IsInOctant (record { behind = v.negative; west = true; south = not u.negative; angles = angles }) p
     on_4 all s =
-        let l = located p d proper has v.negative true (not u.negative) s.k s.w s.n s.v_is (negated d.y false s.w s.w_is)
+        let l = located p d proper has v.negative true (not u.negative) s.k s.w s.n s.v_is
+        (negated d.y false s.w s.w_is)
         (negated d.z u.negative s.n s.u_is) in
         let both = all l.t l.m s.k s.w s.n l.at s.along_v s.along_u in
         record { t = l.t; m = l.m; angles = both; longitude = l.longitude; latitude = l.latitude }
@@ -296,7 +299,8 @@ module _ (p : Place) (d : Point) (u v : Side) (angles : Angles) (proper : IsProp
         → IsSeen 5 d u v
         → IsInOctant (record { behind = v.negative; west = u.negative; south = true; angles = angles }) p
     on_5 all s =
-        let l = located p d proper has v.negative u.negative true s.k s.n s.w s.v_is s.u_is (negated d.z false s.w s.w_is) in
+        let l = located p d proper has v.negative u.negative true s.k s.n s.w s.v_is s.u_is
+        (negated d.z false s.w s.w_is) in
         let both = all l.t l.m s.k s.n s.w l.at s.along_v s.along_u in
         record { t = l.t; m = l.m; angles = both; longitude = l.longitude; latitude = l.latitude }
 

@@ -1,6 +1,7 @@
 -- Places a turn apart are one place.
 use Rattle.std.proofs.Common.{◌≡◌, refl, sym, ◌∙◌, ap, ap₂, ◌*◌, ◌≤◌, ◌<◌, ℤ, pos, neg_ℤ, ◌+ℤ◌, ◌-ℤ◌, ◌*ℤ◌, ◌≤ℤ◌, ◌<ℤ◌}
-use Rattle.std.proofs.Common.{arith, int_le, int_lt, unsigned_abs, lit≤, Bool, true, false, not, cond, ◌&&◌, List, [], ◌∷◌}
+use Rattle.std.proofs.Common.{arith, int_le, int_lt, unsigned_abs, lit≤, Bool, true, false, not, cond, ◌&&◌, List, []}
+use Rattle.std.proofs.Common.{◌∷◌}
 use Rattle.std.proofs.Common.{All, ◌||◌}
 use Rattle.std.proofs.lemmas.Int.{ints}
 use Rattle.std.proofs.lemmas.List.Elements.{All-head, All-tail}
@@ -53,7 +54,8 @@ one_less p e k j h =
 
 -- seven answers, and the same moved by one, where the first and the last are no
 moved_by_one : (a b c d e f g h : Bool) → a ≡ false → h ≡ false
-    → xor a (xor b (xor c (xor d (xor e (xor f (xor g false)))))) ≡ xor b (xor c (xor d (xor e (xor f (xor g (xor h false))))))
+    → xor a (xor b (xor c (xor d (xor e (xor f (xor g false)))))) ≡ xor b
+    (xor c (xor d (xor e (xor f (xor g (xor h false))))))
 unfolding xor
 moved_by_one a b c d e f g h ea eh = rw (ea, eh) (none_first (xor b (xor c (xor d (xor e (xor f (xor g false)))))))
   where

@@ -43,7 +43,8 @@ pub record HasDirection (p : Place) (r : Point) : Type 0 where
   pub y_is : r.y ≡ s *ℤ g
   pub z_is : r.z ≡ pos d *ℤ t
 
--- the leaf number `n` holds the place: a direction of the place lies before its face, between its columns and rows or on them
+-- the leaf number `n` holds the place: a direction of the place lies before its face, between its columns and rows or
+-- on them
 pub record HoldsPlace (n : ℕ) (p : Place) : Type 0 where
   pub leaf : n < LEAVES
   pub direction : Point

@@ -197,9 +197,9 @@ fn map() -> MapBox
 impl MapBox {
     /// The box of a cell: each place of the map that a leaf of the cell holds lies in it, on this turn or on the next.
     ///
-    /// Of a face it is the whole map. Of a smaller cell it is at most some 3,000 femtodegrees, a third of a micrometer,
-    /// wider on each side than the cell's own longitudes and latitudes. It takes the time of up to some 30 sines.
-    /// S2: `S2Cell::GetRectBound`, in floating point.
+    /// Of a face it is the whole map. Of a smaller cell it is at most some 4,000 femtodegrees, half a micrometer, wider
+    /// on each side than the cell's own longitudes and latitudes. It takes the time of some 26 sines, around a pole of
+    /// up to 52. S2: `S2Cell::GetRectBound`, in floating point.
     pub fn of_cell(cell: CellId) -> MapBox
         ensures bounds { IsBox result }
         ensures all { IsBoxOf cell result }

@@ -17,7 +17,7 @@ use std::alloc::{AllocError, Global};
 pub struct MapCovering {
     /// Cells of one level that edges may go through. They belong to the outer covering alone.
     pub met: Vec<CellId>,
-    /// Cells of this level or larger that lie inside. They belong to both coverings.
+    /// Cells that lie inside. They belong to both coverings.
     pub within: Vec<CellId>,
 }
 

@@ -2,7 +2,8 @@
 //! they must answer. Prints the title of each row with other answers, and how many have theirs.
 //!
 //! Modules, by what is called: `cells` (of `s2cell`), `unions` (`s2union`), `counted` (`s2union` and `s2list`),
-//! `coverings` (`s2cover`), `polygons` (`s2polygon`), `directions` (`s2degrees`), `maps` (`s2map`), `shapes` (`s2shape`),
+//! `coverings` (`s2cover`), `polygons` (`s2polygon`), `directions` (`s2degrees`), `maps` (`s2map`), `shapes`
+//! (`s2shape`),
 //! `files` (`s2file`), `shelves` (`s2shelf`), `edits`, `changes` and `sessions` (`s2edit` and `s2session`). `even` and
 //! `weighed` are regions of its own. `curve`, `rectangles` and `differing` compare calls with other calls, or with
 //! plain readings that stand here as test code. `table` has a row answered, and `texts` reads and writes the words of

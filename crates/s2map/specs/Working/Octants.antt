@@ -76,7 +76,8 @@ angle_of false true t = neg_ℤ (pos t)
 angle_of true false t = pos (2 * quarter) -ℤ pos t
 angle_of true true t = pos t -ℤ pos (2 * quarter)
 
--- all angles that are folded into the span lie in the range, which has one, goes at most once around, and from pole to pole
+-- all angles that are folded into the span lie in the range, which has one, goes at most once around, and from pole
+-- to pole
 -- if it is not behind
 pub record IsRangeOf (r : Range) (behind west : Bool) (s : Span) : Type 0 where
   pub order : r.low ≤ℤ r.high

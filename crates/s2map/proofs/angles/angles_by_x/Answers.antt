@@ -5,8 +5,12 @@ use Rattle.s2map.proofs.angles.angles_by_x.Goals as goal
 
 pub returns-clause-all : goal.returns-clause-all
 returns-clause-all c t m p q r at h k =
-    let east = c.ordered-east.ensures.all t (c.angle_at_least.ensures.least t (east_least t m p q r at c.args.y.low whole h.low))
+    let east = c.ordered-east.ensures.all t
+    (c.angle_at_least.ensures.least t (east_least t m p q r at c.args.y.low whole h.low))
     (c.angle_at_most.ensures.most t (east_most t m p q r at c.args.y.high whole h.high)) in
     let below = at.north in
-    let north : m ≤ c.most_by_cosine.result = c.most_by_cosine.ensures.most t m p q r at east.low k.high in
-    (east, c.ordered.ensures.all m (c.least_by_cosine-south.ensures.least t m p q r at east.high k.low) (omega (arith, north, below)))
+    let north : m ≤ c.most_by_cosine.result = c.most_by_cosine.ensures.most t m p q r at east.low k.high in (
+      east,
+      c.ordered.ensures.all m (c.least_by_cosine-south.ensures.least t m p q r at east.high k.low)
+          (omega (arith, north, below)),
+    )

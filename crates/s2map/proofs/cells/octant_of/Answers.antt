@@ -30,4 +30,5 @@ returns-in-4-clause-all c p d proper has s =
 pub returns-in_default-clause-all : goal.returns-in_default-clause-all
 returns-in_default-clause-all c p d proper has s =
     let e : c.args.face ≡ 5 = omega arith in
-    on_5 p d c.args.u c.args.v c.angles_by_z-in_default.result proper has c.angles_by_z-in_default.ensures.all (rw e at s)
+    on_5 p d c.args.u c.args.v c.angles_by_z-in_default.result proper has c.angles_by_z-in_default.ensures.all
+    (rw e at s)

@@ -5,8 +5,10 @@ use Rattle.s2map.proofs.cells.side_of.Goals as goal
 pub returns-then-first : goal.returns-then-first
 returns-then-first c = record {
   span = record { low = c.far.ensures.small; high = c.far-then-first.ensures.small };
-  all = λ x u w from to a b. side_up (record { low = c.far.result; high = c.far-then-first.result }) c.args.i c.args.size
-      x u w from to a b (omega arith) (omega (arith, c.far.ensures.value)) (omega (arith, c.far-then-first.ensures.value));
+  all = λ x u w from to a b. side_up (record { low = c.far.result; high = c.far-then-first.result }) c.args.i
+      c.args.size
+      x u w from to a b (omega arith) (omega (arith, c.far.ensures.value))
+      (omega (arith, c.far-then-first.ensures.value));
 }
 
 pub returns-then-last : goal.returns-then-last
