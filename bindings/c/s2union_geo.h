@@ -220,7 +220,7 @@ static inline double s2u_geo_side_on_face(double begin, double length, double* s
 }
 
 /* The area of a square of a face on a sphere of radius 1, by the rule of Gauss and Legendre: with six nodes along a
- * side, or two of a small square, which give it to its last digits. One wider than an eighth of a face is cut. */
+ * side, or two of a small square, which give it to its last digits. It is at most an eighth of the face wide. */
 static inline double s2u_geo_area_of_square(double i, double j, double size) {
   static const double nodes[8][2] = {
       {-0.9324695142031521, 0.1713244923791704}, {-0.6612093864662645, 0.3607615730481386},
@@ -228,10 +228,7 @@ static inline double s2u_geo_area_of_square(double i, double j, double size) {
       {0.6612093864662645, 0.3607615730481386},  {0.9324695142031521, 0.1713244923791704},
       {-0.5773502691896257, 1},                  {0.5773502691896257, 1}};
   const int begin = size < (1 << 18) ? 6 : 0, end = size < (1 << 18) ? 8 : 6;
-  double half = size / 2, width, height, sum = 0;
-  if (size > S2U_GEO_SIDE / 8)
-    return s2u_geo_area_of_square(i, j, half) + s2u_geo_area_of_square(i + half, j, half) +
-           s2u_geo_area_of_square(i, j + half, half) + s2u_geo_area_of_square(i + half, j + half, half);
+  double width, height, sum = 0;
   const double u = s2u_geo_side_on_face(i, size, &width), v = s2u_geo_side_on_face(j, size, &height);
   for (int a = begin; a < end; a++) {
     for (int b = begin; b < end; b++) {
@@ -249,7 +246,11 @@ static inline double s2u_geo_area(const uint64_t* ids, size_t count) {
   double sum = 0;
   for (size_t k = 0; k < count; k++) {
     s2u_square at;
-    if (s2u_square_of(ids[k], &at) == S2U_OK) sum += s2u_geo_area_of_square(at.i, at.j, at.size);
+    if (s2u_square_of(ids[k], &at) != S2U_OK) continue;
+    const int parts = at.size > S2U_GEO_SIDE / 8 ? (int)(at.size / (S2U_GEO_SIDE / 8)) : 1; /* along a side */
+    const double side = (double)at.size / parts;
+    for (int part = 0; part < parts * parts; part++)
+      sum += s2u_geo_area_of_square(at.i + part / parts * side, at.j + part % parts * side, side);
   }
   return sum * S2U_GEO_EARTH * S2U_GEO_EARTH;
 }

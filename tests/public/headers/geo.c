@@ -34,3 +34,8 @@ void geo_box_of(void) {
   s2u_geo_box box;
   s2u_geo_box_of(any_cell, &box);
 }
+
+void geo_area(void) {
+  uint64_t cells[2] = {any_cell, any_cell};
+  s2u_geo_area(cells, 2);
+}
