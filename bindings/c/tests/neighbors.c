@@ -1,5 +1,5 @@
-/* Cells beside cells, unions with the cells around them, and the boxes of unions: by a plain look at all cells of a
- * level, whose corners lie on a cube; each allocation refused in turn; what is refused. The last line is 'N passed, M
+/* Cells beside cells, unions with the cells around them, the boxes and areas of unions: by a plain look at all cells of
+ * a level, whose corners lie on a cube; each allocation refused in turn; what is refused. The last line is 'N passed, M
  * failed'. tests/peer asks S2 about more. */
 #include <s2union_cover.h>
 #include "../../../tests/refuse.h"
