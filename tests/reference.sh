@@ -27,8 +27,8 @@ of_python() { [ ! -e "$work/made/python/objects.inv" ]; }
 step "Python: no list of names for other references" of_python
 warned() ( # a text in a docstring that has no end: sphinx warns of it, and goes on
   mkdir "$work/copy" && cd "$top" &&
-    cp -r --parents VERSION tools crates/s2union_c/include bindings/python "$work/copy" && cd "$work/copy" &&
-    sed -i 's/^def face(.*/&\n    """``has no end"""/' bindings/python/s2union/__init__.py &&
+    cp -r --parents VERSION tools crates/s2union_c/{include,src} bindings/python "$work/copy" && cd "$work/copy" &&
+    sed -i 's/^\[call.face\]$/&\npython.says = "``has no end"/' tools/methods.toml &&
     ! /usr/bin/python3 tools/reference "$work/refused" python >"$work/said" && grep -q WARNING "$work/said"
 )
 step "Python: a warning is an error" warned

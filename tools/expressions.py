@@ -58,7 +58,7 @@ class Expression(ast.NodeVisitor):
             if name == "join":
                 return self.language.JOINED.format(own, given)
             method = self.methods.get(name)
-            return f"{own}.{name_of(method, self.language.NAME) if method else camel(name)}({given})"
+            return f"{own}.{self.language.name_of(method) if method else camel(name)}({given})"
         if name in self.language.MADE:
             return self.language.MADE[name].format(given)
         return self.language.called(self.methods[name], given)
@@ -77,14 +77,14 @@ def example(language, methods, method, indent):
     text += f" // {own.get('answer', method.answer)}"
     if len(indent + text) <= language.WIDTH:
         return [indent + text]
-    at = text.rfind(f".{name_of(method, language.NAME)}(")
+    at = text.rfind(f".{language.name_of(method)}(")
     return [indent + text[:at], indent + " " * language.CUT + text[at:]]
 
 
 def wrapped_code(methods, language, text):
     """A text whose words in `..` are told as the language does: the calls among them by the names of their methods."""
     return re.sub(r"`(.*?)`", lambda it: language.code(
-        name_of(methods[it[1]], language.NAME) if it[1] in methods else it[1]), text.replace("{none}", language.NONE))
+        language.name_of(methods[it[1]]) if it[1] in methods else it[1]), text.replace("{none}", language.NONE))
 
 
 # ---- the questions of the tests

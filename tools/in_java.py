@@ -134,7 +134,7 @@ def errors(method):
     return ", or ".join(f"{{@link Refusal.Kind#{name}}} if {why}" for name, why in method.errors())
 
 
-def comment(methods, method):
+def comment(methods, method, *_):
     said = [*lines(marked(methods, method.sentence))]
     if method.s2:
         said += lines(f"S2: {marked(methods, method.s2)}.")
@@ -147,7 +147,7 @@ def comment(methods, method):
     return ["  /**", *said, f"   * @since {expressions.since(method)}", "   */"]
 
 
-def whole(methods, method):
+def whole(methods, method, *_):
     words = ", ".join(f"{kind} {name}" for kind, name in parameters(method))
     static = "" if method.has_receiver else "static "
     return [*comment(methods, method), f"  public {static}{result(method)} {name_of(method)}({words}) {{",
@@ -198,7 +198,7 @@ def asked(method):
             yield f"g.{expressions.form_of(method, it)}({field}{more})"
 
 
-def question(_, method):
+def question(_, method, *__):
     given = list(asked(method))
     of = given.pop(0) if method.has_receiver else owner(method)
     answer = f"{of}.{name_of(method)}({', '.join(given)})"

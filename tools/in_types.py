@@ -70,7 +70,7 @@ def marked(methods, text):
     return expressions.wrapped_code(methods, sys.modules[__name__], text)
 
 
-def comment(methods, method):
+def comment(methods, method, *_):
     indent = indent_of(method)
 
     def lines(text, more=""):
@@ -93,7 +93,7 @@ def comment(methods, method):
             f"{indent} */"]
 
 
-def whole(methods, method):
+def whole(methods, method, *_):
     words = ", ".join(f"{name}: {kind}" for kind, name in parameters(method))
     head = "export function " if not owner(method) else "  " if method.has_receiver else "  static "
     return [*comment(methods, method), f"{head}{name_of(method)}({words}): {result(method)};"]
@@ -132,7 +132,7 @@ def shown(method, text):
 # ---- the questions of the tests
 
 
-def question(_, method):
+def question(_, method, *__):
     given = []
     for it, field, place in expressions.fields(method):
         form = expressions.form_of(method, it)

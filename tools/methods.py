@@ -22,14 +22,15 @@ from pathlib import Path
 
 import declared
 import in_java
+import in_python
 import in_types
 import java_calls
 import usage
 
 TOP = Path(__file__).resolve().parents[1]
 TABLE = "tools/methods.toml"
-LANGUAGES = {".java": in_java, ".ts": in_types, ".mjs": in_types}
-MARK = re.compile(r"^ *// (methods|comment|questions|numbers): ((?:.*,\n *// +)*.*)\n", re.M)
+LANGUAGES = {".java": in_java, ".ts": in_types, ".mjs": in_types, ".py": in_python}
+MARK = re.compile(r"^ *(?://|#) (methods|comment|questions|numbers): ((?:.*,\n *// +)*.*)\n", re.M)
 UNION = "a new union"
 
 
@@ -212,7 +213,7 @@ def filled(path, top=TOP):
             return "\n".join([*java_calls.in_java(top), ""])
         form = getattr(language, FORMS[mark[1]])
         between = language.BETWEEN if mark[1] == "methods" else "\n"
-        return between.join("\n".join(form(found, it)) for it in of(mark)) + "\n"
+        return between.join("\n".join(form(found, it, text[:mark.start()])) for it in of(mark)) + "\n"
 
     return MARK.sub(made, text) if found else text
 

@@ -5,8 +5,9 @@ libs2union is, as in what tools/portable makes, the library is compiled into the
 Else s2union.h is looked for in the folder $S2UNION_INCLUDE, by pkg-config, and in the compiler's own places, and the
 library is needed at run time.
 
-The land of the world, which maps in a notebook have below unions, lies in page/ of a checkout. Where that isn't, as in
-what the packagers make, it is beside the module already, or maps have none.
+The land of the world, which maps in a notebook have below unions, lies in page/ of a checkout, and tools/methods.py
+makes docstrings there, by Python 3.11 or later. Where these aren't, as in what the packagers make, the land is beside
+the module already, or maps have none, and the module has its docstrings already.
 """
 import os
 import shutil
@@ -34,15 +35,19 @@ class Assembling(build_ext):
         super().build_extensions()
 
 
-class WithLand(build_py):
-    """Takes the land of the world from a checkout."""
+class OfCheckout(build_py):
+    """Takes from a checkout the land of the world, and docstrings that are made."""
 
     def run(self):
         super().run()
-        land = Path(__file__).resolve().parent / "../../page/land.cells"
+        top = Path(__file__).resolve().parent / "../.."
+        land, maker = top / "page/land.cells", top / "tools/methods.py"
         folder = Path(self.build_lib, "s2union_geo")
         if land.exists() and folder.is_dir():  # which isn't there if the module is used where it lies
             shutil.copyfile(land, folder / land.name)
+        if maker.exists() and folder.is_dir() and sys.version_info >= (3, 11):
+            module = Path(self.build_lib, "s2union")
+            subprocess.run([sys.executable, "-B", maker, module, Path("s2union", "__init__.py").resolve()], check=True)
 
 
 def include():
@@ -68,4 +73,4 @@ module = Extension("s2union._library", ["s2union/_library.c", *carried],
                    extra_link_args=["-Wl,-Bsymbolic"] if carried and sys.platform == "linux" else [],
                    extra_compile_args=["-std=gnu11", "-fvisibility=hidden", "-ffp-contract=off"])
 setup(distclass=Compiled, ext_modules=[] if ready else [module],
-      cmdclass={"build_ext": Assembling, "build_py": WithLand}, options={"bdist_wheel": {"py_limited_api": "cp38"}})
+      cmdclass={"build_ext": Assembling, "build_py": OfCheckout}, options={"bdist_wheel": {"py_limited_api": "cp38"}})

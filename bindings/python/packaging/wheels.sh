@@ -17,6 +17,7 @@ while read -r system platform oldest name library; do
   module=$work/$system/s2union
   mkdir -p "$module" "$work/$system/s2union_geo"
   cp "$python"/s2union/{*.py,*.pyi,py.typed} "$module/"
+  /usr/bin/python3 -B "$here/../../../tools/methods.py" "$module" "$python/s2union/__init__.py"
   cp "$python"/s2union_geo/{*.py,py.typed} "$here/../../../page/land.cells" "$work/$system/s2union_geo/"
   bash "$here/../../../tools/packaging/shared_for.sh" "$system" "$source" "$module/$name" PyInit__library \
     -DS2UNION_WITHIN -Wall -Wextra -I"$work/include" "$python/s2union/_library.c" ${library:+"$work/$library"}

@@ -96,34 +96,7 @@ def version() -> tuple[int, int, int]:
 
 
 def is_cell(cell: SupportsIndex) -> bool:
-    """Whether a number is the identifier of a cell.
-
-    .. versionadded:: 0.1
-
-    Parameters
-    ----------
-    cell : int
-        Any number of 64 bits, with a sign or without.
-
-    Returns
-    -------
-    bool
-        True if it is. Of a number that 64 bits don't hold there is no answer.
-
-    Raises
-    ------
-    NotACellError
-        The number has more than 64 bits.
-
-    Notes
-    -----
-    S2: ``S2CellId::is_valid``.
-
-    Examples
-    --------
-    >>> is_cell(0x0400000000000000), is_cell(0)
-    (True, False)
-    """
+    # comment: is_cell
     return _library.is_cell(cell)
 
 
@@ -156,106 +129,17 @@ def to_signed(cell: SupportsIndex) -> int:
 
 
 def level(cell: SupportsIndex) -> int:
-    """The level of a cell.
-
-    .. versionadded:: 0.1
-
-    Parameters
-    ----------
-    cell : int
-        A cell: its 64 bits, with a sign or without.
-
-    Returns
-    -------
-    int
-        0 (a face) to 30 (a leaf).
-
-    Raises
-    ------
-    NotACellError
-        A number is the identifier of no cell.
-
-    Notes
-    -----
-    S2: ``S2CellId::level``.
-
-    Examples
-    --------
-    >>> level(from_token("89c25"))
-    8
-    """
+    # comment: level
     return _library.level(cell)
 
 
 def face(cell: SupportsIndex) -> int:
-    """The face of a cell.
-
-    .. versionadded:: 0.1
-
-    Parameters
-    ----------
-    cell : int
-        A cell: its 64 bits, with a sign or without.
-
-    Returns
-    -------
-    int
-        0 to 5.
-
-    Raises
-    ------
-    NotACellError
-        A number is the identifier of no cell.
-
-    Notes
-    -----
-    S2: ``S2CellId::face``.
-
-    Examples
-    --------
-    >>> face(from_token("89c25"))
-    4
-    """
+    # comment: face
     return _library.face(cell)
 
 
 def parent(cell: SupportsIndex, level: SupportsIndex | None = None) -> int:
-    """The cell of a level that contains the cell; without a level, of the next coarser level.
-
-    .. versionadded:: 0.1
-
-    Parameters
-    ----------
-    cell : int
-        A cell: its 64 bits, with a sign or without.
-    level : int, optional
-        0 to the cell's own level. The next coarser level, if it is left out.
-
-    Returns
-    -------
-    int
-        The ancestor; the cell itself at its own level.
-
-    Raises
-    ------
-    NotACellError
-        A number is the identifier of no cell.
-    OutOfRangeError
-        The level is not from 0 to 30, or is deeper than the cell's own; or the cell is a face, and no level is given.
-
-    Notes
-    -----
-    S2: ``S2CellId::parent``.
-
-    Examples
-    --------
-    >>> token(parent(from_token("89c25"), 5)), token(parent(from_token("89c25")))
-    ('89c4', '89c24')
-    >>> parent(from_token("04"), 9)
-    Traceback (most recent call last):
-        ...
-    s2union.OutOfRangeError: level 9 is deeper than the cell 04, which is of level 1
-    """
+    # comment: parent
     wanted = _library.level(cell) - 1 if level is None else level
     if level is None and wanted == -1:
         raise OutOfRangeError(f"a face has no parent: {_library.bits(cell):#x}")
@@ -266,38 +150,7 @@ def parent(cell: SupportsIndex, level: SupportsIndex | None = None) -> int:
 
 
 def child(cell: SupportsIndex, number: SupportsIndex) -> int:
-    """The child of a cell with this number.
-
-    .. versionadded:: 0.1
-
-    Parameters
-    ----------
-    cell : int
-        A cell: its 64 bits, with a sign or without.
-    number : int
-        0 to 3, along the curve.
-
-    Returns
-    -------
-    int
-        The child, one level deeper.
-
-    Raises
-    ------
-    NotACellError
-        A number is the identifier of no cell.
-    OutOfRangeError
-        The number is not from 0 to 3, or the cell is a leaf.
-
-    Notes
-    -----
-    S2: ``S2CellId::child``.
-
-    Examples
-    --------
-    >>> token(child(from_token("1"), 2))
-    '14'
-    """
+    # comment: child
     found = _library.child(cell, number)
     if found is None:
         raise OutOfRangeError(f"a leaf has no children: {_library.bits(cell):#x}")
@@ -305,464 +158,72 @@ def child(cell: SupportsIndex, number: SupportsIndex) -> int:
 
 
 def range_min(cell: SupportsIndex) -> int:
-    """The first leaf of a cell: `other` is in `cell` if `range_min(cell) <= other <= range_max(cell)`.
-
-    .. versionadded:: 0.1
-
-    Parameters
-    ----------
-    cell : int
-        A cell: its 64 bits, with a sign or without.
-
-    Returns
-    -------
-    int
-        A leaf.
-
-    Raises
-    ------
-    NotACellError
-        A number is the identifier of no cell.
-
-    Notes
-    -----
-    S2: ``S2CellId::range_min``.
-
-    Examples
-    --------
-    >>> token(range_min(from_token("04")))
-    '0000000000000001'
-    """
+    # comment: range_min
     return _library.range_min(cell)
 
 
 def range_max(cell: SupportsIndex) -> int:
-    """The last leaf of a cell.
-
-    .. versionadded:: 0.1
-
-    Parameters
-    ----------
-    cell : int
-        A cell: its 64 bits, with a sign or without.
-
-    Returns
-    -------
-    int
-        A leaf.
-
-    Raises
-    ------
-    NotACellError
-        A number is the identifier of no cell.
-
-    Notes
-    -----
-    S2: ``S2CellId::range_max``.
-
-    Examples
-    --------
-    >>> token(range_max(from_token("04")))
-    '07ffffffffffffff'
-    """
+    # comment: range_max
     return _library.range_max(cell)
 
 
 def size(cell: SupportsIndex) -> int:
-    """How many leaves a cell has.
-
-    .. versionadded:: 0.1
-
-    Parameters
-    ----------
-    cell : int
-        A cell: its 64 bits, with a sign or without.
-
-    Returns
-    -------
-    int
-        4**(30 - level), 1 to 4**30.
-
-    Raises
-    ------
-    NotACellError
-        A number is the identifier of no cell.
-
-    Notes
-    -----
-    S2: ``S2CellUnion::LeafCellsCovered`` of one cell.
-
-    Examples
-    --------
-    >>> size(from_token("04")) == 4**29
-    True
-    """
+    # comment: size
     return _library.size(cell)
 
 
 def next_cell(cell: SupportsIndex) -> int | None:
-    """The next cell of the same level, across faces.
-
-    .. versionadded:: 0.1
-
-    Parameters
-    ----------
-    cell : int
-        A cell: its 64 bits, with a sign or without.
-
-    Returns
-    -------
-    int or None
-        None after the last cell of its level.
-
-    Raises
-    ------
-    NotACellError
-        A number is the identifier of no cell.
-
-    Notes
-    -----
-    S2: ``S2CellId::next``.
-
-    Examples
-    --------
-    >>> token(next_cell(from_token("1c"))), next_cell(from_token("b"))
-    ('24', None)
-    """
+    # comment: next
     return _library.next_cell(cell)
 
 
 def previous_cell(cell: SupportsIndex) -> int | None:
-    """The cell of the same level before it, across faces.
-
-    .. versionadded:: 0.1
-
-    Parameters
-    ----------
-    cell : int
-        A cell: its 64 bits, with a sign or without.
-
-    Returns
-    -------
-    int or None
-        None before the first cell of its level.
-
-    Raises
-    ------
-    NotACellError
-        A number is the identifier of no cell.
-
-    Notes
-    -----
-    S2: ``S2CellId::prev``.
-
-    Examples
-    --------
-    >>> token(previous_cell(from_token("24"))), previous_cell(from_token("1"))
-    ('1c', None)
-    """
+    # comment: prev
     return _library.previous_cell(cell)
 
 
 def common_ancestor(a: SupportsIndex, b: SupportsIndex) -> int | None:
-    """The smallest cell that contains both.
-
-    .. versionadded:: 0.1
-
-    Parameters
-    ----------
-    a : int
-        A cell.
-    b : int
-        A cell, as `a`.
-
-    Returns
-    -------
-    int or None
-        None if they lie on two faces.
-
-    Raises
-    ------
-    NotACellError
-        A number is the identifier of no cell.
-
-    Notes
-    -----
-    S2: ``S2CellId::GetCommonAncestorLevel``.
-
-    Examples
-    --------
-    >>> token(common_ancestor(from_token("04"), from_token("14")))
-    '1'
-    """
+    # comment: common_ancestor
     return _library.common_ancestor(a, b)
 
 
 def contains(whole: SupportsIndex, part: SupportsIndex) -> bool:
-    """Whether all leaves of one cell are in another.
-
-    .. versionadded:: 0.1
-
-    Parameters
-    ----------
-    whole : int
-        The cell that may contain the other.
-    part : int
-        The cell that may lie in it.
-
-    Returns
-    -------
-    bool
-        True also of a cell and itself.
-
-    Raises
-    ------
-    NotACellError
-        A number is the identifier of no cell.
-
-    Notes
-    -----
-    S2: ``S2CellId::contains``.
-
-    Examples
-    --------
-    >>> contains(from_token("1"), from_token("04"))
-    True
-    """
+    # comment: cell_contains
     return _library.cell_contains(whole, part)
 
 
 def intersects(a: SupportsIndex, b: SupportsIndex) -> bool:
-    """Whether two cells share a leaf.
-
-    .. versionadded:: 0.1
-
-    Parameters
-    ----------
-    a : int
-        A cell.
-    b : int
-        A cell, as `a`.
-
-    Returns
-    -------
-    bool
-        True if one contains the other.
-
-    Raises
-    ------
-    NotACellError
-        A number is the identifier of no cell.
-
-    Notes
-    -----
-    S2: ``S2CellId::intersects``.
-
-    Examples
-    --------
-    >>> intersects(from_token("04"), from_token("14"))
-    False
-    """
+    # comment: cell_intersects
     return _library.cell_intersects(a, b)
 
 
 def from_face_ij(face: SupportsIndex, i: SupportsIndex, j: SupportsIndex) -> int:
-    """The leaf at a place of a face. `s2union_geo.leaf` takes degrees.
-
-    .. versionadded:: 0.1
-
-    Parameters
-    ----------
-    face : int
-        0 to 5.
-    i : int
-        The first coordinate, 0 to 2**30 - 1.
-    j : int
-        The second coordinate, 0 to 2**30 - 1.
-
-    Returns
-    -------
-    int
-        A leaf.
-
-    Raises
-    ------
-    OutOfRangeError
-        The face or a coordinate is out of range.
-
-    Notes
-    -----
-    S2: ``S2CellId::FromFaceIJ``.
-
-    Examples
-    --------
-    >>> token(from_face_ij(0, 0, 0))
-    '0000000000000001'
-    """
+    # comment: from_face_ij
     return _library.from_face_ij(face, i, j)
 
 
 def square(cell: SupportsIndex) -> tuple[int, int, int, int]:
-    """The square of a cell on its face.
-
-    .. versionadded:: 0.1
-
-    Parameters
-    ----------
-    cell : int
-        A cell: its 64 bits, with a sign or without.
-
-    Returns
-    -------
-    tuple of int
-        The face, the least coordinates i and j, and the side, in leaves: 0 to 5, 0 to 2**30 - 1 twice, 1 to 2**30.
-
-    Raises
-    ------
-    NotACellError
-        A number is the identifier of no cell.
-
-    Notes
-    -----
-    S2: ``S2CellId::ToFaceIJOrientation``.
-
-    Examples
-    --------
-    >>> square(from_token("14")) == (0, 2**29, 2**29, 2**29)
-    True
-    """
+    # comment: square_of
     return _library.square_of(cell)
 
 
 def token(cell: SupportsIndex) -> str:
-    """The token of a cell: its identifier in hexadecimal without the zeros at its end.
-
-    .. versionadded:: 0.1
-
-    Parameters
-    ----------
-    cell : int
-        A cell: its 64 bits, with a sign or without.
-
-    Returns
-    -------
-    str
-        1 to 16 digits, in lower case.
-
-    Raises
-    ------
-    NotACellError
-        A number is the identifier of no cell.
-
-    Notes
-    -----
-    S2: ``S2CellId::ToToken``.
-
-    Examples
-    --------
-    >>> token(0x0c00000000000000)
-    '0c'
-    """
+    # comment: token
     return _library.token(cell)
 
 
 def from_token(text: str | bytes) -> int:
-    """The cell of a token.
-
-    .. versionadded:: 0.1
-
-    Parameters
-    ----------
-    text : str or bytes
-        At most 16 hexadecimal digits, in either case.
-
-    Returns
-    -------
-    int
-        The cell.
-
-    Raises
-    ------
-    NotACellError
-        The text is the token of no cell.
-
-    Notes
-    -----
-    S2: ``S2CellId::FromToken``.
-
-    Examples
-    --------
-    >>> from_token("0C") == 0x0c00000000000000
-    True
-    >>> from_token("xyz")
-    Traceback (most recent call last):
-        ...
-    s2union.NotACellError: not a cell: 'xyz'
-    """
+    # comment: from_token
     return _library.from_token(text)
 
 
 def debug(cell: SupportsIndex) -> str:
-    """The debug text of a cell: its face, a slash, and a digit for each level.
-
-    .. versionadded:: 0.1
-
-    Parameters
-    ----------
-    cell : int
-        A cell: its 64 bits, with a sign or without.
-
-    Returns
-    -------
-    str
-        2 to 32 characters.
-
-    Raises
-    ------
-    NotACellError
-        A number is the identifier of no cell.
-
-    Notes
-    -----
-    S2: ``S2CellId::ToString``.
-
-    Examples
-    --------
-    >>> debug(from_token("0c"))
-    '0/1'
-    """
+    # comment: debug
     return _library.debug(cell)
 
 
 def from_debug(text: str | bytes) -> int:
-    """The cell with a debug text.
-
-    .. versionadded:: 0.1
-
-    Parameters
-    ----------
-    text : str or bytes
-        A face, a slash, and digits from 0 to 3.
-
-    Returns
-    -------
-    int
-        The cell.
-
-    Raises
-    ------
-    NotACellError
-        The text is the debug text of no cell.
-
-    Notes
-    -----
-    S2: ``S2CellId::FromDebugString``.
-
-    Examples
-    --------
-    >>> token(from_debug("0/1"))
-    '0c'
-    """
+    # comment: from_debug
     return _library.from_debug(text)
 
 
@@ -773,34 +234,7 @@ def levels(cells: Iterable[SupportsIndex]) -> list[int]: ...
 
 
 def levels(cells: Any) -> Any:
-    """The levels of many cells in one call, in their order.
-
-    .. versionadded:: 0.2
-
-    Parameters
-    ----------
-    cells : iterable of int, or array of 64-bit integers
-        Cells: any iterable, a buffer of 64-bit integers, an array of numpy, a column of pandas, polars or pyarrow.
-
-    Returns
-    -------
-    list of int, or array of uint8
-        A list; an array if an array of numpy or a column is given.
-
-    Raises
-    ------
-    NotACellError
-        A number is the identifier of no cell; the message has its place.
-
-    Notes
-    -----
-    S2: ``S2CellId::level``.
-
-    Examples
-    --------
-    >>> levels([0x1000000000000000, 0x0400000000000000])
-    [0, 1]
-    """
+    # comment: levels
     return _entries(cells, _found(*_library.levels(_given(cells))), "B")
 
 
@@ -815,38 +249,7 @@ def parents(cells: Iterable[SupportsIndex], level: SupportsIndex) -> list[int]: 
 
 
 def parents(cells: Any, level: SupportsIndex) -> Any:
-    """The cells of one level that contain the cells, in one call.
-
-    .. versionadded:: 0.2
-
-    Parameters
-    ----------
-    cells : iterable of int, or array of 64-bit integers
-        Cells: any iterable, a buffer of 64-bit integers, an array of numpy, a column of pandas, polars or pyarrow.
-    level : int
-        0 (a face) to 30 (a leaf).
-
-    Returns
-    -------
-    list of int, or array of uint64 or int64
-        A list; an array if an array or column is given, signed if that is.
-
-    Raises
-    ------
-    NotACellError
-        A number is the identifier of no cell; the message has its place.
-    OutOfRangeError
-        The level is not from 0 to 30, or is deeper than a cell's own: the message has its place.
-
-    Notes
-    -----
-    S2: ``S2CellId::parent``.
-
-    Examples
-    --------
-    >>> [token(cell) for cell in parents([from_token("04"), from_token("89c25")], 0)]
-    ['1', '9']
-    """
+    # comment: parents
     return _relatives(cells, _found(*_library.parents(_given(cells), level), level))
 
 
@@ -861,34 +264,7 @@ def range_mins(cells: Iterable[SupportsIndex]) -> list[int]: ...
 
 
 def range_mins(cells: Any) -> Any:
-    """The first leaves of many cells, in one call.
-
-    .. versionadded:: 0.2
-
-    Parameters
-    ----------
-    cells : iterable of int, or array of 64-bit integers
-        Cells: any iterable, a buffer of 64-bit integers, an array of numpy, a column of pandas, polars or pyarrow.
-
-    Returns
-    -------
-    list of int, or array of uint64 or int64
-        A list; an array if an array or column is given, signed if that is.
-
-    Raises
-    ------
-    NotACellError
-        A number is the identifier of no cell; the message has its place.
-
-    Notes
-    -----
-    S2: ``S2CellId::range_min``.
-
-    Examples
-    --------
-    >>> range_mins([from_token("04")]) == [range_min(from_token("04"))]
-    True
-    """
+    # comment: range_mins
     return _relatives(cells, _found(*_library.range_mins(_given(cells))))
 
 
@@ -903,34 +279,7 @@ def range_maxes(cells: Iterable[SupportsIndex]) -> list[int]: ...
 
 
 def range_maxes(cells: Any) -> Any:
-    """The last leaves of many cells, in one call.
-
-    .. versionadded:: 0.2
-
-    Parameters
-    ----------
-    cells : iterable of int, or array of 64-bit integers
-        Cells: any iterable, a buffer of 64-bit integers, an array of numpy, a column of pandas, polars or pyarrow.
-
-    Returns
-    -------
-    list of int, or array of uint64 or int64
-        A list; an array if an array or column is given, signed if that is.
-
-    Raises
-    ------
-    NotACellError
-        A number is the identifier of no cell; the message has its place.
-
-    Notes
-    -----
-    S2: ``S2CellId::range_max``.
-
-    Examples
-    --------
-    >>> range_maxes([from_token("04")]) == [range_max(from_token("04"))]
-    True
-    """
+    # comment: range_maxes
     return _relatives(cells, _found(*_library.range_maxes(_given(cells))))
 
 
@@ -1130,67 +479,12 @@ def tokens(cells: Iterable[SupportsIndex] | Array) -> list[str]:
 
 
 def from_tokens(text: str | bytes | Iterable[str]) -> list[int]:
-    """The cells that a text names in one call, in its order and each time that it names one.
-
-    .. versionadded:: 0.1
-
-    Parameters
-    ----------
-    text : str, bytes, or iterable of str
-        Words with blanks, tabs, line ends or commas between them, each a token or a debug text; or an iterable of
-        tokens.
-
-    Returns
-    -------
-    list of int
-        The cells.
-
-    Raises
-    ------
-    NotACellError
-        A word names no cell: the message has it and its place.
-
-    Notes
-    -----
-    S2: ``S2CellId::FromToken``.
-
-    Examples
-    --------
-    >>> from_tokens("1c, 0/0") == [from_token("1c"), from_token("04")]
-    True
-    """
+    # comment: from_tokens
     return _cells_in(_named(text)).tolist()
 
 
 def is_union(cells: Iterable[SupportsIndex] | Array) -> bool:
-    """Whether these are the cells of a union, in its order: `CellUnion(cells)` has just these then.
-
-    .. versionadded:: 1.0
-
-    Parameters
-    ----------
-    cells : iterable of int, or array of 64-bit integers
-        Cells: any iterable, a buffer of 64-bit integers, an array of numpy, a column of pandas, polars or pyarrow.
-
-    Returns
-    -------
-    bool
-        False also if a number is the identifier of no cell.
-
-    Raises
-    ------
-    NotACellError
-        A number of an iterable has more than 64 bits.
-
-    Notes
-    -----
-    S2: ``S2CellUnion::IsNormalized``.
-
-    Examples
-    --------
-    >>> is_union([0x0400000000000000, 0x0c00000000000000]), is_union([0x0c00000000000000, 0x0400000000000000])
-    (True, False)
-    """
+    # comment: is_union
     return _library.is_union(_read(cells))
 
 
@@ -1473,69 +767,11 @@ class UnionFile:
         return _library.file_cell(self._bytes, place)
 
     def __contains__(self, cell: SupportsIndex) -> bool:
-        """Whether all leaves of a cell are in the union: `cell in file`. It takes log n steps.
-
-        .. versionadded:: 0.1
-
-        Parameters
-        ----------
-        cell : int
-            A cell: its 64 bits, with a sign or without.
-
-        Returns
-        -------
-        bool
-            True if it is so.
-
-        Raises
-        ------
-        NotACellError
-            A number is the identifier of no cell.
-        UnionFileError
-            The bytes were changed since they were checked, and are no union file.
-
-        Notes
-        -----
-        S2: ``S2CellUnion::Contains``.
-
-        Examples
-        --------
-        >>> from_token("0401") in UnionFile(CellUnion.from_tokens("04").to_bytes())
-        True
-        """
+        # comment: file_contains_cell
         return _library.file_contains_cell(self._bytes, cell)
 
     def intersects_cell(self, cell: SupportsIndex) -> bool:
-        """Whether the union has a leaf of a cell. It takes log n steps.
-
-        .. versionadded:: 0.1
-
-        Parameters
-        ----------
-        cell : int
-            A cell: its 64 bits, with a sign or without.
-
-        Returns
-        -------
-        bool
-            True if it is so.
-
-        Raises
-        ------
-        NotACellError
-            A number is the identifier of no cell.
-        UnionFileError
-            The bytes were changed since they were checked, and are no union file.
-
-        Notes
-        -----
-        S2: ``S2CellUnion::Intersects``.
-
-        Examples
-        --------
-        >>> UnionFile(CellUnion.from_tokens("0401").to_bytes()).intersects_cell(from_token("04"))
-        True
-        """
+        # comment: file_intersects_cell
         return _library.file_intersects_cell(self._bytes, cell)
 
     @overload
@@ -1544,37 +780,7 @@ class UnionFile:
     def contains_cells(self, cells: Iterable[SupportsIndex]) -> list[bool]: ...
 
     def contains_cells(self, cells: Any) -> Any:
-        """Whether the union has all leaves of each cell in turn, in one call, which is quickest if they ascend.
-
-        .. versionadded:: 0.1
-
-        Parameters
-        ----------
-        cells : iterable of int, or array of 64-bit integers
-            Cells: any iterable, a buffer of 64-bit integers, an array of numpy, a column of pandas, polars or
-            pyarrow.
-
-        Returns
-        -------
-        list of bool, or array of bool
-            A list; for an array of numpy or a column, an array.
-
-        Raises
-        ------
-        NotACellError
-            A number is the identifier of no cell; the message has its place.
-        UnionFileError
-            The bytes were changed since they were checked, and are no union file.
-
-        Notes
-        -----
-        S2: ``S2CellUnion::Contains``.
-
-        Examples
-        --------
-        >>> UnionFile(CellUnion.from_tokens("04").to_bytes()).contains_cells([from_token("0401"), from_token("14")])
-        [True, False]
-        """
+        # comment: file_contains_cells
         return _answers(cells, _found(*_library.file_contains_cells(self._bytes, _given(cells))))
 
     @overload
@@ -1619,121 +825,19 @@ class UnionFile:
         return _answers(cells, bytearray(found))
 
     def leaf_count(self) -> int:
-        """How many leaves the union has. It takes n steps.
-
-        .. versionadded:: 0.1
-
-        Returns
-        -------
-        int
-            0 to 6 * 4**30.
-
-        Raises
-        ------
-        UnionFileError
-            The bytes were changed since they were checked, and are no union file.
-
-        Notes
-        -----
-        S2: ``S2CellUnion::LeafCellsCovered``.
-
-        Examples
-        --------
-        >>> UnionFile(CellUnion.from_tokens("04").to_bytes()).leaf_count() == 4**29
-        True
-        """
+        # comment: file_leaf_count
         return _library.file_leaf_count(self._bytes)
 
     def contains(self, other: UnionFile) -> bool:
-        """Whether the union has all leaves of the union in another file.
-
-        .. versionadded:: 0.1
-
-        Parameters
-        ----------
-        other : UnionFile
-            The other file.
-
-        Returns
-        -------
-        bool
-            True if it has.
-
-        Raises
-        ------
-        TypeError
-            The other is no UnionFile.
-        UnionFileError
-            The bytes were changed since they were checked, and are no union file.
-
-        Notes
-        -----
-        S2: ``S2CellUnion::Contains``.
-
-        Examples
-        --------
-        >>> a, b = (UnionFile(CellUnion.from_tokens(text).to_bytes()) for text in ("1", "04"))
-        >>> a.contains(b), b.contains(a)
-        (True, False)
-        """
+        # comment: file_contains
         return _library.file_contains(self._bytes, _wanted(UnionFile, other)._bytes)
 
     def intersects(self, other: UnionFile) -> bool:
-        """Whether the unions of two files share a leaf.
-
-        .. versionadded:: 0.1
-
-        Parameters
-        ----------
-        other : UnionFile
-            The other file.
-
-        Returns
-        -------
-        bool
-            True if they do.
-
-        Raises
-        ------
-        TypeError
-            The other is no UnionFile.
-        UnionFileError
-            The bytes were changed since they were checked, and are no union file.
-
-        Notes
-        -----
-        S2: ``S2CellUnion::Intersects``.
-
-        Examples
-        --------
-        >>> a, b = (UnionFile(CellUnion.from_tokens(text).to_bytes()) for text in ("1", "04"))
-        >>> a.intersects(b)
-        True
-        """
+        # comment: file_intersects
         return _library.file_intersects(self._bytes, _wanted(UnionFile, other)._bytes)
 
     def ancestors(self) -> list[int]:
-        """The cells of the union and all their ancestors, as `CellUnion.ancestors`.
-
-        .. versionadded:: 0.1
-
-        Returns
-        -------
-        list of int
-            At most 31 for each cell.
-
-        Raises
-        ------
-        UnionFileError
-            The bytes were changed since they were checked, and are no union file.
-        OutOfMemoryError
-            There is no memory for the result.
-
-        Examples
-        --------
-        >>> tokens(UnionFile(CellUnion.from_tokens("04").to_bytes()).ancestors())
-        ['04', '1']
-        """
+        # comment: file_ancestors
         room = _rooms.file_ancestors(self._bytes.nbytes)
         return _cells_in(_library.file_ancestors("", room, _unchanging(self._bytes))).tolist()
 
@@ -1911,80 +1015,13 @@ class CellUnion:
 
     @classmethod
     def from_range(cls: type[Self], first: SupportsIndex, last: SupportsIndex) -> Self:
-        """All leaves from the first of one cell to the last of another, also across faces.
-
-        .. versionadded:: 0.1
-
-        Parameters
-        ----------
-        first : int
-            The cell that the range begins with.
-        last : int
-            The cell that it ends with, which is in it.
-
-        Returns
-        -------
-        CellUnion
-            At most 184 cells.
-
-        Raises
-        ------
-        NotACellError
-            A number is the identifier of no cell.
-        OutOfRangeError
-            The last leaf of `last` comes before the first of `first`.
-        OutOfMemoryError
-            There is no memory for the result.
-
-        Notes
-        -----
-        S2: ``S2CellUnion::FromMinMax``.
-
-        Examples
-        --------
-        >>> CellUnion.from_range(from_token("0c"), from_token("3")).tokens()
-        ['0c', '14', '1c', '3']
-        """
+        # comment: range
         what = f"{_library.bits(first):#x} comes after {_library.bits(last):#x}"
         return cls._holding(_library.range_(what, _rooms.range_(), first, last))
 
     @classmethod
     def from_bytes(cls: type[Self], data: Bytes) -> Self:
-        """The union in a union file, whose cells may be in any order.
-
-        .. versionadded:: 0.1
-
-        Parameters
-        ----------
-        data : bytes, or a buffer without gaps
-            The bytes of a union file: bytes, a bytearray, a mapped file, a memoryview.
-
-        Returns
-        -------
-        CellUnion
-            The union.
-
-        Raises
-        ------
-        UnionFileError
-            The bytes are no union file: bytes are missing or too many, the version is not 1, or a number is the
-            identifier of no cell.
-        OutOfMemoryError
-            There is no memory for the result.
-
-        Notes
-        -----
-        S2: ``S2CellUnion::Decode``.
-
-        Examples
-        --------
-        >>> CellUnion.from_bytes(CellUnion.from_tokens("04").to_bytes())
-        <CellUnion of 1 cells: 04>
-        >>> CellUnion.from_bytes(b"no file")
-        Traceback (most recent call last):
-            ...
-        s2union.FileVersionError: union file: unknown version: 7 bytes
-        """
+        # comment: decode
         view = _bytes_in(data)
         room = _rooms.decode(view.nbytes)
         return cls._holding(_library.decode(f"{view.nbytes} bytes{_text_in(view)}", room, _unchanging(view)))
@@ -2246,29 +1283,7 @@ class CellUnion:
         return self._holding(part(_shown(bounds, level, most), _rooms.outer_in(), self._ids, bounds, level, most))
 
     def to_bytes(self) -> bytes:
-        """The union file: the bytes that S2's own S2CellUnion::Encode writes. Equal unions have equal files.
-
-        .. versionadded:: 0.1
-
-        Returns
-        -------
-        bytes
-            9 + 8 * len(self) bytes.
-
-        Raises
-        ------
-        OutOfMemoryError
-            There is no memory for the result.
-
-        Notes
-        -----
-        S2: ``S2CellUnion::Encode``.
-
-        Examples
-        --------
-        >>> CellUnion.from_tokens("04").to_bytes().hex()
-        '0101000000000000000000000000000004'
-        """
+        # comment: encode
         return _library.encode("", _rooms.encode(len(self)), self._ids)
 
     __bytes__ = to_bytes
@@ -2377,92 +1392,15 @@ class CellUnion:
         return self._hash  # type: ignore[return-value]
 
     def __contains__(self, cell: SupportsIndex) -> bool:
-        """Whether all leaves of a cell are in the union: `cell in union`. It takes log n steps.
-
-        .. versionadded:: 0.1
-
-        Parameters
-        ----------
-        cell : int
-            A cell: its 64 bits, with a sign or without.
-
-        Returns
-        -------
-        bool
-            True if they are.
-
-        Raises
-        ------
-        NotACellError
-            A number is the identifier of no cell.
-
-        Notes
-        -----
-        S2: ``S2CellUnion::Contains``.
-
-        Examples
-        --------
-        >>> from_token("0401") in CellUnion.from_tokens("04")
-        True
-        """
+        # comment: contains_cell
         return _library.contains_cell(self._ids, cell)
 
     def intersects_cell(self, cell: SupportsIndex) -> bool:
-        """Whether the union has a leaf of a cell. It takes log n steps.
-
-        .. versionadded:: 0.1
-
-        Parameters
-        ----------
-        cell : int
-            A cell: its 64 bits, with a sign or without.
-
-        Returns
-        -------
-        bool
-            True if it has one.
-
-        Raises
-        ------
-        NotACellError
-            A number is the identifier of no cell.
-
-        Notes
-        -----
-        S2: ``S2CellUnion::Intersects``.
-
-        Examples
-        --------
-        >>> CellUnion.from_tokens("0401").intersects_cell(from_token("04"))
-        True
-        """
+        # comment: intersects_cell
         return _library.intersects_cell(self._ids, cell)
 
     def cells_at(self, cell: SupportsIndex) -> list[int]:
-        """The cells of the union that share a leaf with a cell. It takes log n steps.
-
-        .. versionadded:: 0.1
-
-        Parameters
-        ----------
-        cell : int
-            A cell: its 64 bits, with a sign or without.
-
-        Returns
-        -------
-        list of int
-            In ascending order.
-
-        Raises
-        ------
-        NotACellError
-            A number is the identifier of no cell.
-
-        Examples
-        --------
-        >>> tokens(CellUnion.from_tokens("04 0c 3").cells_at(from_token("1")))
-        ['04', '0c']
-        """
+        # comment: cells_at
         first, count = _library.cells_at(self._ids, cell)
         return self[first:first + count]
 
@@ -2472,35 +1410,7 @@ class CellUnion:
     def contains_cells(self, cells: Iterable[SupportsIndex]) -> list[bool]: ...
 
     def contains_cells(self, cells: Any) -> Any:
-        """Whether the union has all leaves of each cell in turn, in one call, which is quickest if they ascend.
-
-        .. versionadded:: 0.1
-
-        Parameters
-        ----------
-        cells : iterable of int, or array of 64-bit integers
-            Cells: any iterable, a buffer of 64-bit integers, an array of numpy, a column of pandas, polars or
-            pyarrow.
-
-        Returns
-        -------
-        list of bool, or array of bool
-            A list; for an array of numpy or a column, an array. Both are a mask for pandas.
-
-        Raises
-        ------
-        NotACellError
-            A number is the identifier of no cell; the message has its place.
-
-        Notes
-        -----
-        S2: ``S2CellUnion::Contains``.
-
-        Examples
-        --------
-        >>> CellUnion.from_tokens("04").contains_cells([from_token("0401"), from_token("14")])
-        [True, False]
-        """
+        # comment: contains_cells
         return _answers(cells, _found(*_library.contains_cells(self._ids, _given(cells))))
 
     @overload
@@ -2509,56 +1419,11 @@ class CellUnion:
     def intersects_cells(self, cells: Iterable[SupportsIndex]) -> list[bool]: ...
 
     def intersects_cells(self, cells: Any) -> Any:
-        """Whether the union has a leaf of each cell in turn, in one call, which is quickest if they ascend.
-
-        .. versionadded:: 0.1
-
-        Parameters
-        ----------
-        cells : iterable of int, or array of 64-bit integers
-            Cells: any iterable, a buffer of 64-bit integers, an array of numpy, a column of pandas, polars or
-            pyarrow.
-
-        Returns
-        -------
-        list of bool, or array of bool
-            A list; for an array of numpy or a column, an array. Both are a mask for pandas.
-
-        Raises
-        ------
-        NotACellError
-            A number is the identifier of no cell; the message has its place.
-
-        Notes
-        -----
-        S2: ``S2CellUnion::Intersects``.
-
-        Examples
-        --------
-        >>> CellUnion.from_tokens("0401").intersects_cells([from_token("04"), from_token("14")])
-        [True, False]
-        """
+        # comment: intersects_cells
         return _answers(cells, _found(*_library.intersects_cells(self._ids, _given(cells))))
 
     def leaf_count(self) -> int:
-        """How many leaves the union has. It takes n steps.
-
-        .. versionadded:: 0.1
-
-        Returns
-        -------
-        int
-            0 to 6 * 4**30.
-
-        Notes
-        -----
-        S2: ``S2CellUnion::LeafCellsCovered``.
-
-        Examples
-        --------
-        >>> CellUnion.from_tokens("1").leaf_count() == 4**30
-        True
-        """
+        # comment: leaf_count
         return _library.leaf_count(self._ids)
 
     def _with(self: Self, call: Callable[..., bytes], other: CellUnion, room: Callable[[int, int], int]) -> Self:
@@ -2696,60 +1561,11 @@ class CellUnion:
         return self - CellUnion.of(others)
 
     def symmetric_difference(self: Self, other: Cells) -> Self:
-        """The leaves that one of two unions has, and the other hasn't; `^` of two unions.
-
-        .. versionadded:: 0.1
-
-        Parameters
-        ----------
-        other : CellUnion, or cells
-            A union, or an iterable or array of cells, which are made one.
-
-        Returns
-        -------
-        CellUnion
-            What only one has.
-
-        Raises
-        ------
-        NotACellError
-            A number among cells is the identifier of no cell.
-        TypeError
-            Something among them is no int.
-        OutOfMemoryError
-            There is no memory for the result.
-
-        Examples
-        --------
-        >>> CellUnion.from_tokens("04 0c").symmetric_difference(CellUnion.from_tokens("0c 14")).tokens()
-        ['04', '14']
-        """
+        # comment: symmetric_difference
         return self ^ _union_of(other)
 
     def complement(self: Self) -> Self:
-        """The leaves of the sphere that the union doesn't have; `~` of the union.
-
-        .. versionadded:: 1.1
-
-        Returns
-        -------
-        CellUnion
-            The rest of the six faces.
-
-        Raises
-        ------
-        OutOfMemoryError
-            There is no memory for the result.
-
-        Notes
-        -----
-        S2: ``S2CellUnion::WholeSphere().Difference``.
-
-        Examples
-        --------
-        >>> (~CellUnion.from_tokens("04 0c 1c")).tokens()
-        ['14', '3', '5', '7', '9', 'b']
-        """
+        # comment: complement
         return self._holding(_library.complement("", _rooms.complement(len(self)), self._ids))
 
     def __ge__(self, other: CellUnion) -> bool:
@@ -2773,36 +1589,7 @@ class CellUnion:
         return other.__gt__(self)
 
     def intersects(self, other: Cells) -> bool:
-        """Whether two unions share a leaf.
-
-        .. versionadded:: 0.1
-
-        Parameters
-        ----------
-        other : CellUnion, or cells
-            A union, or an iterable or array of cells, which are made one.
-
-        Returns
-        -------
-        bool
-            True if they do.
-
-        Raises
-        ------
-        NotACellError
-            A number among cells is the identifier of no cell.
-        TypeError
-            Something among them is no int.
-
-        Notes
-        -----
-        S2: ``S2CellUnion::Intersects``.
-
-        Examples
-        --------
-        >>> CellUnion.from_tokens("04").intersects(CellUnion.from_tokens("1"))
-        True
-        """
+        # comment: intersects
         return _library.intersects(self._ids, _union_of(other)._ids)
 
     def isdisjoint(self, other: Cells) -> bool:
@@ -2898,43 +1685,7 @@ class CellUnion:
 
     def denormalised(self, min_level: SupportsIndex, modulus: SupportsIndex = 1,
                      most: SupportsIndex | None = None) -> list[int]:
-        """The cells, each cut to the least level that is not coarser than its own and is `min_level`, or deeper than it
-        by a multiple of `modulus`; to leaves if there is none.
-
-        .. versionadded:: 0.1
-
-        Parameters
-        ----------
-        min_level : int
-            0 to 30.
-        modulus : int
-            1 to 3.
-        most : int, optional
-            The most cells that the list may have, or any number, if it is left out. A face has 4**30 leaves.
-
-        Returns
-        -------
-        list of int
-            Ascending.
-
-        Raises
-        ------
-        OutOfRangeError
-            The level or the modulus is out of range.
-        TooManyCellsError
-            There would be more than `most` cells.
-        OutOfMemoryError
-            There is no memory for the result.
-
-        Notes
-        -----
-        S2: ``S2CellUnion::Denormalize``.
-
-        Examples
-        --------
-        >>> tokens(CellUnion.from_tokens("1").denormalised(1))
-        ['04', '0c', '14', '1c']
-        """
+        # comment: denormalised
         need = _library.denormalised_len(self._ids, min_level, modulus)
         if most is not None and need > _library.number(most, 2**64 - 1, "most"):
             raise TooManyCellsError(f"too many cells: {need}")
@@ -2943,26 +1694,7 @@ class CellUnion:
     denormalized = denormalised
 
     def ancestors(self) -> list[int]:
-        """The cells and all their ancestors, ascending: the keys of an index. Two unions share a leaf if, and only
-        if, a cell of one is among the ancestors of the other.
-
-        .. versionadded:: 0.1
-
-        Returns
-        -------
-        list of int
-            At most 31 for each cell.
-
-        Raises
-        ------
-        OutOfMemoryError
-            There is no memory for the result.
-
-        Examples
-        --------
-        >>> tokens(CellUnion.from_tokens("04").ancestors())
-        ['04', '1']
-        """
+        # comment: ancestors
         return _cells_in(_library.ancestors("", _rooms.ancestors(len(self)), self._ids)).tolist()
 
     def __repr__(self) -> str:
