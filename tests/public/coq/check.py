@@ -161,6 +161,28 @@ class Build:
             each.result()
         compiled(self.folder, file)
 
+    def refusals(self):
+        """Has Coq check all files, and gives the reasons of those that it refuses, or that stand on one of these."""
+        found = {}
+        with ThreadPoolExecutor(AT_ONCE) as pool:
+            done = {}
+            for file in self.files:
+                done[file] = pool.submit(self.reason, file, [done[each] for each in self.below[file] if each in done])
+            for file, reason in done.items():
+                if reason.result():
+                    found[file] = reason.result()
+        return found
+
+    def reason(self, file, below):
+        """Why Coq refuses a file, if it does."""
+        if any(each.result() for each in below):
+            return "it uses one of these"
+        try:
+            compiled(self.folder, file)
+        except Refused as error:
+            return f"Coq: {' '.join(error.args[1].partition('Error:')[2].split())[:160]}"
+        return None
+
     def axioms_of(self, file, names):
         """The axioms on which each of the names stands, of which `file` has the definitions."""
         lines = [f"Require {file}.", *(f"Print Assumptions {file}.{name}." for name in names)]
@@ -261,28 +283,49 @@ def run(folder, *command):
     return done.stdout
 
 
-def typed():
-    """The modules of definitions that Coq types, by statement.txt."""
-    lines = (HERE / "statement.txt").read_text(encoding="utf-8").split("\n")
+def definitions():
+    """The modules of definitions that are stated in crates."""
+    paths = [path.relative_to(CRATES).with_suffix("") for path in sorted(CRATES.glob("*/specs/**/*.antt"))]
+    return [f"Rattle.{'.'.join(path.parts)}" for path in paths if path.name != "Lib" and "Working" not in path.parts]
+
+
+def untyped():
+    """The modules of definitions that Coq doesn't type, by untyped.txt."""
+    lines = (HERE / "untyped.txt").read_text(encoding="utf-8").split("\n")
     return [f"Rattle.{line.replace('/', '.')}" for line in lines if line and not line.startswith("#")]
 
 
-def all_definitions():
-    """How many modules of definitions are stated in crates."""
-    paths = [path.relative_to(CRATES) for path in CRATES.glob("*/specs/**/*.antt")]
-    return sum(path.name not in ("Lib.antt", "Working.antt") and "Working" not in path.parts for path in paths)
+def why_not_read(folder, modules):
+    """Of the modules that aren't put into Coq's words the reason, which is the first word or type that isn't known."""
+    found = {}
+    for name in modules:
+        try:
+            Library(CRATES).write(folder, [name])
+        except Bad as error:
+            found[name] = str(error).removeprefix(f"{CRATES}/")
+    return found
 
 
 def check_statement(right, count):
-    """Whether Coq types the definitions of statement.txt, and takes the theorem that the page states over them."""
-    modules = typed()
+    """Which modules of definitions Coq types, and why not the others; it has to be all that untyped.txt doesn't list.
+    And whether Coq takes the theorem that the page states over them."""
+    modules = definitions()
     with tempfile.TemporaryDirectory() as folder:
-        build = Build(folder, modules)
+        reasons = why_not_read(folder, modules)
+        build = Build(folder, [name for name in modules if name not in reasons])
         build.keep(right)
-        build.check()
-        count.check(True, f"{len(modules)} of {all_definitions()} modules of definitions typed by Coq: "
-                    f"{', '.join(module.removeprefix('Rattle.') for module in modules)}")
-        example = re.findall(r"^```coq\n(.*?)^```$", PAGE.read_text(encoding="utf-8"), re.M | re.S)
+        refused = build.refusals()
+        reasons |= {name: refused[file] for name in modules if (file := build.library.file(name)) in refused}
+        typed = [name.removeprefix("Rattle.") for name in modules if name not in reasons]
+        count.check(sorted(reasons) == sorted(untyped()), f"{len(typed)} of {len(modules)} modules of definitions "
+                    f"typed by Coq: {', '.join(typed)}",
+                    f"not as untyped.txt has it: {', '.join(sorted(set(reasons) ^ set(untyped())))}")
+        for name, reason in reasons.items():
+            print(f"       {name.removeprefix('Rattle.')}: not typed: {reason}")
+        page = PAGE.read_text(encoding="utf-8")
+        words = f"{len(typed)} of the {len(modules)} modules of definitions"
+        count.check(words in page, f"{PAGE.name} says: {words}", "it doesn't")
+        example = re.findall(r"^```coq\n(.*?)^```$", page, re.M | re.S)
         for at, text in enumerate(example):
             Path(folder, f"Example{at}.v").write_text(text, encoding="utf-8")
             compiled(folder, f"Example{at}")
@@ -290,9 +333,9 @@ def check_statement(right, count):
 
 
 def write_definitions(folder, count):
-    """Writes the definitions of statement.txt in Coq's words, with what Coq makes of them."""
+    """Writes the definitions that Coq types in its words, with what it makes of them."""
     Path(folder).mkdir(parents=True, exist_ok=True)
-    build = Build(folder, typed())
+    build = Build(folder, sorted(set(definitions()) - set(untyped())))
     build.check()
     count.check(True, f"{folder}: {len(build.files)} files for Coq")
 

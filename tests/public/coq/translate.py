@@ -125,7 +125,7 @@ class Module:
 
     def __init__(self, name, path, text):
         self.name, self.path = name, path
-        self.file = "_".join(name.split(".")[1:])
+        self.file = Library.file(name)
         self.declarations = antt.read_text(text, str(path))
         self.own, self.taken = {}, None
         for each in self.declarations:
@@ -164,6 +164,11 @@ class Library:
             if text is not None:
                 self.texts[name] = text
         return name in self.texts or self.path(name) is not None
+
+    @staticmethod
+    def file(name):
+        """The name that a module's file has in Coq."""
+        return "_".join(name.split(".")[1:])
 
     def module(self, name):
         if name not in self.modules:
