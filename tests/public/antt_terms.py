@@ -4,7 +4,7 @@ it does is an error.
 Terms: ('var', name) ('num', n) ('str', s) ('app', f, [args]) ('iarg', name, e) as an argument {name = e}
 ('lam', [binders], e) ('let', pat, type|None, e, e) ('pi', [(names, type, implicit)], e) ('sig', [(name|None, type)..])
 ('tup', [e..]) ('proj', e, field) ('rec', base|None, [(f, e)..]) ('fields', [(f, type)..])
-('elim', e|None, motive|None, [(pat, e)..]) ('tac', name, text) ('if', c, a, b)
+('elim', e|None, motive|None, [(pat, e)..]) ('tac', name, text) ('if', c, a, b) ('raw', what Coq is to read)
 """
 import re
 
@@ -13,7 +13,7 @@ OPS = {  # name: (level, associativity)
     '++': (65, 'l'), '==': (50, 'n'), '<': (50, 'n'), '≤': (50, 'n'), '≤ℤ': (50, 'n'), '<ℤ': (50, 'n'), '∣': (50, 'n'),
     '+ℤ': (6, 'l'), '-ℤ': (6, 'l'), '*ℤ': (7, 'l'), '&&': (35, 'r'), '||': (30, 'r'), '∙': (30, 'r'), '≡': (4, 'n'),
     '≢': (4, 'n'), '⊎': (1, 'r'), '↔': (0, 'n'), '⊕': (6, 'l'), '⊖': (6, 'l'), '⊗': (7, 'l'),
-    'and_then': (10, 'l'), 'gives': (10, 'l'),
+    'and_then': (10, 'l'), 'gives': (10, 'l'), '>>=': (10, 'l'),
 }
 KEY = {'λ', 'let', 'in', '→', '×', '=', '↦', '|', ':', '[', ']', 'elim', 'record', 'as', 'if', 'then', 'else', 'where',
        '∀'}
@@ -248,7 +248,10 @@ class Parser:
             self.want('else')
             return ('if', c, a, self.term())
         if self.is_('elim'):
-            return self.elim()
+            found, args = self.elim(), []
+            while self.starts_atom():
+                args.append(self.postfix())
+            return ('app', found, args) if args else found
         head = self.postfix()
         args = []
         if head in (('var', 'omega'), ('var', 'grind'), ('var', 'search'), ('var', 'simp')):
@@ -267,7 +270,7 @@ class Parser:
                 return ('app', ('var', 'rw'), [e, self.term()])
             if self.starts_atom():
                 return ('app', ('var', 'rw'), [e, self.apply()])
-            raise Bad('rw alone')
+            return ('app', ('var', 'rw'), [e, ('raw', 'eq_refl')])
         while self.starts_atom():
             if self.is_('λ', 'let', 'if'):
                 args.append(self.term())
@@ -445,6 +448,9 @@ class Parser:
         t = self.next()
         if re.fullmatch(r'[0-9]+', t):
             return ('num', int(t))
+        if not binder and self.is_('.') and not self.toks[self.i][1] and not self.toks[self.i + 1][1]:
+            self.next()
+            t = f'{t}.{self.next()}'
         return ('var', t)
 
 

@@ -23,11 +23,11 @@ HERE = Path(__file__).resolve().parent
 sys.path[1:1] = [str(HERE.parent)]
 import laws  # noqa: E402
 from antt import Bad  # noqa: E402
-from translate import Library  # noqa: E402
+from translate import END_OF_HEAD, HEAD, Library  # noqa: E402
 
 CRATES = HERE.parents[2] / "crates"
 CLOSED = "Closed under the global context"
-LAWS = "Laws"
+LAWS, ONE = "Laws", "Definitions"
 PAGE = HERE.parents[2] / "docs" / "CHECK.md"
 PROGRAM = "s2union-check"
 OF_PROGRAM = HERE.parent / "program"
@@ -108,7 +108,8 @@ class Build:
         self.folder = Path(folder)
         (self.folder / "Kit.v").write_text(kit or (HERE / "Kit.v").read_text(encoding="utf-8"), encoding="utf-8")
         self.library = Library(crates, axioms, by_hand(), laws.texts(crates, modules))
-        self.files = ["Kit", *self.library.write(folder, modules, cited() if OF_CHECKER[0] in modules else ())]
+        self.all = ["Kit", *self.library.write(folder, modules, cited() if OF_CHECKER[0] in modules else ())]
+        self.files = list(self.all)
         chosen, module_of = self.library.chosen, self.library.module
         self.below = {"Kit": []} | {module.file: ["Kit", *(module_of(each["module"]).file for each in module.uses()
                                                            if each["module"] in chosen)]
@@ -161,22 +162,25 @@ class Build:
             each.result()
         compiled(self.folder, file)
 
-    def refusals(self):
-        """Has Coq check all files, and gives the reasons of those that it refuses, or that stand on one of these."""
-        found = {}
-        with ThreadPoolExecutor(AT_ONCE) as pool:
-            done = {}
-            for file in self.files:
-                done[file] = pool.submit(self.reason, file, [done[each] for each in self.below[file] if each in done])
-            for file, reason in done.items():
-                if reason.result():
-                    found[file] = reason.result()
+    def resting_on(self, files):
+        """These files and those that stand on one of them."""
+        found = set(files)
+        for file in self.files:
+            if found & set(self.below[file]):
+                found.add(file)
         return found
 
-    def reason(self, file, below):
-        """Why Coq refuses a file, if it does."""
-        if any(each.result() for each in below):
-            return "it uses one of these"
+    def check_as_one(self, files):
+        """Has Coq check files as modules of one file, ONE, as each file alone would load the libraries again."""
+        head = HEAD.format(uses="".join(f"Require {file}.\n" for file in self.all if file not in self.files))
+        parts = [f"Module {file}.\n{self.read(file).partition(END_OF_HEAD)[2]}End {file}.\n" for file in files]
+        (self.folder / f"{ONE}.v").write_text(head + "".join(parts), encoding="utf-8")
+        compiled(self.folder, ONE)
+
+    def reason(self, file):
+        """Why Coq refuses a file that stands on modules of ONE, if it does."""
+        head = HEAD.format(uses=f"Require Import {ONE}.\n")
+        (self.folder / f"{file}.v").write_text(head + self.read(file).partition(END_OF_HEAD)[2], encoding="utf-8")
         try:
             compiled(self.folder, file)
         except Refused as error:
@@ -216,15 +220,31 @@ def check_laws(build, count):
     build.check()
     count.check(True, f"{len(build.files)} files, {build.library.declared} definitions and lemmas of crates: taken by "
                 "Coq")
-    unused = sorted(set(by_hand()) - build.library.proved_by_hand)
+    unused = sorted(name for name in set(by_hand()) - build.library.proved_by_hand
+                    if name.partition(".")[0] in build.all)
     count.check(not unused, "each proof of by_hand.v is used", f"not used: {', '.join(unused)}")
     for name, found in build.axioms_of(LAWS, list(laws.NAMES)).items():
         count.check(not found, f"{laws.NAMES[name]}: checked by Coq, {standing(found)}")
     for law in laws.ANSWERED:
-        names = laws.answered_text(CRATES, law)[1]
-        found = sorted({each for of_it in build.axioms_of(f"laws_{law.function}", names).values() for each in of_it})
-        clauses = f", clauses {', '.join(name.removeprefix('clause_') for name in names)}" if len(names) > 1 else ""
-        count.check(not found, f"{law.function}{clauses}: {law.says}: checked by Coq, {standing(found)}")
+        check_answered(law, build, count)
+
+
+def check_answered(law, build, count):
+    """Whether no clause of a law stands on an axiom."""
+    names = laws.answered_text(CRATES, law)[1]
+    found = sorted({each for of_it in build.axioms_of(f"laws_{law.function}", names).values() for each in of_it})
+    clauses = f", clauses {', '.join(name.removeprefix('clause_') for name in names)}" if len(names) > 1 else ""
+    count.check(not found, f"{law.function}{clauses}: {law.says}: checked by Coq, {standing(found)}")
+
+
+def check_slow_laws(count):
+    """Whether Coq takes the laws of the full tier, and none stands on an axiom."""
+    with tempfile.TemporaryDirectory() as folder:
+        build = Build(folder, [law.module for law in laws.SLOW])
+        build.check()
+        count.check(True, f"{len(build.files)} files, {build.library.declared} definitions and lemmas: taken by Coq")
+        for law in laws.SLOW:
+            check_answered(law, build, count)
 
 
 def standing(axioms):
@@ -306,6 +326,16 @@ def why_not_read(folder, modules):
     return found
 
 
+def refusals(build, names, refused):
+    """The reasons why Coq refuses modules: its own, or that they stand on one that it refuses."""
+    found = {}
+    for name in names:
+        file = build.library.file(name)
+        reason = "it uses one of these" if refused & set(build.below[file]) else build.reason(file)
+        found |= {name: reason} if reason else {}
+    return found
+
+
 def check_statement(right, count):
     """Which modules of definitions Coq types, and why not the others; it has to be all that untyped.txt doesn't list.
     And whether Coq takes the theorem that the page states over them."""
@@ -314,8 +344,9 @@ def check_statement(right, count):
         reasons = why_not_read(folder, modules)
         build = Build(folder, [name for name in modules if name not in reasons])
         build.keep(right)
-        refused = build.refusals()
-        reasons |= {name: refused[file] for name in modules if (file := build.library.file(name)) in refused}
+        refused = build.resting_on(build.library.file(name) for name in untyped() if name not in reasons)
+        build.check_as_one([file for file in build.files if file not in refused])
+        reasons |= refusals(build, [name for name in modules if build.library.file(name) in refused], refused)
         typed = [name.removeprefix("Rattle.") for name in modules if name not in reasons]
         count.check(sorted(reasons) == sorted(untyped()), f"{len(typed)} of {len(modules)} modules of definitions "
                     f"typed by Coq: {', '.join(typed)}",
@@ -460,6 +491,8 @@ def check_all(folder, asked, count):
     right = Build(folder, MODULES)
     check_laws(right, count)
     check_statement(right, count)
+    if asked.tier == "full":
+        check_slow_laws(count)
     for change in CHANGES:
         check_change(change, right, count)
     check_axiom(right, count)

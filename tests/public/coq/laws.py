@@ -63,9 +63,19 @@ ANSWERED = (
              "squares of its children"),
     Answered("s2cover", "covering_sets", "a covering of one level has the leaves of the cells that share one with the "
              "region, or lie in it"),
+    Answered("s2polygon", "law_of_complements", "with a leaf inside for the leaf outside, inside and outside are "
+             "exchanged"),
+    Answered("s2degrees", "law_of_sums", "each angle has sums of its sine and of its cosine"),
+    Answered("s2union_c", "enough_room", "a buffer as long as a call's bound is long enough, and so is one of the "
+             "length that a call tells"),
     Answered("s2room", "law_of_indexes", "an index of cells and ancestors finds what shares a leaf, and no other"),
     Answered("s2file", "one_text", "a set is written as one byte string"),
     Answered("s2file", "one_reading", "bytes stand for at most one set, and have at most one first fault"),
+)
+# Those of the full tier alone: they stand on 560 definitions and lemmas.
+SLOW = (
+    Answered("s2calc", "undo_goes_back", "as far as the history reaches, undo gives each earlier table back"),
+    Answered("s2calc", "redo_goes_ahead", "redo gives back each state that was undone, and all states stay"),
 )
 TYPED = re.compile(r"pub (returns(?:-clause-(\w+))?) : goal\.\1")
 TYPE_USED = re.compile(r"use crate::(\w+)::(\w+);")
@@ -125,7 +135,7 @@ def clauses_of(path, lines, function):
 
 def texts(crates, modules):
     """The texts of those of the modules that are laws."""
-    found = {law.module: answered_text(crates, law)[0] for law in ANSWERED if law.module in modules}
+    found = {law.module: answered_text(crates, law)[0] for law in (*ANSWERED, *SLOW) if law.module in modules}
     return found | ({MODULE: text(crates)} if MODULE in modules else {})
 
 

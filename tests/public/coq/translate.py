@@ -6,6 +6,7 @@ A tactic becomes one of Kit.v, where omega is lia and cc is congruence. A word o
 this doesn't know is an error with the file and the line.
 """
 import re
+from contextlib import contextmanager
 from pathlib import Path
 
 import antt
@@ -15,17 +16,23 @@ from antt import Bad
 HERE = Path(__file__).resolve().parent
 OPERATORS = {"≡": "same", "≢": "differ", "+": "add", "-": "sub", "*": "mul", "/": "div", "%": "mod", "^": "pow",
              "<": "lt", "≤": "le", "==": "eqb", "&&": "andb", "||": "orb", "∷": "cons", "++": "app", "∙": "trans",
-             "⊎": "or", "↔": "iff"}
-LETTERS = {"-": "_m_", "⊎": "or", "≢": "_ne_", "≤": "le", "<": "lt", "→": "to", "ℕ": "nat_t", "₁": "1", "₂": "2",
+             "⊎": "or", "↔": "iff", "+ℤ": "add_int", "-ℤ": "sub_int",
+             "*ℤ": "mul_int", ">>=": "then", "and_then": "and_then",
+             "gives": "gives", "⊕": "plus", "⊖": "minus", "⊗": "times", "≤ℤ": "le_int", "<ℤ": "lt_int"}
+LETTERS = {"-": "_m_", "⊎": "or", "≢": "_ne_", "≤": "le", "<": "lt", "→": "to", "ℕ": "nat_t", "ℤ": "int", "₁": "1",
+           "₂": "2", "¬": "no",
            "×": "x", "≡": "eq", "∷": "cons", "=": "eq", "+": "plus", "*": "star", "^": "pow", "/": "div", "'": "_"}
 RESERVED = {"at", "in", "end", "match", "with", "for", "as", "then", "else", "fun", "if", "let", "where", "return",
             "using", "by", "forall", "exists", "Type", "Set", "Prop", "fix", "is", "do", "mod", "S", "O", "I", "list",
-            "nat", "bool", "option", "unit", "sum"}
+            "nat", "bool", "option", "unit", "sum", "left", "right", "pair"}
 CONSTRUCTORS = {"zero": "0", "suc": "S", "inl": "inl", "inr": "inr", "refl": "eq_refl", "true": "true",
                 "false": "false", "[]": "nil", "◌∷◌": "cons", "tt": "tt", "Ok": "Kit.Ok", "Err": "Kit.Err",
-                "Some": "Some", "None": "None"}
+                "Some": "Some", "None": "None"} | {
+                    name: f"Kit.{name}" for name in ("pos", "negsuc", "Less", "Equal", "Greater")}
 TYPES = {"ℕ": "nat", "⊥": "False", "Unit": "unit", "List": "list", "Bool": "bool", "Option": "option"}
-DECLARED = re.compile(r"(?:Definition|Fixpoint|Lemma|Notation|Inductive) (\w+)")
+DECLARED = re.compile(r"(?:Definition|Fixpoint|Lemma|Notation|Inductive|Record) (\w+)")
+# Records of Kit.v that Rust's types are, with the fields that are read.
+KIT_RECORDS = {"Kit.Vec": "items", "Kit.GhostList": "entries", "Kit.Bor": "now"}
 # What a tactic is told beside facts: each of ours knows all of it.
 RULES = {"arith", "gets", "rules", "tests", "nat_tests"}
 TACTICS = {"omega": "k_omega", "cc": "k_cc", "grind": "k_grind"}
@@ -35,11 +42,13 @@ CLAIMS = {"◌≡◌", "◌≢◌", "◌<◌", "◌≤◌"}
 HEAD = """From Equations Require Import Equations.
 Require Import ZArith Lia ZifyNat ZifyBool.
 Require Kit.
-Import Kit.Tactics Kit.Tactics2.
+Import Kit.Tactics Kit.Tactics2 String.StringSyntax.
+Delimit Scope string_scope with string.
 Ltac Zify.zify_post_hook ::= k_hook.
 {uses}Set Equations Transparent.
 Local Open Scope nat_scope.
 """
+END_OF_HEAD = HEAD.rpartition("}")[2]
 
 
 def coq_name(name):
@@ -98,12 +107,21 @@ def tactic_mentions(term, name):
 
 
 def with_fields(term, fields):
-    """A term in which the fields of its record have the names that Coq gives them."""
+    """A term in which the fields of its record have the names that Coq gives them, except names that it binds."""
     if isinstance(term, tuple) and len(term) == 2 and term[0] == "var" and term[1] in fields:
         return ("raw", fields[term[1]])
+    if isinstance(term, tuple) and term[:1] in (("pi",), ("lam",)):
+        fields = {name: coq for name, coq in fields.items() if name not in bound_by(term)}
     if isinstance(term, (tuple, list)):
         return type(term)(with_fields(part, fields) for part in term)
     return term
+
+
+def bound_by(term):
+    """The names that a function or its type gives its arguments."""
+    if term[0] == "pi":
+        return {name for names, _, _ in term[1] for name in names}
+    return {name for binder in term[1] for name in (binder[1] if binder[0] == "typed" else binder[1:2])}
 
 
 def words_of(part):
@@ -120,13 +138,90 @@ def is_of_lemmas(module):
     return ".proofs." in module or ".Working" in module
 
 
+def flat(declarations):
+    """Declarations in which those of a module with parameters have these as their own first arguments."""
+    found = []
+    for each in declarations:
+        if each["kind"] != "module":
+            found.append(each)
+            continue
+        inner = flat(each["decls"])
+        siblings = {of_it["name"] for of_it in inner if "name" in of_it}
+        found += [with_parameters(of_it, each["params"], siblings) for of_it in inner]
+    return found
+
+
+def with_tails(clauses):
+    """Clauses in which the last two, of a list of one item and of a longer one, are one: Coq sees then that a call for
+    the longer one without its first item is a call for what the list ends with."""
+    if len(clauses) < 2:
+        return clauses
+    (ones, one, _), (mores, more, _) = clauses[-2:]
+    places = [at for at, (a, b) in enumerate(zip(ones, mores)) if a != b]
+    if len(places) != 1 or clauses[-2][2] or clauses[-1][2]:
+        return clauses
+    a, b = ones[places[0]], mores[places[0]]
+    if a[:2] != ("con", "◌∷◌") or b[:2] != a[:2] or a[2][0] != b[2][0] or a[2][1] != ("var", "[]") or \
+            b[2][1][:2] != a[:2]:
+        return clauses
+    left = ("var", "left_over")
+    body = ("elim", left, None, [(a[2][1], one), (b[2][1], replaced(more, term_of(b[2][1]), left))])
+    whole = [*ones[:places[0]], ("con", "◌∷◌", [a[2][0], left]), *ones[places[0] + 1:]]
+    return [*clauses[:-2], (whole, body, [])]
+
+
+def term_of(pattern):
+    """What a pattern of a list stands for, as a term."""
+    return ("app", ("var", pattern[1]), [term_of(each) for each in pattern[2]]) if pattern[0] == "con" else pattern
+
+
+def replaced(term, old, new):
+    if term == old:
+        return new
+    if isinstance(term, (tuple, list)):
+        return type(term)(replaced(part, old, new) for part in term)
+    return term
+
+
+def with_parameters(each, groups, siblings):
+    if each["kind"] == "record":
+        fields = {name for name, _ in each["fields"]}
+        given = [(name, given_to(kind, groups, siblings - fields)) for name, kind in each["fields"]]
+        params = given_to(each["params"], groups, siblings)
+        return each | {"params": [*groups, *params], "fields": given}
+    if each["kind"] != "def":
+        raise Bad(f"{each['kind']} in a module with parameters")
+    heads = [("ipat", name, ("var", name)) if implicit else ("var", name) for name, _, implicit in names_of(groups)]
+    clauses = []
+    for patterns, body, where in each["clauses"]:
+        left = siblings - set(words_of(patterns))
+        clauses.append(([*heads, *patterns], given_to(body, groups, left), given_to(where, groups, left)))
+    return each | {"type": ("pi", groups, given_to(each["type"], groups, siblings)), "clauses": clauses}
+
+
+def given_to(term, groups, siblings):
+    """A term in which the names of a module's own declarations are given its parameters."""
+    explicit = [("var", name) for name, _, implicit in names_of(groups) if not implicit]
+    if not explicit:
+        return term
+    if isinstance(term, dict):
+        return {key: given_to(part, groups, siblings) for key, part in term.items()}
+    if isinstance(term, tuple) and term[:1] == ("app",) and term[1][0] == "var" and term[1][1] in siblings:
+        return ("app", term[1], explicit + given_to(term[2], groups, siblings))
+    if isinstance(term, tuple) and term[:1] == ("var",) and term[1] in siblings:
+        return ("app", term, explicit)
+    if isinstance(term, (tuple, list)):
+        return type(term)(given_to(part, groups, siblings) for part in term)
+    return term
+
+
 class Module:
     """A module: its declarations, and the name that its file has in Coq."""
 
     def __init__(self, name, path, text):
         self.name, self.path = name, path
         self.file = Library.file(name)
-        self.declarations = antt.read_text(text, str(path))
+        self.declarations = flat(antt.read_text(text, str(path)))
         self.own, self.taken = {}, None
         for each in self.declarations:
             if "name" in each:
@@ -211,6 +306,8 @@ class Library:
         if module.taken is None:
             module.taken = {}
             for each in module.uses():
+                if each["as"] and not each["names"] and self.has(each["module"]):
+                    module.taken[each["as"]] = each["module"], next(iter(self.module(each["module"]).own))
                 for name in each["names"] if self.has(each["module"]) else ():
                     name, _, other = (part.strip() for part in name.partition(" as "))
                     if name not in self.module(each["module"]).own:
@@ -254,8 +351,8 @@ class Writer:
     def __init__(self, library, module):
         self.library, self.module = library, module
         self.known = {name: (TYPES[name], None) for name in ("⊥", "Unit")}
-        self.known |= {"absurd": ("Kit.absurd", None), "tt": ("tt", {"kind": "constructor"})}
-        self.records = {}
+        self.known |= {"absurd": ("Kit.absurd", None), "¬": ("Kit.no", None), "tt": ("tt", {"kind": "constructor"})}
+        self.records = {name: ({"fields": [(field, None)]}, "Kit.") for name, field in KIT_RECORDS.items()}
         self.unfolding = ()
         self.defined, self.implicit = None, []
         self.depth = 0
@@ -282,6 +379,10 @@ class Writer:
 
     def use(self, each):
         """The names that a module takes from another one, or from the kit."""
+        if each["as"] and not each["names"] and self.library.has(each["module"]):
+            module = self.library.module(each["module"])
+            self.known |= {f"{each['as']}.{name}": (f"{module.file}.{coq_name(name)}", of_it)
+                           for name, of_it in module.own.items()}
         for name in each["names"]:
             name, _, other = (part.strip() for part in name.partition(" as "))
             if self.library.has(each["module"]):
@@ -306,9 +407,10 @@ class Writer:
     def record(self, each):
         name, fields, parts = coq_name(each["name"]), {}, []
         params = [(coq_name(param), implicit) for param, _, implicit in names_of(each["params"])]
-        for field, kind in each["fields"]:
-            parts.append(f"{name}__{coq_name(field)} : {self.term(with_fields(kind, fields))}")
-            fields[field] = f"{name}__{coq_name(field)}"
+        with self.bound(param for param, _, _ in names_of(each["params"])):
+            for field, kind in each["fields"]:
+                parts.append(f"{name}__{coq_name(field)} : {self.term(with_fields(kind, fields))}")
+                fields[field] = f"{name}__{coq_name(field)}"
         self.known[each["name"]] = (name, each)
         self.records[name] = (each, "")
         yield f"Record {name} {self.parameters(each)} : Type := mk_{name} {{ {'; '.join(parts)} }}."
@@ -378,7 +480,8 @@ class Writer:
 
     def function(self, patterns, arguments, body, where):
         names = [pattern[1] for pattern in self.lined_up(patterns, arguments)]
-        text = self.with_where(body, where)
+        with self.bound(names):
+            text = self.with_where(body, where)
         return f"fun {' '.join(map(self.binder, names))} => {text}" if names else text
 
     @staticmethod
@@ -387,22 +490,25 @@ class Writer:
 
     def equations(self, each, name, arguments, result):
         """A definition by cases."""
-        many = max(len(self.lined_up(patterns, arguments)) for patterns, _, _ in each["clauses"])
+        clauses = with_tails(each["clauses"]) if ".specs." in self.module.name else each["clauses"]
+        many = max(len(self.lined_up(patterns, arguments)) for patterns, _, _ in clauses)
         if many > len(arguments):
             raise Bad(f"{each['name']}: more patterns than arguments")
-        heads = [f"({coq_name(arg or f'arg{at}')} : {self.term(kind)})"
+        earlier = [{arg for arg, _, _ in arguments[:at]} for at in range(many)]
+        heads = [f"({coq_name(f'arg{at}' if arg in (None, *earlier[at]) else arg)} : {self.term(kind)})"
                  for at, (arg, kind, _) in enumerate(arguments[:many])]
         rest = [([arg], kind, implicit) for arg, kind, implicit in arguments[many:]]
         kind = self.term(("pi", rest, result) if rest else result)
         self.defined, self.implicit = each["name"], [(arg, implicit) for arg, _, implicit in arguments]
         rows = [self.row(name, each["name"], self.lined_up(patterns, arguments), many, body, where)
-                for patterns, body, where in each["clauses"]]
+                for patterns, body, where in clauses]
         self.defined = None
         return f"Equations(noind noeqns) {name} {' '.join(heads)} : {kind} :=\n" + ";\n".join(rows) + "."
 
     def row(self, name, defined, patterns, many, body, where):
         more = [f"more{at}" for at in range(len(patterns), many)]
-        text = self.with_where(body, where)
+        with self.bound(name for pattern in patterns for name in self.variables(pattern)):
+            text = self.with_where(body, where)
         if more:
             text = f"({text}) {' '.join(more)}"
         if tactic_mentions(body, defined):
@@ -440,9 +546,18 @@ class Writer:
         for pattern in patterns:
             named = pattern[1] if pattern[0] == "ipat" else None
             while len(found) < len(arguments) and arguments[len(found)][2] and arguments[len(found)][0] != named:
-                found.append(("var", "_"))
+                # a variable of the clause may have its name
+                is_hidden = arguments[len(found)][0] in words_of(patterns)
+                found.append(("var", f"left_out{len(found)}" if is_hidden else "_"))
             found.append(pattern[2] if named else pattern)
         return found
+
+    def variables(self, pattern):
+        """The names that a pattern binds."""
+        if pattern[0] == "var":
+            return [] if self.is_constructor(pattern[1]) else [pattern[1]]
+        inner = {"con": pattern[-1], "tup": pattern[1], "ipat": pattern[2:]}.get(pattern[0], ())
+        return [name for each in inner for name in self.variables(each)]
 
     def pattern(self, pattern):
         kind, what = pattern[:2]
@@ -463,6 +578,15 @@ class Writer:
             return TERMS[term[0]](self, term)
         finally:
             self.depth -= is_tactic(term)
+
+    @contextmanager
+    def bound(self, names):
+        """Below a place that binds names these are no longer what a module gives."""
+        outer = {name: self.known.pop(name) for name in set(names) if name in self.known}
+        try:
+            yield
+        finally:
+            self.known |= outer
 
     def name(self, name):
         coq = self.known[name][0] if name in self.known else coq_name(name)
@@ -489,6 +613,13 @@ class Writer:
         """A number; a great one by its digits to the base 16, as Coq would count up to it."""
         return str(term[1]) if term[1] <= GREATEST_LITERAL else self.digits(term[1])
 
+    def letters(self, term):
+        """A text, as the numbers of its letters."""
+        text = term[1][1:-1].encode().decode("unicode_escape")
+        if not text.isascii():
+            raise Bad(f"letters beyond ASCII: {text}")
+        return '(Kit.text "' + text.replace('"', '""') + '"%string)'
+
     def digits(self, number):
         high, low = divmod(number, 16)
         return f"({self.digits(high)} * 16 + {low})" if high else str(low)
@@ -513,12 +644,8 @@ class Writer:
             return f"(match {self.term(value)} with {self.pattern(pattern)} => {self.term(body)} end)"
         name, typed = coq_name(pattern[1]), f" : {self.term(kind)}" if kind else ""
         is_proof, given = self.is_proof(kind, value), self.term(value)
-        # in the body the name is no longer what a module gives
-        outer = self.known.pop(pattern[1], None)
-        try:
+        with self.bound([pattern[1]]):
             then = self.term(body)
-        finally:
-            self.known |= {pattern[1]: outer} if outer else {}
         if is_proof:
             return f"(Kit.have ({given}{typed}) (fun {name} =>\n    {then}))"
         return f"(let {name}{typed} := {given} in\n    {then})"
@@ -553,12 +680,18 @@ class Writer:
     def choice(self, term):
         return f"(if {self.term(term[1])} then {self.term(term[2])} else {self.term(term[3])})"
 
-    def eliminate(self, term):
-        _, value, _, cases = term
+    def eliminate(self, term, is_given=False):
+        """A choice by cases, which may be given arguments: then what it gives is said for each case."""
+        _, value, motive, cases = term
         rows = " ".join(f"| {self.pattern(pattern)} => {self.term(body)}" for pattern, body in cases)
-        return f"(match {self.term(value)} with {rows} end)"
+        kind = ""
+        if is_given and motive and motive[0] == "lam" and len(motive[1]) == 1 and motive[1][0][0] == "var":
+            kind = f" as {coq_name(motive[1][0][1])} return {self.term(motive[2])}"
+        return f"(match {self.term(value)}{kind} with {rows} end)"
 
     def projection(self, term):
+        if term[1][0] == "var" and f"{term[1][1]}.{term[2]}" in self.known:
+            return self.name(f"{term[1][1]}.{term[2]}")
         field, value = term[2], self.term(term[1])
         whole, of_it = self.known.get(term[1][1], (None, None)) if term[1][0] == "var" else (None, None)
         if of_it and of_it["kind"] == "data":
@@ -576,24 +709,29 @@ class Writer:
     def construct(self, term):
         _, base, fields = term
         values = dict(fields)
-        fitting = [record for record, (each, _) in self.records.items() if dict(each["fields"]).keys() == values.keys()]
-        if base is not None or not fitting:
+        fitting = [record for record, (each, _) in self.records.items()
+                   if (dict(each["fields"]).keys() >= values.keys() if base else
+                       dict(each["fields"]).keys() == values.keys())]
+        if not fitting:
             raise Bad(f"a record with the fields {', '.join(values)}")
-        visible = {coq for coq, _ in self.known.values()}
+        visible = {coq for coq, _ in self.known.values()} | {record for record in fitting if record in KIT_RECORDS}
         made = []
         for record in [each for each in fitting if each in visible] or fitting[-1:]:
             each, prefix = self.records[record]
-            parts = " ".join(self.term(values[name]) for name, _ in each["fields"])
+            parts = " ".join(self.term(values[name]) if name in values else f"({record}__{coq_name(name)} base_)"
+                             for name, _ in each["fields"])
             made.append(f"({prefix}mk_{record.split('.')[-1]} {parts})")
+            if base:
+                made[-1] = f"(let base_ := {self.term(base)} in {made[-1]})"
         return made[0] if len(made) == 1 else f"ltac:(first [{' | '.join(f'exact {each}' for each in made)}])"
 
     def application(self, term):
         _, function, arguments = term
         name = function[1] if function[0] == "var" else None
-        if name == "Type":
-            return "Type"
+        if name in ("Type", "Unit"):
+            return self.name(name) if name == "Unit" else name
         if name in WITHIN_LITERAL:
-            return "ltac:(cbn; lia)"
+            return "ltac:(repeat autounfold with antt; first [lia | cbn; lia])"
         if name in ("rw", "rw_at"):
             return self.rewritten(name, *arguments)
         if name == self.defined and name is not None:
@@ -604,9 +742,14 @@ class Writer:
             return f"(Kit.or_elim_of {' '.join(map(self.term, (arguments[2], *arguments[:2])))})"
         if name == "ap" and arguments[1][0] == "var":
             return f"(Kit.ap_of {' '.join(map(self.term, arguments))})"
+        if name == "ap" and arguments[1][0] == "proj":
+            function, fact = map(self.term, arguments)
+            return f"ltac:(first [exact (Kit.ap {function} {fact}) | let e := open_constr:({fact}) in " \
+                f"exact (Kit.ap_of {function} e)])"
         words = [f"({coq_name(each[1])} := {self.term(each[2])})" if each[0] == "iarg" else self.term(each)
                  for each in arguments]
-        whole = f"({self.term(function)} {' '.join(words)})"
+        head = self.eliminate(function, True) if function[0] == "elim" else self.term(function)
+        whole = f"({head} {' '.join(words)})"
         return self.tactics_last(function, arguments, words, whole) if self.is_late(name, arguments) else whole
 
     def is_late(self, name, arguments):
@@ -674,8 +817,9 @@ class Writer:
         return f"ltac:({posed}k_lets; {cleared}{unfolded}{tests}{TACTICS[name]}{']' * bool(tests)})"
 
 
-DECLARATIONS = {"use": lambda *_: (), "record": Writer.record, "data": Writer.data, "def": Writer.definition}
-TERMS = {"raw": lambda _, term: term[1], "num": Writer.number, "var": Writer.variable, "app": Writer.application,
-         "lam": Writer.lambda_, "let": Writer.let, "pi": Writer.pi, "sig": Writer.sigma, "tup": Writer.tuple_,
-         "if": Writer.choice, "proj": Writer.projection, "rec": Writer.construct, "elim": Writer.eliminate,
-         "tac": Writer.tactic}
+DECLARATIONS = {"use": lambda *_: (), "infix": lambda *_: (), "record": Writer.record, "data": Writer.data,
+                "def": Writer.definition}
+TERMS = {"raw": lambda _, term: term[1], "num": Writer.number, "str": Writer.letters, "var": Writer.variable,
+         "app": Writer.application, "lam": Writer.lambda_, "let": Writer.let, "pi": Writer.pi, "sig": Writer.sigma,
+         "tup": Writer.tuple_, "if": Writer.choice, "proj": Writer.projection, "rec": Writer.construct,
+         "elim": Writer.eliminate, "tac": Writer.tactic}
