@@ -1486,7 +1486,7 @@ static inline s2u_cover_vector s2u_cover_on_sphere(const s2u_square* at, double 
 static inline s2u_cover_quad s2u_cover_quad_of(uint64_t cell) {
   s2u_cover_quad quad;
   s2u_cover_vector corners[4];
-  s2u_square at;
+  s2u_square at = {0, 0, 0, 0}; /* which is none */
   double far = 0;
   s2u_square_of(cell, &at);
   quad.middle = s2u_cover_on_sphere(&at, 0.5, 0.5);
