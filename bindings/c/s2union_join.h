@@ -1,6 +1,6 @@
-/* Exact joins of points with polygons in degrees: whether a shape in WKB has a place, and a smaller shape that has the
- * same places of a tile. All of it is in this header, and needs the library, malloc and -lm. It is tested, not proved.
- * The longitude comes first.
+/* Exact joins of points with polygons in degrees: whether a shape in WKB has a place, a smaller shape that has the same
+ * places of a tile, and which of many zones have which of many places. All of it is in this header, and needs the
+ * library, malloc and -lm. It is tested, not proved. The longitude comes first.
  *
  * Edges are straight on the map, as for S2U_COVER_MAP, and inside is what an odd number of crossings with the rings of
  * a polygon leads to. A place on an edge is in the shape. The answer is that of the numbers as they are given: no sum
@@ -8,8 +8,9 @@
  * has the places at the other end of the map too, and parts of a polygon wider than 360 degrees that lie on each other
  * after a turn cancel, as in its coverings.
  *
- * A join compares tiles first: coverings by s2union_cover.h, cut at one level, tell most pairs apart. It asks about the
- * clipped shape only where a leaf is in the outer covering and not in the inner one. */
+ * A join in a database compares tiles first: coverings by s2union_cover.h, cut at one level, tell most pairs apart. It
+ * asks about the clipped shape only where a leaf is in the outer covering and not in the inner one. A program that
+ * holds all zones calls s2u_join_zones_of once, and then s2u_join_pairs_of for places. */
 #ifndef S2UNION_JOIN_H
 #define S2UNION_JOIN_H
 
@@ -259,6 +260,351 @@ static inline int32_t s2u_join_clip(const uint8_t* bytes, size_t size, uint64_t 
   }
   s2u_cover_close(&reader);
   return status;
+}
+
+/* ---- many places and many zones
+ *
+ * A zone is a shape in WKB. A tree over the zones' boxes finds those that may have a place. Of such a zone the edges
+ * that are filed at the place's longitude are asked, each as above. They are filed when the first place lies in the
+ * box. */
+
+/* An edge between two positions of a zone; of a point both are the same. */
+typedef struct s2u_join_edge {
+  uint32_t from, to, part; /* twice the place of its polygon or its line in the zone, and 1 more of a line */
+} s2u_join_edge;
+
+typedef struct s2u_join_zone {
+  s2u_join_bytes bytes; /* the caller's, which stay */
+  s2u_cover_bounds box;
+  double* positions;    /* NULL before edges are filed */
+  s2u_join_edge* edges; /* one slab of longitudes after the other, in each as the shape has them */
+  size_t *begins, slabs; /* of each slab, and the end of the last */
+} s2u_join_zone;
+
+enum { S2U_JOIN_FAN = 8, S2U_JOIN_MOST_LEVELS = 22 };
+
+/* Zones, and boxes around them. The lowest level of boxes has each zone's own, in the order of the leaves of their
+ * middles, and each other level one for S2U_JOIN_FAN boxes below it. */
+typedef struct s2u_join_zones {
+  s2u_join_zone* zones;
+  size_t count, levels, begins[S2U_JOIN_MOST_LEVELS + 1];
+  s2u_cover_list order, boxes; /* the number of each zone that has a position, and all boxes */
+} s2u_join_zones;
+
+typedef struct s2u_join_pair {
+  uint64_t point, zone;
+} s2u_join_pair;
+
+/* The place in the slabs of a longitude that is not to the west of the box. */
+static inline size_t s2u_join_slab(const s2u_join_zone* zone, double x) {
+  double slab = (x - zone->box.west) * ((double)zone->slabs / (zone->box.east - zone->box.west));
+  return slab < (double)zone->slabs ? (size_t)slab : zone->slabs - 1; /* of a box of no width it is no number */
+}
+
+/* Writes the edges of a shape, at most one for each position, and returns how many there are. */
+static inline size_t s2u_join_edges_of(const s2u_cover_shape* shape, s2u_join_edge* edges) {
+  size_t count = 0;
+  uint32_t part = 0;
+  for (size_t ring = 0; ring < shape->count; ring++) {
+    uint64_t begin = s2u_cover_begin(shape, ring), end = shape->rings[ring].end, polygon = shape->rings[ring].polygon;
+    int is_line = polygon == S2U_COVER_LINE;
+    if (ring > 0 && (is_line || polygon != shape->rings[ring - 1].polygon)) part += 2;
+    for (uint64_t to = end - begin > 1 ? begin + 1 : begin; to < end; to++, count++) {
+      edges[count].from = (uint32_t)(to > begin ? to - 1 : to);
+      edges[count].to = (uint32_t)to;
+      edges[count].part = part + (uint32_t)is_line;
+    }
+  }
+  return count;
+}
+
+/* The first and the last slab of an edge. */
+static inline void s2u_join_slabs_of(const s2u_join_zone* zone, const s2u_join_edge* edge, size_t* first,
+                                     size_t* last) {
+  double a = zone->positions[2 * (size_t)edge->from], b = zone->positions[2 * (size_t)edge->to];
+  *first = s2u_join_slab(zone, a < b ? a : b);
+  *last = s2u_join_slab(zone, a < b ? b : a);
+}
+
+/* Files edges in slabs, so many that on average an edge lies in at most three. Whether there is memory. */
+static inline int s2u_join_file(s2u_join_zone* zone, const s2u_join_edge* edges, size_t count) {
+  double wide = 0, whole = zone->box.east - zone->box.west;
+  size_t first, last;
+  for (size_t k = 0; k < count; k++)
+    wide += fabs(zone->positions[2 * (size_t)edges[k].to] - zone->positions[2 * (size_t)edges[k].from]);
+  zone->slabs = whole > 0 ? 1 + (size_t)((double)count * (wide > whole ? whole / wide : 1)) : 1;
+  if (!(zone->begins = (size_t*)calloc(zone->slabs + 2, sizeof(size_t)))) return 0;
+  size_t* ends = zone->begins + 1; /* each begins as the slab's begin, and is its end when all edges are filed */
+  for (size_t k = 0; k < count; k++) {
+    s2u_join_slabs_of(zone, &edges[k], &first, &last);
+    for (size_t slab = first; slab <= last; slab++) ends[slab + 1]++;
+  }
+  for (size_t slab = 1; slab <= zone->slabs; slab++) ends[slab] += ends[slab - 1];
+  zone->edges = (s2u_join_edge*)malloc((ends[zone->slabs] + 1) * sizeof(s2u_join_edge));
+  for (size_t k = 0; zone->edges && k < count; k++) {
+    s2u_join_slabs_of(zone, &edges[k], &first, &last);
+    for (size_t slab = first; slab <= last; slab++) zone->edges[ends[slab]++] = edges[k];
+  }
+  return zone->edges != NULL;
+}
+
+static inline void s2u_join_close(s2u_join_zone* zone) {
+  free(zone->positions);
+  free(zone->edges);
+  free(zone->begins);
+  zone->positions = NULL, zone->edges = NULL, zone->begins = NULL;
+}
+
+/* Reads a zone and files its edges; a zone that has been read before has S2U_OK. */
+static inline int32_t s2u_join_open(s2u_join_zone* zone) {
+  s2u_cover_reader reader;
+  s2u_cover_shape shape;
+  s2u_cover_fault fault;
+  if (zone->positions) return S2U_OK;
+  int32_t status = s2u_cover_open_wkb(zone->bytes.at, zone->bytes.size, &reader, &shape, &fault);
+  size_t positions = reader.positions.count;
+  s2u_join_edge* edges = status == S2U_OK ? (s2u_join_edge*)malloc((positions + 1) * sizeof(s2u_join_edge)) : NULL;
+  if (edges) {
+    zone->positions = (double*)(void*)reader.positions.at, reader.positions.at = NULL;
+    if (!s2u_join_file(zone, edges, s2u_join_edges_of(&shape, edges))) s2u_join_close(zone);
+  }
+  free(edges);
+  s2u_cover_close(&reader);
+  return status != S2U_OK || zone->positions ? status : S2U_MEMORY;
+}
+
+/* Whether a zone whose edges are filed has a place, on any turn of the map. A place on an edge is in the zone, or with
+ * `borders` 0 in none of the polygons that have the edge. */
+static inline int s2u_join_zone_has(const s2u_join_zone* zone, double x, double y, int borders) {
+  const s2u_join_edge *at[S2U_JOIN_TURNS], *end[S2U_JOIN_TURNS];
+  double here[S2U_JOIN_TURNS];
+  int turns = 0;
+  for (double turn = ceil((zone->box.west - x) / 360); turns < S2U_JOIN_TURNS && x + 360 * turn <= zone->box.east;
+       turn++) {
+    here[turns] = x + 360 * turn;
+    if (here[turns] < zone->box.west) continue;
+    size_t slab = s2u_join_slab(zone, here[turns]);
+    at[turns] = zone->edges + zone->begins[slab];
+    end[turns++] = zone->edges + zone->begins[slab + 1];
+  }
+  for (;;) {
+    uint32_t part = UINT32_MAX;
+    int is_odd = 0, is_on = 0;
+    for (int k = 0; k < turns; k++)
+      if (at[k] < end[k] && at[k]->part < part) part = at[k]->part;
+    if (part == UINT32_MAX) return 0;
+    for (int k = 0; k < turns; k++)
+      for (; at[k] < end[k] && at[k]->part == part; at[k]++)
+        is_on |= s2u_join_meets(zone->positions + 2 * (size_t)at[k]->from, zone->positions + 2 * (size_t)at[k]->to,
+                                here[k], y, &is_odd);
+    if (is_on ? borders : is_odd && !(part & 1)) return 1;
+  }
+}
+
+/* ---- the tree */
+
+/* The leaf of a place, and its number among others. */
+typedef struct s2u_join_leaf {
+  uint64_t leaf;
+  size_t number;
+} s2u_join_leaf;
+
+static inline int s2u_join_by_leaf(const void* a, const void* b) {
+  uint64_t x = ((const s2u_join_leaf*)a)->leaf, y = ((const s2u_join_leaf*)b)->leaf;
+  return (x > y) - (x < y);
+}
+
+static inline void s2u_join_free(s2u_join_zones* it) {
+  for (size_t zone = 0; it->zones && zone < it->count; zone++) s2u_join_close(&it->zones[zone]);
+  free(it->zones);
+  free(it->order.at);
+  free(it->boxes.at);
+  memset(it, 0, sizeof *it);
+}
+
+/* Orders the zones that have positions by the leaves of their boxes' middles. Whether there is memory. */
+static inline int s2u_join_order(s2u_join_zones* it) {
+  s2u_cover_list middles = s2u_cover_list_of(sizeof(s2u_join_leaf));
+  int is_fine = 1;
+  for (size_t zone = 0; is_fine && zone < it->count; zone++) {
+    const s2u_cover_bounds* box = &it->zones[zone].box;
+    if (!(box->west <= box->east)) continue;
+    s2u_join_leaf* middle = (s2u_join_leaf*)s2u_cover_add(&middles);
+    if (!(is_fine = middle != NULL)) break;
+    middle->leaf = s2u_geo_leaf((box->west + box->east) / 2, (box->south + box->north) / 2);
+    middle->number = zone;
+  }
+  const s2u_join_leaf* at = (const s2u_join_leaf*)(void*)middles.at;
+  if (is_fine && middles.count) qsort(middles.at, middles.count, sizeof(s2u_join_leaf), s2u_join_by_leaf);
+  for (size_t k = 0; is_fine && k < middles.count; k++) {
+    size_t* zone = (size_t*)s2u_cover_add(&it->order);
+    if ((is_fine = zone != NULL)) *zone = at[k].number;
+  }
+  free(middles.at);
+  return is_fine;
+}
+
+static inline const s2u_cover_bounds* s2u_join_box(const s2u_join_zones* it, size_t place) {
+  return (const s2u_cover_bounds*)(const void*)it->boxes.at + place;
+}
+
+/* Makes the boxes, level by level. Whether there is memory. */
+static inline int s2u_join_pile(s2u_join_zones* it) {
+  size_t below = 0, count = it->order.count;
+  for (size_t k = 0; k < count; k++) {
+    s2u_cover_bounds* box = (s2u_cover_bounds*)s2u_cover_add(&it->boxes);
+    if (!box) return 0;
+    *box = it->zones[((const size_t*)(const void*)it->order.at)[k]].box;
+  }
+  for (it->levels = 1; it->begins[it->levels] = it->boxes.count, count > 1; it->levels++) {
+    for (size_t k = 0; k < count; k++) {
+      const s2u_cover_bounds low = *s2u_join_box(it, below + k);
+      if (k % S2U_JOIN_FAN == 0) {
+        s2u_cover_bounds* box = (s2u_cover_bounds*)s2u_cover_add(&it->boxes);
+        if (!box) return 0;
+        *box = low;
+      }
+      s2u_cover_bounds* box = (s2u_cover_bounds*)(void*)it->boxes.at + it->boxes.count - 1;
+      if (low.west < box->west) box->west = low.west;
+      if (low.east > box->east) box->east = low.east;
+      if (low.south < box->south) box->south = low.south;
+      if (low.north > box->north) box->north = low.north;
+    }
+    below = it->begins[it->levels];
+    count = it->boxes.count - below;
+  }
+  return 1;
+}
+
+/* Zones for s2u_join_pairs_of, of shapes in WKB. Their bytes must stay as long as the zones. s2u_join_free frees the
+ * zones, also after an error: those of s2u_join_covers, about the shape *wrong. */
+static inline int32_t s2u_join_zones_of(const s2u_join_bytes* shapes, size_t count, s2u_join_zones* it, size_t* wrong,
+                                        s2u_cover_fault* fault) {
+  memset(it, 0, sizeof *it);
+  memset(fault, 0, sizeof *fault);
+  *wrong = 0;
+  it->order = s2u_cover_list_of(sizeof(size_t)), it->boxes = s2u_cover_list_of(sizeof(s2u_cover_bounds));
+  if (count == 0) return S2U_OK;
+  it->zones = (s2u_join_zone*)calloc(count, sizeof(s2u_join_zone));
+  if (!it->zones) return S2U_MEMORY;
+  for (it->count = 0; it->count < count; it->count++) {
+    s2u_join_zone* zone = &it->zones[it->count];
+    s2u_cover_reader reader;
+    s2u_cover_shape shape;
+    *wrong = it->count;
+    zone->bytes = shapes[it->count];
+    int32_t status = s2u_cover_open_wkb(zone->bytes.at, zone->bytes.size, &reader, &shape, fault);
+    if (status == S2U_OK) status = s2u_cover_check(&shape, fault);
+    if (status == S2U_OK && reader.positions.count > UINT32_MAX / 2) status = S2U_MEMORY;
+    zone->box = s2u_join_bounds(&shape);
+    s2u_cover_close(&reader);
+    if (status != S2U_OK) return status;
+  }
+  *wrong = 0;
+  return s2u_join_order(it) && s2u_join_pile(it) ? S2U_OK : S2U_MEMORY;
+}
+
+/* A place that is asked about, and where pairs go. */
+typedef struct s2u_join_asked {
+  double x, y;
+  int borders;
+  uint64_t point;
+  s2u_cover_list* pairs;
+} s2u_join_asked;
+
+/* Adds the pairs of zones in a box of the tree, on a turn of the map. */
+static inline int32_t s2u_join_look(s2u_join_zones* it, size_t level, size_t place, double turned,
+                                    const s2u_join_asked* asked) {
+  const s2u_cover_bounds* box = s2u_join_box(it, it->begins[level] + place);
+  if (turned < box->west || turned > box->east || asked->y < box->south || asked->y > box->north) return S2U_OK;
+  if (level > 0) {
+    size_t count = it->begins[level] - it->begins[level - 1], begin = place * S2U_JOIN_FAN;
+    int32_t status = S2U_OK;
+    for (size_t k = begin; status == S2U_OK && k < begin + S2U_JOIN_FAN && k < count; k++)
+      status = s2u_join_look(it, level - 1, k, turned, asked);
+    return status;
+  }
+  size_t number = ((const size_t*)(const void*)it->order.at)[place];
+  int32_t status = s2u_join_open(&it->zones[number]);
+  if (status != S2U_OK || !s2u_join_zone_has(&it->zones[number], asked->x, asked->y, asked->borders)) return status;
+  s2u_join_pair* pair = (s2u_join_pair*)s2u_cover_add(asked->pairs);
+  if (!pair) return S2U_MEMORY;
+  pair->point = asked->point, pair->zone = number;
+  return S2U_OK;
+}
+
+static inline int s2u_join_by_zone(const void* a, const void* b) {
+  uint64_t x = ((const s2u_join_pair*)a)->zone, y = ((const s2u_join_pair*)b)->zone;
+  return (x > y) - (x < y);
+}
+
+/* Brings the last pairs, of one point, to the order of zones, each once. */
+static inline void s2u_join_sort(s2u_cover_list* pairs, size_t begin) {
+  s2u_join_pair* at = (s2u_join_pair*)(void*)pairs->at;
+  size_t kept = begin + 1;
+  if (pairs->count - begin < 2) return;
+  qsort(at + begin, pairs->count - begin, sizeof(s2u_join_pair), s2u_join_by_zone);
+  for (size_t k = kept; k < pairs->count; k++)
+    if (at[k].zone != at[kept - 1].zone) at[kept++] = at[k];
+  pairs->count = kept;
+}
+
+/* Adds the pairs of a place. */
+static inline int32_t s2u_join_ask(s2u_join_zones* it, const s2u_join_asked* asked) {
+  size_t begin = asked->pairs->count;
+  const s2u_cover_bounds* all = s2u_join_box(it, it->boxes.count - 1);
+  for (double turn = ceil((all->west - asked->x) / 360); asked->x + 360 * turn <= all->east; turn++) {
+    int32_t status = s2u_join_look(it, it->levels - 1, 0, asked->x + 360 * turn, asked);
+    if (status != S2U_OK) return status;
+  }
+  s2u_join_sort(asked->pairs, begin);
+  return S2U_OK;
+}
+
+/* Brings pairs, which stand point by point, to the order of points. Whether there is memory. */
+static inline int s2u_join_arrange(s2u_cover_list* pairs, size_t points) {
+  const s2u_join_pair* at = (const s2u_join_pair*)(void*)pairs->at;
+  s2u_join_pair* to = (s2u_join_pair*)malloc((pairs->count + 1) * sizeof(s2u_join_pair));
+  size_t* begins = (size_t*)calloc(points + 1, sizeof(size_t)); /* of the pairs of each point */
+  int is_fine = to && begins;
+  for (size_t k = 0; is_fine && k < pairs->count; k++) begins[at[k].point + 1]++;
+  for (size_t point = 0; is_fine && point < points; point++) begins[point + 1] += begins[point];
+  for (size_t k = 0; is_fine && k < pairs->count; k++) to[begins[at[k].point]++] = at[k];
+  free(begins);
+  free(is_fine ? pairs->at : (char*)(void*)to);
+  if (is_fine) pairs->at = (char*)(void*)to;
+  return is_fine;
+}
+
+/* An exact join: the pairs of a place and a zone that has it, in the order of places, and of zones for each. With
+ * `borders` a place on an edge is in the zone, as for s2u_join_covers; without, it is in none of the polygons that have
+ * the edge, and no line has a place. The caller frees pairs->at, also after an error: S2U_MEMORY, and S2U_ARGUMENT if
+ * the place with the number *wrong is beyond -540 to 540 and -90 to 90 degrees. One thread at a time may ask the same
+ * zones. Places are asked in the order of their leaves, which have the same memory in turn. A place takes a step for
+ * each zone in whose box it lies, and for each edge there at its longitude. */
+static inline int32_t s2u_join_pairs_of(s2u_join_zones* zones, const double* longitudes, const double* latitudes,
+                                        size_t count, int borders, s2u_cover_list* pairs, size_t* wrong) {
+  s2u_join_asked asked = {0, 0, 0, 0, NULL};
+  int32_t status = S2U_OK;
+  asked.borders = borders, asked.pairs = pairs;
+  *pairs = s2u_cover_list_of(sizeof(s2u_join_pair));
+  for (*wrong = 0; *wrong < count; ++*wrong) {
+    const double place[2] = {longitudes[*wrong], latitudes[*wrong]};
+    if (!s2u_cover_is_place(place)) return S2U_ARGUMENT;
+  }
+  if (zones->boxes.count == 0 || count == 0) return S2U_OK;
+  s2u_join_leaf* leaves = count <= SIZE_MAX / sizeof(s2u_join_leaf)
+                              ? (s2u_join_leaf*)malloc(count * sizeof(s2u_join_leaf)) : NULL;
+  if (!leaves) return S2U_MEMORY;
+  for (size_t k = 0; k < count; k++) leaves[k].leaf = s2u_geo_leaf(longitudes[k], latitudes[k]), leaves[k].number = k;
+  qsort(leaves, count, sizeof(s2u_join_leaf), s2u_join_by_leaf);
+  for (size_t k = 0; status == S2U_OK && k < count; k++) {
+    size_t number = leaves[k].number;
+    asked.x = longitudes[number], asked.y = latitudes[number], asked.point = number;
+    status = s2u_join_ask(zones, &asked);
+  }
+  free(leaves);
+  return status != S2U_OK || s2u_join_arrange(pairs, count) ? status : S2U_MEMORY;
 }
 
 #endif

@@ -72,6 +72,10 @@ step "coverings of shapes in degrees, and under the sanitizers" covered
 step "coverings of parts that touch, beside whole numbers, under the sanitizers" program parts "$static" \
   -fsanitize=address,undefined -fno-sanitize-recover
 step "coverings with geodesic edges, beside long doubles" program geodesics "$static"
+joined() { # places with zones
+  program joins "$static" -fsanitize=address,undefined -fno-sanitize-recover "$work/refuse.o"
+}
+step "exact joins beside a plain loop, each allocation refused in turn, under the sanitizers" joined
 around() { # cells around cells
   program neighbors "$static" -fsanitize=address,undefined -fno-sanitize-recover "$work/refuse.o"
 }

@@ -66,7 +66,7 @@ static double degrees_of(const uint8_t* bytes, double most) {
   return bytes[1] % 4 ? most / 6 * (bytes[0] % 13 - 6) : whole * some[bytes[1] / 4 % 8];
 }
 
-/* Both coverings of a shape on the map say of its corners, and of a place, what the shape itself says. */
+/* Both coverings of a shape on the map, and a join, say of its corners, and of a place, what the shape itself says. */
 static void of_places(const s2u_cover_shape* shape, const double* place, const s2u_cover_cells* outer,
                       const s2u_cover_cells* inner) {
   size_t count = shape->count ? shape->rings[shape->count - 1].end : 0;
@@ -75,13 +75,22 @@ static void of_places(const s2u_cover_shape* shape, const double* place, const s
   s2u_join_put_shape(&wkb, shape);
   if (!(wkb.at = malloc(wkb.size))) return;
   s2u_join_put_shape(&wkb, shape);
+  s2u_join_zones zones;
+  size_t wrong;
+  int32_t made = s2u_join_zones_of(&wkb, 1, &zones, &wrong, &fault);
+  MUST(made == S2U_OK);
   for (size_t k = 0; k <= count; k++) {
     const double* at = k < count ? shape->positions + 2 * k : place;
     uint64_t leaf = s2u_geo_leaf(at[0], at[1]);
     int covers;
     MUST(s2u_join_covers(wkb.at, wkb.size, at[0], at[1], &covers, &fault) == S2U_OK && (covers || k == count));
     MUST(covers ? has(outer, leaf) : !has(inner, leaf));
+    s2u_cover_list pairs;
+    int32_t asked = s2u_join_pairs_of(&zones, &at[0], &at[1], 1, 1, &pairs, &wrong);
+    MUST(asked == S2U_OK && pairs.count == (size_t)covers);
+    free(pairs.at);
   }
+  s2u_join_free(&zones);
   free(wkb.at);
 }
 

@@ -640,6 +640,7 @@ static PyMethodDef methods[] = {
   METHOD(coverings, METH_VARARGS) METHOD(coverings_of_wkb, METH_VARARGS) METHOD(coverings_of_circle, METH_VARARGS)
   METHOD(level_within, METH_O) METHOD(neighbors, METH_VARARGS) METHOD(edge_neighbors, METH_O)
   METHOD(vertex_neighbors, METH_VARARGS) METHOD(expanded, METH_VARARGS) METHOD(rect_bound, METH_O)
+  METHOD(zones, METH_O) METHOD(pairs, METH_VARARGS)
   {NULL, NULL, 0, NULL}
 };
 

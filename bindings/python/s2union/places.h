@@ -1,6 +1,6 @@
 /* Places in degrees for places.py and sphere.py of s2union_geo: by s2union_geo.h, so that cells are S2's bit for bit.
- * Outlines of unions for outlines.py, by s2union_outline.h, and coverings for coverer.py, by s2union_cover.h; and by
- * these two the cells around cells for around.py. */
+ * Outlines of unions for outlines.py, by s2union_outline.h, and coverings for coverer.py, by s2union_cover.h; by these
+ * two the cells around cells for around.py; and joins for index.py, by s2union_join.h. */
 
 /* The library's calls that the headers make. They are the same for each interpreter, as the library is. */
 static Calls there;
@@ -20,7 +20,7 @@ static Calls there;
 #define s2u_polygon_inner there.s2u_polygon_inner
 #define s2u_polygon_outer_up_to there.s2u_polygon_outer_up_to
 #define s2u_polygon_inner_up_to there.s2u_polygon_inner_up_to
-#include <s2union_cover.h>
+#include <s2union_join.h>
 #include <s2union_outline.h>
 #undef s2u_from_face_ij
 #undef s2u_square_of
@@ -318,4 +318,80 @@ static PyObject* py_rect_bound(PyObject* module, PyObject* given) {
   CANCELLABLE(status, s2u_cover_rect_bound(cells.at, cells.n, &box));
   if (status != S2U_OK) return refused(status, NULL);
   return Py_BuildValue("(dddd)", box.west, box.south, box.east, box.north);
+}
+
+/* ---- which zones have which places */
+
+static const char OF_ZONES[] = "s2union.zones";
+
+typedef struct Zones {
+  s2u_join_zones zones;
+  PyObject* shapes; /* the tuple of bytes in which the zones lie */
+} Zones;
+
+static void forget(Zones* it) {
+  s2u_join_free(&it->zones);
+  Py_DECREF(it->shapes);
+  free(it);
+}
+
+static void forget_zones(PyObject* capsule) { forget(PyCapsule_GetPointer(capsule, OF_ZONES)); }
+
+/* The bytes of a tuple of shapes, or NULL. */
+static s2u_join_bytes* bytes_of_shapes(PyObject* shapes, size_t n) {
+  s2u_join_bytes* each = PyMem_Malloc((n + 1) * sizeof *each);
+  if (!each) PyErr_NoMemory();
+  for (size_t k = 0; each && k < n; k++) {
+    PyObject* shape = PyTuple_GetItem(shapes, (Py_ssize_t)k);
+    each[k].at = (uint8_t*)PyBytes_AsString(shape);
+    if (each[k].at) each[k].size = (size_t)PyBytes_Size(shape);
+    else PyMem_Free(each), each = NULL;
+  }
+  return each;
+}
+
+/* Zones for `pairs`, of a tuple of shapes in WKB. */
+static PyObject* py_zones(PyObject* module, PyObject* shapes) {
+  s2u_cover_fault fault;
+  size_t wrong = 0;
+  int32_t status;
+  (void)module;
+  if (!PyTuple_Check(shapes)) return refuse_type("shapes", "a tuple", shapes), NULL;
+  size_t n = (size_t)PyTuple_Size(shapes);
+  s2u_join_bytes* each = bytes_of_shapes(shapes, n);
+  if (!each) return NULL;
+  Zones* it = malloc(sizeof *it);
+  if (!it) return PyMem_Free(each), PyErr_NoMemory();
+  it->shapes = shapes;
+  Py_INCREF(shapes);
+  UNLOCKED(status = s2u_join_zones_of(each, n, &it->zones, &wrong, &fault));
+  PyMem_Free(each);
+  PyObject* capsule = status == S2U_OK ? PyCapsule_New(it, OF_ZONES, forget_zones) : NULL;
+  if (!capsule) forget(it);
+  if (status == S2U_OK) return capsule;
+  if (status == S2U_MEMORY) return refused(status, NULL);
+  return raise_refusal(status, "zone %llu: %s", (unsigned long long)wrong, s2u_cover_status_text(status));
+}
+
+/* The pairs of places and zones that have them: a place and a zone each. Nobody else may ask the zones meanwhile. */
+static PyObject* py_pairs(PyObject* module, PyObject* words) {
+  HELD List longitudes = {0}, latitudes = {0};
+  s2u_cover_list pairs;
+  uint64_t borders;
+  size_t wrong = 0;
+  int32_t status;
+  (void)module;
+  if (!has(words, 4) || !as_number(WORD(3), "borders", 0, 1, &borders) ||
+      !as_list(WORD(1), sizeof(double), &longitudes) || !as_list(WORD(2), sizeof(double), &latitudes))
+    return NULL;
+  Zones* it = PyCapsule_GetPointer(WORD(0), OF_ZONES);
+  if (!it) return NULL;
+  size_t n = longitudes.n < latitudes.n ? longitudes.n : latitudes.n;
+  UNLOCKED(status = s2u_join_pairs_of(&it->zones, longitudes.at, latitudes.at, n, (int)borders, &pairs, &wrong));
+  PyObject* found = NULL;
+  if (status == S2U_OK) found = PyBytes_FromStringAndSize(pairs.at, (Py_ssize_t)(pairs.count * sizeof(s2u_join_pair)));
+  else if (status == S2U_ARGUMENT) raise_refusal(status, "the place %llu is out of range", (unsigned long long)wrong);
+  else refused(status, NULL);
+  free(pairs.at);
+  return found;
 }

@@ -22,7 +22,7 @@ python3 -m s2union_geo join POINTS ZONES [--name PROPERTY] [--longitude COLUMN]
                 a point on the border of a zone is in it, as for PostGIS's
                 ST_Covers
         --coverings
-                asks coverings alone, not shapely: points near a border may be
+                asks coverings alone, not polygons: points near a border may be
                 in zones too many
 python3 -m s2union_geo index ZONES FILE [--name PROPERTY] [--skip]
     [--max-cells N]
@@ -58,7 +58,6 @@ import numpy
 from s2union import CellUnion, tokens
 
 from . import Index, coverings, leaves, read_geojson, to_geojson
-from .index import IndexByNeed
 from .places import MOST, range_of
 from .tables import Options, features_of, is_text, number_in, read_points
 
@@ -225,8 +224,8 @@ def opened(path):
     return contextlib.nullcontext(sys.stdin.buffer) if path == "-" else open(path, "rb")
 
 
-def read_zones(path, name, max_cells, wrong, kind):
-    """An index of some kind of a file of zones, or one that is a file already."""
+def read_zones(path, name, max_cells, wrong):
+    """An index of a file of zones, or one that is a file already."""
     with opened(path) as file:
         if file.peek(2)[:2] == b"PK" and path != "-":
             made = Index.load(path)
@@ -240,7 +239,7 @@ def read_zones(path, name, max_cells, wrong, kind):
         except (ValueError, RecursionError) as error:
             raise ValueError(f"{path}: {error}") from None
     names = list(range(len(features))) if name is None else [name_of(*it, name) for it in features]
-    made = kind(counted([feature for _, feature in features]), names, int(max_cells), leave=wrong.skips)
+    made = Index(counted([feature for _, feature in features]), names, int(max_cells), leave=wrong.skips)
     for zone, why in made.left:
         wrong(f"zone {made.names[zone]!r}: {why}")
     return made
@@ -257,7 +256,7 @@ def name_of(where, feature, name):
 
 
 def make_index(zones, file, name, skip, max_cells):
-    made = read_zones(zones, name, max_cells, Wrong(skip), Index)
+    made = read_zones(zones, name, max_cells, Wrong(skip))
     made.save(file)
     print(f"{len(made)} zones")
 
@@ -266,9 +265,8 @@ def join(points, zones, name, longitude, latitude, separator, skip, max_cells, a
     wrong = Wrong(skip)
     if points == zones == "-":
         raise ValueError("points and zones can't both be standard input")
-    made = read_zones(zones, name, max_cells, wrong, IndexByNeed)
+    made = read_zones(zones, name, max_cells, wrong)
     asked = {"exact": not coverings, "predicate": "intersects" if borders else "within"}
-    made.join([], [], **asked)  # an error before any output if shapely is missing
     with opened(points) as file:
         out = csv.writer(sys.stdout, lineterminator="\n")
         sys.stdout.reconfigure(errors="surrogateescape")

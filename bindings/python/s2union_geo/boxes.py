@@ -1,4 +1,4 @@
-"""Boxes of polygons on the map, and which of them have points."""
+"""Boxes of polygons on the map."""
 
 from __future__ import annotations
 
@@ -6,10 +6,6 @@ import struct
 from typing import Any
 
 import numpy
-
-WIDER = 1e-6  # degrees by which boxes are wider, for rounding
-POLAR = 89.999  # degrees of latitude: nearer to a pole, rounding may move a place by more than that
-MOST_LOOKS = 10_000  # points that are looked at for one box: they take a tenth of the time of its covering
 
 
 def box_of(wkb: bytes) -> tuple[float, float, float, float]:
@@ -30,20 +26,3 @@ def box_of(wkb: bytes) -> tuple[float, float, float, float]:
     places = numpy.concatenate(found)
     (west, south), (east, north) = places.min(0).tolist(), places.max(0).tolist()
     return west, south, east, north
-
-
-def may_have_points(boxes: Any, x: Any, y: Any) -> Any:
-    """Whether some point lies in each box, if need be some turns to the east or west. Boxes are narrower than 360
-    degrees. Near a pole, and of more than `MOST_LOOKS` points at a box's longitudes, some may lie in it."""
-    x = numpy.remainder(x, 360)
-    order = numpy.argsort(x)
-    x, y = numpy.concatenate([x[order], x[order] + 360]), numpy.tile(y[order], 2)
-    west, south, east, north = (boxes + [-WIDER, -WIDER, WIDER, WIDER]).T
-    begin = x.searchsorted(west % 360)
-    end = x.searchsorted(west % 360 + (east - west), "right")
-    found = end - begin > MOST_LOOKS
-    for box in numpy.flatnonzero((end > begin) & ~found):
-        here = y[begin[box]:end[box]]
-        found[box] = ((south[box] <= here) & (here <= north[box])).any()
-    at_a_pole = (north >= POLAR) & (y >= POLAR).any() | (south <= -POLAR) & (y <= -POLAR).any()
-    return found | at_a_pole

@@ -14,7 +14,7 @@ from typing import Any
 import pandas
 
 from .coverer import coverings
-from .index import Index, IndexByNeed
+from .index import Index
 from .sphere import leaves
 
 __all__ = ["Frame"]
@@ -145,7 +145,7 @@ class Frame:
             The other frame: one of points, or one without geometry, which has columns of degrees. A row without a point
             or a polygon is in no pair. Or an `Index` of polygons; then this frame is the one of points.
         max_cells : int
-            The most cells of a covering, 0 to 1,000,000. Coverings decide for most points, and shapely for the rest.
+            The most cells of a covering, 0 to 1,000,000. It changes no pair, since polygons decide.
         longitude : str, optional
             The column of longitudes, as `leaves` has it.
         latitude : str, optional
@@ -179,7 +179,7 @@ class Frame:
         ([['sea', 'one']], [['sea', 'one']])
         """
         is_made = isinstance(points, Index)
-        made = points if is_made else IndexByNeed(self._whole(), max_cells=max_cells)
+        made = points if is_made else Index(self._whole(), max_cells=max_cells)
         rows, *places = (self if is_made else points.s2)._points(longitude, latitude)
         point, zone = made.join(*places, predicate=predicate)
         order = zone.argsort(kind="stable")

@@ -1,40 +1,40 @@
-"""Which points lie in which of many polygons: coverings are made once, and numpy asks them. Tested, not proved."""
+"""Which points lie in which of many polygons: exactly, by s2union_join.h, or by coverings alone, which numpy asks.
+Tested, not proved."""
 
 from __future__ import annotations
 
-import functools
 import io
 import json
-import math
 import os
 import struct
+import threading
 import zipfile
-from typing import Any, Callable, Iterator
+from typing import Any, Callable
 
 import numpy
-from s2union import CellUnion, range_maxes, range_mins
+from s2union import CellUnion, _library, range_maxes, range_mins
 
-from .boxes import box_of, may_have_points
+from .boxes import box_of
 from .coverer import covering, interior, look_at_shape
+from .interrupts import look
 from .places import MOST, leaf
 from .reading import LINE, Shape, parsed, polygons_of, shape_of, wkb_of
-from .sphere import leaves
+from .sphere import degrees_of, leaves
 
 __all__ = ["Index"]
 
 KIND = "s2union_geo.Index 1"  # of the files
 PREDICATES = ("within", "intersects")  # of which the second has points on borders too, as in geopandas
 MOST_SURE = 90  # degrees: shapes less wide and high are covered if they pass `look_at_shape`
-MANY = 1000  # points of one zone: shapely takes as long for them as its interior covering takes to make
+AT_ONCE = 250_000  # points of a call, which takes less than a second
 ARRAYS = {"cell": "u", "begin": "i", "zone": "i", "sure": "b", "shape": "u", "ends": "i", "spans": "f", "names": "u"}
 
 
 class Index:
-    """Which zones contain a point: coverings of all zones, in one sorted list of cells, and the zones' polygons.
+    """Which zones contain a point: the polygons of all zones, in memory of C, and their coverings.
 
-    A point outside of a zone's covering isn't in the zone, and one in its interior covering is. Between the two,
-    shapely decides by the polygon. Interior coverings take most of the time, so each is made when it pays: by the first
-    `find` in the zone's covering, by joins that have asked shapely about 1,000 points of the zone, or by `save`.
+    A tree over boxes finds the polygons that may have a point, and the edges at its longitude decide, exactly.
+    Coverings are made when they are asked for: by ``exact=False``, or by `save`.
 
     .. versionadded:: 1.4
 
@@ -47,7 +47,7 @@ class Index:
         The names of the zones: as many as shapes; or a property of the features, or a column of the frame. Without it,
         a frame's own index, or the numbers from 0.
     max_cells : int
-        The most cells of each covering, 0 to 1,000,000. More cells leave fewer points to shapely.
+        The most cells of each covering, 0 to 1,000,000. With more cells ``exact=False`` has fewer pairs too many.
     max_level : int
         0 to 30: no cell is deeper.
     leave : bool
@@ -91,7 +91,6 @@ class Index:
         self.left: list[tuple[int, str]] = []
         _, none = _asked(lambda it: covering(it, max_cells, max_level), _NOTHING)  # an error if they are out of range
         self._begin_with([none] * len(shapes), numpy.zeros((len(shapes), 4)), (max_cells, max_level))
-        self._outers: list[tuple[int, bool, CellUnion]] = []
         for zone, shape in enumerate(shapes):
             try:
                 if shape is not None:
@@ -100,29 +99,40 @@ class Index:
                 if not leave:
                     raise ValueError(f"zone {self.names[zone]!r}: {error}") from None
                 self.left.append((zone, str(error)))
-        self._arrange(*_sorted(self._outers))
 
-    def _begin_with(self, shapes: list[bytes], boxes: Any, most: Any) -> None:
-        """Takes the zones' polygons and boxes. `most` says how coverings are made: not at all, if the cells have them
-        all."""
-        self._shapes, self._boxes, self._most = shapes, boxes, most
-        self._prepared: dict[int, list[Any]] = {}
-        self._interiors: dict[int, CellUnion] = {}
-        self._asked = numpy.zeros(len(shapes), "int64")  # how many points of each zone
+    def _begin_with(self, shapes: list[bytes], boxes: Any, most: Any, cells: Any = None) -> None:
+        """Takes the zones' polygons and boxes. `most` says how coverings are made: not at all, if a file has their
+        cells."""
+        self._shapes, self._boxes, self._most, self._cells = shapes, boxes, most, cells
+        self._outers: dict[int, CellUnion] = {}
+        self._is_arranged = False
+        self._zones = Zones(shapes)
 
     def _take(self, zone: int, shape: Any) -> None:
-        """Covers a zone."""
-        outer, wkb = _asked(lambda it: covering(it, *self._most), shape)
-        self._shapes[zone], self._boxes[zone] = wkb, box_of(wkb)
-        self._outers.append((zone, False, outer))
+        """Looks at a zone, and covers it if it may be refused all the same, or has more than polygons."""
+        _, wkb = _asked(look_at_shape, shape)
+        west, south, east, north = box = box_of(wkb)
+        is_polygons = LINE not in shape.rings[1::2] if isinstance(shape, Shape) else _has_polygons(shape)
+        if not (is_polygons and max(east - west, north - south) < MOST_SURE):
+            self._outers[zone], _ = _asked(lambda it: covering(it, *self._most), shape)
+        self._shapes[zone], self._boxes[zone] = wkb, box
 
-    def _cover(self, x: Any, y: Any, exact: bool) -> None:
-        """Covers what a join of points needs: nothing, since all zones are covered."""
+    def _covering(self, zone: int) -> CellUnion:
+        if zone not in self._outers:
+            self._outers[zone] = covering(self._shapes[zone], *self._most)
+        return self._outers[zone]
 
-    def _arrange(self, cell: Any, begin: Any, zone: Any, sure: Any) -> None:
-        """Takes the cells, each once and each before those in it. Of each the places from `begin` on have the zones,
-        and whether the zone contains all of the cell."""
-        self._cell, self._begin, self._zone, self._sure = cell, begin, zone, sure
+    def _cover(self) -> None:
+        """Makes the coverings of all zones, if they aren't there, and arranges their cells."""
+        if self._cells is None:
+            self._cells = _sorted([(zone, False, self._covering(zone)) for zone in range(len(self))])
+        if not self._is_arranged:
+            self._arrange(*self._cells[:3])
+            self._is_arranged = True
+
+    def _arrange(self, cell: Any, begin: Any, zone: Any) -> None:
+        """Takes the cells, each once and each before those in it. Of each the places from `begin` on have the zones."""
+        self._begin, self._zone = begin, zone
         self._first, self._last = range_mins(cell), range_maxes(cell)
         number = numpy.arange(len(cell))
         depth = number - numpy.sort(self._last).searchsorted(self._first)  # without the cells that ended before it
@@ -130,12 +140,6 @@ class Index:
         for deep in range(1, depth.max(initial=0) + 1):
             above, here = number[depth == deep - 1], number[depth == deep]
             self._above[here] = above[above.searchsorted(here) - 1]
-
-    def _interior(self, zone: int) -> CellUnion:
-        """The interior covering of a zone; nothing, if the cells have it."""
-        if zone not in self._interiors:
-            self._interiors[zone] = interior(self._shapes[zone], *self._most) if self._most else CellUnion()
-        return self._interiors[zone]
 
     def __len__(self) -> int:
         """How many zones there are.
@@ -145,7 +149,7 @@ class Index:
         return len(self.names)
 
     def __repr__(self) -> str:
-        return f"<Index of {len(self)} zones, {len(self._cell)} cells>"
+        return f"<Index of {len(self)} zones>"
 
     def find(self, longitude: float, latitude: float, exact: bool = True, predicate: str = "within") -> list[Any]:
         """The names of the zones that contain a point.
@@ -161,7 +165,7 @@ class Index:
         latitude : float
             From -90 to 90 degrees.
         exact : bool
-            Whether shapely is asked for a point between both coverings.
+            Whether polygons are asked, or coverings alone.
         predicate : str
             ``"within"``, or ``"intersects"``: then a point on the border of a zone is in it.
 
@@ -176,8 +180,6 @@ class Index:
             A number is out of range, or there is no such predicate.
         TypeError
             A value isn't a number.
-        ModuleNotFoundError
-            An exact answer needs shapely.
 
         Examples
         --------
@@ -185,18 +187,18 @@ class Index:
         >>> Index([square], ["square"]).find(9.9999, 5)
         ['square']
         """
-        _check(predicate)
-        found, here = [], numpy.uint64(leaf(longitude, latitude))
-        x, y = numpy.array([[longitude], [latitude]], "float64")
-        self._cover(x, y, exact)
+        borders, here = _borders(predicate), numpy.uint64(leaf(longitude, latitude))
+        if exact:
+            found = self._zones.pairs(struct.pack("d", longitude), struct.pack("d", latitude), borders)
+            return [self.names[zone] for _, zone in struct.iter_unpack("QQ", found)]
+        self._cover()
+        places: list[int] = []
         cell = self._first.searchsorted(here, "right") - 1
         while cell >= 0:
             if self._last[cell] >= here:
-                found += range(self._begin[cell], self._begin[cell + 1])
+                places += range(self._begin[cell], self._begin[cell + 1])
             cell = self._above[cell]
-        sure = {int(self._zone[k]): self._sure[k] for k in found}
-        return [self.names[zone] for zone in sorted(sure) if sure[zone] or not exact
-                or here in self._interior(zone) or self._contains(zone, x, y, predicate)[0]]
+        return [self.names[zone] for zone in sorted({int(self._zone[place]) for place in places})]
 
     def join(self, longitude: Any, latitude: Any, exact: bool = True,
              predicate: str = "within") -> tuple[Any, Any]:
@@ -213,8 +215,8 @@ class Index:
         latitude : array of float
             From -90 to 90 degrees, of the same length.
         exact : bool
-            Whether shapely decides for points between both coverings. Else they count as inside: no pair is missing,
-            and points near a border may be in pairs too many.
+            Whether polygons are asked. Else coverings alone are: no pair is missing, and points near a border may be in
+            pairs too many.
         predicate : str
             ``"within"``, or ``"intersects"``: then a point on the border of a zone is in it, as for PostGIS's
             ``ST_Covers``, and with the joins of PostgreSQL and SQLite.
@@ -233,14 +235,14 @@ class Index:
             predicate.
         TypeError
             A value isn't a number.
-        ModuleNotFoundError
-            An exact answer needs shapely.
 
         Notes
         -----
         The pairs are those of geopandas with the same predicate, and those of zones across the date line. Geopandas
-        itself takes ``intersects`` if it is given none. Where a polygon wider than 360 degrees lies on itself after a
-        turn, places that it has an even number of times are outside, as they are of its `covering`.
+        itself takes ``intersects`` if it is given none. A zone is all of its polygons together: of two that overlap,
+        which geopandas takes for an error, what lies in both is in the zone. Where a polygon wider than 360 degrees
+        lies on itself after a turn, places that it has an even number of times are outside, as they are of its
+        `covering`.
 
         Examples
         --------
@@ -251,29 +253,31 @@ class Index:
         >>> [len(Index([square]).join([10], [5], predicate=it)[0]) for it in ("within", "intersects")]
         [0, 1]
         """
-        _check(predicate)
+        borders = _borders(predicate)
         x, y = (numpy.ravel(it) for it in (longitude, latitude))
         if len(x) != len(y):
             raise ValueError(f"{len(x)} longitudes and {len(y)} latitudes")
         if exact:
-            _shapely()  # an error before any work
-        leaf_of = leaves(x, y)
-        x, y = x.astype("float64"), y.astype("float64")  # which has room for a turn more
-        self._cover(x, y, exact)
-        point, zone, sure = self._pairs(leaf_of)
-        if exact:
-            keep = sure.copy()
-            for number, places in _groups(zone, numpy.flatnonzero(~sure)):
-                here = point[places]
-                keep[places] = self._decide(number, leaf_of[here], x[here], y[here], predicate)
-            point, zone = point[keep], zone[keep]
+            return self._exact(degrees_of(x, "longitude"), degrees_of(y, "latitude"), borders)
+        point, zone = self._pairs(leaves(x, y))
         order = numpy.lexsort([zone, point])
         return point[order], zone[order]
 
-    def _pairs(self, places: Any) -> tuple[Any, Any, Any]:
-        """The pairs of a point and a zone in whose covering its leaf lies, and whether it is in the interior one."""
+    def _exact(self, x: Any, y: Any, borders: int) -> tuple[Any, Any]:
+        """The pairs of points and zones, by parts of the points."""
+        found = [numpy.zeros((0, 2), "int64")]
+        for begin in range(0, len(x), AT_ONCE):
+            look()
+            part = (memoryview(it[begin:begin + AT_ONCE]) for it in (x, y))
+            found.append(numpy.frombuffer(self._zones.pairs(*part, borders), "int64").reshape(-1, 2) + [begin, 0])
+        point, zone = numpy.concatenate(found).T
+        return point.copy(), zone.copy()
+
+    def _pairs(self, places: Any) -> tuple[Any, Any]:
+        """The pairs of a point and a zone in whose covering its leaf lies."""
+        self._cover()
         point, cell = numpy.arange(len(places)), self._first.searchsorted(places, "right") - 1
-        found = [(point[:0], self._zone[:0], self._sure[:0])]
+        found = [(point[:0], self._zone[:0])]
         while True:
             is_there = cell >= 0
             point, cell = point[is_there], cell[is_there]
@@ -284,60 +288,8 @@ class Index:
             count = self._begin[inside + 1] - self._begin[inside]
             of = numpy.repeat(numpy.arange(len(count)), count)
             entry = self._begin[inside][of] + numpy.arange(len(of)) - (numpy.cumsum(count) - count)[of]
-            found.append((asked[of], self._zone[entry], self._sure[entry]))
+            found.append((asked[of], self._zone[entry]))
             cell = self._above[cell]
-
-    def _decide(self, zone: int, places: Any, x: Any, y: Any, predicate: str) -> Any:
-        """Whether a zone contains points in its covering, of which `places` are the leaves."""
-        self._asked[zone] += len(places)
-        inside = (self._interior(zone).contains_cells(places) if self._asked[zone] >= MANY
-                  else numpy.zeros(len(places), "bool"))
-        left = numpy.flatnonzero(~inside)
-        if left.size:
-            inside[left] = self._contains(zone, x[left], y[left], predicate)
-        return inside
-
-    def _contains(self, zone: int, x: Any, y: Any, predicate: str) -> Any:
-        """Whether a zone's polygons contain points, which they may have some turns to the east or west."""
-        contains = _shapely()[2 + PREDICATES.index(predicate)]
-        west, east = self._boxes[zone, ::2]
-        turns = range(math.ceil((west - x.max()) / 360), math.floor((east - x.min()) / 360) + 1)
-        if east - west > 360:
-            return self._contains_by_turns(zone, x, y, predicate, turns)
-        shape, = self._parts(zone)
-        inside = contains(shape, x, y)
-        for turn in turns:
-            if turn:
-                left = numpy.flatnonzero(~inside)
-                inside[left] = contains(shape, x[left] + 360 * turn, y[left])
-        return inside
-
-    def _contains_by_turns(self, zone: int, x: Any, y: Any, predicate: str, turns: range) -> Any:
-        """The same of a zone that is wider than 360 degrees: what a polygon has on an even number of turns is outside,
-        as it is of its coverings."""
-        contains, intersects = _shapely()[2:]
-        found = numpy.zeros(len(x), "bool")
-        for polygon in self._parts(zone):
-            inside, touched = numpy.zeros((2, len(x)), "bool")
-            for turn in turns:
-                is_in = contains(polygon, x + 360 * turn, y)
-                inside ^= is_in
-                touched |= intersects(polygon, x + 360 * turn, y) & ~is_in
-            found |= inside & ~touched if predicate == "within" else inside | touched
-        return found
-
-    def _parts(self, zone: int) -> list[Any]:
-        """The polygons of a zone for shapely: all as one, or each if they are wider than 360 degrees together."""
-        if zone not in self._prepared:
-            wkb, prepared, *_ = _shapely()
-            try:
-                shape = wkb.loads(self._shapes[zone])
-                west, east = self._boxes[zone, ::2]
-                parts = getattr(shape, "geoms", [shape]) if east - west > 360 else [shape]
-                self._prepared[zone] = [prepared(part) for part in parts]
-            except Exception as error:  # shapely's own differ between its versions
-                raise ValueError(f"zone {self.names[zone]!r} has no polygons that shapely reads: {error}") from None
-        return self._prepared[zone]
 
     def save(self, path: str | os.PathLike[str]) -> None:
         """Write the index into one file, of some 10 bytes a cell and 16 a corner of a polygon.
@@ -394,15 +346,13 @@ class Index:
             raise
 
     def _with_interiors(self) -> tuple[Any, Any, Any, Any]:
-        """The cells of both coverings, as `_arrange` takes them."""
+        """The cells of both coverings, as `_sorted` has them."""
         if self._most is None:
-            return self._cell, self._begin, self._zone, self._sure
-        self._cover(numpy.zeros(0), numpy.zeros(0), False)
+            return self._cells  # type: ignore[no-any-return]
         made: list[tuple[int, bool, CellUnion]] = []
-        cell = numpy.repeat(self._cell, numpy.diff(self._begin))
-        for zone, places in _groups(self._zone, numpy.arange(len(self._zone))):
-            inner = self._interior(zone)
-            made += [(zone, False, CellUnion(cell[places]) - inner), (zone, True, inner)]
+        for zone, shape in enumerate(self._shapes):
+            inner = interior(shape, *self._most)
+            made += [(zone, False, self._covering(zone) - inner), (zone, True, inner)]
         return _sorted(made)
 
     @classmethod
@@ -463,40 +413,33 @@ class Index:
             _look_at(wkb, name)
         boxes = numpy.zeros((len(names), 4))
         boxes[:, ::2] = spans.reshape(-1, 2)
-        self._begin_with(shapes, boxes, None)
-        self._arrange(cell, begin.astype("int64"), zone.astype("int64"), sure)
+        self._begin_with(shapes, boxes, None, (cell, begin.astype("int64"), zone.astype("int64"), sure))
         return self
 
 
-class IndexByNeed(Index):
-    """The same for a single join, maybe by parts of a table: a zone is only covered when a point lies in its box. All
-    zones are looked at before, so the errors are the same."""
+class Zones:
+    """Zones in memory of C, which are read by need, as their edges are. One thread asks them at a time."""
 
-    def _take(self, zone: int, shape: Any) -> None:
-        """Looks at a zone, and covers it if it may be refused all the same, or has more than polygons."""
-        _, wkb = _asked(look_at_shape, shape)
-        west, south, east, north = box = box_of(wkb)
-        is_polygons = LINE not in shape.rings[1::2] if isinstance(shape, Shape) else _has_polygons(shape)
-        if is_polygons and max(east - west, north - south) < MOST_SURE:
-            self._shapes[zone], self._boxes[zone] = wkb, box
-        else:
-            super()._take(zone, shape)
+    def __init__(self, shapes: list[bytes]) -> None:
+        self.shapes, self.made, self.lock = shapes, None, threading.Lock()
 
-    def _cover(self, x: Any, y: Any, exact: bool) -> None:
-        """Covers the zones in whose boxes points lie; all, if coverings alone are asked, which reach beyond boxes."""
-        waiting = numpy.setdiff1d(numpy.arange(len(self)), [zone for zone, *_ in self._outers])
-        if exact:
-            waiting = waiting[may_have_points(self._boxes[waiting], x, y)]
-        self._outers += [(zone, False, covering(self._shapes[zone], *self._most)) for zone in waiting.tolist()]
-        if len(waiting):
-            self._arrange(*_sorted(self._outers))
+    def __reduce__(self) -> Any:
+        return Zones, (self.shapes,)
+
+    def pairs(self, x: Any, y: Any, borders: int) -> bytes:
+        """A point and a zone for each pair, of 64 bits each. With `borders` 1 a point on a border is in the zone."""
+        with self.lock:
+            if self.made is None:
+                self.made = _library.zones(tuple(self.shapes))
+            return _library.pairs(self.made, x, y, borders)
 
 
 _NOTHING = {"type": "MultiPolygon", "coordinates": []}
 
 
 def _sorted(made: list[tuple[int, bool, CellUnion]]) -> tuple[Any, Any, Any, Any]:
-    """The cells of zones, as `_arrange` takes them, of unions of which the zone contains all, or not."""
+    """The cells of zones, each once and each before those in it, where the zones of each begin and which these are, and
+    whether they contain all of it; of unions of which the zone contains all, or not."""
     counts = [len(union) for _, _, union in made]
     cell = numpy.concatenate([numpy.zeros(0, "uint64"), *(numpy.asarray(union, "uint64") for _, _, union in made)])
     zone, sure = (numpy.repeat(numpy.array([it[k] for it in made], kind), counts)
@@ -559,7 +502,7 @@ def _asked(ask: Callable[[Any], Any], shape: Any) -> tuple[Any, bytes]:
 
 def _wkb_of(shape: Any) -> bytes:
     is_wkb = isinstance(shape, bytes) and wkb_of(shape)
-    parts = polygons_of(_shapely()[0].loads(shape) if is_wkb else shape)
+    parts = polygons_of(_of_shapely(shape) if is_wkb else shape)
     found = [struct.pack("<BII", 1, 6, len(parts))]
     for rings in parts:
         found.append(struct.pack("<BII", 1, 3, len(rings)))
@@ -579,42 +522,20 @@ def _look_at(wkb: bytes, name: Any) -> None:
         raise ValueError(f"zone {name!r}: {error}") from None
 
 
-def _check(predicate: str) -> None:
+def _borders(predicate: str) -> int:
+    """Whether a point on a border is in the zone."""
     if predicate not in PREDICATES:
         raise ValueError(f"a predicate is {' or '.join(map(repr, PREDICATES))}, not {predicate!r}")
+    return PREDICATES.index(predicate)
 
 
-@functools.lru_cache(None)
-def _shapely() -> tuple[Any, ...]:
-    """Of shapely what reads well-known binary, what prepares polygons, and what asks them about arrays, by each
-    predicate."""
+def _of_shapely(shape: bytes) -> Any:
     try:
         from shapely import wkb
-        from shapely.prepared import prep
     except ImportError:
-        raise ModuleNotFoundError("an exact answer needs shapely (pip install shapely, or Debian's python3-shapely); "
-                                  "without it, coverings alone can be asked") from None
-    try:
-        from shapely import contains_xy, intersects_xy, prepare
-    except ImportError:  # before shapely 2
-        from shapely.geometry import Point
-        from shapely.vectorized import contains
-
-        def intersects(shape: Any, x: Any, y: Any) -> Any:
-            inside = contains(shape, x, y)
-            for place in numpy.flatnonzero(~inside):  # GEOS is quick to say so of a point, and slow that it touches
-                inside[place] = shape.intersects(Point(x[place], y[place]))
-            return inside
-        return wkb, prep, contains, intersects
-    return wkb, lambda shape: (prepare(shape), shape)[1], contains_xy, intersects_xy
-
-
-def _groups(key: Any, places: Any) -> Iterator[tuple[int, Any]]:
-    """Each key of these places, with its places."""
-    places = places[numpy.argsort(key[places], kind="stable")]
-    begins = numpy.flatnonzero(numpy.diff(key[places], prepend=-1))
-    for part in numpy.split(places, begins[1:]) if len(places) else []:
-        yield int(key[part[0]]), part
+        raise ModuleNotFoundError("zones in WKB need shapely (pip install shapely, or Debian's python3-shapely); "
+                                  "objects of GeoJSON don't") from None
+    return wkb.loads(shape)
 
 
 def _number_of(name: Any) -> Any:

@@ -13,7 +13,7 @@ need_library
 tests() (
   cd "$top/bindings/python/tests" && export PYTHONPATH=$work/mutant:$top/tests PYTHONDONTWRITEBYTECODE=1
   S2UNION_LIBRARY=$work/usr/lib/libs2union.so timeout 600 /usr/bin/python3 -m pytest -x test_library.py \
-    test_calls.py test_edges.py test_index.py::Joins test_index.py::Files
+    test_calls.py test_edges.py test_index.py::Joins test_index.py::Hostile test_index.py::Files
 )
 
 compiled() (

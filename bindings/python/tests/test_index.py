@@ -1,12 +1,15 @@
 """The index of s2union_geo beside a plain loop over all edges of all polygons, its file, and what is refused; `join`
 and `index` of the command line."""
 
+import concurrent.futures
 import contextlib
+import copy
 import csv
 import io
 import itertools
 import json
 import os
+import pickle
 import pty
 import random
 import re
@@ -23,12 +26,13 @@ import pytest
 import s2union_geo
 import shapely.geometry
 import shapely.ops
-from s2union_geo import Index, boxes, index, tables
+from s2union import CellUnion
+from s2union_geo import Index, boxes, covering, coverings, index, tables
 from s2union_geo.__main__ import COMMANDS, main
 
 import docstrings
 from model import borders
-from model.zones import box, plain_pairs, polygon, some_points, some_zones
+from model.zones import box, exact_pairs, parts_of, plain_pairs, polygon, some_points, some_zones
 
 
 def pairs(found):
@@ -47,9 +51,7 @@ class Joins(unittest.TestCase):
         too_many = []
         for most in (0, 8, 50, 200):
             made = Index(zones, max_cells=most)
-            for many in (1000, 20, 1):  # points of a zone, after which its interior covering is asked
-                with unittest.mock.patch.object(index, "MANY", many):
-                    self.assertEqual(pairs(made.join(x, y)), sorted(wanted))
+            self.assertEqual(pairs(made.join(x, y)), sorted(wanted))
             covered = set(pairs(made.join(x, y, exact=False)))
             self.assertTrue(wanted <= covered)
             too_many.append(len(covered - wanted))
@@ -115,7 +117,7 @@ class Joins(unittest.TestCase):
         for given in (collection, json.dumps(collection), json.dumps(collection).encode(), features, iter(features)):
             self.assertEqual(Index(given, "id").find(0.5, 0.5), ["a", 7, None])
         self.assertEqual(Index(collection).names, [0, 1, 2])
-        self.assertEqual((len(Index(collection)), repr(Index([None]))), (3, "<Index of 1 zones, 0 cells>"))
+        self.assertEqual((len(Index(collection)), repr(Index([None]))), (3, "<Index of 1 zones>"))
         square = box(0, 0, 1, 1)
         for shapes, names, wanted in ((features, ["a"], "3 shapes and 1 names"),
                                       (collection, "name", "feature 0 has no"),
@@ -157,82 +159,124 @@ class Joins(unittest.TestCase):
             self.assertRaises(error, made.find, *place)
 
     def test_without_shapely(self):
-        """Coverings alone are asked, and sure points; one near a border is an error in words."""
-        index._shapely.cache_clear()
-        self.addCleanup(index._shapely.cache_clear)
+        """Zones of GeoJSON need nothing else; those in WKB are an error in words."""
+        zone = polygon(box(0, 0, 1, 1))
         with unittest.mock.patch.dict(sys.modules, {"shapely": None}):
-            made = Index([polygon(box(0, 0, 1, 1))])
-            self.assertEqual((made.find(0.5, 0.5), made.find(1.0000001, 0.5, exact=False)), ([0], [0]))
-            for work in (lambda: made.find(0.9999999, 0.5), lambda: made.join([0.5], [0.5])):
-                self.assertRaisesRegex(ModuleNotFoundError, "an exact answer needs shapely", work)
+            made = Index([zone])
+            self.assertEqual((made.find(0.9999999, 0.5), made.find(1.0000001, 0.5, exact=False)), ([0], [0]))
+            self.assertEqual(pairs(made.join([0.5, 1.5], [0.5, 0.5])), [(0, 0)])
+            self.assertRaisesRegex(ModuleNotFoundError, "^zones in WKB need shapely", Index,
+                                   [shapely.geometry.shape(zone).wkb])
 
-    def test_with_a_later_shapely(self):
-        """It has one call for arrays, over polygons that it prepares in place."""
-        import shapely
-        from shapely.prepared import prep
-        from shapely.vectorized import contains
-        index._shapely.cache_clear()
-        self.addCleanup(index._shapely.cache_clear)
-        prepared = []
-        with unittest.mock.patch.multiple(shapely, create=True, prepare=prepared.append,
-                                          contains_xy=lambda shape, x, y: contains(prep(shape), x, y),
-                                          intersects_xy=lambda shape, x, y: contains(prep(shape.buffer(1e-9)), x, y)):
-            made = Index([polygon(box(0, 0, 1, 1))], max_cells=1)
-            self.assertEqual(pairs(made.join([0.5, 2, 1], [0.5, 0.5, 1])), [(0, 0)])
-            self.assertEqual(pairs(made.join([0.5, 2, 1], [0.5, 0.5, 1], predicate="intersects")), [(0, 0), (2, 0)])
-            self.assertEqual(len(prepared), 1)
-
-
-class ByNeed(unittest.TestCase):
-    """An index that covers zones when points lie in their boxes, beside one that covers all at once."""
-
-    HOSTILE = [polygon(box(*it)) for it in (
-        (-540, -90, 540, 90), (-200, -10, 200, 10), (170, 60, 260, 90), (-10, -90, 80, -89.9999999), (0, 80, 359.9, 90),
-        (-540, 3, -530, 4), (530, -4, 540, -3), (359.9999, 0, 360, 1), (5, 5, 5, 5), (-95, 0, 0, 2))] + [
-        None, polygon(), {"type": "GeometryCollection", "geometries": []},
-        {"type": "GeometryCollection", "geometries": [{"type": "Point", "coordinates": [50, 50]},
-                                                      polygon(box(0, 0, 1, 1))]}]
-
-    def test_the_same_pairs(self):
-        """By each predicate and by coverings alone, of points in two parts, of which the first are few."""
-        chance = random.Random(57)
-        zones = some_zones(chance) + self.HOSTILE
-        zones += [shapely.geometry.shape(zone) for zone in zones if zone and zone.get("coordinates")]
+    def test_copies_and_threads(self):
+        """A copy, from a pickle too, has the same answers, and so have threads that ask at once."""
+        chance = random.Random(12)
+        zones = some_zones(chance)
         x, y = some_points(chance, 400)
-        ends = numpy.array([*itertools.product((-540, -360, -180, -0.0, 5, 179.9999999, 360.0000001, 535),
-                                               (-90, -89.99999, 0, 3.5, 60, 89.9999999, 90))]).T
-        x, y = numpy.append(ends[0], x), numpy.append(ends[1], y)
-        for exact, predicate in ((True, "within"), (True, "intersects"), (False, "within")):
-            plain, by_need = Index(zones, max_cells=8), index.IndexByNeed(zones, max_cells=8)
-            for part in (slice(0, 0), slice(9, 13), slice(None)):
-                self.assertEqual(pairs(by_need.join(x[part], y[part], exact, predicate)),
-                                 pairs(plain.join(x[part], y[part], exact, predicate)))
-        for looks in (0, 5):
-            with unittest.mock.patch.object(boxes, "MOST_LOOKS", looks):
-                self.assertEqual(pairs(index.IndexByNeed(zones, max_cells=8).join(x, y)),
-                                 pairs(Index(zones, max_cells=8).join(x, y)))
-        plain, by_need = Index(zones, max_cells=8), index.IndexByNeed(zones, max_cells=8)
-        for at in range(0, len(x), 7):
-            self.assertEqual(by_need.find(x[at], y[at]), plain.find(x[at], y[at]))
-        with tempfile.TemporaryDirectory() as folder:
-            plain.save(f"{folder}/plain")
-            index.IndexByNeed(zones, max_cells=8).save(f"{folder}/by_need")
-            with numpy.load(f"{folder}/plain") as wanted, numpy.load(f"{folder}/by_need") as found:
-                self.assertEqual(found.files, wanted.files)
-                for name in wanted:
-                    self.assertTrue(numpy.array_equal(found[name], wanted[name]), name)
+        made = Index(zones)
+        wanted = pairs(Index(zones).join(x, y))
+        for other in (pickle.loads(pickle.dumps(made)), copy.copy(made), copy.deepcopy(made)):
+            self.assertEqual(pairs(other.join(x, y)), wanted)
+        with concurrent.futures.ThreadPoolExecutor(8) as threads:
+            self.assertEqual([pairs(it) for it in threads.map(lambda _: made.join(x, y), range(16))], [wanted] * 16)
+        self.assertEqual(pairs(pickle.loads(pickle.dumps(made)).join(x, y)), wanted)
 
-    def test_which_are_covered(self):
-        """Each in whose box a point lies, and no other one; all, for coverings alone."""
+    def test_points_by_parts(self):
+        chance = random.Random(13)
+        zones = some_zones(chance)
+        x, y = some_points(chance, 300)
+        wanted = pairs(Index(zones).join(x, y))
+        for many in (1, 7, len(x), len(x) + 1):
+            with unittest.mock.patch.object(index, "AT_ONCE", many):
+                self.assertEqual(pairs(Index(zones).join(x, y)), wanted)
+
+
+class Hostile(unittest.TestCase):
+    """Zones that cross themselves, overlap, touch, have no area, or lie around the map more than once."""
+
+    ZONES = [polygon(box(*it)) for it in (
+        (-540, -90, 540, 90), (-200, -10, 200, 10), (170, 60, 260, 90), (-10, -90, 80, -89.9999999), (0, 80, 359.9, 90),
+        (-540, 3, -530, 4), (530, -4, 540, -3), (359.9999, 0, 360, 1), (5, 5, 5, 5), (-95, 0, 0, 2),
+        (-180, -90, 180, -60))]
+    ZONES += [polygon(*rings) for rings in (
+        [[[0, 0], [10, 10], [10, 0], [0, 10], [0, 0]]],  # a bow
+        [[[0, 0], [7, 7], [3, 3], [0, 0]]], [[[3, 0], [3, 5], [3, 9], [3, 0]]],  # no area
+        [[[0, 0], [10, 0], [10, 0], [10, 10], [5, 10], [5, 15], [5, 10], [0, 10], [0, 0]]],  # a spike, a position twice
+        [box(-5, -5, 15, 15), box(0, 0, 5, 5), box(5, 5, 9, 9)], [box(-5, -5, 5, 5), box(-5, -5, 0, 0)],  # holes touch
+        [[[0, 0], [1, 3], [2, 0], [3, 3], [4, 0], [5, 3], [6, 0], [6, 4], [0, 4], [0, 0]]],
+        [[[1 / 3, 0.1], [10.1, 1 / 7], [9.7, 10 / 3], [0.3, 9.9], [1 / 3, 0.1]]], [])]
+    ZONES += [{"type": "MultiPolygon", "coordinates": [[ring] for ring in rings]} for rings in (
+        [box(0, 0, 6, 6), box(4, 4, 9, 9)], [box(0, 0, 5, 5), box(5, 0, 9, 5)], [box(0, 0, 3, 3), box(3, 3, 6, 6)],
+        [box(-300, -7, 100, 7), box(60, -9, 70, 9)])]
+    ZONES += [None, {"type": "GeometryCollection", "geometries": []},
+              {"type": "GeometryCollection", "geometries": [{"type": "Point", "coordinates": [50, 50]},
+                                                            polygon(box(0, 0, 1, 1))]}]
+
+    def places(self, chance):
+        """Corners, places on edges, between corners, at the ends of the map, and a turn away."""
+        x, y = some_points(chance, 40)
+        x, y = x.tolist(), y.tolist()
+        rings = [ring for zone in self.ZONES for rings in parts_of(zone) for ring in rings]
+        for ring in rings:
+            for (a, b), (c, d) in zip(ring, ring[1:]):
+                part = chance.choice((0.5, 0.25, chance.random()))
+                x += [a, (a + c) / 2, a + part * (c - a), chance.uniform(-1, 11), c]
+                y += [b, (b + d) / 2, b + part * (d - b), b, chance.uniform(-1, 11)]
+        x += [at + 360 if at < 180 else at - 360 for at in x[::3]]
+        y += y[::3]
+        ends = [*itertools.product((-540, -360, -180, -0.0, 5, 179.9999999, 180, 360, 360.0000001, 535, 540),
+                                   (-90, -89.99999, 0, 3.5, 60, 89.9999999, 90))]
+        return [*x, *(at for at, _ in ends)], [*y, *(at for _, at in ends)]
+
+    def test_beside_fractions(self):
+        """All pairs by each predicate, together, one by one, and of a file; by coverings alone none is missing."""
+        x, y = self.places(random.Random(57))
+        made = Index(self.ZONES, max_cells=8)
+        with tempfile.TemporaryDirectory() as folder:
+            made.save(f"{folder}/zones")
+            loaded = Index.load(f"{folder}/zones")
+        self.assertEqual(pairs(made.join(x, y, exact=False)), pairs(loaded.join(x, y, exact=False)))
+        covered = set(pairs(made.join(x, y, exact=False)))
+        for borders, predicate in enumerate(index.PREDICATES):
+            wanted = exact_pairs(self.ZONES, x, y, borders == 1)
+            self.assertGreater(len(wanted), 2500)
+            self.assertEqual(pairs(made.join(x, y, predicate=predicate)), wanted)
+            self.assertEqual(pairs(loaded.join(x, y, predicate=predicate)), wanted)
+            self.assertLessEqual(set(wanted), covered)
+            for point in range(0, len(x), 11):
+                self.assertEqual(made.find(x[point], y[point], predicate=predicate),
+                                 [zone for at, zone in wanted if at == point])
+                self.assertEqual(made.find(x[point], y[point], exact=False),
+                                 [zone for at, zone in sorted(covered) if at == point])
+
+    def test_few_numbers(self):
+        """Rings of few whole numbers, which touch and cross themselves and each other, beside fractions."""
+        chance = random.Random(58)
+        for _ in range(60):
+            zones = []
+            for _ in range(chance.randrange(1, 6)):
+                rings = [[[chance.randrange(-2, 3) * 60, chance.randrange(-2, 3)]
+                          for _ in range(chance.randrange(3, 9))] for _ in range(chance.randrange(1, 4))]
+                rings = [[*ring, ring[0]] for ring in rings]
+                zones.append(polygon(*rings) if chance.random() < 0.5 else
+                             {"type": "MultiPolygon", "coordinates": [[ring] for ring in rings]})
+            x, y = zip(*itertools.product([k * 30 for k in range(-7, 8)], [k / 2 for k in range(-5, 6)]))
+            made = Index(zones)
+            for borders, predicate in enumerate(index.PREDICATES):
+                self.assertEqual(pairs(made.join(x, y, predicate=predicate)), exact_pairs(zones, x, y, borders == 1),
+                                 zones)
+
+    def test_coverings_by_need(self):
+        """No join of polygons makes a covering; coverings alone need each, once."""
         zones = [polygon(box(x, y, x + 10, y + 10)) for x in range(-180, 180, 10) for y in range(-90, 90, 10)]
-        for places, exact, wanted in (([], True, 0), ([(5, 5)], True, 1), ([(5, 5), (6, 6), (-535, 55)], True, 2),
-                                      ([(360, 0)], True, 4), ([(180, 5)], True, 2), ([(5, 90)], True, 36),
-                                      ([(5, -89.9995)], True, 36), ([(5, 89)], True, 1), ([], False, 648)):
-            made = index.IndexByNeed(zones)
-            with unittest.mock.patch.object(index, "covering", wraps=index.covering) as asked:
-                for _ in range(2):
-                    made.join([x for x, _ in places], [y for _, y in places], exact)
-            self.assertEqual(asked.call_count, wanted, places)
+        made = Index(zones)
+        with unittest.mock.patch.object(index, "covering", wraps=index.covering) as asked:
+            made.join([5, 6, -535], [5, 6, 55])
+            made.find(5, 5)
+            self.assertEqual(asked.call_count, 0)
+            for _ in range(2):
+                made.join([5], [5], exact=False)
+            self.assertEqual(asked.call_count, 648)
 
     def test_boxes_of_polygons(self):
         """Beside shapely's bounds, with holes, several parts and heights."""
@@ -244,22 +288,21 @@ class ByNeed(unittest.TestCase):
         self.assertEqual(boxes.box_of(shapely.geometry.MultiPolygon().wkb), (0, 0, 0, 0))
 
     def test_the_same_errors(self):
-        """A shape that is refused is an error with the same message, though no point is near; or it is left."""
+        """A shape that `covering` refuses is an error with the same message when the index is made; or it is left."""
         good, long = polygon(box(0, 0, 1, 1)), [[500 * (k % 2), k % 3] for k in range(3000)]
         bad = [polygon(box(0, 0, 1, 1)[1:]), polygon(box(0, 0, 1, 1)[2:]), polygon(box(0, 0, 541, 1)), 7, "{", b"\1",
                polygon(box(0, 0, 1, 91)), polygon(box(0, 0, 1, float("nan"))), polygon([[0, 0], [1], [1, 1], [0, 0]]),
                polygon(long + long[:1]), {"type": "polygon"}, {"type": "Polygon"}, {"type": "LineString"},
                shapely.geometry.Polygon(box(0, 0, 541, 1)), polygon(box(0, 0, 1, 1), [])]
         for shape in bad:
-            said = []
-            for kind in (Index, index.IndexByNeed):
-                with self.assertRaisesRegex(ValueError, "^zone 1: ") as caught:
-                    kind([good, shape, 8])
-                said.append((str(caught.exception), kind([good, shape, good], leave=True).left))
-            self.assertEqual(said[1], said[0])
+            with self.assertRaises(ValueError) as wanted:
+                index._asked(covering, index._read(shape))
+            with self.assertRaises(ValueError) as caught:
+                Index([good, shape, 8])
+            self.assertEqual(str(caught.exception), f"zone 1: {wanted.exception}")
+            self.assertEqual(Index([good, shape, good], leave=True).left, [(1, str(wanted.exception))])
         for most in (-1, 1_000_001, "8"):
-            for kind in (Index, index.IndexByNeed):
-                self.assertRaises((ValueError, TypeError), kind, [], max_cells=most)
+            self.assertRaises((ValueError, TypeError), Index, [], max_cells=most)
 
     def test_degrees_of_few_bits(self):
         """Those of arrays in float32 and float16 are taken a turn away without being rounded again."""
@@ -285,6 +328,12 @@ class Files(unittest.TestCase):
             found = Index.load(self.path)
             self.assertEqual((found.names, pairs(found.join(x, y)), os.listdir(os.path.dirname(self.path))),
                              (made.names, pairs(made.join(x, y)), ["zones"]))
+        with numpy.load(self.path) as arrays:
+            cells = numpy.repeat(arrays["cell"], numpy.diff(arrays["begin"]))
+            for zone, shape in enumerate(zones):
+                inner, outer = (cells[(arrays["zone"] == zone) & (arrays["sure"] == it)] for it in (True, False))
+                wanted = coverings(shape, 50)
+                self.assertEqual((CellUnion(inner), CellUnion(inner) | CellUnion(outer)), (wanted[1], wanted[0]))
         self.assertRaises(TypeError, Index([None], [object()]).save, self.path)
         with unittest.mock.patch.object(numpy, "savez", side_effect=OSError):  # no space is left
             self.assertRaises(OSError, made.save, self.path)
@@ -321,7 +370,7 @@ class Files(unittest.TestCase):
             try:
                 Index.load(self.path).join([0.7, 1.0, 3.0], [0.7, 0.99, 3.0])
             except ValueError as error:
-                self.assertRegex(str(error), "is no index: |has no polygons that shapely reads")
+                self.assertRegex(str(error), "is no index: ")
                 refused += 1
         self.assertGreater(refused, 100)
 
@@ -495,17 +544,15 @@ def test_points_on_borders(zones):
         assert said("join", "-", zones, *words, text=text) == (0, "\n".join(["lon,lat,zone", *wanted, ""]), "")
 
 
-def test_no_output_without_shapely(zones, tmp_path):
-    """An exact join ends before its first line; coverings alone are asked all the same."""
+def test_a_join_without_shapely(zones, tmp_path):
     code = ("import sys; sys.modules['shapely'] = None\nfrom s2union_geo.__main__ import main\n"
             "sys.exit(main(sys.argv[1:]))")
     points = tmp_path / "points.csv"
     points.write_text("lon,lat\n6,6\n")
-    for more, out, error in (([], "", "an exact answer needs shapely"),
-                             (["--coverings"], "lon,lat,zone\n6,6,0\n6,6,1\n", "")):
+    for more in [], ["--coverings"]:
         done = subprocess.run([sys.executable, "-c", code, "join", str(points), zones, *more], capture_output=True,
                               text=True)
-        assert done.stdout == out and error in done.stderr and bool(done.returncode) == bool(error)
+        assert (done.returncode, done.stdout, done.stderr) == (0, "lon,lat,zone\n6,6,0\n6,6,1\n", "")
 
 
 @pytest.mark.parametrize("by_line", [False, True])
