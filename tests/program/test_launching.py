@@ -459,6 +459,8 @@ class Scripts(unittest.TestCase):
         for path in ("docs/pictures/land.outer", f"{PICTURES}/land.outer", "./docs//pictures/land.outer"):
             self.assertEqual(launched("check", path, cwd=TOP, env=ENVIRONMENT), land)
         self.assertEqual(launched("check", "./land.outer", cwd=PICTURES, env=ENVIRONMENT), land)
+        for path in f"{PICTURES}/land.outer", "docs/pictures/land.outer":
+            self.assertEqual(launched("check", path, **{**self.without_python(), "cwd": TOP}), land)
         both = ran("draw", "--fit", "--dir", PICTURES, "land.outer", "lakes.outer")
         paths = [f"docs/pictures/{name}.outer" for name in ("land", "lakes")]
         self.assertEqual(launched("draw", "--fit", *paths, cwd=TOP, env=ENVIRONMENT), both)

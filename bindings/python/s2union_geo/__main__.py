@@ -42,9 +42,7 @@ python3 -m s2union_geo geojson FILE.. [--dissolve]
 """
 import argparse
 import contextlib
-import csv
 import io
-import itertools
 import json
 import os
 import re
@@ -59,12 +57,12 @@ from s2union import CellUnion, tokens
 
 from . import Index, coverings, leaves, read_geojson, to_geojson
 from .places import MOST, range_of
-from .tables import Options, features_of, is_text, number_in, read_points
+from .tables import Blocks, Options, features_of, is_text, lines_of, number_in, read_points
 
 # Two words with a comma between them and a comma after them, if anything; or with blanks there.
 POINT = re.compile(r"\s*([^\s,]+)(?:\s*,\s*([^\s,]+)\s*(?:,|$)|\s+([^\s,]+)(?:\s|$))")
 PLAIN = re.compile(r"[-+.0-9eE, \n]*").fullmatch
-AT_ONCE = 100_000  # lines
+BETWEEN = numpy.isin(numpy.arange(256), [*b" ,\n"])  # whether a code stands between numbers
 NOTHING = {"type": "FeatureCollection", "features": []}
 
 
@@ -82,16 +80,15 @@ def point_of(line, number):
     return longitude, latitude
 
 
-def plain_points(lines):
+def plain_points(block):
     """The longitudes and latitudes of lines that are two numbers with a comma or a blank between them, all in range; of
     others None."""
-    text = "".join(lines)
-    text = text if text.endswith("\n") else f"{text}\n"
+    text = block if block.endswith("\n") else f"{block}\n"
     if not PLAIN(text):
         return None
     codes = numpy.frombuffer(text.encode(), "uint8")
-    between = numpy.cumsum((codes == ord(",")) | (codes == ord(" ")))[codes == ord("\n")]
-    if not numpy.array_equal(between, numpy.arange(1, len(lines) + 1)):
+    ends = codes[BETWEEN[codes]] == ord("\n")
+    if len(ends) % 2 or ends[::2].any() or not ends[1::2].all():
         return None
     try:
         with warnings.catch_warnings():
@@ -99,24 +96,25 @@ def plain_points(lines):
             numbers = numpy.fromstring(text.replace(",", " "), sep=" ")
     except (ValueError, DeprecationWarning):
         return None
-    if len(numbers) != 2 * len(lines) or (numpy.abs(numbers).reshape(-1, 2) > tuple(MOST.values())).any():
+    if len(numbers) != len(ends) or (numpy.abs(numbers).reshape(-1, 2) > tuple(MOST.values())).any():
         return None
     return numbers
 
 
 def show_leaves():
     """The tokens of all points, once the last one is read: a wrong one is an error before any."""
-    parts, read = [], 0
-    while lines := list(itertools.islice(sys.stdin, AT_ONCE)):
-        found = plain_points(lines)
+    parts, read, text = [], 0, Blocks(sys.stdin)
+    while block := text.block():
+        found = plain_points(block)
         if found is None:
+            lines = block.split("\n")
             points = [point_of(line, number) for number, line in enumerate(lines, read + 1) if line.strip()]
             found = numpy.array(points, "float64").ravel()
-        parts.append(found)
-        read += len(lines)
+        read += block.count("\n")
+        parts.append(leaves(found[::2], found[1::2]))
     for found in parts:
         if found.size:
-            print(*tokens(leaves(found[::2], found[1::2])), sep="\n")
+            print("\n".join(tokens(found)))
 
 
 def features_in(file):
@@ -267,18 +265,18 @@ def join(points, zones, name, longitude, latitude, separator, skip, max_cells, a
         raise ValueError("points and zones can't both be standard input")
     made = read_zones(zones, name, max_cells, wrong)
     asked = {"exact": not coverings, "predicate": "intersects" if borders else "within"}
+    ends = lines_of(["", name] for name in [*made.names, ""])  # of lines, by the zone; -1 has that of none
     with opened(points) as file:
-        out = csv.writer(sys.stdout, lineterminator="\n")
         sys.stdout.reconfigure(errors="surrogateescape")
         columns, parts = read_points(file, Options(longitude, latitude, separator), wrong)
         if columns:
-            out.writerow([*columns, name or "zone"])
+            print(*lines_of([[*columns, name or "zone"]]))
         done, pairs = 0, 0
         for part in parts:
             place, zone = zones_of(made, part, all, asked)
-            out.writerows([*part.rows[k], made.names[number] if number >= 0 else ""]
-                          for k, number in zip(place.tolist(), zone.tolist()))
-            done, pairs = done + len(part.rows), pairs + int((zone >= 0).sum())
+            sys.stdout.write("".join([f"{part.lines[k]}{ends[number]}\n"
+                                      for k, number in zip(place.tolist(), zone.tolist())]))
+            done, pairs = done + len(part.lines), pairs + int((zone >= 0).sum())
             if sys.stderr.isatty():
                 print(f"\r{done} points", end="", file=sys.stderr, flush=True)
     if sys.stderr.isatty():
@@ -289,7 +287,7 @@ def zones_of(made, part, all, asked):
     """The pairs of a part: places of rows, and numbers of zones; -1 for none, if all rows are wanted."""
     place, zone = made.join(part.x, part.y, **asked)
     if all:
-        alone = numpy.setdiff1d(numpy.arange(len(part.rows)), place)
+        alone = numpy.setdiff1d(numpy.arange(len(part.lines)), place)
         order = numpy.argsort(numpy.concatenate([place, alone]), kind="stable")
         place = numpy.concatenate([place, alone])[order]
         zone = numpy.concatenate([zone, numpy.full(len(alone), -1)])[order]

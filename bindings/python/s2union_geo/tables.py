@@ -6,8 +6,11 @@ from __future__ import annotations
 import csv
 import io
 import json
+import re
+from collections import deque
 from itertools import chain
-from typing import Any, BinaryIO, Callable, Iterator, NamedTuple
+from types import SimpleNamespace
+from typing import Any, BinaryIO, Callable, Iterable, Iterator, NamedTuple
 
 import numpy
 
@@ -17,6 +20,7 @@ from .reading import MOST_BYTES, parsed
 COLUMNS = ("longitude", "latitude"), ("lon", "lat"), ("lng", "lat"), ("long", "lat"), ("x", "y")
 SEPARATORS = ",;\t|"  # of which one is looked for; without any, columns lie between blanks
 AT_ONCE = 100_000  # rows
+BLOCK = 2**22  # characters that are read at once
 LONGEST = 2**24  # characters of a line
 MARK = "\x1e"  # which may begin each line of features
 
@@ -30,11 +34,18 @@ class Options(NamedTuple):
 
 
 class Part(NamedTuple):
-    """Some rows, with the longitudes and the latitudes of their points."""
+    """Some rows as lines of CSV, with the longitudes and the latitudes of their points."""
 
-    rows: list[list[str]]
+    lines: list[str]
     x: Any
     y: Any
+
+
+def lines_of(rows: Iterable[Iterable[Any]]) -> list[str]:
+    """Rows as lines of CSV."""
+    lines: list[str] = []
+    csv.writer(SimpleNamespace(write=lambda line: lines.append(line[:-1])), lineterminator="\n").writerows(rows)
+    return lines
 
 
 def read_points(file: BinaryIO, options: Options, wrong: Callable[[str], None]) -> tuple[list[str], Iterator[Part]]:
@@ -94,28 +105,107 @@ def _features_by_line(lines: Any) -> Iterator[tuple[str, Any]]:
 # ---- rows
 
 
+PLAIN = re.compile(r"[-+.0-9eE \n]*").fullmatch  # numbers of ASCII's digits
+
+
 def _of_csv(first: str, text: Any, options: Options, wrong: Callable[[str], None]) -> Any:
     separator = options.separator or max(SEPARATORS, key=first.count)
-    separator = separator if separator in first or options.separator else " "
-    rows = _rows(csv.reader(_lines(first, text), delimiter=separator, skipinitialspace=separator == " "))
+    table = _Table(text, separator if separator in first or options.separator else " ")
+    rows = table.rows(first)
     begin = next(rows, None)
+    while begin is None and (block := table.block()):
+        rows = table.rows(block)
+        begin = next(rows, None)
     if begin is None:
         return [], iter(())
     head = begin[1]
     is_head = not _is_point(head, options)
     columns = _columns(head, options) if is_head else _numbers(options, len(head))
-    whole = _whole(rows if is_head else chain([begin], rows), len(head), wrong)
-    return head if is_head else [], _parts(whole, columns, wrong)
+    whole = rows if is_head else chain([begin], rows)
+    return head if is_head else [], table.parts(whole, len(head), columns, wrong)
 
 
-def _rows(reader: Any) -> Iterator[tuple[str, list[str]]]:
-    """The rows that aren't blank, each with where it stands."""
-    try:
-        for row in reader:
-            if row:
-                yield f"line {reader.line_num}", row
-    except csv.Error as error:
-        raise ValueError(f"it is no CSV: {error}") from None
+class Blocks:
+    """A text, of which blocks of whole lines are read."""
+
+    def __init__(self, text: Any) -> None:
+        self.text, self.rest, self.done = text, "", 0  # what was read of the next block; lines of earlier ones
+
+    def block(self) -> str:
+        """The next lines; nothing after the last one. A line that is too long may come in parts."""
+        while more := self.text.read(BLOCK):
+            self.rest += more
+            end = self.rest.rfind("\n") + 1 or self.rest.rfind("\r", 0, -1) + 1
+            if not end and len(self.rest) >= LONGEST:
+                end = len(self.rest)
+            if end:
+                block, self.rest = self.rest[:end], self.rest[end:]
+                return block
+        block, self.rest = self.rest, ""
+        return block
+
+
+class _Table(Blocks):
+    """A table of CSV. Most blocks have no quotes, so that lines are fields with separators between them, and are written
+    again as they are."""
+
+    def __init__(self, text: Any, separator: str) -> None:
+        super().__init__(text)
+        self.separator = separator
+
+    def rows(self, block: str) -> Iterator[tuple[str, list[str]]]:
+        """The rows of a block that aren't blank, each with where it stands; with the next blocks, if a row goes on
+        there. Lines end where those of a file do, so a field may have U+2028, say."""
+        waiting = deque(io.StringIO(block, newline=""))
+
+        def lines() -> Iterator[str]:
+            while waiting or waiting.extend(io.StringIO(self.block(), newline="")) or waiting:
+                yield waiting.popleft()
+
+        reader = csv.reader(lines(), delimiter=self.separator, skipinitialspace=self.separator == " ")
+        try:
+            for row in reader:
+                if row:
+                    yield f"line {self.done + reader.line_num}", row
+                if not waiting:
+                    break
+        except csv.Error as error:
+            raise ValueError(f"it is no CSV: {error}") from None
+        self.done += reader.line_num
+
+    def parts(self, rows: Any, count: int, columns: tuple[int, int], wrong: Callable[[str], None]) -> Iterator[Part]:
+        """Parts of rows that have this many columns and a point: of those that were read, and of all blocks."""
+        yield from _parts(_whole(rows, count, wrong), columns, wrong)
+        while block := self.block():
+            part = self.plain(block, count, columns)
+            if part:
+                yield part
+            else:
+                yield from _parts(_whole(self.rows(block), count, wrong), columns, wrong)
+
+    def plain(self, block: str, count: int, columns: tuple[int, int]) -> Part | None:
+        """The rows of a block without quotes, each of which has these columns and a point in plain numbers; else
+        None."""
+        text = block.replace("\r\n", "\n")
+        if any(mark in text for mark in '"\r\0') or self.separator == " " or self.separator != "," and "," in text:
+            return None
+        given = text.split("\n")
+        lines = [line for line in given if line]
+        fields = [line.split(self.separator) for line in lines]
+        if {*map(len, fields)} - {count} or max(map(len, lines), default=0) > csv.field_size_limit():
+            return None
+        places = []
+        for column, most in zip(columns, MOST.values()):
+            words = [row[column] for row in fields]
+            try:
+                numbers = numpy.array([*map(float, words)] if PLAIN("\n".join(words)) else [numpy.nan])
+            except ValueError:
+                return None
+            if not (numpy.abs(numbers) <= most).all():
+                return None
+            places.append(numbers)
+        self.done += len(given) - (not given[-1])
+        return Part(lines if self.separator == "," else [line.replace(self.separator, ",") for line in lines], *places)
 
 
 def _whole(rows: Any, count: int, wrong: Callable[[str], None]) -> Iterator[tuple[str, list[str]]]:
@@ -199,10 +289,10 @@ def _parts(rows: Any, columns: tuple[int, int], wrong: Callable[[str], None]) ->
         kept.append(row)
         places.append((x, y))
         if len(kept) == AT_ONCE:
-            yield Part(kept, *numpy.array(places).T)
+            yield Part(lines_of(kept), *numpy.array(places).T)
             kept, places = [], []
     if kept:
-        yield Part(kept, *numpy.array(places).T)
+        yield Part(lines_of(kept), *numpy.array(places).T)
 
 
 # ---- features and parquet

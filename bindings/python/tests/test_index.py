@@ -658,6 +658,56 @@ def test_more_rows_than_are_read_at_once(zones, monkeypatch, capsys, tmp_path):
     assert main(["join", str(path), zones]).startswith(wanted)
 
 
+@pytest.mark.parametrize("separator", ",;\t|")
+def test_blocks_beside_the_module_csv(zones, monkeypatch, capsys, tmp_path, separator):
+    """Tables with quotes, blank lines, lines of each kind and fields of all sorts, whatever is read at once."""
+    chance = random.Random(separator)
+    fields = ["", "a", " b ", '"x"', '"a,b;c"', '"two\nlines"', '"it""s"', 'a"b', "\u2028", "5,5", "'", "\u00e4"]
+    path = tmp_path / "points"
+    for turn in range(60):
+        kinds = fields[:3] if turn % 2 else [it for it in fields if separator not in it or it[0] == '"']
+        end = chance.choice(["\n", "\r\n", "\r"])
+        rows = [[chance.choice(kinds), str(chance.choice([1, 5.5, 6, "1e1", " 7", "+3", "20"])), str(chance.uniform(3, 7)),
+                 chance.choice(kinds)] for _ in range(chance.randrange(30))]
+        lines = ["id,x,y,more".replace(",", separator), *map(separator.join, rows)]
+        text = "".join(line + end * chance.choice([1, 1, 1, 2]) for line in lines)
+        path.write_bytes((text if chance.random() < 0.5 else text.rstrip("\r\n")).encode())
+        with open(path, encoding="utf-8", newline="") as it:
+            given = [row for row in csv.reader(it, delimiter=separator) if row]
+        wanted = io.StringIO()
+        csv.writer(wanted, lineterminator="\n").writerows([*given[0], "zone"] if k == 0 else [*row, zone] for k, row in
+            enumerate(given) for zone in ((0, 1) if k else (0,)) if k == 0 or inside(row, zone))
+        for many in (1, 40, 2**22):
+            monkeypatch.setattr(tables, "BLOCK", many)
+            assert main(["join", str(path), zones]) is None
+            assert capsys.readouterr().out == wanted.getvalue()
+
+
+def inside(row, zone):
+    """Whether the point of a row lies in one of the two squares of `zones`."""
+    x, y = float(row[1]), float(row[2])
+    return 0 < x < 10 and 0 < y < 10 if zone == 0 else 5 < x < 15 and 5 < y < 15
+
+
+@pytest.mark.parametrize("bad,reason", [
+    ("1,2", "has 2 columns, and the first has 3"), ("1,2,3,4", "has 4 columns, and the first has 3"),
+    ("a,1,z", "has no degrees: '1' and 'z'"), ("a,541,1", ": a longitude is "),
+    ("a,1,91", ": a latitude is "), ("a,nan,1", ": a longitude is "),
+    ("a,1_0,1", "has no degrees: '1_0' and '1'"), ("a,\u0661,1", "has no degrees: "), ("a,1e999,1", ": a longitude is ")])
+def test_wrong_rows_among_plain_ones(zones, monkeypatch, capsys, tmp_path, bad, reason):
+    """The line is named, whatever is read at once; with --skip the others are there."""
+    path = tmp_path / "points"
+    path.write_text("id,x,y\n" + "p,1,1\n\n" * 5 + f"{bad}\n" + "p,1,1\n" * 5)
+    for many in (1, 9, 2**22):
+        monkeypatch.setattr(tables, "BLOCK", many)
+        said = main(["join", str(path), zones])
+        assert said.startswith("s2union_geo: line 12") and reason in said
+        capsys.readouterr()
+        assert main(["join", str(path), zones, "--skip"]) is None
+        out, error = capsys.readouterr()
+        assert out == "id,x,y,zone\n" + "p,1,1,0\n" * 10 and error.startswith("s2union_geo: left out: line 12")
+
+
 @pytest.mark.parametrize("words,wanted", [
     (["join", "-"], "the following arguments are required: ZONES"),
     (["join", "-", "-"], "points and zones can't both be standard input"),
@@ -729,7 +779,7 @@ def test_parquet(zones):
                                                 "pyarrow.parquet": unittest.mock.Mock(ParquetFile=File)}):
         columns, parts = tables.read_points(io.BufferedReader(io.BytesIO(b"PAR1")), tables.Options(), wrong.append)
         part, = parts
-    assert (columns, part.rows, wrong) == (["id", "lon", "lat"], [["1", "2.0", "3"], ["", "20.0", "3"]], [])
+    assert (columns, part.lines, wrong) == (["id", "lon", "lat"], ["1,2.0,3", ",20.0,3"], [])
     assert pairs(made.join(part.x, part.y)) == [(0, 0)]
     with unittest.mock.patch.dict(sys.modules, {"pyarrow": None, "pyarrow.parquet": None}):
         with pytest.raises(ModuleNotFoundError, match="a file of parquet needs pyarrow"):
