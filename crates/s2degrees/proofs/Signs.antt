@@ -53,7 +53,7 @@ grid_near r c size y p d e hc h =
     placed true y p d h i = rw (neg_times y d, times_neg 2147483647 p) (omega (arith, ints, h, i))
     placed false y p d h i = omega (arith, ints, h, i)
 
-turned : (a : ℤ) (n : ℕ) → neg_ℤ a ≡ pos n → a ≡ neg_ℤ (pos n)
+pub turned : (a : ℤ) (n : ℕ) → neg_ℤ a ≡ pos n → a ≡ neg_ℤ (pos n)
 turned a n h = sym (neg_ℤ-neg_ℤ a) ∙ ap neg_ℤ h
 
 -- a sine in each quarter

@@ -1,7 +1,6 @@
 -- How cells lie by their boxes, and what is known of a covering on its way.
-use Rattle.std.proofs.Common.{◌≡◌, refl, sym, ap, ◌∙◌, subst, ℕ, ◌+◌, ◌-◌, ◌*◌, ◌/◌, ◌^◌, ◌<◌, ◌≤◌, arith, inl, inr}
-use Rattle.std.proofs.Common.{◌⊎◌}
-use Rattle.std.proofs.Common.{Bool, true, false, ◌||◌, ℤ, pos, List, [], ◌∷◌, ◌++◌, All, div-one}
+use Rattle.std.proofs.Common.{◌≡◌, refl, sym, ap, ◌∙◌, subst, ℕ, ◌+◌, ◌-◌, ◌/◌, ◌^◌, ◌<◌, arith, inl, inr}
+use Rattle.std.proofs.Common.{Bool, true, false, ◌||◌, pos, List, [], ◌∷◌, ◌++◌, All, div-one}
 use Rattle.std.proofs.lemmas.Bool.{cases_lt, or_left, or_right}
 use Rattle.std.proofs.lemmas.Int.{ints}
 use Rattle.std.proofs.lemmas.List.Elements.{All-cons, All-head, All-nil, All-push, All-tail}
@@ -9,13 +8,11 @@ use Rattle.std.proofs.lemmas.List.Folds.{list_any-append}
 use Rattle.s2cell.proofs.CellLemmas.{own_place}
 use Rattle.s2cell.proofs.Squares.{covers_block}
 use Rattle.s2cell.specs.Cell.{IsCell, child_of, covers, face_of, level_of, place_of}
-use Rattle.s2cell.specs.declared.TheConstants.{LEAVES}
 use Rattle.s2list.proofs.Normal.{child_of_leaf}
 use Rattle.s2list.specs.Union.{has_leaf}
-use Rattle.s2degrees.specs.Degrees.{quarter, turn}
 use Rattle.s2map.proofs.Turns.{turned_inside}
 use Rattle.s2map.specs.Boxes.{InBox}
-use Rattle.s2map.specs.Cells.{HoldsPlace, IsBoxOf, IsPartOfCell, IsProperPlace, LeafInside, LeafOutside}
+use Rattle.s2map.specs.Cells.{HoldsPlace, IsBoxOf, IsPartOfCell, IsProperPlace, LeafInside}
 use Rattle.s2map.specs.Map.{IsMapEdge, IsMapPlace, inside, place_turned}
 use Rattle.s2map.specs.Working.Covering.{IsFound, IsSorted, Keeps}
 use Rattle.s2map.specs.Working.Even.{IsPart}
@@ -54,19 +51,6 @@ by_box shape c q answer parts boxed all n covered p proper holds = elim (boxed n
 ]
 
 -- ---- a cell that is added to a list
-pub pushed_has : (u : List ℕ) (c n : ℕ) → covers c n ≡ true → has_leaf (u ++ (c ∷ [])) n ≡ true
-pushed_has u c n h =
-    list_any-append (λ d. covers d n) u (c ∷ [])
-    ∙ or_right (has_leaf u n) (has_leaf (c ∷ []) n) (or_left (covers c n) false h)
-
-pub keeps_pushed : (u : List ℕ) (c : ℕ) → Keeps u (u ++ (c ∷ []))
-keeps_pushed u c = record {
-  all = λ n h. list_any-append (λ d. covers d n) u (c ∷ []) ∙ or_left (has_leaf u n) (has_leaf (c ∷ []) n) h;
-}
-
-pub keeps_all : (u : List ℕ) → Keeps u u
-keeps_all u = record { all = λ n h. h }
-
 module _ (shape : List (List MapEdge)) (k : ℕ) where
   pub met_pushed : (met within : List ℕ) (c : ℕ) → IsSorted shape k met within → level_of c ≡ k
       → IsPartOfCell shape c Met → IsSorted shape k (met ++ (c ∷ [])) within
@@ -102,15 +86,6 @@ module _ (shape : List (List MapEdge)) (k : ℕ) where
   found_more met within more_met more_within n a b (inr (inl h)) = inr (inl (b.all n h))
   found_more met within more_met more_within n a b (inr (inr h)) = inr (inr h)
 
-  pub none_visited : (cell : ℕ) (met within : List ℕ) → IsSorted shape k met within
-      → Visited cell 0 met within met within
-  none_visited cell met within s = record {
-    sorted = s;
-    keeps_met = keeps_all met;
-    keeps_within = keeps_all within;
-    found = λ i n l. absurd (omega (arith, l));
-  }
-
   pub next_visited : (cell digit : ℕ) (met0 within0 met within more_met more_within : List ℕ)
       → Visited cell digit met0 within0 met within → IsSorted shape k more_met more_within → Keeps met more_met
       → Keeps within more_within
@@ -138,12 +113,6 @@ module _ (shape : List (List MapEdge)) (k : ℕ) where
   pub record Topped (face : ℕ) (met within : List ℕ) : Type 0 where
     pub sorted : IsSorted shape k met within
     pub found : (n : ℕ) → n / 4 ^ 30 < face → IsFound shape met within n
-
-  pub none_topped : Topped 0 [] []
-  none_topped = record {
-    sorted = record { are_met = All-nil (λ c. (level_of c ≡ k) × IsPartOfCell shape c Met); are_inside = λ n h. cc };
-    found = λ n l. absurd (omega (arith, l));
-  }
 
   pub next_topped : (face c : ℕ) (met within more_met more_within : List ℕ) → Topped face met within → IsCell c
       → level_of c ≡ 0 → face_of c ≡ face → IsSorted shape k more_met more_within → Keeps met more_met

@@ -1,5 +1,5 @@
 -- An angle of the circle by an angle of at most 90 degrees: its sine and its cosine but for their signs.
-use Rattle.std.proofs.Common.{ℕ, zero, suc, ◌+◌, ◌-◌, ◌*◌, ◌/◌, ◌%◌, ◌^◌, ◌≤◌, ◌<◌, ◌≡◌, arith, inl, inr, refl, ap}
+use Rattle.std.proofs.Common.{ℕ, ◌+◌, ◌-◌, ◌*◌, ◌/◌, ◌%◌, ◌^◌, ◌≤◌, ◌<◌, ◌≡◌, arith, inl, inr, refl, ap}
 use Rattle.std.proofs.Common.{sym, ◌∙◌}
 use Rattle.std.proofs.Common.{Bool, true, false, ◌⊎◌, ℤ, pos, negsuc, neg_ℤ, ◌+ℤ◌, ◌-ℤ◌, ◌≤ℤ◌, ◌<ℤ◌, unsigned_abs}
 use Rattle.std.proofs.Common.{lit≤, subst}
@@ -9,10 +9,11 @@ use Rattle.std.proofs.lemmas.Bool.{cases_lt}
 use Rattle.std.proofs.lemmas.Int.{ints}
 use Rattle.std.proofs.lemmas.Nat.{mul-le}
 use Rattle.s2degrees.specs.Degrees.{IsCosine, IsCosineSum, IsEitherSine, IsQuarterCosine, IsQuarterSine, IsSine}
-use Rattle.s2degrees.specs.Degrees.{IsSineIn, IsSineSum, around, eighth, pi, quarter, turn}
+use Rattle.s2degrees.specs.Degrees.{IsSineIn, around, pi, quarter, turn}
 use Rattle.s2degrees.specs.Femtodegrees.{with_sign}
 use Rattle.s2degrees.specs.Series.{over, under}
 use Rattle.s2degrees.proofs.Rising.{half_at_least, under_some}
+use Rattle.s2degrees.proofs.Signs.{turned}
 use Rattle.s2map.specs.Working.Octants.{angle_of}
 
 -- the sine a / b and the cosine k / e of an angle are those of a folded angle but for signs
@@ -42,9 +43,6 @@ either_cosine x p d h (inr i) = inl (omega (arith, i.0), i.1)
 twice : (r : ℕ) → r ≤ quarter → quarter - (quarter - r) ≡ r
 twice r h = omega (arith, h)
 
-opposite : (a : ℤ) (n : ℕ) → neg_ℤ a ≡ pos n → a ≡ neg_ℤ (pos n)
-opposite a n h = sym (neg_ℤ-neg_ℤ a) ∙ ap neg_ℤ h
-
 -- ---- the four quarters, `r` beyond the beginning of each
 module _ (angle a : ℤ) (b : ℕ) (k : ℤ) (e r : ℕ) (h : r ≤ quarter) where
   abbrev first : angle ≡ pos r → IsSineIn 0 r a b → IsSineIn 1 r k e → Folded angle a b k e
@@ -71,7 +69,7 @@ module _ (angle a : ℤ) (b : ℕ) (k : ℤ) (e r : ℕ) (h : r ≤ quarter) whe
     k_size = unsigned_abs (neg_ℤ k);
     within = omega arith;
     a_is = i.1;
-    k_is = opposite k _ j.1;
+    k_is = turned k _ j.1;
     sine = either_cosine r (unsigned_abs a) b h i.0;
     cosine = subst (λ (y : ℕ). IsEitherSine y (unsigned_abs (neg_ℤ k)) e) (sym (twice r h))
         (either_sine r (unsigned_abs (neg_ℤ k)) e j.0);
@@ -86,8 +84,8 @@ module _ (angle a : ℤ) (b : ℕ) (k : ℤ) (e r : ℕ) (h : r ≤ quarter) whe
     a_size = unsigned_abs (neg_ℤ a);
     k_size = unsigned_abs (neg_ℤ k);
     within = h;
-    a_is = opposite a _ i.1;
-    k_is = opposite k _ j.1;
+    a_is = turned a _ i.1;
+    k_is = turned k _ j.1;
     sine = either_sine r (unsigned_abs (neg_ℤ a)) b i.0;
     cosine = either_cosine r (unsigned_abs (neg_ℤ k)) e h j.0;
     angle_is = is;
@@ -101,7 +99,7 @@ module _ (angle a : ℤ) (b : ℕ) (k : ℤ) (e r : ℕ) (h : r ≤ quarter) whe
     a_size = unsigned_abs (neg_ℤ a);
     k_size = unsigned_abs (neg_ℤ (neg_ℤ k));
     within = omega arith;
-    a_is = opposite a _ i.1;
+    a_is = turned a _ i.1;
     k_is = sym (neg_ℤ-neg_ℤ k) ∙ j.1;
     sine = either_cosine r (unsigned_abs (neg_ℤ a)) b h i.0;
     cosine = subst (λ (y : ℕ). IsEitherSine y (unsigned_abs (neg_ℤ (neg_ℤ k))) e) (sym (twice r h))

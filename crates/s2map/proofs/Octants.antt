@@ -3,7 +3,7 @@ use Rattle.std.proofs.Common.{ℕ, ◌+◌, ◌-◌, ◌*◌, ◌/◌, ◌^◌, 
 use Rattle.std.proofs.Math.Nat.{mul-le-mul_left, mul-le-mul_right, le_of_mul-le-mul_left}
 use Rattle.std.proofs.lemmas.Bool.{cases_lt}
 use Rattle.std.proofs.lemmas.Nat.{mul-le}
-use Rattle.s2degrees.specs.Degrees.{IsEitherSine, quarter}
+use Rattle.s2degrees.specs.Degrees.{quarter}
 use Rattle.s2degrees.specs.Tangents.{HasTangentAtLeast, HasTangentAtMost}
 use Rattle.s2degrees.proofs.Bounding.{some_under}
 use Rattle.s2degrees.proofs.Steps.{quotient}

@@ -1,7 +1,7 @@
 -- Where the places of a cell lie, by its columns and rows.
 use Rattle.std.proofs.Common.{ℕ, suc, ◌+◌, ◌-◌, ◌*◌, ◌^◌, ◌≤◌, ◌<◌, ◌≡◌, arith, inl, inr, refl, ap, sym, ◌∙◌, ◌⊎◌}
 use Rattle.std.proofs.Common.{subst}
-use Rattle.std.proofs.Common.{Bool, true, false, not, cond, nat_lt, ℤ, pos, negsuc, neg_ℤ, ◌+ℤ◌, ◌-ℤ◌, ◌*ℤ◌, ◌≤ℤ◌, ◌<ℤ◌}
+use Rattle.std.proofs.Common.{Bool, true, false, not, cond, ℤ, pos, negsuc, neg_ℤ, ◌+ℤ◌, ◌-ℤ◌, ◌*ℤ◌, ◌≤ℤ◌, ◌<ℤ◌}
 use Rattle.std.proofs.Common.{unsigned_abs, lt-ltb, le-ltb, of_z, to_z, w64}
 use Rattle.std.proofs.Math.IntN.{neg_ℤ-neg_ℤ}
 use Rattle.std.proofs.Math.Nat.{mul-le-mul_left, mul-le-mul_right}

@@ -1,17 +1,16 @@
 -- Places a turn apart are one place.
-use Rattle.std.proofs.Common.{◌≡◌, refl, sym, ◌∙◌, ap, ap₂, ◌*◌, ◌≤◌, ◌<◌, ℤ, pos, neg_ℤ, ◌+ℤ◌, ◌-ℤ◌, ◌*ℤ◌, ◌≤ℤ◌, ◌<ℤ◌}
-use Rattle.std.proofs.Common.{arith, int_le, int_lt, unsigned_abs, lit≤, Bool, true, false, not, cond, ◌&&◌, List, []}
+use Rattle.std.proofs.Common.{◌≡◌, refl, sym, ◌∙◌, ap₂, ◌*◌, ◌≤◌, ℤ, pos, neg_ℤ, ◌+ℤ◌, ◌*ℤ◌}
+use Rattle.std.proofs.Common.{arith, int_le, lit≤, Bool, true, false, List, []}
 use Rattle.std.proofs.Common.{◌∷◌}
 use Rattle.std.proofs.Common.{All, ◌||◌}
 use Rattle.std.proofs.lemmas.Int.{ints}
 use Rattle.std.proofs.lemmas.List.Elements.{All-head, All-tail}
 use Rattle.std.proofs.Math.Bool.{xor}
-use Rattle.s2degrees.specs.Degrees.{quarter, turn}
+use Rattle.s2degrees.specs.Degrees.{turn}
 use Rattle.s2polygon.proofs.Integers.{at, ◌⊕◌, ◌⊖◌, ◌⊗◌, equal}
-use Rattle.s2polygon.specs.Parity.{is_odd_by}
 use Rattle.s2map.proofs.Answers.{le_false, le_not, le_out, le_true}
 use Rattle.s2map.proofs.Meanings.{far_turns}
-use Rattle.s2map.specs.Map.{IsMapEdge, IsMapPlace, inside, inside_part, is_west, passes_north, passes_on_turns}
+use Rattle.s2map.specs.Map.{IsMapEdge, IsMapPlace, inside, inside_part, passes_north, passes_on_turns}
 use Rattle.s2map.specs.Map.{place_turned, side, turned, turns}
 use Rattle.s2map.specs.declared.place.MapEdge.{MapEdge}
 use Rattle.s2map.specs.declared.place.Place.{Place}

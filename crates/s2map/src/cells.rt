@@ -1,6 +1,5 @@
 //! Boxes of cells.
 ghost use Rattle.std.specs.Prelude.{◌≡◌, ◌+◌, ◌-◌, ◌*◌, ◌^◌, ◌≤◌, ◌<◌, IfSome};
-ghost use Rattle.s2degrees.specs.Degrees.{quarter};
 ghost use Rattle.s2polygon.specs.Directions.{Point};
 ghost use Rattle.s2map.specs.Boxes.{IsBox};
 ghost use Rattle.s2map.specs.Cells.{HasDirection, InBoxOnTurn, IsBoxOf, IsProperPlace};

@@ -1,6 +1,5 @@
 use Rattle.std.proofs.Common.{◌≤◌, arith}
 use Rattle.s2map.proofs.Octants.{crossed, east_least, east_most}
-use Rattle.s2map.specs.Working.Octants.{whole}
 use Rattle.s2map.proofs.angles.angles_by_z.Goals as goal
 
 pub returns-clause-all : goal.returns-clause-all

@@ -1,4 +1,3 @@
-use Rattle.std.proofs.Common.{false}
 use Rattle.s2map.proofs.Sides.{box_made}
 use Rattle.s2map.proofs.cells.box_in.Goals as goal
 

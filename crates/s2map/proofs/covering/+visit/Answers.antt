@@ -1,6 +1,6 @@
 use Rattle.std.proofs.Common.{◌≡◌, ◌+◌, ◌-◌, ◌≤◌, ◌<◌, ap, arith, inr, refl, rules, sym, ◌∙◌}
 use Rattle.s2cell.proofs.Family.{level_of_child}
-use Rattle.s2cell.specs.Cell.{IsCell, child_of, level_of, place_of}
+use Rattle.s2cell.specs.Cell.{IsCell, level_of, place_of}
 use Rattle.s2map.proofs.Coverings.{all_visited, met_pushed, next_visited, within_pushed}
 use Rattle.s2map.proofs.covering.+visit.Goals as goal
 

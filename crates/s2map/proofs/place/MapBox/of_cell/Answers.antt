@@ -1,4 +1,4 @@
-use Rattle.std.proofs.Common.{ℕ, ◌/◌, ◌^◌, ◌≡◌, ◌∙◌, sym, ℤ, pos, ◌<ℤ◌}
+use Rattle.std.proofs.Common.{◌/◌, ◌^◌, ◌≡◌, ◌∙◌, sym}
 use Rattle.s2cell.proofs.Places.{place_is}
 use Rattle.s2cell.proofs.Squares.{one_place}
 use Rattle.s2cell.specs.Curve.{i_of, j_of}
