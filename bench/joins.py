@@ -173,9 +173,9 @@ def with_many(session, many):
 def of_one_zone(session):
     """Prints what the points of one zone take among many, of a hundred zones, one statement each, in turn."""
     index = session.timed("CREATE INDEX ON many (s2_leaf_at(ST_X(geom), ST_Y(geom)));\n\\echo 1")[1]
-    session.ask("ALTER TABLE many ADD kind int; VACUUM ANALYZE many;")
+    session.ask("VACUUM ANALYZE many;")
     print(f"\nthe points of one zone, by an index of the leaves, made in {index:.1f} s, and by GiST:")
-    for more in "", "AND p.kind IS NULL":
+    for more in "", "AND ST_X(p.geom) < 170":
         ways = "many AS p, provinces_at(p.geom) AS z", "many AS p JOIN provinces AS z ON ST_Covers(z.geom, p.geom)"
         found = {way: [] for way in ways}
         for zone in range(0, 4500, 45):
