@@ -1,6 +1,6 @@
 /* Joins of s2union_join.h beside a plain loop over all edges of all zones, in whole numbers: places inside, outside, on
- * borders, at corners and on other turns of the map, with rings that cross themselves, touch, and have no area; and what
- * is refused, with each allocation refused in turn. bindings/c/tests/check.sh builds it. */
+ * borders, at corners and on other turns of the map, with rings that cross themselves, touch, and have no area; and
+ * what is refused, with each allocation refused in turn. bindings/c/tests/check.sh builds it. */
 #include <s2union_join.h>
 #include "../../../tests/refuse.h"
 #include "tests.h"

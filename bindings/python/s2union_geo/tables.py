@@ -146,7 +146,7 @@ class Blocks:
 
 
 class _Table(Blocks):
-    """A table of CSV. Most blocks have no quotes, so that lines are fields with separators between them, and are written
+    """A table of CSV. Most blocks have no quotes: their lines are fields with separators between them, and are written
     again as they are."""
 
     def __init__(self, text: Any, separator: str) -> None:

@@ -667,8 +667,8 @@ def test_blocks_beside_the_module_csv(zones, monkeypatch, capsys, tmp_path, sepa
     for turn in range(60):
         kinds = fields[:3] if turn % 2 else [it for it in fields if separator not in it or it[0] == '"']
         end = chance.choice(["\n", "\r\n", "\r"])
-        rows = [[chance.choice(kinds), str(chance.choice([1, 5.5, 6, "1e1", " 7", "+3", "20"])), str(chance.uniform(3, 7)),
-                 chance.choice(kinds)] for _ in range(chance.randrange(30))]
+        rows = [[chance.choice(kinds), chance.choice(["1", "5.5", "6", "1e1", " 7", "+3", "20"]),
+                 str(chance.uniform(3, 7)), chance.choice(kinds)] for _ in range(chance.randrange(30))]
         lines = ["id,x,y,more".replace(",", separator), *map(separator.join, rows)]
         text = "".join(line + end * chance.choice([1, 1, 1, 2]) for line in lines)
         path.write_bytes((text if chance.random() < 0.5 else text.rstrip("\r\n")).encode())
@@ -693,7 +693,8 @@ def inside(row, zone):
     ("1,2", "has 2 columns, and the first has 3"), ("1,2,3,4", "has 4 columns, and the first has 3"),
     ("a,1,z", "has no degrees: '1' and 'z'"), ("a,541,1", ": a longitude is "),
     ("a,1,91", ": a latitude is "), ("a,nan,1", ": a longitude is "),
-    ("a,1_0,1", "has no degrees: '1_0' and '1'"), ("a,\u0661,1", "has no degrees: "), ("a,1e999,1", ": a longitude is ")])
+    ("a,1_0,1", "has no degrees: '1_0' and '1'"), ("a,\u0661,1", "has no degrees: "),
+    ("a,1e999,1", ": a longitude is ")])
 def test_wrong_rows_among_plain_ones(zones, monkeypatch, capsys, tmp_path, bad, reason):
     """The line is named, whatever is read at once; with --skip the others are there."""
     path = tmp_path / "points"
