@@ -6,6 +6,7 @@ import inspect
 import os
 import pickle
 import re
+import struct
 import subprocess
 import sys
 import tempfile
@@ -28,6 +29,8 @@ CELLS = Union.from_tokens("04 0c 14 5")._ids
 FILE = Union.from_tokens("04 0c").to_bytes()
 RECT = (0, 0, 9, 0, 9)
 POINTS = memoryview(array("I", [0, 1, 2]))
+TRIANGLE = struct.pack("<BIII8d", 1, 3, 1, 4, 0, 0, 2, 0, 2, 2, 0, 0)
+ZONES = calls.zones((TRIANGLE, TRIANGLE))
 # What each function answers, by the names of what it takes, which _library.pyi has; a file is called as a list is.
 WORDS = {
     "what": "", "room": 1, "bounds": RECT, "level": 0, "most": 99, "child": 3, "face": 5, "i": 1, "j": LAST, "k": 1,
@@ -35,7 +38,7 @@ WORDS = {
     "ends": memoryview(array("Q", [4])), "number": 5, "name": "n", "longitude": 2.5, "latitude": 48.5,
     "longitudes": memoryview(array("d", [2.5, 999])), "latitudes": memoryview(array("d", [48, 0])),
     "positions": memoryview(array("d", [0, 0, 1, 0, 1, 1, 0, 0])), "rings": memoryview(array("Q", [4, 0])),
-    "wkb": bytes([1, 1, 0, 0, 0]) + bytes(16), "radius": 9.0, "meters": 9.0, "options": (9, 0, 30, 0, 0.0), "which": 3,
+    "shapes": (TRIANGLE,), "zones": ZONES, "borders": 1, "wkb": bytes([1, 1, 0, 0, 0]) + bytes(16), "radius": 9.0, "meters": 9.0, "options": (9, 0, 30, 0, 0.0), "which": 3,
     **dict.fromkeys(("id", "cell", "a", "b", "whole", "part", "first", "last"), CELL),
     **dict.fromkeys(("ids", "xs", "ys", "cells"), CELLS),
 }
@@ -44,6 +47,7 @@ DEGREES = "from_face_ij takes one point, and s2union_geo.leaves longitudes and l
 POLYGON = (memoryview(array("q", [10, 1, 1, 10, 9, 1, 10, 1, 9])), memoryview(array("Q", [3])),
            s2union.from_face_ij(3, 0, 0), 0)  # a triangle: corners, ends, a leaf outside, and no margin
 OTHERS = {"from_debug": ("0/2",), "neighbors": (CELL, 4),
+          "pairs": (ZONES, memoryview(array("d", [1.5, 9, 1])), memoryview(array("d", [0.5, 9, 1])), 1),
           **dict.fromkeys(("file_contains", "file_intersects"), (FILE, FILE)),
           **dict.fromkeys(("polygon_outer", "polygon_inner"), ("", 1, *POLYGON, 3, 99)),
           **dict.fromkeys(("polygon_outer_up_to", "polygon_inner_up_to"), ("", 1, *POLYGON, 0, 3, 9))}
@@ -69,6 +73,7 @@ REFUSED = {
     "coverings_of_wkb": (b"", (9, 0, 31, 0, 0.0), 3), "coverings_of_circle": (0, 0, 1, (9, 0, 30, 0, "x"), 3),
     "neighbors": (CELL, 0), "vertex_neighbors": (CELL, 1), "expanded": (CELLS, 30), "edge_neighbors": (2,),
     "complement": ("", 2**62, CELLS), "refuse": (-5, "what"), "token": (object(),),
+    "zones": ((TRIANGLE, TRIANGLE[:-1]),), "pairs": (ZONES, WORDS["longitudes"], WORDS["latitudes"], 1),
 }
 
 
@@ -103,6 +108,21 @@ def test_each_wrong_word(name):
             elif other is None or type(other) in (float, object):
                 is_number = isinstance(other, float) and isinstance(words[place], float)  # meters, say
                 assert was_refused or is_said or is_number
+
+
+def test_zones_and_pairs():
+    """Places in two triangles, on their borders and outside; and what is refused of shapes and places."""
+    x, y = (memoryview(array("d", it)) for it in ([1.5, 9, 1, 2], [0.5, 9, 1, 1]))
+    for borders, wanted in ((1, [0, 0, 0, 1, 2, 0, 2, 1, 3, 0, 3, 1]), (0, [0, 0, 0, 1])):
+        assert array("Q", calls.pairs(ZONES, x, y, borders)).tolist() == wanted
+    assert calls.pairs(calls.zones(()), x, y, 1) == calls.pairs(ZONES, memoryview(b""), memoryview(b""), 1) == b""
+    with pytest.raises(ValueError, match="^zone 1: the bytes are no WKB$"):
+        calls.zones((TRIANGLE, TRIANGLE[:-1]))
+    with pytest.raises(ValueError, match="^the place 1 is out of range$"):
+        calls.pairs(ZONES, *(memoryview(array("d", it)) for it in ([1, 541], [1, 1])), 1)
+    for wrong in (TRIANGLE,), ([TRIANGLE],), (("x",),):
+        with pytest.raises(TypeError):
+            calls.zones(*wrong)
 
 
 def test_places_in_degrees():
@@ -324,7 +344,7 @@ class WithoutMemory(unittest.TestCase):
             except MemoryError:
                 pass
             allocations = library.refuse_memory(0)
-            self.assertEqual(found, wanted, (call, turn))
+            self.assertTrue(found == wanted or call is calls.zones and type(found) is type(wanted), (call, turn))
             return allocations
 
         for name, words in TAKEN.items():
@@ -357,10 +377,11 @@ class Around(unittest.TestCase):
         }
         corners = memoryview(array("q", 2**17 * POLYGON[0].tolist()))
         rings = memoryview(array("Q", [len(corners) // 3])), *POLYGON[2:]
-        others = {"contains": (xs, xs), "compare": (xs, xs), "file_contains": data[:1] * 2, "file_intersects": data,
+        zeros = memoryview(array("d", bytes(8 * 2**18)))
+        others = {"pairs": (ZONES, zeros, zeros, 1), "contains": (xs, xs), "compare": (xs, xs), "file_contains": data[:1] * 2, "file_intersects": data,
                   **dict.fromkeys(("polygon_outer", "polygon_inner"), ("", 1, corners, *rings, 2, 9)),
                   **dict.fromkeys(("polygon_outer_up_to", "polygon_inner_up_to"), ("", 1, corners, *rings, 0, 2, 9))}
-        large = [xs, ys, points, degrees, corners, *data, words["bounds"], words["text"]]
+        large = [xs, ys, points, degrees, zeros, corners, *data, words["bounds"], words["text"]]
         quick = {"contains_cell", "intersects_cell", "cells_at", "file_count", "file_cell", "file_contains_cell",
                  "file_intersects_cell", "from_token", "from_debug"}
         ticks, read, released, ends = [0], [], [], threading.Event()
