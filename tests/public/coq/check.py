@@ -83,7 +83,8 @@ NEEDED = "s2list_proofs_Shortest.shorter", "shortest"
 def by_hand():
     """The proofs of by_hand.v, by the lemmas' names."""
     text = (HERE / "by_hand.v").read_text(encoding="utf-8")
-    return dict(re.findall(r"^\(\* (\w+\.\w+) \*\)\n.*?(^Proof\..*?^Qed\.)", text, re.M | re.S))
+    found = re.findall(r"^\(\* (\w+\.\w+(?:,\s+\w+\.\w+)*) \*\)\n.*?(^Proof\..*?\bQed\.)", text, re.M | re.S)
+    return {name: proof for names, proof in found for name in re.split(r",\s+", names)}
 
 
 def cited():

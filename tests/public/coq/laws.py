@@ -57,6 +57,7 @@ class Answered(NamedTuple):
 
 ANSWERED = (
     Answered("s2cell", "law_of_levels", "a cell has one level, one place, and the leaves of that place"),
+    Answered("s2cell", "known_cells", "ten cells have the texts, levels, faces and leaves that S2 gives them"),
     Answered("s2cell", "law_of_texts", "a cell has one token and one debug text, and a text is that of one cell"),
     Answered("s2cell", "law_of_places", "a leaf has one place, a place one leaf, and leaves that follow share a side"),
     Answered("s2cell", "law_of_squares", "a cell has one square, whose leaves are its own, and whose quarters are the "
