@@ -44,6 +44,7 @@ def sentence(method):
     own, header = method.own(NAME), method.said.sentence
     is_of_c = re.search(r"s2u_|S2U_|\b[xy]s\b|\bids\b", header) or method.call.answers_each or own.get("is_of_row")
     said = own.get("says") or marked(method.row.get("says", header) if is_of_c else header)
+    said = re.sub("^Its cells", "The cells of the union", said)  # numpydoc takes Its for a verb
     steps = f" It takes {method.said.steps}." if method.said.steps else ""
     return said + steps + (f" {own['also']}" if "also" in own else "")
 

@@ -5,7 +5,8 @@ It writes each SOURCE to FOLDER with what is made in the place of these lines, w
   // methods: NAME, ..           each as a method with its comment, which forwards to the call
   // methods: all others         each other method of the class, or in JavaScript of the module; `but NAME, ..` leaves
                                  out what stands there by hand
-  // comment: NAME               the comment of the call, whose method stands below it by hand
+  // comment: NAME               the comment of the call, whose method stands below it by hand; in Python
+                                 `# comment: NAME`, for a docstring
   // questions: all but NAME, .. what the tests ask of each method, for which a question is in tests/model/vectors.py
   // numbers: of the calls       those of Calls.java
 
