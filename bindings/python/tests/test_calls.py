@@ -38,7 +38,8 @@ WORDS = {
     "ends": memoryview(array("Q", [4])), "number": 5, "name": "n", "longitude": 2.5, "latitude": 48.5,
     "longitudes": memoryview(array("d", [2.5, 999])), "latitudes": memoryview(array("d", [48, 0])),
     "positions": memoryview(array("d", [0, 0, 1, 0, 1, 1, 0, 0])), "rings": memoryview(array("Q", [4, 0])),
-    "shapes": (TRIANGLE,), "zones": ZONES, "borders": 1, "wkb": bytes([1, 1, 0, 0, 0]) + bytes(16), "radius": 9.0, "meters": 9.0, "options": (9, 0, 30, 0, 0.0), "which": 3,
+    "shapes": (TRIANGLE,), "zones": ZONES, "borders": 1, "wkb": bytes([1, 1, 0, 0, 0]) + bytes(16),
+    "radius": 9.0, "meters": 9.0, "options": (9, 0, 30, 0, 0.0), "which": 3,
     **dict.fromkeys(("id", "cell", "a", "b", "whole", "part", "first", "last"), CELL),
     **dict.fromkeys(("ids", "xs", "ys", "cells"), CELLS),
 }
@@ -378,7 +379,8 @@ class Around(unittest.TestCase):
         corners = memoryview(array("q", 2**17 * POLYGON[0].tolist()))
         rings = memoryview(array("Q", [len(corners) // 3])), *POLYGON[2:]
         zeros = memoryview(array("d", bytes(8 * 2**18)))
-        others = {"pairs": (ZONES, zeros, zeros, 1), "contains": (xs, xs), "compare": (xs, xs), "file_contains": data[:1] * 2, "file_intersects": data,
+        others = {"pairs": (ZONES, zeros, zeros, 1), "contains": (xs, xs), "compare": (xs, xs),
+                  "file_contains": data[:1] * 2, "file_intersects": data,
                   **dict.fromkeys(("polygon_outer", "polygon_inner"), ("", 1, corners, *rings, 2, 9)),
                   **dict.fromkeys(("polygon_outer_up_to", "polygon_inner_up_to"), ("", 1, corners, *rings, 0, 2, 9))}
         large = [xs, ys, points, degrees, zeros, corners, *data, words["bounds"], words["text"]]
