@@ -3,7 +3,8 @@
 //
 // At one level all make the same cells, and a row counts only if they do. S2's index is built before, except in the
 // rows 'fresh', where S2 begins with its points as the library begins with its directions. Of at most N cells each
-// makes its own; there the row counts if all have the leaves of all corners, and a line tells the cells and the area.
+// makes its own; there the row counts if outer ones have the leaves of all corners, and S2 has the middles of all cells
+// of inner ones inside. A line tells the cells and the area.
 #include "rings.h"
 
 #include <s2/s2region_coverer.h>
@@ -88,7 +89,18 @@ static List called_cells(const Shape& shape, const Asked& asked, List& room) {
   return List(room.begin(), room.begin() + len);
 }
 
-// How many of the coverings have the leaves of all corners, as each has to.
+// How many of the inner coverings have cells whose middles lie inside, as each has to.
+static u64 with_middles(const Shapes& shapes, const std::vector<List>& made) {
+  u64 count = 0;
+  for (size_t k = 0; k < shapes.size(); k++) {
+    bool all_inside = true;
+    for (S2CellId cell : peer_ids(made[k])) all_inside = all_inside && shapes[k].polygon->Contains(cell.ToPoint());
+    count += all_inside;
+  }
+  return count;
+}
+
+// How many of the outer coverings have the leaves of all corners, as each has to.
 static u64 with_corners(const Shapes& shapes, const std::vector<List>& made) {
   u64 count = 0;
   for (size_t k = 0; k < shapes.size(); k++) {
@@ -111,8 +123,9 @@ class Bench {
         {level, 0, is_outer}, is_fresh);
   }
 
-  void at_most(size_t most, bool is_fresh = false) {
-    row("at_most_" + std::to_string(most) + (is_fresh ? "_fresh" : ""), {30, most, true}, is_fresh);
+  void at_most(size_t most, bool is_outer, bool is_fresh = false) {
+    row((is_outer ? "outer_of_" : "inner_of_") + std::to_string(most) + (is_fresh ? "_fresh" : ""),
+        {30, most, is_outer}, is_fresh);
   }
 
  private:
@@ -125,7 +138,8 @@ class Bench {
                     for (size_t k = 0; k < shapes_.size(); k++) made[way][k] = work(shapes_[k]);
                   },
                   [this, &made, way, asked] {
-                    return asked.most ? with_corners(shapes_, made[way]) : sum_of(made[way]);
+                    if (!asked.most) return sum_of(made[way]);
+                    return asked.is_outer ? with_corners(shapes_, made[way]) : with_middles(shapes_, made[way]);
                   }};
     };
     std::array<Side, WAYS> sides;
@@ -215,14 +229,19 @@ int main(int argc, char** argv) {
   Lanes lanes(argc > 3 ? argv[3] : "", argc > 4 ? atoi(argv[4]) : 5);
   for (bool is_coast : {false, true}) {
     Bench bench(lanes, is_coast ? "coasts" : "countries", is_coast ? coasts(argv[2], 200) : countries(argv[1]));
-    for (int level : {4, 8, 10, 12})
-      if (!is_coast || level < 12) bench.at_level(level, true), bench.at_level(level, false);
-    for (size_t most : {8, 20, 50, 200, 1000}) bench.at_most(most);
-    bench.at_level(8, true, true), bench.at_most(8, true), bench.at_most(50, true);
+    for (bool is_outer : {true, false})
+      for (bool is_fresh : {false, true}) {
+        for (int level : {4, 6, 8, 10, 12})
+          if (!is_coast || level < 12) bench.at_level(level, is_outer, is_fresh);
+        for (size_t most : {8, 20, 50, 200, 1000}) bench.at_most(most, is_outer, is_fresh);
+      }
   }
-  for (size_t edges : {100, 1000, 10000, 100000, 1000000}) {
+  for (size_t edges : {11, 100, 1000, 10000, 100000, 1000000}) {
     Bench bench(lanes, "ring_" + std::to_string(edges), noisy_ring(edges));
-    bench.at_level(12, true), bench.at_level(12, true, true);
+    for (bool is_fresh : {false, true}) {
+      bench.at_level(12, true, is_fresh);
+      for (size_t most : {8, 50}) bench.at_most(most, true, is_fresh);
+    }
   }
   return lanes.status();
 }

@@ -7,6 +7,7 @@
 . "$top/tests/geo/countries.sh"
 coasts=/usr/share/gmt-gshhg/binned_GSHHS_h.nc
 need_file "$coasts" gmt-gshhg-high
+need_modules netCDF4 python3-netcdf4
 need_countries
 set -e
 cd "$top/bench"
