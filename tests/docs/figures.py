@@ -94,6 +94,7 @@ def figures():
         ("README.md", r"\[six crates\]\(\S+\), (N) \|", about(cells)),
         ("README.md", r"\[specs\]\(crates/s2union_c/specs\), (N) \|", about(to_c)),
         ("README.md", r"\[specs\]\(crates/s2polygon/specs\), (N) \|", about(polygons)),
+        ("README.md", r"\[specs\]\(crates/s2degrees/specs\), (N) \|", about(lines_of_specs("s2degrees"))),
         ("README.md", r"\[statement\]\(\S+\), (N) \|", about(lines_of_statement())),
         ("README.md", r"that (N) functions of the C library and the kit", just(call)),
     ]

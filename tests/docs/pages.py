@@ -8,7 +8,7 @@ crate uses only those of lower layers there; each language has what docs/FROM_S2
 docs/HEADLINE.md and others are what they count (tests/docs/figures.py); docs/TROUBLESHOOTING.md has each error that the
 sources make, and no others; docs/CONCEPTS.md has the edges and numbers of cells of all levels;
 bindings/mariadb/README.md lists the functions of install.sql; docs/README.md leads to each page for users; README.md
-has fewer than 10,240 bytes; a page that names the kit names the one of the file KIT; CHANGELOG.md says nothing twice;
+has fewer than 10,000 bytes; a page that names the kit names the one of the file KIT; CHANGELOG.md says nothing twice;
 what a page names in code is in the release, or is said to come with the next one (tests/docs/released.py);
 each part that a text names after `tests/run` is one, and has beside it the Debian packages that its script installs;
 each command of tools/, bench/ and bindings/ prints its usage with --help, and does nothing else; and what is a command,
@@ -249,7 +249,7 @@ def unlisted():
 def too_long():
     """README.md, and its length if that is 10 KiB or more."""
     length = (ROOT / "README.md").stat().st_size
-    return 1, [f"{length} bytes"] if length >= 10_240 else []
+    return 1, [f"{length} bytes"] if length >= 10_000 else []
 
 
 def wrong_levels():
