@@ -1715,7 +1715,7 @@ class CellUnion:
         return shown
 
     def plot(self, ax: Any = None, **style: Any) -> Any:
-        """Draws the outline with matplotlib, by longitudes and latitudes, as ``plot`` of geopandas does.
+        """The outline, drawn with matplotlib by longitudes and latitudes, as ``plot`` of geopandas does.
 
         .. versionadded:: 1.5
 
