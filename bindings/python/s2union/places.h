@@ -304,8 +304,11 @@ static PyObject* py_expanded(PyObject* module, PyObject* words) {
 /* In square kilometers. */
 static PyObject* py_area(PyObject* module, PyObject* given) {
   HELD List cells = {0};
+  double area;
   (void)module;
-  return as_list(given, sizeof(uint64_t), &cells) ? PyFloat_FromDouble(s2u_geo_area(cells.at, cells.n)) : NULL;
+  if (!as_list(given, sizeof(uint64_t), &cells)) return NULL;
+  UNLOCKED(area = s2u_geo_area(cells.at, cells.n));
+  return PyFloat_FromDouble(area);
 }
 
 /* West, south, east and north in degrees; of no cell the south is more than the north. */
