@@ -22,6 +22,7 @@ OF_CRATES = re.compile(r"Rattle\.(?:s2|calculator\.)")
 DECLARED = re.compile(r"Rattle\.(\w+)\.specs\.declared\.(.*)")
 GROUP = re.compile(r"\s*([({])")
 PIECE = re.compile(r'--[^\n]*|"(?:[^"\\]|\\.)*"|[^\s(){}\[\],;"`]+')
+RESERVED = "Type"  # a word that is a name only behind a dot, as the variant of an enum
 # What a word may stand behind so that what is applied to arguments needs no parentheses.
 BEFORE_A_TERM = "=×→⊎(:"
 
@@ -104,7 +105,7 @@ class Compiled:
         self.files = self.in_order()
         self.constructors = {(item.key[0], name): item for item in self.items for name in item.constructors}
         self.imports = {file: imports_of(file.read_text()) for file in self.files}
-        self.names, self.taken = {}, {}
+        self.names, self.taken = {}, {RESERVED: None}
         self.take_names()
         self.of_definitions = set(self.names)
         self.hidden = {key: value for key in self.names for value in [self.hidden_value(*key)] if value is not None}
@@ -146,9 +147,17 @@ class Compiled:
             assert self.taken.get(name, key) == key, f"{key} and {self.taken[name]} would have one name"
             self.names[key], self.taken[name] = name, key
 
+    def aliased(self):
+        """What texts name behind the alias of a module, as `kinds.Line`."""
+        for item in self.items:
+            aliases = self.imports[item.file][1]
+            for first, dot, rest in (word.partition(".") for word in PIECE.findall(item.text)):
+                if dot and first in aliases:
+                    yield aliases[first], rest
+
     def take_names(self):
         """Names words of the kit first, then definitions, and last types of Rust and constructors."""
-        imported = [key for file in self.files for key in self.imports[file][0].values()]
+        imported = [key for file in self.files for key in self.imports[file][0].values()] + [*self.aliased()]
         for key in imported:
             if not OF_CRATES.match(key[0]):
                 self.take(key, f"of_{key[0].split('.')[-1]}")
@@ -187,7 +196,8 @@ class Compiled:
         found = {}
         for key, name in self.names.items():
             if key not in self.hidden and is_wanted(key, name):
-                found.setdefault(key[0], []).append(key[1] if key[1] == name else f"{key[1]} as {name}")
+                own = f"«{key[1]}»" if key[1] == RESERVED else key[1]
+                found.setdefault(key[0], []).append(own if own == name else f"{own} as {name}")
         return found
 
     # Texts.
