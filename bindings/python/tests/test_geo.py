@@ -689,12 +689,12 @@ class Maps(unittest.TestCase):
 
     def test_lines_that_are_read_at_once(self):
         plain = ["1,2", "3 4", "-540,-90", "540 90", "+.5,5.", "1e-3 2E1", "0.1,0.30000000000000004", "-0 0"]
-        self.assertEqual(plain_points([f"{line}\n" for line in plain]).reshape(-1, 2).tolist(),
+        self.assertEqual(plain_points("".join(f"{line}\n" for line in plain)).reshape(-1, 2).tolist(),
                          [[*map(float, line.replace(",", " ").split())] for line in plain])
-        self.assertEqual(plain_points(["1,2\n", "3,4"]).tolist(), [1, 2, 3, 4])
+        self.assertEqual(plain_points("1,2\n3,4").tolist(), [1, 2, 3, 4])
         for line in ("", "1", "1,2 3", "1,,2", "1, 2", " 1 2", "1,2,", "1e 2", "1-2 3", "541 0", "0 90.5", "1e400 0",
                      "1\t2", "nan 1", "1_0 2", "1,2 name", "+ 1", "1 ,2"):
-            self.assertIsNone(plain_points(["0,0\n", f"{line}\n", "0,0\n"]), line)
+            self.assertIsNone(plain_points(f"0,0\n{line}\n0,0\n"), line)
 
     def test_the_command_line(self):
         self.assertEqual(said("leaves", text="2.3522 48.8566 Paris\n\n0 90 North Pole\n").stdout,
