@@ -148,7 +148,7 @@ class Compiled:
             self.names[key], self.taken[name] = name, key
 
     def aliased(self):
-        """What texts name behind the alias of a module, as `kinds.Line`."""
+        """The names behind the alias of a module in texts, as `kinds.Line`."""
         for item in self.items:
             aliases = self.imports[item.file][1]
             for first, dot, rest in (word.partition(".") for word in PIECE.findall(item.text)):

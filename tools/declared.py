@@ -14,7 +14,7 @@ HEADER = "crates/s2union_c/include/s2union.h"
 EXPORT = re.compile(r'^pub extern "C" fn s2u_(\w+)\((.*?)\) -> (\w+)$', re.S | re.M)
 C_TYPES = {"i64": "int64_t", "u8": "uint8_t", "u32": "uint32_t", "u64": "uint64_t", "i32": "int32_t", "usize": "size_t",
            "f64": "double"}
-# What the length of a list is called in C; of one that is written, `room`; of any other, `n`.
+# The name of a list's length in C; of one that is written, `room`; of any other, `n`.
 LENGTHS = {"xs": "nx", "ys": "ny", "cells": "m", "ends": "lists", "work": "work_room"}
 IN_PLACE = "ids"  # a list that is written under this name is read too
 SAID = re.compile(r"/\*\*((?:(?!\*/)[\s\S])*?)\*/\n(?:u?int\d+_t) s2u_(\w+)\([^()]*\);")
@@ -53,7 +53,7 @@ class Call(NamedTuple):
 
     @property
     def form(self):
-        """What calls have in common that can be called in one loop."""
+        """The form that calls share which can be called in one loop."""
         return tuple(it[1:] for it in self.arguments), self.result
 
     @property
@@ -80,8 +80,8 @@ class Status(NamedTuple):
 
 
 class Said(NamedTuple):
-    """What the header says of a call: a sentence, its steps, its result, the statuses with their reasons, what it is in
-    S2, and since when it is there."""
+    """The comment of the header on a call: a sentence, its steps, its result, the statuses with their reasons, its name
+    in S2, and since when it is there."""
 
     sentence: str
     steps: str
@@ -114,7 +114,7 @@ def calls(top):
 
 
 def said_in(comment):
-    """What a comment of the header says; of the text before its tags the first sentence, which may have steps."""
+    """The parts of a comment of the header; of the text before its tags the first sentence, which may have steps."""
     text, *tags = re.split(r"\s@(?=\w)", re.sub(r"\s*\n \* ?", " ", comment).strip())
     words = [tag.partition(" ") for tag in tags]
     found = {name: rest.strip() for name, _, rest in words}
@@ -129,7 +129,7 @@ def said_in(comment):
 
 
 def said(header):
-    """What the header says of each call, by its name."""
+    """The comment of the header on each call, by its name."""
     return {name: said_in(comment) for comment, name in SAID.findall(header)}
 
 

@@ -1,4 +1,4 @@
-"""What Java and JavaScript share as to the table of methods: names in camel case, examples, and questions."""
+"""The parts that Java and JavaScript share as to the table of methods: names in camel case, examples, and questions."""
 import ast
 import re
 
@@ -92,7 +92,7 @@ def wrapped_code(methods, language, text):
 
 def fields(method):
     """Each argument with the field of a question that has it, and its place there: each list, cell and rectangle has a
-    field, and other numbers share one, but for a level."""
+    field, and other numbers share one; a level has its own."""
     field, shared = -1, 0
     for it in method.given:
         if it.name == "most":

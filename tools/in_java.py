@@ -66,7 +66,7 @@ def result(method):
 
 
 def number(method, it):
-    """A number that a call is given. What the call itself doesn't refuse is checked before."""
+    """A number that a call is given. It is checked before, if the call itself doesn't refuse it."""
     name = method.own("java").get(it.name) or RENAMED.get(it.name, it.name)
     if it.kind == "u64" and method.answers_none("NO_CELL") and it.name != "k":
         return f"checked({name})"
@@ -88,7 +88,7 @@ def lists(method):
 
 
 def body(method):
-    """What it answers: the helper of Calls for what it makes, by the number of the call."""
+    """Its answer: the helper of Calls for what it makes, by the number of the call."""
     call, out, kind = method.call, method.call.out, f"Calls.{method.call.name.upper()}"
     two = [*lists(method), "null", "null"][:2]
     numbers = [number(method, it) for it in call.given if not it.is_list and it.kind != "Rect"]
@@ -189,7 +189,7 @@ def example(methods, method):
 
 
 def asked(method):
-    """What a method is given in a question."""
+    """The arguments of a method in a question."""
     for it, field, place in expressions.fields(method):
         if it.kind == "Rect":
             yield from (f"g.number({field}, {k})" for k in range(len(RECTANGLE)))

@@ -95,7 +95,7 @@ def raises(method, head):
 
 
 def entries(method):
-    """What is said of entries, one for each cell; nothing of another result."""
+    """The sentence about entries, one for each cell; nothing of another result."""
     out, general = method.call.out, method.general["python"]
     if not method.call.answers_each:
         return ""

@@ -30,7 +30,7 @@ def java_numbers(table, source):
 
 
 def java_case(call):
-    """What makes a call of Java's lists, of which the last is written, two numbers and a rectangle."""
+    """The text that makes a call of Java's lists, of which the last is written, two numbers and a rectangle."""
     if call.name in IN_ANOTHER_FORM:
         return IN_ANOTHER_FORM[call.name]
     numbers, lists, words = iter("ab"), iter("01"), []

@@ -136,7 +136,7 @@ class Method:
         return status not in self.said.refusals and status in dict(self.errors())
 
     def errors(self):
-        """The errors that a method has, each with when it comes. What has been checked before can't come."""
+        """The errors that a method has, each with when it comes. An error that is checked for before can't come."""
         is_checked = self.is_of_file and not self.row.get("static")
         names = [it for it in self.said.refusals if it not in ("ROOM", "MEMORY")
                  and not (is_checked and it.startswith("FILE_"))]

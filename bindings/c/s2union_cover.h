@@ -2433,7 +2433,7 @@ static inline int32_t s2u_cover_circle(double longitude, double latitude, double
   return S2U_IS_CANCELLED() ? S2U_MEMORY : status;
 }
 
-/* What is no farther than half a width in meters from a line. For cells that lie in the corridor ask s2u_cover, with
+/* The places no farther than half a width in meters from a line. For cells that lie in the corridor ask s2u_cover, with
  * half of the width as the margin. */
 static inline int32_t s2u_cover_corridor(const double* positions, size_t count, double width,
                                              const s2u_cover_options* options, s2u_cover_cells* outer,

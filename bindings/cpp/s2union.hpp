@@ -332,7 +332,7 @@ bool lie_apart(const std::vector<Id>& xs, const std::vector<Id>& ys) {
 /// The result of an operation on two unions that lie apart: it has to be asked for, is empty, or is the first.
 enum class Apart { kAsked, kEmpty, kFirst };
 
-/// The list that a call makes of those of two unions. What is known at once takes no memory but its own.
+/// The list that a call makes of those of two unions. A result that is known at once takes no memory but its own.
 template <class Id, class Call>
 int32_t made_of_lists(Call call, size_t most, const std::vector<Id>& xs, const std::vector<Id>& ys, Apart apart,
                       std::vector<Id>* made) {

@@ -6,7 +6,7 @@ import unittest
 from process import ran
 import areas  # which process finds
 
-# What `area` of s2union_geo says, which sums by Gauss and Legendre's rule.
+# The answers of `area` of s2union_geo, which sums by Gauss and Legendre's rule.
 KNOWN = {"1": 85011012.18633153, "04": 21252753.04658288, "64c": 1500640.039959948, "89c25": 1117.6612798249637,
          "47e66e1d8f8be23b": 5.3513651228111726e-11}
 NUMBERS = random.Random(41)

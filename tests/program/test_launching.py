@@ -92,7 +92,7 @@ def test_a_note_shows_a_word_as_it_was_given(word, shown, tmp_path):
 @pytest.mark.parametrize("said", ["pipe", "file"])
 @pytest.mark.parametrize("answers", ["pipe", "file"])
 def test_where_errors_are_counted(said, answers, tmp_path):
-    """Who reads a pipe to its end has the line then. Two files are whole as soon as the program has ended."""
+    """A reader of a pipe has the line at its end. Two files are whole as soon as the program has ended."""
     with open(tmp_path / "said", "w+b") as error, open(tmp_path / "answers", "wb") as out:
         for _ in range(20):
             done = subprocess.run([LAUNCHER], input=SCRIPT, env=ENVIRONMENT, cwd=tmp_path, timeout=SECONDS, check=False,

@@ -174,7 +174,7 @@ static void drop(s2u_cover_cells* outer, s2u_cover_cells* inner) {
   s2u_cover_free(inner);
 }
 
-/* What is done to the parts. */
+/* The changes that are made to the parts. */
 enum { WHOLE, MISSING, CHESS, TWICE, OVER, KINDS };
 
 static void choose_parts(int kind, int may_turn) {

@@ -490,7 +490,7 @@ def _read(shape: Any) -> Any:
 
 
 def _asked(ask: Callable[[Any], Any], shape: Any) -> tuple[Any, bytes]:
-    """What is answered about a shape, and its polygons in well-known binary, little-endian."""
+    """The answer about a shape, and its polygons in well-known binary, little-endian."""
     if not _has_polygons(shape):
         return ask(shape), _wkb_of(shape)
     wkb = bytes(shape.wkb)

@@ -126,7 +126,7 @@ def shape_of(given: Any) -> Shape:
 
 
 def _said_without_type(it: Any) -> str:
-    """What is said of an object that has no text as its type."""
+    """The error about an object that has no text as its type."""
     if not isinstance(it, dict):
         return type(it).__name__
     return 'a dict whose "type" is no text' if "type" in it else 'a dict without "type"'

@@ -35,7 +35,7 @@ UNIONS = {
 
 
 class Map:
-    """What is drawn for a union, read from the HTML."""
+    """The drawing of a union, read from the HTML."""
 
     def __init__(self, union):
         self.html = union._repr_html_()

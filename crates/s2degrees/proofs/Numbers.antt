@@ -1,4 +1,4 @@
--- What the code makes of any angle of at most 45 degrees is near to each sum of its sine and of its cosine.
+-- The numbers that the code makes of an angle of at most 45 degrees are near to each sum of its sine and its cosine.
 use Rattle.std.proofs.Common.{ℕ, suc, ◌+◌, ◌-◌, ◌*◌, ◌/◌, ◌^◌, ◌≤◌, ◌<◌, ◌≡◌, arith, lit≤, refl}
 use Rattle.std.proofs.Math.Nat.{mul-le-mul_right}
 use Rattle.std.proofs.lemmas.Nat.{mul-le}

@@ -1,4 +1,4 @@
--- An angle of the circle by an angle of at most 90 degrees: its sine and its cosine but for their signs.
+-- An angle of the circle by an angle of at most 90 degrees: its sine and its cosine without their signs.
 use Rattle.std.proofs.Common.{ℕ, ◌+◌, ◌-◌, ◌*◌, ◌/◌, ◌%◌, ◌^◌, ◌≤◌, ◌<◌, ◌≡◌, arith, inl, inr, refl, ap}
 use Rattle.std.proofs.Common.{sym, ◌∙◌}
 use Rattle.std.proofs.Common.{Bool, true, false, ◌⊎◌, ℤ, pos, negsuc, neg_ℤ, ◌+ℤ◌, ◌-ℤ◌, ◌≤ℤ◌, ◌<ℤ◌, unsigned_abs}
@@ -16,7 +16,7 @@ use Rattle.s2degrees.proofs.Rising.{half_at_least, under_some}
 use Rattle.s2degrees.proofs.Signs.{turned}
 use Rattle.s2map.specs.Working.Octants.{angle_of}
 
--- the sine a / b and the cosine k / e of an angle are those of a folded angle but for signs
+-- the sine a / b and the cosine k / e of an angle are those of a folded angle, without signs
 pub record Folded (angle a : ℤ) (b : ℕ) (k : ℤ) (e : ℕ) : Type 0 where
   pub behind : Bool
   pub west : Bool

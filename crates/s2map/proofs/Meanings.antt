@@ -1,4 +1,4 @@
--- What the definitions say: of turns, of places on an edge, of an edge that is turned round.
+-- Consequences of the definitions: of turns, of places on an edge, of an edge that is turned round.
 use Rattle.std.proofs.Common.{◌≡◌, refl, ℕ, ◌*◌, ◌<◌, ◌≤◌, ℤ, pos, ◌+ℤ◌, ◌-ℤ◌, ◌*ℤ◌, ◌≤ℤ◌, ◌<ℤ◌, arith, int_le, int_lt}
 use Rattle.std.proofs.Common.{unsigned_abs, negsuc, Bool, true, false, not, cond, ◌&&◌, ◌⊎◌, inl, inr}
 use Rattle.std.proofs.lemmas.Bool.{and_parts, or_cases}

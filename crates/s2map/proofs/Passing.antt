@@ -1,5 +1,5 @@
--- Two places of a box that an edge doesn't meet: the edge passes north of both or of neither, but for its ends that the
--- step from one to the other passes south of.
+-- Two places of a box that an edge doesn't meet: the edge passes north of just one of them if, and only if, the step
+-- from one to the other passes south of just one of its ends.
 use Rattle.std.proofs.Common.{◌≡◌, refl, sym, ap₂, ◌∙◌, ℤ, pos, ◌-ℤ◌, ◌*ℤ◌, ◌≤ℤ◌, ◌<ℤ◌, arith, int_le, int_lt}
 use Rattle.std.proofs.Common.{Bool, true, false, not, cond, ◌&&◌, ◌⊎◌, inl, inr}
 use Rattle.std.proofs.lemmas.Bool.{and_parts, or_cases}

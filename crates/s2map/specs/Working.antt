@@ -1,4 +1,4 @@
--- What only private contracts and proofs need.
+-- Definitions that only private contracts and proofs need.
 pub mod Covering
 pub mod Even
 pub mod Octants

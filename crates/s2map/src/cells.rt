@@ -44,7 +44,7 @@ pub struct Octant {
     pub west: bool,
     /// Whether sines of latitudes are at most 0.
     pub south: bool,
-    /// Longitudes and latitudes but for these signs.
+    /// Longitudes and latitudes without these signs.
     pub angles: Angles,
 }
 

@@ -1,4 +1,4 @@
--- What lies between the ends of an edge and the same ends, moved: a cone, which has no place that the edge doesn't
+-- The hull of the ends of an edge and of the same ends, moved: a cone, which has no place that the edge doesn't
 -- touch.
 use Rattle.std.proofs.Common.{◌≡◌, sym, ap, ap₂, ◌∙◌, ℕ, ◌+◌, ◌*◌, ◌^◌, ◌≤◌, ◌<◌, arith, ℤ, pos}
 use Rattle.std.proofs.Common.{negsuc, ◌+ℤ◌, ◌-ℤ◌, ◌*ℤ◌, ◌≤ℤ◌, ◌<ℤ◌, mul-le-mul_left, mul-le-mul_right}

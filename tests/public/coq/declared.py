@@ -3,7 +3,7 @@ Rattle.s2file.specs.declared.fault.FileFault, or of the constants of a file, or 
 
 An enum is a data type, in which a variant with names has them in their order; a structure is a record of its fields, or
 what its model says, if it has one; a number has no width; and a reference is a record whose field `now` is what it
-leads to. What isn't so is an error with the file."""
+leads to. Anything else is an error with the file."""
 import re
 from pathlib import Path
 
@@ -76,7 +76,7 @@ def closing(source, at):
 
 
 def parts_of(body):
-    """What commas outside of all brackets part."""
+    """The pieces between commas outside of all brackets."""
     parts, depth = [""], 0
     for letter in body:
         depth += (letter in "{([<") - (letter in "})]>")
@@ -122,7 +122,7 @@ class Declared:
         return f"abbrev pub {self.name} : {kinds}Type 0\n{' '.join([self.name, *self.params])} = {kind}\n"
 
     def of_model(self, model):
-        """What the model of a structure says."""
+        """The text of the model of a structure."""
         block = self.source[model.end() - 1:closing(self.source, model.end() - 1)]
         value = re.search(r"ghost Value = \{ (.*?) \};", block)
         if not value or any(":" in each for each in self.params):

@@ -171,7 +171,7 @@ def with_tails(clauses):
 
 
 def term_of(pattern):
-    """What a pattern of a list stands for, as a term."""
+    """The term that a pattern of a list stands for."""
     return ("app", ("var", pattern[1]), [term_of(each) for each in pattern[2]]) if pattern[0] == "con" else pattern
 
 

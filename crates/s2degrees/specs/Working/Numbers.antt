@@ -1,4 +1,4 @@
--- What the code makes of an angle, as numbers of 62 places.
+-- The numbers of 62 places that the code makes of an angle.
 use Rattle.std.specs.Prelude.{ℕ, ◌+◌, ◌-◌, ◌*◌, ◌/◌, ◌^◌}
 
 -- radians of an angle

@@ -1,4 +1,4 @@
--- What is known of a covering on its way.
+-- A covering on its way.
 use Rattle.std.specs.Prelude.{◌≡◌, ℕ, ◌⊎◌, List, true}
 use Rattle.s2list.specs.Union.{has_leaf}
 use Rattle.s2map.specs.Cells.{AreMet, LeafInside, LeafOutside}

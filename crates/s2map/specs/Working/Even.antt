@@ -1,4 +1,4 @@
--- What is so of the edges of closed rings.
+-- The edges of closed rings.
 use Rattle.std.specs.Prelude.{◌≡◌, ◌&&◌, int_lt, Bool, false, List, All}
 use Rattle.std.specs.Bool.{xor}
 use Rattle.s2map.specs.Map.{IsMapEdge, is_west, place_turned, turns}

@@ -107,7 +107,7 @@ pub record IsSeen (face : ℕ) (d : Point) (u v : Side) : Type 0 where
   pub along_u : IsAlong u.span n w
   pub along_v : IsAlong v.span k w
 
--- the place's longitude and latitude, but for signs, lie in the spans of the octant
+-- the place's longitude and latitude, without signs, lie in the spans of the octant
 pub record IsInOctant (o : Octant) (p : Place) : Type 0 where
   pub t : ℕ
   pub m : ℕ

@@ -1,4 +1,4 @@
--- What is known after some parts.
+-- The answer after some parts.
 use Rattle.std.specs.Prelude.{◌≡◌, Bool, false, List}
 use Rattle.std.specs.List.{list_any}
 use Rattle.s2map.specs.Boxes.{holds_box, met_by}
