@@ -186,6 +186,31 @@ first_says() { # COMMAND..: whether the program prints that
   "$@" | diff "$work/first-lines" -
 }
 
+# ---- a page's web service, asked as the page does
+
+serves() { # PAGE LANGUAGE COMMAND..: whether the server that the command starts answers as the page says
+  local page=$1 language=$2 server status
+  block "$page" "sh service" >"$work/asks" && block "$page" "text $language service" >"$work/answers" &&
+    [ -s "$work/answers" ] || return
+  PORT=$(/usr/bin/python3 -c 'import socket; print(socket.create_server(("127.0.0.1", 0)).getsockname()[1])')
+  export PORT
+  "${@:3}" &
+  server=$!
+  sed -i 's/^curl /curl -sS --retry 60 --retry-connrefused --retry-delay 1 /' "$work/asks"
+  bash "$work/asks" >"$work/answered" && diff "$work/answers" "$work/answered"
+  status=$?
+  kill "$server"
+  return "$status"
+}
+
+step_of_service() { # COMMAND..: a step of the variable `page`, where curl is there
+  if command -v curl >/dev/null; then
+    step "$page: a web service" "$@"
+  else
+    echo "       curl is not there: the page's web service is not asked"
+  fi
+}
+
 # ---- mutants, in the form of tests/mutants/mutant_texts.py
 
 mutant_texts() { # FILE [NAME FOLDER]

@@ -32,25 +32,11 @@ s2union \"$path\"
 func main() {" "}" main.go && go build -o program && first_says ./program
 )
 step "README.md" first_lines
-served() ( # the page's web service, asked as the page does
+served() (
   mkdir "$work/service" && cd "$work/service" && cp "$work/by-go/go.mod" . && program_of $page "go service" main.go &&
-    [ -z "$(gofmt -l .)" ] && go build -o program &&
-    block $page "sh service" >asks && block $page "text go service" >answers && [ -s answers ] || return
-  PORT=$(/usr/bin/python3 -c 'import socket; print(socket.create_server(("127.0.0.1", 0)).getsockname()[1])')
-  export PORT
-  ./program &
-  local server=$! status
-  sed -i 's/^curl /curl -sS --retry 60 --retry-connrefused --retry-delay 1 /' asks
-  bash asks >answered && diff answers answered
-  status=$?
-  kill "$server"
-  return "$status"
+    [ -z "$(gofmt -l .)" ] && go build -o program && serves $page go ./program
 )
-if command -v curl >/dev/null; then
-  step "$page: a web service" served
-else
-  echo "       curl is not there: the page's web service is not asked"
-fi
+step_of_service served
 got_by_go() ( # the program with the module as a proxy of Go's hands it out
   local at=$work/proxy/$path/@v
   mkdir -p "$at" "$work/got-by-go" && cd "$top/bindings/go" && cp go.mod "$at/v1.0.0.mod" &&

@@ -59,25 +59,10 @@ first_lines() {
     "$work/program/first.mjs" && first_says node "$work/program/first.mjs"
 }
 step "README.md" first_lines
-served() { # the page's web service, asked as the page does
-  local server status
-  block $page "js service" >"$work/program/service.mjs" && block $page "sh service" >"$work/program/asks" &&
-    block $page "text js service" >"$work/program/answers" && [ -s "$work/program/answers" ] || return
-  PORT=$(/usr/bin/python3 -c 'import socket; print(socket.create_server(("127.0.0.1", 0)).getsockname()[1])')
-  export PORT
-  node "$work/program/service.mjs" &
-  server=$!
-  sed -i 's/^curl /curl -sS --retry 60 --retry-connrefused --retry-delay 1 /' "$work/program/asks"
-  bash "$work/program/asks" >"$work/program/answered" && diff "$work/program/answers" "$work/program/answered"
-  status=$?
-  kill "$server"
-  return "$status"
+served() {
+  block $page "js service" >"$work/program/service.mjs" && serves $page js node "$work/program/service.mjs"
 }
-if command -v curl >/dev/null; then
-  step "$page: a web service" served
-else
-  echo "       curl is not there: the page's web service is not asked"
-fi
+step_of_service served
 by_comments() {
   /usr/bin/python3 "$top/tests/docs/examples.py" js "$package/s2union.d.ts" >"$work/examples.mjs" &&
     node "$work/examples.mjs" "$module"

@@ -1,7 +1,8 @@
 #!/usr/bin/env bash
 # The tests of the modules for Python: tests/run python. It installs the Debian packages that it needs, except mypy and
-# pandas (python3-pandas): what is for these is tested if they are there, and else a line says that it isn't. Its last
-# line is 'N passed, M failed'; the status is 1 if any failed.
+# pandas (python3-pandas): what is for these is tested if they are there, and else a line says that it isn't. With
+# --short, as the gate has it, the functions of the module in C are asked under the sanitizers alone. Its last line is
+# 'N passed, M failed'; the status is 1 if any failed.
 . "$(dirname "$0")/../../../tests/steps.sh"
 
 need gcc gcc libc6-dev
@@ -37,7 +38,12 @@ python() {
   )
 }
 step "against the model, and the module" python -m pytest test_library.py
-step "the functions of its module in C" python -m pytest test_calls.py
+# What it leaves behind is counted here alone: under the sanitizers, memory isn't Python's own.
+if [ "${1:-}" = --short ]; then
+  step "what its module in C leaves behind" python -m pytest test_calls.py::LeftBehind::test_memory
+else
+  step "the functions of its module in C" python -m pytest test_calls.py
+fi
 step "what all languages are asked" python -m pytest test_questions.py
 step "the edges" python -m pytest test_edges.py
 without_memory() { # Python's memory is the C library's own
