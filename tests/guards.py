@@ -181,7 +181,7 @@ MISTAKES = [
         ("a table", "JOIN pg_catalog.pg_depend d", "JOIN pg_depend d"),
         ("a function in a body that is no text", "pg_catalog.unnest(", "unnest(")]),
     Mistake("a text of a function that has no path", schemas.without_schema,
-            "bindings/postgres/s2union_postgis--1.4.1.sql", swapped("SET search_path = pg_catalog, pg_temp\n", "")),
+            "bindings/postgres/s2union_postgis--1.5.0.sql", swapped("SET search_path = pg_catalog, pg_temp\n", "")),
     Mistake("a function that a text makes without a path", schemas.without_schema, "bindings/postgres/owners.sql",
             ended_by("DO $$ BEGIN EXECUTE 'CREATE FUNCTION f() RETURNS int '\n'LANGUAGE plpgsql AS %L'; END $$;\n")),
     Mistake("a path that a text sets", schemas.without_schema, "bindings/postgres/owners.sql",

@@ -239,19 +239,24 @@ static inline double s2u_geo_area_of_square(double i, double j, double size) {
   return sum * width * height / 4;
 }
 
+/* The area of a cell on a sphere of radius 1. A number that is no cell has none. */
+static inline double s2u_geo_area_of_cell(uint64_t cell) {
+  s2u_square at;
+  if (s2u_square_of(cell, &at) != S2U_OK) return 0;
+  const int parts = at.size > S2U_GEO_SIDE / 8 ? (int)(at.size / (S2U_GEO_SIDE / 8)) : 1; /* along a side */
+  const double side = (double)at.size / parts;
+  double sum = 0;
+  for (int part = 0; part < parts * parts; part++)
+    sum += s2u_geo_area_of_square(at.i + part / parts * side, at.j + part % parts * side, side);
+  return sum;
+}
+
 /* The area of cells in square kilometers, on a sphere with the earth's mean radius: of a union S2CellUnion::ExactArea,
  * which is that on a sphere of radius 1. The earth is flattened, so an area there differs by less than 1 percent. A
  * number that is no cell has none. */
 static inline double s2u_geo_area(const uint64_t* ids, size_t count) {
   double sum = 0;
-  for (size_t k = 0; k < count; k++) {
-    s2u_square at;
-    if (s2u_square_of(ids[k], &at) != S2U_OK) continue;
-    const int parts = at.size > S2U_GEO_SIDE / 8 ? (int)(at.size / (S2U_GEO_SIDE / 8)) : 1; /* along a side */
-    const double side = (double)at.size / parts;
-    for (int part = 0; part < parts * parts; part++)
-      sum += s2u_geo_area_of_square(at.i + part / parts * side, at.j + part % parts * side, side);
-  }
+  for (size_t k = 0; k < count; k++) sum += s2u_geo_area_of_cell(ids[k]);
   return sum * S2U_GEO_EARTH * S2U_GEO_EARTH;
 }
 

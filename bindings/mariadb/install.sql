@@ -18,6 +18,7 @@ CREATE FUNCTION s2_cell RETURNS INTEGER SONAME 's2union_mariadb.so';
 CREATE FUNCTION s2_leaf_at RETURNS INTEGER SONAME 's2union_mariadb.so';
 CREATE FUNCTION s2_longitude RETURNS REAL SONAME 's2union_mariadb.so';
 CREATE FUNCTION s2_latitude RETURNS REAL SONAME 's2union_mariadb.so';
+CREATE FUNCTION s2_area RETURNS REAL SONAME 's2union_mariadb.so';
 CREATE FUNCTION s2_token RETURNS STRING SONAME 's2union_mariadb.so';
 CREATE FUNCTION s2_tokens RETURNS STRING SONAME 's2union_mariadb.so';
 CREATE FUNCTION s2_normalise RETURNS STRING SONAME 's2union_mariadb.so';

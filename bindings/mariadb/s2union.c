@@ -241,26 +241,41 @@ NUMBER(s2_common_ancestor, "cc", FOUND(s2u_common_ancestor(a->cell, a[1].cell)))
 NUMBER(s2_cell, "c", FOUND(a->cell))
 NUMBER(s2_leaf_at, "dd", FOUND(s2u_geo_leaf(a->degrees, a[1].degrees)))
 
-/* ---- degrees of the middle of a cell */
+/* ---- degrees of the middle of a cell, and the area of a union: `call` sets `answer`, and says whether there is one */
 
 enum { LONGEST_DOUBLE = 24, ALL_DECIMALS = 31 };
 
-#define MIDDLE(name, of)                                                                            \
+#define MEASURE(name, letters, call)                                                                \
   flag name##_init(UDF_INIT* it, UDF_ARGS* args, char* message) {                                    \
     it->decimals = ALL_DECIMALS;                                                                     \
-    return begin(it, args, "c", LONGEST_DOUBLE, message);                                            \
+    return begin(it, args, letters, LONGEST_DOUBLE, message);                                        \
   }                                                                                                  \
   void name##_deinit(UDF_INIT* it) { end(it); }                                                      \
   double name(UDF_INIT* it, UDF_ARGS* args, flag* is_null, flag* error) {                            \
     (void)error;                                                                                     \
-    double longitude = 0, latitude = 0;                                                              \
+    double answer = 0;                                                                               \
     argument a[MOST_ARGUMENTS] = {{0}};                                                              \
-    *is_null = (flag)!(are_read(it, args, "c", a) && s2u_geo_middle(a->cell, &longitude, &latitude) == S2U_OK); \
-    return of;                                                                                       \
+    *is_null = (flag)!(are_read(it, args, letters, a) && (call));                                    \
+    give_back(a);                                                                                    \
+    return answer;                                                                                   \
   }
 
-MIDDLE(s2_longitude, longitude)
-MIDDLE(s2_latitude, latitude)
+static int found_middle(const argument* a, int is_latitude, double* degrees) {
+  double longitude, latitude;
+  if (s2u_geo_middle(a->cell, &longitude, &latitude) != S2U_OK) return 0;
+  *degrees = is_latitude ? latitude : longitude;
+  return 1;
+}
+/* Of the union of the cells, so that each place counts once. */
+static int found_area(argument* a, double* area) {
+  if (s2u_normalise(a->ids, a->n, &a->n) != S2U_OK) return 0;
+  *area = s2u_geo_area(a->ids, a->n);
+  return 1;
+}
+
+MEASURE(s2_longitude, "c", found_middle(a, 0, &answer))
+MEASURE(s2_latitude, "c", found_middle(a, 1, &answer))
+MEASURE(s2_area, "l", found_area(a, &answer))
 
 /* ---- texts and unions: `call` makes one in memory of its own, and sets `len` */
 

@@ -50,6 +50,19 @@ Datum s2_latitude(PG_FUNCTION_ARGS) {
   PG_RETURN_FLOAT8(latitude);
 }
 
+/* The sum of s2u_geo_area, which is cancelled between two cells. */
+PG_FUNCTION_INFO_V1(s2_area);
+Datum s2_area(PG_FUNCTION_ARGS) {
+  S2Union* region = ARGUMENT(0);
+  size_t n = count_of(region);
+  double sum = 0;
+  for (size_t k = 0; k < n; k++) {
+    CHECK_FOR_INTERRUPTS();
+    sum += s2u_geo_area_of_cell(region->cells[k]);
+  }
+  PG_RETURN_FLOAT8(sum * S2U_GEO_EARTH * S2U_GEO_EARTH);
+}
+
 PG_FUNCTION_INFO_V1(s2_box);
 Datum s2_box(PG_FUNCTION_ARGS) {
   int64 cell = PG_GETARG_INT64(0);

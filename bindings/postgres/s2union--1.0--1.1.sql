@@ -1,5 +1,5 @@
 -- s2union 1.1: what came after 1.0. A text names a cell in each function that takes one. What is here is in
--- s2union--1.4.1.sql too, which has everything.
+-- s2union--1.5.0.sql too, which has everything.
 
 \echo Use "ALTER EXTENSION s2union UPDATE" to load this file. \quit
 

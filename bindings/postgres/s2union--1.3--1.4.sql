@@ -1,1 +1,1 @@
--- s2union 1.4: no function came after 1.3, which was s2union--1.4.1.sql with another first line.
+-- s2union 1.4: no function came after 1.3, which was s2union--1.5.0.sql with another first line.

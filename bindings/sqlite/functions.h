@@ -116,6 +116,9 @@ static const char* const listed[][4] = {
   {"s2_bounds", "region",
    "the west, south, east and north of a union in degrees; over the date line the east is less than the "
    "west. NULL without cells. A list of JSON: `s2_bounds(region) ->> 0` is the west", "s2union_geo"},
+  {"s2_area", "region",
+   "the area of a union in square kilometers, on a sphere with the earth's mean radius; since 1.5. The "
+   "earth is flattened, so an area there differs by less than 1 percent", "s2union_geo"},
   {"s2_covers", "shape, longitude, latitude",
    "whether a shape in WKB has a place in degrees, on its border too. Errors: those of s2_covering and "
    "of s2_leaf_at", "s2union_geo"},

@@ -152,7 +152,7 @@ static void cover(sqlite3_context* c, int n, sqlite3_value** v, int is_outer) {
   refuse(c, code, text);
 }
 
-/* ---- the cells around cells, and the box around a region */
+/* ---- the cells around cells, and the box and the area of a region */
 
 /* The cells of a region, as in the extension s2union: of a union file, of tokens in a TEXT, or one. The caller frees
  * them, also after an error. */
@@ -232,6 +232,17 @@ static void bounds_function(sqlite3_context* c, int n, sqlite3_value** v) {
     char* text = sqlite3_mprintf("[%!.17g,%!.17g,%!.17g,%!.17g]", box.west, box.south, box.east, box.north);
     text ? sqlite3_result_text(c, text, -1, sqlite3_free) : sqlite3_result_error_nomem(c);
   }
+}
+
+/* Of the union of the cells, so that each place counts once. */
+static void area_function(sqlite3_context* c, int n, sqlite3_value** v) {
+  s2u_cover_cells region = {NULL, 0}, none = {NULL, 0};
+  if (sqlite3_value_type(v[0]) == SQLITE_NULL) return;
+  int32_t status = region_of(v[0], &region);
+  if (status == S2U_OK) status = s2u_normalise(region.ids, region.count, &region.count);
+  if (status == S2U_OK) sqlite3_result_double(c, s2u_geo_area(region.ids, region.count));
+  else result_around(c, status, v[0], &none);
+  s2u_cover_free(&region);
 }
 
 static void covering_function(sqlite3_context* c, int n, sqlite3_value** v) { cover(c, n, v, 1); }
@@ -421,6 +432,7 @@ int sqlite3_sunion_geo_init(sqlite3* db, char** error, const sqlite3_api_routine
     {"s2_neighbors", 2, neighbors_function},
     {"s2_expanded", 2, expanded_function},
     {"s2_bounds", 1, bounds_function},
+    {"s2_area", 1, area_function},
     {"s2_covers", 3, covers_function},
     {"s2_clip", 2, clip_function},
   };

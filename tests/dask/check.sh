@@ -89,7 +89,7 @@ int s2u_tokens(const void* ids, size_t n, char* text, size_t room, size_t* len) 
     grep S2U_MANY said
 )
 shapes_of_r() ( # the cells of shapes, and the names and places of errors, which tests/model/shapes.py has of Python
-  cd "$work" && /usr/bin/python3 -m model.shapes | grep -P '^(wkb|rings|neighbors|expanded|bounds)\t' >shapes &&
+  cd "$work" && /usr/bin/python3 -m model.shapes | grep -P '^(wkb|rings|neighbors|expanded|bounds|area)\t' >shapes &&
     Rscript - <<'R'
 library(s2union)
 bytes <- function(hex) {
@@ -119,14 +119,15 @@ region <- function(text) { # of numbers, as tokens that have each digit
   s2u_from_tokens(sprintf("%s%s", strrep("0", 16 - nchar(ids)), ids))
 }
 around <- function(call, cell, level) { # the answer to a question of cells, as it stands there
-  if (call != "bounds") return(cells((if (call == "neighbors") s2u_neighbors else s2u_expanded)(cell, level)))
-  sides <- s2u_bounds(cell)
-  if (is.null(sides)) "none" else paste(writeBin(unname(sides), raw(), endian = "big"), collapse = "")
+  if (!call %in% of_one) return(cells((if (call == "neighbors") s2u_neighbors else s2u_expanded)(cell, level)))
+  found <- (if (call == "bounds") s2u_bounds else s2u_area)(cell)
+  if (is.null(found)) "none" else paste(writeBin(unname(found), raw(), endian = "big"), collapse = "")
 }
+of_one <- c("bounds", "area") # which take no level
 for (line in strsplit(readLines("shapes"), "\t")) {
-  if (line[1] %in% c("neighbors", "expanded", "bounds")) {
+  if (line[1] %in% c("neighbors", "expanded", of_one)) {
     said <- tryCatch(around(line[1], region(line[2]), as.numeric(line[3])), s2union_error = name)
-    wanted <- c(line[-seq_len(if (line[1] == "bounds") 2 else 3)], "")[1]
+    wanted <- c(line[-seq_len(if (line[1] %in% of_one) 2 else 3)], "")[1]
     if (!identical(said, wanted)) stop(paste(c(line[1:3], "wanted", wanted, "said", said), collapse = "\n"))
     asked <- asked + 1
     next

@@ -324,7 +324,7 @@ SELECT GeometryType(cells), left(text, 22), outside @> s2_leaf_at(2, 48), s2_cou
 DROP DATABASE updated;
 SQL
 """).splitlines()
-        self.assertEqual(said[:2], ["1.4.1", 'MULTIPOLYGON|{"type":"MultiPolygon"|t|0'])
+        self.assertEqual(said[:2], ["1.5.0", 'MULTIPOLYGON|{"type":"MultiPolygon"|t|0'])
         middle = 2 + len(said[2:]) // 2
         self.assertEqual(said[2:middle], said[middle:])
         self.assertGreater(middle, 100)

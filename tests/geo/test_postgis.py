@@ -78,7 +78,7 @@ class PostGIS(unittest.TestCase):
         self.said("CREATE EXTENSION s2union_postgis CASCADE")
         whole = self.said(CATALOGUE)
         folder = Path(os.environ["EXTENSIONS"])
-        text = (folder / "s2union_postgis--1.4.1.sql").read_text()
+        text = (folder / "s2union_postgis--1.5.0.sql").read_text()
         begin = text.index("CREATE OR REPLACE FUNCTION s2_has_degrees(srid")
         script = folder / "s2union_postgis--1.4.sql"
         script.write_text(text[:begin] + DEGREES_1_4)

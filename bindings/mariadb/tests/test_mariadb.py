@@ -66,7 +66,7 @@ TAKES = {
                      "s2_latitude"), (CELL_OF,)),
     **dict.fromkeys(("s2_covering", "s2_interior"), (SHAPE, COUNT, DEPTH)),
     **dict.fromkeys(("s2_parent", "s2_child"), (CELL_OF, NUMBER)),
-    "s2_neighbors": (CELL_OF, DEPTH), "s2_expanded": (UNION, NUMBER), "s2_bounds": (UNION,),
+    "s2_neighbors": (CELL_OF, DEPTH), "s2_expanded": (UNION, NUMBER), "s2_bounds": (UNION,), "s2_area": (UNION,),
     "s2_common_ancestor": (CELL_OF, CELL_OF), "s2_leaf_at": (DEGREE, DEGREE), "s2_is_cell": (ANY,),
     "s2_is_union": (ANY,),
 }
@@ -76,7 +76,7 @@ LEAST = dict.fromkeys((*SHAPED, "s2_neighbors"), 1)  # arguments, if some may be
 BESIDE = {"s2_contains_cell": "s2_contains", "s2_intersects_cell": "s2_intersects"}
 TEXTS_OF = {"s2_union", "s2_intersection", "s2_difference", "s2_symmetric_difference", "s2_complement", "s2_normalise",
             "s2_token", "s2_tokens", "s2_expanded", *LEAST}
-READ_BY = {"s2_longitude": float, "s2_latitude": float, "s2_bounds": json.loads}
+READ_BY = {"s2_longitude": float, "s2_latitude": float, "s2_area": float, "s2_bounds": json.loads}
 
 
 def as_sqlite_has_it(name, kind, value):
@@ -257,7 +257,7 @@ class BesideSqlite(MariadbServer):
         for call in (f"length(s2_covering(x'{SQUARE.hex()}', 500))", f"s2_interior(x'{LINE.hex()}', 500)",
                      f"s2_covering(x'{SQUARE[:-1].hex()}')", "length(s2_union(u, w))", "length(s2_complement(u))",
                      "length(s2_tokens(u))", "length(s2_normalise(t))", "s2_contains(u, t)", "s2_contains(w, u)",
-                     "s2_union(u, 'x')", "s2_count(w)", "s2_intersects_cell(t, 1)", "s2_bounds(u)",
+                     "s2_union(u, 'x')", "s2_count(w)", "s2_intersects_cell(t, 1)", "s2_bounds(u)", "s2_area(w)",
                      "s2_neighbors('1', 9)", "s2_neighbors('1', 30)", "s2_expanded(u, 30)"):
             before = self.resident()
             self.ask(f"USE trial; SELECT BENCHMARK(300, {call}) FROM large")

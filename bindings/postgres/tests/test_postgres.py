@@ -1519,6 +1519,11 @@ class Shapes(Tests):
         self.assertEqual(psql("SELECT s2_bounds('7')::numeric(9, 3)[], (s2_bounds('5'))[2]::numeric(9, 3),"
                               " s2_bounds('1 3')::numeric(9, 3)[], s2_bounds('') IS NULL"),
                          ["{135.000,-45.000,-135.000,45.000}|35.264|{-45.000,-45.000,135.000,45.000}|t"])
+        self.assertEqual(psql("SELECT round(s2_area('3')), abs(s2_area('3') * 6 / (4 * pi() * 6371.01 ^ 2) - 1) < 1e-9,"
+                              " s2_area(''), s2_area(NULL) IS NULL, round(s2_area(s2_cell('1')::s2union)),"
+                              " abs(s2_area('89c25') / (SELECT sum(s2_area(cell::s2union)) FROM"
+                              " unnest(s2_cells('89c25', 14)) AS cell) - 1) < 1e-12"),
+                         ["85011012|t|0|t|85011012|t"])
         for call, said in (("s2_neighbors(2)", "not a cell: 2"), ("s2_neighbors('zz')", "not a cell"),
                            ("s2_neighbors('1', 18)", "too many cells: 18"),
                            ("s2_neighbors(1, -1)", "out of range: -1"), ("s2_neighbors('1', 31)", "out of range: 31"),

@@ -132,7 +132,7 @@ class Strangers(unittest.TestCase):
         for first, traps in BEFORE.items():
             for trap in traps:
                 trapped = f"BEGIN; {trap}; "
-                for version in sorted({first, "1.4", "1.4.1"}):
+                for version in sorted({first, "1.4", "1.4.1", "1.5.0"}):
                     self.refused(f"{trapped} CREATE EXTENSION s2union_geo VERSION '{version}' SCHEMA trap")
                 if first == "1.4":
                     self.refused(f"BEGIN; CREATE EXTENSION s2union_geo VERSION '1.3' SCHEMA trap; {trap}; "

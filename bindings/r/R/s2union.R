@@ -65,6 +65,8 @@ s2u_bounds <- function(x) {
   if (sides[2] <= sides[4]) structure(sides, names = c("west", "south", "east", "north"))
 }
 
+s2u_area <- function(x) .Call(C_area, cells_of(x))
+
 bytes_of <- function(bytes) if (is.raw(bytes)) bytes else stop("not a raw vector")
 
 # The vector of cells that an argument is.

@@ -3,7 +3,7 @@
 \alias{s2u_symmetric_difference} \alias{s2u_contains} \alias{s2u_intersects} \alias{s2u_contains_cells}
 \alias{s2u_intersects_cells} \alias{s2u_tokens} \alias{s2u_from_tokens} \alias{s2u_encode} \alias{s2u_decode}
 \alias{s2u_file_contains_cells} \alias{s2u_leaf} \alias{s2u_covering} \alias{s2u_interior} \alias{s2u_coverings}
-\alias{s2u_neighbors} \alias{s2u_expanded} \alias{s2u_bounds}
+\alias{s2u_neighbors} \alias{s2u_expanded} \alias{s2u_bounds} \alias{s2u_area}
 \title{Unions of S2 cells}
 \description{A region is a set of leaf cells, the cells of level 30. It has exactly one list of cells, in which no two
 share a leaf and no four are the children of one cell, and exactly one union file and one text.}
@@ -29,6 +29,7 @@ s2u_coverings(shape, ...)
 s2u_neighbors(cell, level = NULL)
 s2u_expanded(x, level)
 s2u_bounds(x)
+s2u_area(x)
 }
 \arguments{
 \item{x, y}{regions: each an \code{s2_cell} vector in any order, or an \code{s2_cell_union} of length 1.}
@@ -62,7 +63,8 @@ mm at most. \code{s2u_neighbors} returns the cells of the level that touch the c
 and \code{s2u_expanded} the region with the cells of the level that touch it; of its cells that are deeper, those of
 the level that have them are taken. \code{s2u_bounds} returns the \code{west}, \code{south}, \code{east} and
 \code{north} of a region in degrees, or \code{NULL} without cells; over the date line the east is less than the west.
-These three are tested beside S2, not proved.}
+\code{s2u_area}, since 1.5, returns the area of a region in square kilometers, on a sphere with the earth's mean radius.
+The earth is flattened, so an area there differs by less than 1 percent. These four are tested beside S2, not proved.}
 \section{Errors}{A wrong value is a condition of class \code{s2union_error}, and of a class with the name of the
 library's status: \code{S2U_NO_CELL} (\code{place} is that of the number, or the byte at which the word begins, from 1
 on), \code{S2U_FILE_SHORT}, \code{S2U_FILE_VERSION}, \code{S2U_FILE_TRAILING}, \code{S2U_FILE_CELL},
@@ -81,4 +83,5 @@ lawn <- s2u_difference(s2u_from_tokens("04 0c 14 1c"), s2u_from_tokens("14"))
 s2u_tokens(lawn)
 park <- s2u_covering(list(cbind(c(2, 3, 3, 2), c(48, 48, 49, 48))), max_cells = 20)
 s2u_contains_cells(park, s2u_leaf(c(2.9, 2.1), c(48.5, 48.9)))
+round(s2u_area(lawn) / s2u_area(s2u_from_tokens("1")), 2)
 }

@@ -271,12 +271,17 @@ static SEXP r_bounds(SEXP x) { /* west, south, east, north; of no cell the south
   return sides;
 }
 
+static SEXP r_area(SEXP x) {
+  list whole = region(x);
+  return Rf_ScalarReal(s2u_geo_area(whole.ids, whole.n));
+}
+
 #define CALL(name, arguments) {#name, (DL_FUNC)r_##name, arguments}
 static const R_CallMethodDef calls[] = {CALL(normalise, 1), CALL(union, 2), CALL(intersection, 2), CALL(difference, 2),
   CALL(symmetric_difference, 2), CALL(contains, 2), CALL(intersects, 2), CALL(contains_cells, 2),
   CALL(intersects_cells, 2), CALL(tokens, 1), CALL(from_tokens, 1), CALL(encode, 1), CALL(decode, 1),
   CALL(file_contains_cells, 2), CALL(leaf, 2), CALL(cover_wkb, 3), CALL(cover_rings, 5),
-  CALL(neighbors, 2), CALL(expanded, 2), CALL(bounds, 1), {NULL, NULL, 0}};
+  CALL(neighbors, 2), CALL(expanded, 2), CALL(bounds, 1), CALL(area, 1), {NULL, NULL, 0}};
 void R_init_s2union(DllInfo* library) {
   R_registerRoutines(library, NULL, calls, NULL, NULL);
   R_useDynamicSymbols(library, FALSE);

@@ -25,6 +25,7 @@ for (k in 1:300) {
     identical(s2u_decode(s2u_encode(a)), s2u_normalise(x)),
     identical(list(s2u_tokens(a), s2u_encode(a), s2u_bounds(a), s2u_expanded(a, 3), s2u_contains_cells(a, b)),
               list(s2u_tokens(x), s2u_encode(x), s2u_bounds(x), s2u_expanded(x, 3), s2u_contains_cells(x, b))),
+    identical(s2u_area(a), s2u_area(x)), all.equal(s2u_area(a), sum(s2_cell_area(unclass(x)[[1]])) / 1e6, 1e-9),
     identical(s2u_tokens(x), paste(as.character(unclass(x)[[1]]), collapse = " ")),
     identical(s2u_intersects_cells(a, b), s2u_intersects_cells(x, b)),
     identical(s2u_normalise(s2u_from_tokens(s2u_tokens(a))), s2u_normalise(x)))
@@ -87,16 +88,19 @@ stopifnot(s2u_tokens(near) == "89c21 89c23 89c27 89c29 89c2f 89c31 89c3b 89c3d",
           identical(s2u_neighbors(cell, 8), near), identical(s2u_expanded(cell, 8), s2u_union(cell, near)),
           all(s2_cell_edge_neighbour(cell, 0:3) %in% near), length(s2u_neighbors(cell, 10)) == 20,
           identical(names(behind), c("west", "south", "east", "north")), all(round(behind) == c(135, -45, -135, 45)),
-          is.null(s2u_bounds(nothing)), length(s2u_expanded(nothing, 3)) == 0)
+          is.null(s2u_bounds(nothing)), length(s2u_expanded(nothing, 3)) == 0,
+          all.equal(s2u_area(face), 4 * pi * 6371.01^2 / 6, 1e-13), identical(s2u_area(nothing), 0))
 refused(s2u_neighbors(none[2]), "S2U_NO_CELL", 1)
 refused(s2u_neighbors(none[3]), "S2U_NO_CELL", 1)
 refused(s2u_bounds(none), "S2U_NO_CELL", 2)
+refused(s2u_area(none), "S2U_NO_CELL", 2)
 for (level in c(-1, 7, 31, 8.5, 2^32, NaN, Inf, NA)) refused(s2u_neighbors(cell, level), "S2U_ARGUMENT")
 for (level in c(-1, 31, 8.5, NaN)) refused(s2u_expanded(cell, level), "S2U_ARGUMENT")
 refused(s2u_neighbors(face, 18), "S2U_MANY")
 refused(s2u_expanded(face, 20), "S2U_MANY")
 for (wrong in list(quote(s2u_neighbors(near)), quote(s2u_neighbors(nothing)), quote(s2u_neighbors(cell, "8")),
                    quote(s2u_neighbors("89c25")), quote(s2u_expanded(cell)), quote(s2u_bounds(1)),
+                   quote(s2u_area(1)),
                    quote(s2u_leaf(1:3, 1:2)), quote(s2u_leaf("1", 2))))
   stopifnot(inherits(try(eval(wrong), TRUE), "try-error"))
 refused(s2u_leaf(c(0, 541), 0), "S2U_COVER_NUMBER", 2)
@@ -124,11 +128,11 @@ twice <- c(replace(s2u_encode(many), 2, as.raw(91)), tail(s2u_encode(many), 8))
 gctorture()
 made <- list(s2u_file_contains_cells(twice, asked), s2u_decode(twice), s2u_encode(many))
 covered <- list(s2u_covering(wkb, 9), s2u_interior(list(square), 9), s2u_leaf(2, 48))
-around <- list(s2u_neighbors(cell), s2u_expanded(cell, 8), s2u_bounds(face))
+around <- list(s2u_neighbors(cell), s2u_expanded(cell, 8), s2u_bounds(face), s2u_area(many))
 refused(s2u_interior(list(square, hole[-5, ])), "S2U_COVER_OPEN", 4)
 refused(s2u_union(many, none), "S2U_NO_CELL", 2)
 gctorture(FALSE)
 stopifnot(identical(made, list(rep(TRUE, 720), many, s2u_encode(many))),
-          identical(around, list(near, s2u_union(cell, near), s2u_bounds(face))),
+          identical(around, list(near, s2u_union(cell, near), s2u_bounds(face), s2u_area(many))),
           identical(covered, list(s2u_covering(list(square), 9), s2u_interior(wkb, 9), s2u_leaf(2, 48))))
 for (k in 1:60000) stopifnot(s2u_encode(face)[1] == 1, s2u_file_contains_cells(twice, many[1])) # nothing stays so

@@ -53,8 +53,8 @@ def test_bytes_that_the_heap_has_no_room_for():
     bytes_ = "zeroblob(100000000)"
     calls = [f"s2_covers({bytes_}, 1, 2)", f"s2_covering({bytes_})", f"s2_interior({bytes_}, 8, 9)",
              f"s2_clip({bytes_}, 1)", f"s2_join_tiles({bytes_}, 3)", f"s2_expanded({bytes_}, 3)",
-             f"s2_bounds({bytes_})", f"s2_union({bytes_}, 1)", f"s2_tokens({bytes_})", f"s2_contains({bytes_}, 1)",
-             f"s2_is_union({bytes_})",
+             f"s2_bounds({bytes_})", f"s2_area({bytes_})", f"s2_union({bytes_}, 1)", f"s2_tokens({bytes_})",
+             f"s2_contains({bytes_}, 1)", f"s2_is_union({bytes_})",
              f"s2_tiles({bytes_}, 3)", f"s2_union_agg({bytes_})"]
     done = subprocess.run([sys.executable, "-c", WITHOUT_ROOM, EXTENSION, os.environ["S2UNION_SQLITE"], *calls],
                           capture_output=True, text=True, check=False)
@@ -95,7 +95,9 @@ LATITUDE = "s2: a latitude is a number from -90 to 90 (the longitude comes first
     ("s2_expanded('1', 30)", (), "s2: too many cells: 30"), ("s2_expanded(2, 3)", (), "s2: not a cell: 2"),
     ("s2_bounds(x'')", (), "s2: union file: bytes are missing: a BLOB of length 0"),
     ("s2_bounds(x'010100000000000000')", (), "s2: union file: bytes are missing: a BLOB of length 9"),
-    ("s2_bounds(1.5)", (), "s2: not a cell: 1.5")])
+    ("s2_bounds(1.5)", (), "s2: not a cell: 1.5"), ("s2_area(1.5)", (), "s2: not a cell: 1.5"),
+    ("s2_area('1 x')", (), "s2: not a cell: '1 x'"), ("s2_area(2)", (), "s2: not a cell: 2"),
+    ("s2_area(x'01')", (), "s2: union file: bytes are missing: a BLOB of length 1")])
 def test_what_is_refused(call, values, wanted):
     with contextlib.closing(opened()) as db, pytest.raises(sqlite3.OperationalError) as caught:
         db.execute(f"SELECT {call}", values).fetchone()
@@ -129,19 +131,21 @@ class Points(unittest.TestCase):
         for call in ("s2_leaf_at(NULL, 1)", "s2_leaf_at(1, NULL)", "s2_leaf_at(NULL, 91)", "s2_longitude(NULL)",
                      "s2_latitude(NULL)", "s2_covering(NULL)", "s2_interior(x'', NULL)", "s2_covering(x'', 9, NULL)",
                      "s2_neighbors(NULL)", "s2_neighbors(2, NULL)", "s2_neighbors(NULL, 99)", "s2_neighbors(1, 29)",
-                     "s2_expanded(NULL, 99)", "s2_expanded(2, NULL)", "s2_bounds(NULL)", "s2_bounds('')"):
+                     "s2_expanded(NULL, 99)", "s2_expanded(2, NULL)", "s2_bounds(NULL)", "s2_bounds('')",
+                     "s2_area(NULL)"):
             self.assertEqual(self.said(call), (None,))
         self.assertEqual(self.said("s2_leaf_at(?, 1)", math.nan), (None,))  # which SQLite has as NULL
 
     def test_cells_that_there_are_not(self):
         """Asked of each function that SQLite lists."""
         names = {name for name, in self.db.execute("SELECT name FROM pragma_function_list WHERE name LIKE 's2%'")}
-        take_other = {"s2_leaf_at", "s2_covering", "s2_interior", "s2_covers", "s2_clip", "s2_expanded", "s2_bounds"}
+        take_other = {"s2_leaf_at", "s2_covering", "s2_interior", "s2_covers", "s2_clip", "s2_expanded", "s2_bounds",
+                      "s2_area"}
         for name in names - take_other:
             for wrong in NO_CELLS:
                 with self.assertRaisesRegex(sqlite3.OperationalError, "^s2: not a cell: "):
                     self.said(f"{name}(?)", wrong)
-        self.assertEqual(len(names), 10)
+        self.assertEqual(len(names), 11)
 
     def test_coverings(self):
         """Of a square, in both orders of bytes: places in it and beside it, how many cells, and how deep."""
@@ -183,6 +187,21 @@ class Points(unittest.TestCase):
                                    ("1 3", [-45, -45, 135, 45])):
                 (box,) = said("s2_bounds(?)", region)
                 self.assertEqual([round(side) for side in json.loads(box)], wanted)
+
+    def test_areas(self):
+        """A face is a sixth of the sphere. Of a BLOB, a TEXT and a cell; of cells that share a place, which counts
+        once; a cell has the area of its children."""
+        self.assertAlmostEqual(self.said("s2_area('3') * 6")[0] / (4 * math.pi * 6371.01**2), 1, places=13)
+        twice = bytes([1, 2, *bytes(7), *bytes(7), 0x10, *bytes(7), 0x14])  # the face 1, and a child of it
+        for region in ("'1'", "0x1000000000000000", "x'010100000000000000" + "0000000000000010'", "'0/ 14 1'",
+                       "'04 0c 14 1c'", f"x'{twice.hex()}'"):
+            self.assertEqual(self.said(f"round(s2_area({region}))"), (85011012,), region)
+        self.assertEqual(self.said("s2_area('')"), (0,))
+        for cell in ("89c25", "89c259a3"):  # of levels 8 and 14
+            begin = int(cell.ljust(16, "0"), 16)
+            step = (begin & -begin) // 4
+            parts = [self.said("s2_area(?)", begin + place * step - 2**64)[0] for place in (-3, -1, 1, 3)]
+            self.assertAlmostEqual(self.said("s2_area(?)", cell)[0] / sum(parts), 1, places=12)
 
     def test_an_index(self):
         """The functions are deterministic, so an index and a generated column may have them."""

@@ -65,7 +65,8 @@ MISTAKES = (
             "  s2u_square_of(cell, &square);\n  int32_t status = S2U_OK;\n"
             "  s2u_geo_middle_of_square(&square, &longitude"),
     Mistake("the_area_of_no_cell", "geo_area", "s2union_geo.h",
-            "if (s2u_square_of(ids[k], &at) != S2U_OK) continue;", "s2u_square_of(ids[k], &at);"),
+            "  s2u_square at;\n  if (s2u_square_of(cell, &at) != S2U_OK) return 0;",
+            "  s2u_square at;\n  s2u_square_of(cell, &at);"),
     Mistake("a_ninth_node", "geo_area", "s2union_geo.h", "(1 << 18) ? 8 : 6;", "(1 << 18) ? 9 : 6;"),
     Mistake("a_place_far_beyond_the_face", "geo_leaf_beside", "s2union_geo.h",
             "if (!is_i && !is_j) return 0;", "if (!is_i && !is_j) return (uint64_t)(1 << (int)i);"),

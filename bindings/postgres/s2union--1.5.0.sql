@@ -1,4 +1,4 @@
--- s2union 1.4.1, whole: what CREATE EXTENSION makes. README.md says what each function does, in the words of its
+-- s2union 1.5.0, whole: what CREATE EXTENSION makes. README.md says what each function does, in the words of its
 -- comment. From an earlier version an upgrade leads to the same; bindings/postgres/tests compares them.
 
 \echo Use "CREATE EXTENSION s2union" to load this file. \quit

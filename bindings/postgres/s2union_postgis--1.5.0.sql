@@ -1,5 +1,5 @@
--- s2union_postgis 1.4.1. docs/GEO.md says what each function does, in the words of its comment. The Makefile makes of
--- it what leads there from 1.3 and 1.4, so it replaces those functions, which keep the names of their arguments.
+-- s2union_postgis 1.5.0. docs/GEO.md says what each function does, in the words of its comment. The Makefile makes of
+-- it what leads there from 1.3, 1.4 and 1.4.1, so it replaces those functions, which keep the names of their arguments.
 
 \echo Use "CREATE EXTENSION s2union_postgis" to load this file. \quit
 

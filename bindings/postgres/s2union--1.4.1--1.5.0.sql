@@ -1,0 +1,1 @@
+-- s2union 1.5.0: no function came after 1.4.1, which was s2union--1.5.0.sql with another first line.
