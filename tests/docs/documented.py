@@ -1,10 +1,11 @@
 """Runs the examples of a page, and compares what they say with what the page shows.
 
-documented.py [--script] [--python] [--only MODULE] PAGE [COMMAND..]: all ```sql blocks, or ```python blocks, in one
-session, each with the ```text block that follows it. COMMAND reads the session (if there is none, sqlite3, without its
-user's settings, or python3); --script prints it. A block that begins with ```python MODULE is left out where that
-isn't; --only runs those of one MODULE alone. S2UNION_FIRST and S2UNION_SHARD are the folders of the sockets /run/first
-and /run/shard.
+documented.py [--script] [--python] [--released] [--only MODULE] PAGE [COMMAND..]: all ```sql blocks, or ```python
+blocks, in one session, each with the ```text block that follows it. COMMAND reads the session (if there is none,
+sqlite3, without its user's settings, or python3); --script prints it. A block that begins with ```python MODULE is left
+out where that isn't; --only runs those of one MODULE alone. --released leaves out those that come with a later version
+than dist/ has: the paragraph before says since which. S2UNION_FIRST and S2UNION_SHARD are the folders of the sockets
+/run/first and /run/shard.
 documented.py --shell PAGE UNTIL: the commands after the prompts of the ```text blocks, as far as the heading UNTIL, in
 one folder, which has docs/ and the calculator that S2CALC names.
 The last line is 'N passed, M failed'.
@@ -19,6 +20,7 @@ import tempfile
 
 sys.path.append(os.path.join(os.path.dirname(os.path.dirname(os.path.realpath(__file__))), "geo"))
 from page import commands, furnish, output  # noqa: E402
+from released import is_announced  # noqa: E402
 
 MARK = "== end of example"
 
@@ -28,11 +30,15 @@ def text_of(page):
         return file.read()
 
 
-def examples(page, language, only):
+def examples(page, language, only, is_released):
     block = rf"^```{language}(?: (\w+))?\n(.*?)^```\n(?:\n```text\n(.*?)^```\n)?"
-    found = re.findall(block, text_of(page), re.DOTALL | re.M)
-    return [(code, wanted) for module, code, wanted in found
-            if (module == only if only else not module or importlib.util.find_spec(module))]
+    text = text_of(page)
+    for match in re.finditer(block, text, re.DOTALL | re.M):
+        module, code, wanted = match.groups("")
+        paragraph = text[: match.start()].rstrip().rpartition("\n\n")[2]
+        is_left_out = is_released and is_announced(paragraph + code)
+        if not is_left_out and (module == only if only else not module or importlib.util.find_spec(module)):
+            yield code, wanted
 
 
 def session(blocks, mark):
@@ -64,11 +70,11 @@ def in_shell(page, until):
 def main(arguments):
     if arguments[0] == "--shell":
         return in_shell(*arguments[1:])
-    options = [word for word in arguments if word in ("--script", "--python")]
+    options = [word for word in arguments if word in ("--script", "--python", "--released")]
     only = arguments[len(options) + 1] if arguments[len(options)] == "--only" else None
     page, *command = arguments[len(options) + 2 * bool(only):]
     is_python = "--python" in options
-    blocks = examples(page, "python" if is_python else "sql", only)
+    blocks = list(examples(page, "python" if is_python else "sql", only, "--released" in options))
     mark = f"print({MARK!r})" if is_python else f"\\echo {MARK}" if command else f".print {MARK}"
     script = session(blocks, mark)
     for place in ("first", "shard"):

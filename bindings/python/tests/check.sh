@@ -75,8 +75,14 @@ else
   echo "       mypy is not there: the types are not tested"
 fi
 step "$page" python -m doctest "$top/$page"
+released() ( # PAGE: its examples by the wheel that dist/ has, without those that come with a later version
+  [ -d "$work/wheel" ] || /usr/bin/python3 -m zipfile -e "$top"/dist/*manylinux*_x86_64.whl "$work/wheel" || exit
+  PYTHONPATH=$work/wheel PYTHONDONTWRITEBYTECODE=1 \
+    /usr/bin/python3 "$top/tests/docs/documented.py" --python --released "$top/$1"
+)
 for name in README.md docs/COOKBOOK.md; do
   step "$name" python "$top/tests/docs/documented.py" --python "$top/$name"
+  step "$name, by the release" released "$name"
 done
 tutorial() { # its first part, which needs no other package
   python "$top/tests/docs/documented.py" --shell "$top/docs/TUTORIAL.md" "## Part 2: an hour"
