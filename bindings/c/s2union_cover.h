@@ -2360,17 +2360,10 @@ static inline int32_t s2u_cover_wkb(const uint8_t* bytes, size_t size, const s2u
 
 /* ---- boxes, circles and corridors */
 
-/* A box of the map. One that ends to the west of where it begins goes over the date line, and one wider than 360
- * degrees has all longitudes. S2U_ARGUMENT if it ends to the south of where it begins, as the box of no cell does. */
-static inline int32_t s2u_cover_box(double west, double south, double east, double north,
-                                        const s2u_cover_options* options, s2u_cover_cells* outer,
-                                        s2u_cover_cells* inner, s2u_cover_fault* fault) {
+/* The five positions of the ring around a box. */
+static inline int32_t s2u_cover_box_ring(double west, double south, double east, double north, double* positions) {
   const double most = S2U_GEO_MOST_LONGITUDE, from[2] = {west, 0}, to[2] = {east, 0};
   double begin = west, end = east;
-  s2u_cover_cells none = {NULL, 0};
-  if (outer) *outer = none;
-  if (inner) *inner = none;
-  memset(fault, 0, sizeof *fault);
   if (north >= -90 && north < south && south <= 90) return S2U_ARGUMENT;
   if (s2u_cover_is_place(from) && s2u_cover_is_place(to)) {
     if (end < begin) end += 360 * ceil((begin - end) / 360);
@@ -2378,10 +2371,25 @@ static inline int32_t s2u_cover_box(double west, double south, double east, doub
     double back = end > most ? 360 * ceil((end - most) / 360) : 0;
     begin -= back, end -= back;
   }
-  double positions[10] = {begin, south, end, south, end, north, begin, north, begin, south};
+  const double corners[10] = {begin, south, end, south, end, north, begin, north, begin, south};
+  memcpy(positions, corners, sizeof corners);
+  return S2U_OK;
+}
+
+/* A box of the map. One that ends to the west of where it begins goes over the date line, and one wider than 360
+ * degrees has all longitudes. S2U_ARGUMENT if it ends to the south of where it begins, as the box of no cell does. */
+static inline int32_t s2u_cover_box(double west, double south, double east, double north,
+                                        const s2u_cover_options* options, s2u_cover_cells* outer,
+                                        s2u_cover_cells* inner, s2u_cover_fault* fault) {
+  double positions[10];
   s2u_cover_ring ring = {5, 0};
   s2u_cover_shape shape = {positions, &ring, 1};
-  return s2u_cover(&shape, options, outer, inner, fault);
+  s2u_cover_cells none = {NULL, 0};
+  if (outer) *outer = none;
+  if (inner) *inner = none;
+  memset(fault, 0, sizeof *fault);
+  int32_t status = s2u_cover_box_ring(west, south, east, north, positions);
+  return status != S2U_OK ? status : s2u_cover(&shape, options, outer, inner, fault);
 }
 
 #define S2U_COVER_NOISE 1e-14 /* radians: more than places in doubles are wrong by */

@@ -10,7 +10,8 @@
  *
  * A join in a database compares tiles first: coverings by s2union_cover.h, cut at one level, tell most pairs apart. It
  * asks about the clipped shape only where a leaf is in the outer covering and not in the inner one. A program that
- * holds all zones calls s2u_join_zones_of once, and then s2u_join_pairs_of for places. */
+ * holds all zones makes them once, by s2u_join_zones_of or one by one by s2u_join_add_wkb, and then calls
+ * s2u_join_pairs_of for places. */
 #ifndef S2UNION_JOIN_H
 #define S2UNION_JOIN_H
 
@@ -266,7 +267,7 @@ static inline int32_t s2u_join_clip(const uint8_t* bytes, size_t size, uint64_t 
  *
  * A zone is a shape in WKB. A tree over the zones' boxes finds those that may have a place. Of such a zone the edges
  * that are filed at the place's longitude are asked, each as above. They are filed when the first place lies in the
- * box. */
+ * box. Calls end with S2U_MEMORY if S2U_IS_CANCELLED() says so, which s2union_cover.h asks too. */
 
 /* An edge between two positions of a zone; of a point both are the same. */
 typedef struct s2u_join_edge {
@@ -274,7 +275,8 @@ typedef struct s2u_join_edge {
 } s2u_join_edge;
 
 typedef struct s2u_join_zone {
-  s2u_join_bytes bytes; /* the caller's, which stay */
+  s2u_join_bytes bytes; /* the caller's, which stay, or a copy, which goes when edges are filed */
+  int is_copy;
   s2u_cover_bounds box;
   double* positions;    /* NULL before edges are filed */
   s2u_join_edge* edges; /* one slab of longitudes after the other, in each as the shape has them */
@@ -286,10 +288,14 @@ enum { S2U_JOIN_FAN = 8, S2U_JOIN_MOST_LEVELS = 22 };
 /* Zones, and boxes around them. The lowest level of boxes has each zone's own, in the order of the leaves of their
  * middles, and each other level one for S2U_JOIN_FAN boxes below it. */
 typedef struct s2u_join_zones {
-  s2u_join_zone* zones;
-  size_t count, levels, begins[S2U_JOIN_MOST_LEVELS + 1];
+  s2u_cover_list zones; /* of s2u_join_zone */
+  size_t levels, begins[S2U_JOIN_MOST_LEVELS + 1]; /* no levels before boxes are made */
   s2u_cover_list order, boxes; /* the number of each zone that has a position, and all boxes */
 } s2u_join_zones;
+
+static inline s2u_join_zone* s2u_join_zone_at(const s2u_join_zones* it, size_t number) {
+  return (s2u_join_zone*)(void*)it->zones.at + number;
+}
 
 typedef struct s2u_join_pair {
   uint64_t point, zone;
@@ -355,12 +361,19 @@ static inline void s2u_join_close(s2u_join_zone* zone) {
   zone->positions = NULL, zone->edges = NULL, zone->begins = NULL;
 }
 
+/* Frees the bytes of a zone that are its own. */
+static inline void s2u_join_let_go(s2u_join_zone* zone) {
+  if (zone->is_copy) free(zone->bytes.at);
+  zone->bytes.at = NULL, zone->bytes.size = 0, zone->is_copy = 0;
+}
+
 /* Reads a zone and files its edges; a zone that has been read before has S2U_OK. */
 static inline int32_t s2u_join_open(s2u_join_zone* zone) {
   s2u_cover_reader reader;
   s2u_cover_shape shape;
   s2u_cover_fault fault;
   if (zone->positions) return S2U_OK;
+  if (S2U_IS_CANCELLED()) return S2U_MEMORY;
   int32_t status = s2u_cover_open_wkb(zone->bytes.at, zone->bytes.size, &reader, &shape, &fault);
   size_t positions = reader.positions.count;
   s2u_join_edge* edges = status == S2U_OK ? (s2u_join_edge*)malloc((positions + 1) * sizeof(s2u_join_edge)) : NULL;
@@ -370,6 +383,7 @@ static inline int32_t s2u_join_open(s2u_join_zone* zone) {
   }
   free(edges);
   s2u_cover_close(&reader);
+  if (zone->positions) s2u_join_let_go(zone);
   return status != S2U_OK || zone->positions ? status : S2U_MEMORY;
 }
 
@@ -414,20 +428,33 @@ static inline int s2u_join_by_leaf(const void* a, const void* b) {
   return (x > y) - (x < y);
 }
 
+/* No zones. */
+static inline s2u_join_zones s2u_join_none(void) {
+  s2u_join_zones it;
+  memset(&it, 0, sizeof it);
+  it.zones = s2u_cover_list_of(sizeof(s2u_join_zone));
+  it.order = s2u_cover_list_of(sizeof(size_t)), it.boxes = s2u_cover_list_of(sizeof(s2u_cover_bounds));
+  return it;
+}
+
 static inline void s2u_join_free(s2u_join_zones* it) {
-  for (size_t zone = 0; it->zones && zone < it->count; zone++) s2u_join_close(&it->zones[zone]);
-  free(it->zones);
+  for (size_t zone = 0; zone < it->zones.count; zone++) {
+    s2u_join_close(s2u_join_zone_at(it, zone));
+    s2u_join_let_go(s2u_join_zone_at(it, zone));
+  }
+  free(it->zones.at);
   free(it->order.at);
   free(it->boxes.at);
-  memset(it, 0, sizeof *it);
+  *it = s2u_join_none();
 }
 
 /* Orders the zones that have positions by the leaves of their boxes' middles. Whether there is memory. */
 static inline int s2u_join_order(s2u_join_zones* it) {
   s2u_cover_list middles = s2u_cover_list_of(sizeof(s2u_join_leaf));
   int is_fine = 1;
-  for (size_t zone = 0; is_fine && zone < it->count; zone++) {
-    const s2u_cover_bounds* box = &it->zones[zone].box;
+  it->order.count = 0;
+  for (size_t zone = 0; is_fine && zone < it->zones.count; zone++) {
+    const s2u_cover_bounds* box = &s2u_join_zone_at(it, zone)->box;
     if (!(box->west <= box->east)) continue;
     s2u_join_leaf* middle = (s2u_join_leaf*)s2u_cover_add(&middles);
     if (!(is_fine = middle != NULL)) break;
@@ -451,10 +478,11 @@ static inline const s2u_cover_bounds* s2u_join_box(const s2u_join_zones* it, siz
 /* Makes the boxes, level by level. Whether there is memory. */
 static inline int s2u_join_pile(s2u_join_zones* it) {
   size_t below = 0, count = it->order.count;
+  it->boxes.count = 0;
   for (size_t k = 0; k < count; k++) {
     s2u_cover_bounds* box = (s2u_cover_bounds*)s2u_cover_add(&it->boxes);
     if (!box) return 0;
-    *box = it->zones[((const size_t*)(const void*)it->order.at)[k]].box;
+    *box = s2u_join_zone_at(it, ((const size_t*)(const void*)it->order.at)[k])->box;
   }
   for (it->levels = 1; it->begins[it->levels] = it->boxes.count, count > 1; it->levels++) {
     for (size_t k = 0; k < count; k++) {
@@ -476,32 +504,84 @@ static inline int s2u_join_pile(s2u_join_zones* it) {
   return 1;
 }
 
+/* Makes the boxes of zones, if that wasn't done since the last one was added. Whether there is memory. */
+static inline int s2u_join_make_boxes(s2u_join_zones* it) {
+  if (it->levels == 0 && !(s2u_join_order(it) && s2u_join_pile(it))) it->levels = 0;
+  return it->levels > 0;
+}
+
+/* Adds a zone of bytes that stay, or that are a copy and the zone's from now on. After an error they stay the
+ * caller's, and there is no zone more. */
+static inline int32_t s2u_join_add_bytes(s2u_join_zones* it, s2u_join_bytes bytes, int is_copy,
+                                         s2u_cover_fault* fault) {
+  s2u_cover_reader reader;
+  s2u_cover_shape shape;
+  int32_t status = s2u_cover_open_wkb(bytes.at, bytes.size, &reader, &shape, fault);
+  if (status == S2U_OK) status = s2u_cover_check(&shape, fault);
+  if (status == S2U_OK && (reader.positions.count > UINT32_MAX / 2 || S2U_IS_CANCELLED())) status = S2U_MEMORY;
+  s2u_join_zone* zone = status == S2U_OK ? (s2u_join_zone*)s2u_cover_add(&it->zones) : NULL;
+  if (zone) {
+    memset(zone, 0, sizeof *zone);
+    zone->bytes = bytes, zone->is_copy = is_copy, zone->box = s2u_join_bounds(&shape);
+    it->levels = 0;
+  }
+  s2u_cover_close(&reader);
+  return status != S2U_OK || zone ? status : S2U_MEMORY;
+}
+
+/* Adds a zone for s2u_join_pairs_of: a copy of a shape in WKB, whose number is how many zones there were. The first is
+ * added to s2u_join_none(), and s2u_join_free frees them all. The errors are those of s2u_join_covers; then the zones
+ * are as they were. */
+static inline int32_t s2u_join_add_wkb(s2u_join_zones* it, const uint8_t* bytes, size_t size, s2u_cover_fault* fault) {
+  s2u_join_bytes copy = {(uint8_t*)malloc(size + 1), size};
+  memset(fault, 0, sizeof *fault);
+  if (!copy.at) return S2U_MEMORY;
+  if (size > 0) memcpy(copy.at, bytes, size);
+  int32_t status = s2u_join_add_bytes(it, copy, 1, fault);
+  if (status != S2U_OK) free(copy.at);
+  return status;
+}
+
+/* The same of polygons and lines, of which nothing is needed later. The errors are those of s2u_cover, but edges may
+ * have any length. */
+static inline int32_t s2u_join_add_shape(s2u_join_zones* it, const s2u_cover_shape* shape, s2u_cover_fault* fault) {
+  s2u_join_bytes bytes = {NULL, 0};
+  memset(fault, 0, sizeof *fault);
+  int32_t status = s2u_cover_check(shape, fault);
+  if (status != S2U_OK) return status;
+  if (shape->count > 0 && shape->rings[shape->count - 1].end > UINT32_MAX / 2) return S2U_MEMORY;
+  s2u_join_put_shape(&bytes, shape);
+  bytes.at = (uint8_t*)malloc(bytes.size);
+  if (!bytes.at) return S2U_MEMORY;
+  s2u_join_put_shape(&bytes, shape);
+  status = s2u_join_add_bytes(it, bytes, 1, fault);
+  if (status != S2U_OK) free(bytes.at);
+  return status;
+}
+
+/* The same of a box, as s2u_cover_box has it. */
+static inline int32_t s2u_join_add_box(s2u_join_zones* it, double west, double south, double east, double north,
+                                       s2u_cover_fault* fault) {
+  double positions[10];
+  s2u_cover_ring ring = {5, 0};
+  s2u_cover_shape shape = {positions, &ring, 1};
+  memset(fault, 0, sizeof *fault);
+  int32_t status = s2u_cover_box_ring(west, south, east, north, positions);
+  return status != S2U_OK ? status : s2u_join_add_shape(it, &shape, fault);
+}
+
 /* Zones for s2u_join_pairs_of, of shapes in WKB. Their bytes must stay as long as the zones. s2u_join_free frees the
  * zones, also after an error: those of s2u_join_covers, about the shape *wrong. */
 static inline int32_t s2u_join_zones_of(const s2u_join_bytes* shapes, size_t count, s2u_join_zones* it, size_t* wrong,
                                         s2u_cover_fault* fault) {
-  memset(it, 0, sizeof *it);
+  *it = s2u_join_none();
   memset(fault, 0, sizeof *fault);
-  *wrong = 0;
-  it->order = s2u_cover_list_of(sizeof(size_t)), it->boxes = s2u_cover_list_of(sizeof(s2u_cover_bounds));
-  if (count == 0) return S2U_OK;
-  it->zones = (s2u_join_zone*)calloc(count, sizeof(s2u_join_zone));
-  if (!it->zones) return S2U_MEMORY;
-  for (it->count = 0; it->count < count; it->count++) {
-    s2u_join_zone* zone = &it->zones[it->count];
-    s2u_cover_reader reader;
-    s2u_cover_shape shape;
-    *wrong = it->count;
-    zone->bytes = shapes[it->count];
-    int32_t status = s2u_cover_open_wkb(zone->bytes.at, zone->bytes.size, &reader, &shape, fault);
-    if (status == S2U_OK) status = s2u_cover_check(&shape, fault);
-    if (status == S2U_OK && reader.positions.count > UINT32_MAX / 2) status = S2U_MEMORY;
-    zone->box = s2u_join_bounds(&shape);
-    s2u_cover_close(&reader);
+  for (*wrong = 0; *wrong < count; ++*wrong) {
+    int32_t status = s2u_join_add_bytes(it, shapes[*wrong], 0, fault);
     if (status != S2U_OK) return status;
   }
   *wrong = 0;
-  return s2u_join_order(it) && s2u_join_pile(it) ? S2U_OK : S2U_MEMORY;
+  return s2u_join_make_boxes(it) ? S2U_OK : S2U_MEMORY;
 }
 
 /* A place that is asked about, and where pairs go. */
@@ -525,8 +605,9 @@ static inline int32_t s2u_join_look(s2u_join_zones* it, size_t level, size_t pla
     return status;
   }
   size_t number = ((const size_t*)(const void*)it->order.at)[place];
-  int32_t status = s2u_join_open(&it->zones[number]);
-  if (status != S2U_OK || !s2u_join_zone_has(&it->zones[number], asked->x, asked->y, asked->borders)) return status;
+  s2u_join_zone* zone = s2u_join_zone_at(it, number);
+  int32_t status = s2u_join_open(zone);
+  if (status != S2U_OK || !s2u_join_zone_has(zone, asked->x, asked->y, asked->borders)) return status;
   s2u_join_pair* pair = (s2u_join_pair*)s2u_cover_add(asked->pairs);
   if (!pair) return S2U_MEMORY;
   pair->point = asked->point, pair->zone = number;
@@ -592,6 +673,7 @@ static inline int32_t s2u_join_pairs_of(s2u_join_zones* zones, const double* lon
     const double place[2] = {longitudes[*wrong], latitudes[*wrong]};
     if (!s2u_cover_is_place(place)) return S2U_ARGUMENT;
   }
+  if (!s2u_join_make_boxes(zones)) return S2U_MEMORY;
   if (zones->boxes.count == 0 || count == 0) return S2U_OK;
   s2u_join_leaf* leaves = count <= SIZE_MAX / sizeof(s2u_join_leaf)
                               ? (s2u_join_leaf*)malloc(count * sizeof(s2u_join_leaf)) : NULL;
@@ -601,7 +683,7 @@ static inline int32_t s2u_join_pairs_of(s2u_join_zones* zones, const double* lon
   for (size_t k = 0; status == S2U_OK && k < count; k++) {
     size_t number = leaves[k].number;
     asked.x = longitudes[number], asked.y = latitudes[number], asked.point = number;
-    status = s2u_join_ask(zones, &asked);
+    status = S2U_IS_CANCELLED() ? S2U_MEMORY : s2u_join_ask(zones, &asked);
   }
   free(leaves);
   return status != S2U_OK || s2u_join_arrange(pairs, count) ? status : S2U_MEMORY;

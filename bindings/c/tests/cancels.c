@@ -16,7 +16,7 @@ static int is_cancelled(int is_loop) {
 #define S2U_HOST_TAKE(size) (is_cancelled(0) ? NULL : malloc(size))
 #define S2U_HOST_GIVE_BACK(at) free(at)
 #include <s2union_host.h>
-#include <s2union_cover.h>
+#include <s2union_join.h>
 #include <s2union_outline.h>
 #include "../../../tests/refuse.h"
 #include "tests.h"
@@ -78,6 +78,26 @@ static int32_t rings_of(int32_t (*call)(const uint64_t*, size_t, s2u_geo_rings*)
 static int32_t outline(void) { return rings_of(s2u_geo_outline); }
 static int32_t boundary(void) { return rings_of(s2u_geo_boundary); }
 
+/* Boxes and a ring as zones, of which a place has many. */
+static int32_t pairs(void) {
+  double x[EACH], y[EACH];
+  const s2u_cover_ring end = {CORNERS + 1, 0};
+  const s2u_cover_shape shape = {ring, &end, 1};
+  s2u_join_zones zones = s2u_join_none();
+  s2u_cover_list found = s2u_cover_list_of(sizeof(s2u_join_pair));
+  s2u_cover_fault fault;
+  size_t wrong;
+  int32_t status = s2u_join_add_shape(&zones, &shape, &fault);
+  for (size_t k = 0; status == S2U_OK && k < BOXES; k++)
+    status = s2u_join_add_box(&zones, boxes[k][0], boxes[k][1], boxes[k][2], boxes[k][5], &fault);
+  for (size_t k = 0; k < EACH; k++) x[k] = 0.05 * (double)k, y[k] = 0.02 * (double)k;
+  if (status == S2U_OK) status = s2u_join_pairs_of(&zones, x, y, EACH, 1, &found, &wrong);
+  if (status == S2U_OK) add(found.at, found.count * sizeof(s2u_join_pair));
+  free(found.at);
+  s2u_join_free(&zones);
+  return status;
+}
+
 static void check_cancel(const char* name, int32_t (*call)(void), long n, long most) {
   const long blocks = blocks_taken();
   looks = 0, cancelled = n;
@@ -118,6 +138,7 @@ int main(void) {
   check_cancels("polygons that overlap", parts, 8 + BOXES);
   check_cancels("a union and around it", expanded, 8);
   check_cancels("the box of a union", bounds, 8);
+  check_cancels("places with zones", pairs, 8);
   check_cancels("an outline", outline, 20 * 8 * (long)count);
   check_cancels("a boundary", boundary, 20 * 8 * (long)count);
   return report();

@@ -62,9 +62,7 @@ static int plain(const Zone* zone, int x, int y, int borders) {
   return 0;
 }
 
-static s2u_join_bytes wkb_of(const Zone* zone) {
-  double positions[2 * RINGS * CORNERS];
-  s2u_cover_ring rings[RINGS];
+static s2u_cover_shape shape_of(const Zone* zone, double* positions, s2u_cover_ring* rings) {
   uint64_t end = 0;
   for (int k = 0; k < zone->count; k++) {
     for (int n = 0; n < zone->rings[k].corners; n++, end++)
@@ -72,7 +70,13 @@ static s2u_join_bytes wkb_of(const Zone* zone) {
     rings[k].end = end;
     rings[k].polygon = zone->rings[k].polygon < 0 ? S2U_COVER_LINE : (uint64_t)zone->rings[k].polygon;
   }
-  const s2u_cover_shape shape = {positions, rings, (size_t)zone->count};
+  return (s2u_cover_shape){positions, rings, (size_t)zone->count};
+}
+
+static s2u_join_bytes wkb_of(const Zone* zone) {
+  double positions[2 * RINGS * CORNERS];
+  s2u_cover_ring rings[RINGS];
+  const s2u_cover_shape shape = shape_of(zone, positions, rings);
   s2u_join_bytes bytes = {NULL, 0};
   s2u_join_put_shape(&bytes, &shape);
   bytes.at = malloc(bytes.size);
@@ -80,15 +84,35 @@ static s2u_join_bytes wkb_of(const Zone* zone) {
   return bytes;
 }
 
-/* The status of making zones and asking them. Of S2U_OK all pairs are compared. */
+/* Zones that are added one by one, as rings or as WKB that is written over afterwards. */
+static int32_t added(const Zone* zones, const s2u_join_bytes* shapes, size_t count, s2u_join_zones* made,
+                     s2u_cover_fault* fault) {
+  double positions[2 * RINGS * CORNERS];
+  uint8_t copy[16 * RINGS * (CORNERS + 2)];
+  s2u_cover_ring rings[RINGS];
+  int32_t status = S2U_OK;
+  *made = s2u_join_none();
+  for (size_t k = 0; status == S2U_OK && k < count; k++) {
+    const s2u_cover_shape shape = shape_of(&zones[k], positions, rings);
+    memcpy(copy, shapes[k].at, shapes[k].size);
+    status = k % 2 ? s2u_join_add_shape(made, &shape, fault) : s2u_join_add_wkb(made, copy, shapes[k].size, fault);
+    memset(positions, 0, sizeof positions);
+    memset(copy, 0, sizeof copy);
+    CHECK(made->zones.count == k + (status == S2U_OK));
+  }
+  return status;
+}
+
+/* The status of making zones, all at once or one by one, and asking them. Of S2U_OK all pairs are compared. */
 static int32_t joined(const Zone* zones, const s2u_join_bytes* shapes, size_t count, const int (*places)[2],
-                      size_t asked, int borders) {
+                      size_t asked, int borders, int is_added) {
   double x[PLACES], y[PLACES];
   s2u_join_zones made;
   s2u_cover_fault fault;
   size_t wrong, next = 0;
   for (size_t k = 0; k < asked; k++) x[k] = places[k][0] / 2.0, y[k] = places[k][1] / 2.0;
-  int32_t status = s2u_join_zones_of(shapes, count, &made, &wrong, &fault);
+  int32_t status = is_added ? added(zones, shapes, count, &made, &fault)
+                            : s2u_join_zones_of(shapes, count, &made, &wrong, &fault);
   for (int turn = 0; status == S2U_OK && turn < 2; turn++) { /* the second time all edges are filed */
     s2u_cover_list pairs;
     status = s2u_join_pairs_of(&made, x, y, asked, borders, &pairs, &wrong);
@@ -124,13 +148,13 @@ static void beside_a_plain_loop(void) {
       }
     }
     for (int borders = 0; borders < 2; borders++)
-      CHECK(joined(zones, shapes, count, (const int(*)[2])places, asked, borders) == S2U_OK);
+      CHECK(joined(zones, shapes, count, (const int(*)[2])places, asked, borders, round % 2) == S2U_OK);
     for (size_t k = 0; k < count; k++) free(shapes[k].at);
   }
 }
 
 /* Whichever allocation is refused on the way: nothing stays allocated, and no pair is wrong. */
-static void without_memory(void) {
+static void without_memory(int is_added) {
   Zone zones[ZONES];
   s2u_join_bytes shapes[ZONES];
   int places[PLACES][2];
@@ -140,12 +164,42 @@ static void without_memory(void) {
   long turns = 0, taken = blocks_taken();
   for (; status == S2U_MEMORY; turns++) {
     refuse_memory(turns + 1);
-    status = joined(zones, shapes, ZONES, (const int(*)[2])places, PLACES, 1);
+    status = joined(zones, shapes, ZONES, (const int(*)[2])places, PLACES, 1, is_added);
     refuse_memory(0);
     CHECK(blocks_taken() == taken);
   }
   CHECK(status == S2U_OK && turns > 30);
   for (size_t k = 0; k < ZONES; k++) free(shapes[k].at);
+}
+
+/* How many pairs a place has. */
+static size_t pairs_at(s2u_join_zones* zones, double x, double y) {
+  s2u_cover_list pairs;
+  size_t wrong;
+  CHECK(s2u_join_pairs_of(zones, &x, &y, 1, 1, &pairs, &wrong) == S2U_OK);
+  free(pairs.at);
+  return pairs.count;
+}
+
+/* Zones that are added after others were asked, boxes, and shapes that add none. */
+static void more_zones(void) {
+  s2u_join_zones made = s2u_join_none();
+  s2u_cover_fault fault;
+  const double open[] = {0, 0, 4, 0, 4, 4, 0, 4};
+  const s2u_cover_ring ring = {4, 0};
+  const s2u_cover_shape shape = {open, &ring, 1}, nothing = {NULL, NULL, 0};
+  CHECK(pairs_at(&made, 1, 1) == 0);
+  CHECK(s2u_join_add_box(&made, 170, -5, -170, 5, &fault) == S2U_OK && pairs_at(&made, -175, 1) == 1);
+  CHECK(s2u_join_add_shape(&made, &nothing, &fault) == S2U_OK && pairs_at(&made, -175, 1) == 1);
+  CHECK(s2u_join_add_box(&made, -176, 1, -174, 2, &fault) == S2U_OK && pairs_at(&made, 185, 1) == 2);
+  CHECK(s2u_join_add_box(&made, 0, 2, 1, 1, &fault) == S2U_ARGUMENT);
+  CHECK(s2u_join_add_box(&made, 0, 2, 541, 3, &fault) == S2U_COVER_NUMBER);
+  CHECK(s2u_join_add_box(&made, 0, 2, NAN, 3, &fault) == S2U_COVER_NUMBER && fault.position == 1);
+  CHECK(s2u_join_add_shape(&made, &shape, &fault) == S2U_COVER_OPEN && fault.ring == 0 && fault.position == 3);
+  CHECK(s2u_join_add_wkb(&made, NULL, 0, &fault) == S2U_COVER_WKB && made.zones.count == 3);
+  CHECK(pairs_at(&made, -175, 1) == 2);
+  s2u_join_free(&made);
+  CHECK(pairs_at(&made, -175, 1) == 0);
 }
 
 static void what_is_refused(void) {
@@ -173,7 +227,9 @@ static void what_is_refused(void) {
 
 int main(void) {
   beside_a_plain_loop();
-  without_memory();
+  without_memory(0);
+  without_memory(1);
+  more_zones();
   what_is_refused();
   return report();
 }

@@ -330,6 +330,7 @@ static const char OF_ZONES[] = "s2union.zones";
 typedef struct Zones {
   s2u_join_zones zones;
   PyObject* shapes; /* the tuple of bytes in which the zones lie */
+  bool are_asked;
 } Zones;
 
 static void forget(Zones* it) {
@@ -366,8 +367,9 @@ static PyObject* py_zones(PyObject* module, PyObject* shapes) {
   Zones* it = malloc(sizeof *it);
   if (!it) return PyMem_Free(each), PyErr_NoMemory();
   it->shapes = shapes;
+  it->are_asked = false;
   Py_INCREF(shapes);
-  UNLOCKED(status = s2u_join_zones_of(each, n, &it->zones, &wrong, &fault));
+  CANCELLABLE(status, s2u_join_zones_of(each, n, &it->zones, &wrong, &fault));
   PyMem_Free(each);
   PyObject* capsule = status == S2U_OK ? PyCapsule_New(it, OF_ZONES, forget_zones) : NULL;
   if (!capsule) forget(it);
@@ -376,7 +378,8 @@ static PyObject* py_zones(PyObject* module, PyObject* shapes) {
   return raise_refusal(status, "zone %llu: %s", (unsigned long long)wrong, s2u_cover_status_text(status));
 }
 
-/* The pairs of places and zones that have them: a place and a zone each. Nobody else may ask the zones meanwhile. */
+/* The pairs of places and zones that have them: a place and a zone each. No other thread may ask the zones meanwhile; a
+ * handler of signals that does so has an error. */
 static PyObject* py_pairs(PyObject* module, PyObject* words) {
   HELD List longitudes = {0}, latitudes = {0};
   s2u_cover_list pairs;
@@ -389,8 +392,14 @@ static PyObject* py_pairs(PyObject* module, PyObject* words) {
     return NULL;
   Zones* it = PyCapsule_GetPointer(WORD(0), OF_ZONES);
   if (!it) return NULL;
+  if (it->are_asked) {
+    PyErr_SetString(PyExc_RuntimeError, "a handler of signals asks the zones that it interrupted");
+    return NULL;
+  }
   size_t n = longitudes.n < latitudes.n ? longitudes.n : latitudes.n;
-  UNLOCKED(status = s2u_join_pairs_of(&it->zones, longitudes.at, latitudes.at, n, (int)borders, &pairs, &wrong));
+  it->are_asked = true;
+  CANCELLABLE(status, s2u_join_pairs_of(&it->zones, longitudes.at, latitudes.at, n, (int)borders, &pairs, &wrong));
+  it->are_asked = false;
   PyObject* found = NULL;
   if (status == S2U_OK) found = PyBytes_FromStringAndSize(pairs.at, (Py_ssize_t)(pairs.count * sizeof(s2u_join_pair)));
   else if (status == S2U_ARGUMENT) raise_refusal(status, "the place %llu is out of range", (unsigned long long)wrong);

@@ -418,10 +418,11 @@ class Index:
 
 
 class Zones:
-    """Zones in memory of C, which are read by need, as their edges are. One thread asks them at a time."""
+    """Zones in memory of C, which are read by need, as their edges are. One thread asks them at a time; a handler of
+    signals that interrupts it and asks them too has an error, in place of a lock that nobody opens."""
 
     def __init__(self, shapes: list[bytes]) -> None:
-        self.shapes, self.made, self.lock = shapes, None, threading.Lock()
+        self.shapes, self.made, self.lock = shapes, None, threading.RLock()
 
     def __reduce__(self) -> Any:
         return Zones, (self.shapes,)

@@ -10,17 +10,18 @@ from pathlib import Path
 
 import pytest
 from s2union import _library as calls
-from s2union_geo import covering, interior
+from s2union_geo import Index, covering, interior
 
 ZONE = {"type": "Polygon", "coordinates": [[[0, 0], [30, 5], [40, 40], [10, 30], [-5, 20], [0, 0]]]}
 MOST, SIGNALS = 10**6, 3
-LONG = ("coverings", "coverings_of_wkb", "outline")
+LONG = ("coverings", "coverings_of_wkb", "outline", "pairs")
 
 
 @pytest.mark.skipif(sys.platform != "linux", reason="elsewhere a signal waits for the end of a call")
 class Signals(unittest.TestCase):
     def setUp(self):
         self.within, self.depth, self.has_handled, self.small = [], 0, threading.Event(), covering(ZONE, 20)
+        self.asks, self.asked = (lambda: None), None
         signal.signal(signal.SIGUSR1, self.handle)
         self.addCleanup(signal.signal, signal.SIGUSR1, signal.SIG_IGN)
 
@@ -33,6 +34,10 @@ class Signals(unittest.TestCase):
     def handle(self, number, frame):
         self.within.append(self.depth == 1 and frame.f_code is not Signals.profile.__code__)
         self.assertEqual(covering(ZONE, 20), self.small)  # a call inside of a call
+        try:
+            self.asks()
+        except RuntimeError as error:
+            self.asked = error
         self.has_handled.set()
         if len(self.within) == SIGNALS:
             raise KeyboardInterrupt
@@ -63,6 +68,17 @@ class Signals(unittest.TestCase):
             self.is_cancelled(lambda: calls.outline(zone._ids))
             held.append(int(Path("/proc/self/statm").read_text(encoding="ascii").split()[1]))
         self.assertLess(held[-1] - held[0], 4000, "pages that six more cancels have left")
+
+    def test_joins(self):
+        """A join ends too, a handler can't ask the zones that it interrupts, and afterwards they answer as before."""
+        index, places = Index([ZONE] * 100), [15.0] * 200000
+        wanted = [zones.tolist() for zones in index.join(places[:9], places[:9])]
+        for _ in range(3):
+            self.is_cancelled(lambda: index.join(places, places))
+        self.asks = lambda: index.join([15], [15])
+        self.is_cancelled(lambda: index.join(places, places))
+        self.assertEqual(str(self.asked), "a handler of signals asks the zones that it interrupted")
+        self.assertEqual([zones.tolist() for zones in index.join(places[:9], places[:9])], wanted)
 
     def test_other_threads_go_on(self):
         """A cancel in one thread refuses no memory in another."""
