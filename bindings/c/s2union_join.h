@@ -377,9 +377,11 @@ static inline int32_t s2u_join_open(s2u_join_zone* zone) {
   int32_t status = s2u_cover_open_wkb(zone->bytes.at, zone->bytes.size, &reader, &shape, &fault);
   size_t positions = reader.positions.count;
   s2u_join_edge* edges = status == S2U_OK ? (s2u_join_edge*)malloc((positions + 1) * sizeof(s2u_join_edge)) : NULL;
+  s2u_join_zone filed = *zone; /* what the zone becomes when all of it is there */
   if (edges) {
-    zone->positions = (double*)(void*)reader.positions.at, reader.positions.at = NULL;
-    if (!s2u_join_file(zone, edges, s2u_join_edges_of(&shape, edges))) s2u_join_close(zone);
+    filed.positions = (double*)(void*)reader.positions.at, reader.positions.at = NULL;
+    if (s2u_join_file(&filed, edges, s2u_join_edges_of(&shape, edges))) *zone = filed;
+    else s2u_join_close(&filed);
   }
   free(edges);
   s2u_cover_close(&reader);
@@ -477,14 +479,14 @@ static inline const s2u_cover_bounds* s2u_join_box(const s2u_join_zones* it, siz
 
 /* Makes the boxes, level by level. Whether there is memory. */
 static inline int s2u_join_pile(s2u_join_zones* it) {
-  size_t below = 0, count = it->order.count;
+  size_t below = 0, count = it->order.count, levels = 1;
   it->boxes.count = 0;
   for (size_t k = 0; k < count; k++) {
     s2u_cover_bounds* box = (s2u_cover_bounds*)s2u_cover_add(&it->boxes);
     if (!box) return 0;
     *box = s2u_join_zone_at(it, ((const size_t*)(const void*)it->order.at)[k])->box;
   }
-  for (it->levels = 1; it->begins[it->levels] = it->boxes.count, count > 1; it->levels++) {
+  for (; it->begins[levels] = it->boxes.count, count > 1; levels++) {
     for (size_t k = 0; k < count; k++) {
       const s2u_cover_bounds low = *s2u_join_box(it, below + k);
       if (k % S2U_JOIN_FAN == 0) {
@@ -498,16 +500,16 @@ static inline int s2u_join_pile(s2u_join_zones* it) {
       if (low.south < box->south) box->south = low.south;
       if (low.north > box->north) box->north = low.north;
     }
-    below = it->begins[it->levels];
+    below = it->begins[levels];
     count = it->boxes.count - below;
   }
+  it->levels = levels;
   return 1;
 }
 
 /* Makes the boxes of zones, if that wasn't done since the last one was added. Whether there is memory. */
 static inline int s2u_join_make_boxes(s2u_join_zones* it) {
-  if (it->levels == 0 && !(s2u_join_order(it) && s2u_join_pile(it))) it->levels = 0;
-  return it->levels > 0;
+  return it->levels > 0 || (s2u_join_order(it) && s2u_join_pile(it));
 }
 
 /* Adds a zone of bytes that stay, or that are a copy and the zone's from now on. After an error they stay the

@@ -21,6 +21,16 @@ func TestContexts(t *testing.T) {
 		t.Fatal(err)
 	}
 	want, _ := RegionCoverer{MaxCells: 20000}.Covering(large)
+	var zones Zones
+	for k := 0; k < 100; k++ {
+		if _, err := zones.Add(large); err != nil {
+			t.Fatal(err)
+		}
+	}
+	places := make([]float64, 200000)
+	for k := range places {
+		places[k] = 15
+	}
 	calls := map[string]func(context.Context) error{
 		"CoveringContext": func(ctx context.Context) error { _, err := finest.CoveringContext(ctx, large); return err },
 		"InteriorCoveringContext": func(ctx context.Context) error {
@@ -32,6 +42,10 @@ func TestContexts(t *testing.T) {
 			return err
 		},
 		"OutlineContext": func(ctx context.Context) error { _, err := zone.OutlineContext(ctx); return err },
+		"PairsContext": func(ctx context.Context) error {
+			_, err := zones.PairsContext(ctx, places, places, true)
+			return err
+		},
 	}
 	for name, call := range calls {
 		done, cancel := context.WithCancel(context.Background())
@@ -59,6 +73,9 @@ func TestContexts(t *testing.T) {
 	defer cancel()
 	if union, err := (RegionCoverer{MaxCells: 20000}).CoveringContext(live, large); err != nil || !union.Equal(want) {
 		t.Error("within a context", err)
+	}
+	if pairs, err := zones.PairsContext(live, places[:9], places[:9], true); err != nil || len(pairs) != 900 {
+		t.Error("pairs", err)
 	}
 	if union, err := want.ExpandedAtLevelContext(live, 12); err != nil || len(union.CellIDs()) == 0 {
 		t.Error("expanded", err)

@@ -210,3 +210,33 @@ func ExampleCellUnion_RectBound() {
 	// 135.000000 -45.000000 -135.000000 45.000000 <nil>
 	// true
 }
+
+func ExampleZones_Add() {
+	var zones s2union.Zones
+	fmt.Println(zones.Add(s2union.Box{West: 177, South: -19, East: -179, North: -16}))
+	fmt.Println(zones.Add(s2union.WKB{1, 3}))
+	// Output:
+	// 0 <nil>
+	// 1 s2union: the bytes are no WKB: at byte 0
+}
+
+func ExampleZones_Pairs() {
+	var zones s2union.Zones
+	zones.Add(s2union.Shape{Polygons: [][][]s2union.Position{{{{2, 48}, {3, 48}, {3, 49}, {2, 49}, {2, 48}}}}})
+	zones.Add(s2union.Box{West: 2.5, South: 48, East: 4, North: 50})
+	longitudes, latitudes := []float64{2.7, 0, 2.2}, []float64{48.5, 0, 48}
+	fmt.Println(zones.Pairs(longitudes, latitudes, true))
+	fmt.Println(zones.Pairs(longitudes, latitudes, false))
+	// Output:
+	// [{0 0} {0 1} {2 0}] <nil>
+	// [{0 0} {0 1}] <nil>
+}
+
+func ExampleZones_PairsContext() {
+	var zones s2union.Zones
+	zones.Add(s2union.Box{West: 2, South: 48, East: 3, North: 49})
+	ctx, cancel := context.WithCancel(context.Background())
+	cancel()
+	fmt.Println(zones.PairsContext(ctx, []float64{2.5}, []float64{48.5}, true))
+	// Output: [] context canceled
+}

@@ -13,7 +13,7 @@ package s2union
 // #endif
 // static int go_is_done(void* of) { return of && __atomic_load_n((const int32_t*)of, __ATOMIC_RELAXED); }
 // #define S2U_IS_CANCELLED() go_is_done((void*)go_done)
-// #include <s2union_cover.h>
+// #include <s2union_join.h>
 // #include <s2union_outline.h>
 //
 // // From now on, calls in this thread end soon after *flag isn't 0; or go on, if it is NULL.
@@ -31,6 +31,12 @@ package s2union
 //   return s2u_cover(&shape, options, outer, inner, fault);
 // }
 //
+// static int32_t add(s2u_join_zones* zones, const double* positions, const s2u_cover_ring* rings, size_t count,
+//                    s2u_cover_fault* fault) {
+//   s2u_cover_shape shape = {positions, rings, count};
+//   return s2u_join_add_shape(zones, &shape, fault);
+// }
+//
 // static size_t leaves(const double* positions, size_t n, uint64_t* leaves) {
 //   size_t k = 0;
 //   while (k < n && (leaves[k] = s2u_geo_leaf(positions[2 * k], positions[2 * k + 1]))) k++;
@@ -42,6 +48,7 @@ import (
 	"context"
 	"fmt"
 	"runtime"
+	"sync"
 	"sync/atomic"
 	"unsafe"
 )
@@ -137,9 +144,10 @@ type RegionCoverer struct {
 	Edges    Edges   // of shapes, WKB and boxes
 }
 
-// Region is what a RegionCoverer covers: a Shape, WKB, a Circle or a Box.
+// Region is what a RegionCoverer covers, and what Zones have: a Shape, WKB, a Box, or a Circle, which is no zone.
 type Region interface {
 	cover(options *C.s2u_cover_options, outer, inner *C.s2u_cover_cells, fault *C.s2u_cover_fault) C.int32_t
+	addTo(zones *C.s2u_join_zones, fault *C.s2u_cover_fault) C.int32_t
 }
 
 // Shape is polygons, lines and points. A polygon is rings, each of which ends with its first position. A place is
@@ -306,14 +314,24 @@ func pointerToPositions(positions []Position) *C.double {
 	return (*C.double)(unsafe.Pointer(&positions[0]))
 }
 
+func pointerToRings(rings []C.s2u_cover_ring) (*C.s2u_cover_ring, C.size_t) {
+	if len(rings) == 0 {
+		return nil, 0
+	}
+	return &rings[0], C.size_t(len(rings))
+}
+
 func (shape Shape) cover(options *C.s2u_cover_options, outer, inner *C.s2u_cover_cells,
 	fault *C.s2u_cover_fault) C.int32_t {
 	positions, rings := shape.flat()
-	var at *C.s2u_cover_ring
-	if len(rings) > 0 {
-		at = &rings[0]
-	}
-	return C.cover(options, pointerToPositions(positions), at, C.size_t(len(rings)), outer, inner, fault)
+	at, n := pointerToRings(rings)
+	return C.cover(options, pointerToPositions(positions), at, n, outer, inner, fault)
+}
+
+func (shape Shape) addTo(zones *C.s2u_join_zones, fault *C.s2u_cover_fault) C.int32_t {
+	positions, rings := shape.flat()
+	at, n := pointerToRings(rings)
+	return C.add(zones, pointerToPositions(positions), at, n, fault)
 }
 
 // flat are all positions in one list, and where each ring and line ends.
@@ -342,16 +360,30 @@ func (wkb WKB) cover(options *C.s2u_cover_options, outer, inner *C.s2u_cover_cel
 	return C.s2u_cover_wkb(at, n, options, outer, inner, fault)
 }
 
+func (wkb WKB) addTo(zones *C.s2u_join_zones, fault *C.s2u_cover_fault) C.int32_t {
+	at, n := pointerToBytes(wkb)
+	return C.s2u_join_add_wkb(zones, at, n, fault)
+}
+
 func (circle Circle) cover(options *C.s2u_cover_options, outer, inner *C.s2u_cover_cells,
 	fault *C.s2u_cover_fault) C.int32_t {
 	return C.s2u_cover_circle(C.double(circle.Center[0]), C.double(circle.Center[1]), C.double(circle.Radius), options,
 		outer, inner, fault)
 }
 
+func (circle Circle) addTo(zones *C.s2u_join_zones, fault *C.s2u_cover_fault) C.int32_t {
+	return C.S2U_ARGUMENT
+}
+
 func (box Box) cover(options *C.s2u_cover_options, outer, inner *C.s2u_cover_cells,
 	fault *C.s2u_cover_fault) C.int32_t {
 	return C.s2u_cover_box(C.double(box.West), C.double(box.South), C.double(box.East), C.double(box.North), options,
 		outer, inner, fault)
+}
+
+func (box Box) addTo(zones *C.s2u_join_zones, fault *C.s2u_cover_fault) C.int32_t {
+	return C.s2u_join_add_box(zones, C.double(box.West), C.double(box.South), C.double(box.East), C.double(box.North),
+		fault)
 }
 
 // Outline is the union as polygons on a map: for each part that hangs together a ring around it, counterclockwise, and
@@ -420,4 +452,78 @@ func (cu CellUnion) ExpandedAtLevelContext(ctx context.Context, level int) (Cell
 		err = refused(status)
 	}
 	return taken(&cells), err
+}
+
+// ---- which zones have which places
+
+// Zones are polygons that are asked which of them have which places, exactly, also beside their borders. They take a
+// copy of each. Edges are straight on the map. Goroutines may share zones, and ask them one after the other. The zero
+// value has none.
+type Zones struct {
+	mutex sync.Mutex
+	made  C.s2u_join_zones
+}
+
+// Pair is a place and a zone that has it, by their numbers.
+type Pair struct {
+	Place, Zone int
+}
+
+// Add adds a zone and answers its number, which is 0 for the first. Errors are ErrArgument of a Circle, ErrMemory, and
+// a ShapeError; then the zones are as they were. Since 1.5.
+func (zones *Zones) Add(region Region) (int, error) {
+	zones.mutex.Lock()
+	defer zones.mutex.Unlock()
+	if zones.made.zones.unit == 0 {
+		zones.made = C.s2u_join_none()
+		runtime.SetFinalizer(zones, func(zones *Zones) { C.s2u_join_free(&zones.made) })
+	}
+	var fault C.s2u_cover_fault
+	number := int(zones.made.zones.count)
+	return number, refusedShape(Error(region.addTo(&zones.made, &fault)), &fault)
+}
+
+// Pairs are each place and each zone that has it, in the order of places, and of zones for each: an exact join, by
+// s2u_join_pairs_of. With borders a place on a border is in the zone; without, it is in none of the polygons that have
+// that border, and lines have no place. Errors are ErrArgument if there are more longitudes than latitudes or fewer,
+// ErrMemory, and a PlaceError with ErrShapeNumber: a place is out of range. A place takes a step for each zone in whose
+// box it lies, and for each edge there at its longitude. Since 1.5.
+func (zones *Zones) Pairs(longitudes, latitudes []float64, borders bool) ([]Pair, error) {
+	return zones.PairsContext(context.Background(), longitudes, latitudes, borders)
+}
+
+// PairsContext are Pairs until a context is done, as CoveringContext of a RegionCoverer. Since 1.5.
+func (zones *Zones) PairsContext(ctx context.Context, longitudes, latitudes []float64, borders bool) ([]Pair, error) {
+	if len(longitudes) != len(latitudes) {
+		return nil, ErrArgument
+	}
+	zones.mutex.Lock()
+	defer zones.mutex.Unlock()
+	if zones.made.zones.unit == 0 || len(longitudes) == 0 {
+		return nil, nil
+	}
+	var on C.int
+	if borders {
+		on = 1
+	}
+	var found C.s2u_cover_list
+	var wrong C.size_t
+	status, err := within(ctx, func() C.int32_t {
+		return C.s2u_join_pairs_of(&zones.made, (*C.double)(unsafe.Pointer(&longitudes[0])),
+			(*C.double)(unsafe.Pointer(&latitudes[0])), C.size_t(len(longitudes)), on, &found, &wrong)
+	})
+	defer C.free(unsafe.Pointer(found.at))
+	if err == nil && status == C.S2U_ARGUMENT {
+		err = &PlaceError{int(wrong), ErrShapeNumber}
+	} else if err == nil {
+		err = refused(status)
+	}
+	if err != nil || found.count == 0 {
+		return nil, err
+	}
+	pairs := make([]Pair, int(found.count))
+	for k, pair := range unsafe.Slice((*C.s2u_join_pair)(unsafe.Pointer(found.at)), len(pairs)) {
+		pairs[k] = Pair{int(pair.point), int(pair.zone)}
+	}
+	return pairs, nil
 }

@@ -32,7 +32,7 @@ func TestShapes(t *testing.T) {
 		}
 		asked[fields[0]]++
 	}
-	if len(asked) != 15 {
+	if len(asked) != 16 {
 		t.Fatal(asked)
 	}
 }
@@ -54,6 +54,8 @@ func answersOf(fields []string) (found, wanted string) {
 		return shown(shownShape(shape), err), wanted
 	case "neighbors", "edge_neighbors", "vertex_neighbors", "expanded", "bounds", "area":
 		return around(fields), fields[len(fields)-1]
+	case "zones":
+		return zonesAsked(fields), fields[5]
 	case "holds":
 		outer, inner, err := covererIn(fields[2]).Coverings(shapeIn(fields[1]))
 		return fmt.Sprint(hasEach(outer, fields[3], true), hasEach(inner, fields[4], false), err), "true true <nil>"
@@ -61,6 +63,35 @@ func answersOf(fields []string) (found, wanted string) {
 		wanted = strings.Join(fields[3:], "\t")
 		return coverings(covererIn(fields[2]), regionIn(fields[0], fields[1])), wanted
 	}
+}
+
+// zonesAsked are the pairs of zones and places, twice the same.
+func zonesAsked(fields []string) (found string) {
+	var zones s2union.Zones
+	for k, text := range strings.Split(fields[1], "|") {
+		kind, words, _ := strings.Cut(text, ":")
+		if kind != "wkb" && kind != "box" {
+			kind, words = "rings", text
+		}
+		number, err := zones.Add(regionIn(kind, words))
+		if err != nil {
+			return shown("", err)
+		} else if number != k {
+			return fmt.Sprint("zone ", k, " has the number ", number)
+		}
+	}
+	for turn := 0; turn < 2; turn++ {
+		words := []string{}
+		pairs, err := zones.Pairs(numbersIn(fields[3]), numbersIn(fields[4]), fields[2] == "1")
+		for _, pair := range pairs {
+			words = append(words, fmt.Sprintf("%d:%d", pair.Place, pair.Zone))
+		}
+		found = strings.Join(words, " ")
+		if err != nil {
+			found = shown("", err)
+		}
+	}
+	return found
 }
 
 // around is the answer to a question about the cells around others.
@@ -234,6 +265,33 @@ func TestUsualOptions(t *testing.T) {
 			check(t, is && (err == nil || outer.Len() == 0), fmt.Sprint(wrong, region, err))
 		}
 	}
+}
+
+func TestZones(t *testing.T) {
+	var none, zones s2union.Zones
+	pairs, err := none.Pairs([]float64{1}, []float64{2}, true)
+	check(t, len(pairs) == 0 && err == nil, "no zones")
+	_, err = zones.Add(s2union.Circle{Radius: 9})
+	check(t, err == s2union.ErrArgument, "a circle is no zone")
+	for k := 0; k < 100; k++ {
+		check(t, must(zones.Add(square)) == k, "its number")
+	}
+	_, err = zones.Pairs([]float64{1}, nil, true)
+	check(t, err == s2union.ErrArgument, "no latitude")
+	places := []float64{}
+	for k := 0; k < 1000; k++ {
+		places = append(places, 48.5)
+	}
+	wanted := len(must(zones.Pairs([]float64{2.5}, places[:1], false)))
+	answers := make(chan int)
+	for k := 0; k < 8; k++ {
+		go func() { answers <- len(must(zones.Pairs(make([]float64, 1000), places, false))) }()
+		go func() { answers <- len(must(zones.Pairs([]float64{2.5}, places[:1], false))) - wanted }()
+	}
+	for k := 0; k < 16; k++ {
+		check(t, <-answers == 0, "goroutines")
+	}
+	check(t, wanted == 100, "a hundred times the same")
 }
 
 func TestTextsOfShapeErrors(t *testing.T) {

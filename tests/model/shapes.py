@@ -7,7 +7,10 @@ the number of its polygon, or '-' for a line or a point, a colon, and its positi
 least and the deepest level, edges, a margin, and how many meters coverings may go beyond a shape, 0 for any number. The
 answers of 'rings', 'wkb', 'circle' and 'box' are the cells of the outer and the inner covering, or '!' and the name of
 an error, with the ring and the position or the byte if it has a place. 'holds' has no answer: the first places lie in
-the shape, and the others outside. An outline has its polygons as a shape, and a boundary its lines. 'neighbors',
+the shape, and the others outside. 'zones' has zones with '|' between them, each a shape, 'wkb:' and bytes, or 'box:'
+and four numbers; then 1 if places on borders are in them, and longitudes and latitudes of places. Its answer is each
+pair of a place and a zone that has it, of model/pairs.py, or the error of the last zone or of the places. An outline
+has its polygons as a shape, and a boundary its lines. 'neighbors',
 'edge_neighbors', 'vertex_neighbors' and 'expanded' take cells, and all but the second a level; 'bounds' answers four
 numbers, or 'none', and 'area' one.
 """
@@ -21,6 +24,7 @@ from random import Random
 from s2union import CellUnion, OutOfRangeError, TooManyCellsError, _library
 from s2union_geo import area, bounds, edge_neighbors, expanded, neighbors, vertex_neighbors
 
+from model.pairs import exact_pairs
 from model.places import MIDDLES, POINTS
 
 LINE = 2**64 - 1
@@ -285,6 +289,63 @@ def refusals():
         say("leaf", doubles(x, y), "!number")
 
 
+# ---- which zones have which places
+
+
+def joined(zones, borders, places, answer=None):
+    """Zones are shapes, bytes of WKB, or boxes; the answer is that of the polygons in them, or what is said."""
+    words = [f"wkb:{zone.hex()}" if isinstance(zone, bytes) else f"box:{doubles(*zone)}" if isinstance(zone, tuple) else
+             shape_in_words(zone) for zone, _ in zones]
+    x, y = zip(*places) if places else ((), ())
+    if answer is None:
+        pairs = exact_pairs([{"type": "MultiPolygon", "coordinates": parts} for _, parts in zones], x, y, borders == 1)
+        answer = " ".join(f"{place}:{zone}" for place, zone in pairs)
+    say("zones", "|".join(words), borders, doubles(*x), doubles(*y), answer)
+
+
+def as_zone(kind, *polygons):
+    """The same polygons as rings, or as WKB."""
+    shape = of_polygons(*polygons)
+    return (wkb_of(shape, "<>"[kind % 2]) if kind % 3 else shape), polygons
+
+
+def some_zones(kind):
+    """Zones that overlap, with holes and several parts, that come twice, and across the date line and at a pole."""
+    near = [as_zone(k + kind, [star(random.uniform(-9, 9), random.uniform(-9, 9), random.uniform(1, 6), 3 + k)])
+            for k in range(12)]
+    whole = [as_zone(kind, [box(-8, -8, 8, 8), box(-4, -4, 4, 4)]), as_zone(kind, [box(0, 0, 5, 5)], [box(2, 2, 9, 9)]),
+             as_zone(kind, [box(175, -9, 185, 9)]), as_zone(kind, [box(-190, -5, -179, 5), box(-540, -1, -530, 1)]),
+             as_zone(kind, [box(-180, 80, 180, 90)]), as_zone(kind, [[(0, 0), (6, 6), (6, 0), (0, 6), (0, 0)]])]
+    boxes = [((170.0, -2.0, -175.0, 3.0), [[box(170, -2, 185, 3)]]), ((1.0, 1.0, 2.0, 3.0), [[box(1, 1, 2, 3)]])]
+    return near + near[:2] + whole + boxes + [([], [])]
+
+
+def joins():
+    for kind in range(6):
+        zones = some_zones(kind)
+        corners = [place for _, polygons in zones for rings in polygons for ring in rings for place in ring]
+        places = [random.choice(corners) for _ in range(20)]
+        places += [((a + c) / 2, (b + d) / 2) for (a, b), (c, d) in zip(corners, corners[1:])][::5]
+        places += [(random.uniform(-12, 12), random.uniform(-10, 10)) for _ in range(60)]
+        places += [(x + 360 if x < 0 else x - 360, y) for x, y in places[::3]]
+        places += [(random.uniform(165, 195), random.uniform(-12, 12)) for _ in range(20)]
+        places += [(0, 90), (540, -90), (0, -0.0)]
+        joined(zones, kind % 2, places)
+    joined([], 1, [(1, 2)])
+    joined([as_zone(0, [box(0, 0, 1, 1)])], 1, [])
+    line = of_lines([(0, 0), (4, 4)], [(7, 7)])
+    for borders, answer in enumerate(("", "0:0 0:1 2:0 2:1")):
+        joined([(line, []), (wkb_of(line), [])], borders, [(2, 2), (2, 2.5), (7, 7)], answer)
+    good, wrong = as_zone(0, [box(0, 0, 1, 1)]), of_polygons([box(0, 0, 1, 1)], [box(0, 0, 1, 1)[:4]])
+    joined([good, (wrong, [])], 1, [(0, 0)], "!open 1 3")
+    joined([good, (wkb_of(wrong), [])], 1, [(0, 0)], "!open 1 3")
+    joined([good, (b"\1\3\0\0\0", [])], 1, [(0, 0)], "!wkb 5")
+    joined([good, (of_lines([(0, 0), (541, 0)]), [])], 1, [(0, 0)], "!number 0 1")
+    joined([good, ((0.0, 1.0, 1.0, 0.0), [])], 1, [(0, 0)], "!argument")
+    for place in ((541, 0), (0, 90.5), (math.nan, 0), (0, math.inf)):
+        joined([good], 0, [(0, 0), place], "!number 1")
+
+
 # ---- places, and back to the map
 
 
@@ -356,7 +417,7 @@ def answered(call, *words):
 
 def say_all():
     for part in (places, triangles, zones, date_line_and_poles, holes_and_crossings, lines_and_points, of_wkb,
-                 circles_and_boxes, refusals, outlines, around):
+                 circles_and_boxes, refusals, joins, outlines, around):
         part()
 
 

@@ -32,7 +32,8 @@ from s2union_geo.__main__ import COMMANDS, main
 
 import docstrings
 from model import borders
-from model.zones import box, exact_pairs, parts_of, plain_pairs, polygon, some_points, some_zones
+from model.pairs import exact_pairs, parts_of
+from model.zones import box, plain_pairs, polygon, some_points, some_zones
 
 
 def pairs(found):
