@@ -1,6 +1,6 @@
-/* What src/geo.rs and src/around.rs call of the headers for degrees, whose functions are inline: build.rs compiles
- * it. */
-#include <s2union_cover.h>
+/* What src/geo.rs, src/around.rs and src/zones.rs call of the headers for degrees, whose functions are inline: build.rs
+ * compiles it. */
+#include <s2union_join.h>
 #include <s2union_outline.h>
 
 uint64_t s2union_rust_leaf(double longitude, double latitude) { return s2u_geo_leaf(longitude, latitude); }
@@ -69,3 +69,43 @@ int32_t s2union_rust_bounds(const uint64_t* ids, size_t n, double* sides) {
   sides[0] = box.west, sides[1] = box.south, sides[2] = box.east, sides[3] = box.north;
   return status;
 }
+
+/* ---- src/zones.rs */
+
+s2u_join_zones* s2union_rust_zones(void) {
+  s2u_join_zones* it = malloc(sizeof *it);
+  if (it) *it = s2u_join_none();
+  return it;
+}
+
+void s2union_rust_free_zones(s2u_join_zones* it) {
+  s2u_join_free(it);
+  free(it);
+}
+
+size_t s2union_rust_count_zones(const s2u_join_zones* it) { return it->zones.count; }
+
+int32_t s2union_rust_add(s2u_join_zones* it, const s2u_cover_shape* shape, s2u_cover_fault* fault) {
+  return s2u_join_add_shape(it, shape, fault);
+}
+
+int32_t s2union_rust_add_wkb(s2u_join_zones* it, const uint8_t* bytes, size_t size, s2u_cover_fault* fault) {
+  return s2u_join_add_wkb(it, bytes, size, fault);
+}
+
+int32_t s2union_rust_add_box(s2u_join_zones* it, double west, double south, double east, double north,
+                             s2u_cover_fault* fault) {
+  return s2u_join_add_box(it, west, south, east, north, fault);
+}
+
+int32_t s2union_rust_pairs(s2u_join_zones* it, const double* longitudes, const double* latitudes, size_t places,
+                           int borders, s2u_join_pair** pairs, size_t* count) {
+  s2u_cover_list found;
+  size_t wrong;
+  int32_t status = s2u_join_pairs_of(it, longitudes, latitudes, places, borders, &found, &wrong);
+  *pairs = (s2u_join_pair*)(void*)found.at;
+  *count = status == S2U_OK ? found.count : wrong;
+  return status;
+}
+
+void s2union_rust_free_pairs(s2u_join_pair* pairs) { free(pairs); }

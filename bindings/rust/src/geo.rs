@@ -25,14 +25,14 @@ pub enum Edges {
     Left,
 }
 
-/// Polygons, lines, points, a circle or a box in degrees, for a [`RegionCoverer`].
+/// Polygons, lines, points, a circle or a box in degrees, for a [`RegionCoverer`] or [`Zones`](crate::Zones).
 ///
-/// Whether the numbers are in range, and the rings closed, is looked at when it is covered.
+/// Whether the numbers are in range, and the rings closed, is looked at when it is covered or added.
 #[derive(Clone, Debug, PartialEq)]
-pub struct Shape<'a>(Kind<'a>);
+pub struct Shape<'a>(pub(crate) Kind<'a>);
 
 #[derive(Clone, Debug, PartialEq)]
-enum Kind<'a> {
+pub(crate) enum Kind<'a> {
     Wkb(&'a [u8]),
     Rings(Vec<Position>, Vec<Ring>),
     Circle(Position, f64),
@@ -468,7 +468,7 @@ fn leaf_at([longitude, latitude]: Position) -> Option<CellId> {
 }
 
 /// The error of a status: of a shape with its place, if it has one.
-fn refused(status: i32, at: &Fault) -> Result<(), Error> {
+pub(crate) fn refused(status: i32, at: &Fault) -> Result<(), Error> {
     match ShapeFault::of(status) {
         Some(fault) => Err(Error::Shape { fault, ring: at.ring as usize, position: at.position as usize }),
         None => Error::of(status, 0),
@@ -482,7 +482,7 @@ fn copied<T: Copy>(list: &[T]) -> Result<Vec<T>, Error> {
 }
 
 /// What C has written, which may be nothing, at no place.
-unsafe fn parts<'a, T>(at: *const T, count: usize) -> &'a [T] {
+pub(crate) unsafe fn parts<'a, T>(at: *const T, count: usize) -> &'a [T] {
     if count == 0 {
         &[]
     } else {
@@ -498,16 +498,16 @@ const LINE: u64 = u64::MAX; // in the place of a polygon's number
 
 #[derive(Clone, Copy, Debug, PartialEq)]
 #[repr(C)] // s2u_cover_ring
-struct Ring {
+pub(crate) struct Ring {
     end: u64,
     polygon: u64,
 }
 
 #[repr(C)] // s2u_cover_shape
-struct Rings {
-    positions: *const f64,
-    rings: *const Ring,
-    count: usize,
+pub(crate) struct Rings {
+    pub(crate) positions: *const f64,
+    pub(crate) rings: *const Ring,
+    pub(crate) count: usize,
 }
 
 #[repr(C)] // s2u_cover_options
@@ -521,7 +521,7 @@ struct Options {
 
 #[derive(Default)]
 #[repr(C)] // s2u_cover_fault
-struct Fault {
+pub(crate) struct Fault {
     ring: u64,
     position: u64,
 }

@@ -37,6 +37,7 @@ mod lists;
 mod operators;
 mod polygon;
 mod union;
+mod zones;
 
 pub use cell::{CellId, Square};
 pub use cells::{FacePoint, Point};
@@ -46,6 +47,7 @@ pub use file::UnionFile;
 pub use geo::{Edges, Position, RegionCoverer, Shape};
 pub use polygon::{Direction, Polygon};
 pub use union::CellUnion;
+pub use zones::{Pair, Zones};
 
 /// The version of the library, as "1.0.0". Since 0.2.
 ///

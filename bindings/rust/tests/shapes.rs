@@ -4,7 +4,7 @@
 use std::collections::BTreeSet;
 use std::{env, fs};
 
-use s2union::{CellId, CellUnion, Edges, Error, Position, RegionCoverer, Shape, ShapeFault};
+use s2union::{CellId, CellUnion, Edges, Error, Pair, Position, RegionCoverer, Shape, ShapeFault, Zones};
 
 #[test]
 fn shapes() {
@@ -18,10 +18,11 @@ fn shapes() {
         let fields: Vec<&str> = line.split('\t').collect();
         let of_one = ["leaf", "middle", "outline", "boundary", "edge_neighbors", "bounds", "area"];
         let given = if of_one.contains(&fields[0]) { 2 } else { 3 };
+        let given = if fields[0] == "zones" { 5 } else { given };
         assert_eq!(answer(&fields), fields[given..].join("\t"), "{line:.200}");
         asked.insert(fields[0]);
     }
-    assert_eq!(asked.len(), 15);
+    assert_eq!(asked.len(), 16);
 }
 
 fn answer(fields: &[&str]) -> String {
@@ -53,6 +54,7 @@ fn answer(fields: &[&str]) -> String {
         "bounds" => union(fields[1]).bounds().unwrap().map_or("none".to_string(), |sides| {
             in_words(&[[sides[0], sides[1]], [sides[2], sides[3]]])
         }),
+        "zones" => joined(fields),
         "holds" => {
             let rings = Rings::of(fields[1]);
             let (outer, inner) = coverer(fields[2]).unwrap().coverings(&rings.shape()).unwrap();
@@ -71,6 +73,33 @@ fn answer(fields: &[&str]) -> String {
                 covered(&coverer, &if call == "circle" { circle() } else { rectangle() })
             }
         },
+    }
+}
+
+/// The pairs of zones and places, twice the same.
+fn joined(fields: &[&str]) -> String {
+    let mut zones = Zones::default();
+    for (k, text) in fields[1].split('|').enumerate() {
+        let added = match text.split_once(':') {
+            Some(("wkb", hex)) => zones.add(&Shape::wkb(&bytes(hex))),
+            Some(("box", hex)) => {
+                let n = numbers(hex);
+                zones.add(&Shape::rectangle(n[0], n[1], n[2], n[3]))
+            }
+            _ => zones.add(&Rings::of(text).shape()),
+        };
+        match added {
+            Ok(number) => assert_eq!(number, k),
+            Err(error) => return named(error),
+        }
+    }
+    let mut ask = || zones.pairs(&numbers(fields[3]), &numbers(fields[4]), fields[2] == "1");
+    let (found, again) = (ask(), ask());
+    assert_eq!(found, again);
+    match found {
+        Ok(pairs) => pairs.iter().map(|pair| format!("{}:{}", pair.place, pair.zone)).collect::<Vec<_>>().join(" "),
+        Err(Error::Shape { fault: ShapeFault::Number, ring: 0, position }) => format!("!number {position}"),
+        Err(error) => named(error),
     }
 }
 
@@ -233,6 +262,25 @@ fn options_out_of_range() {
     let text = "a number of cells, a level, a number of meters or a kind of edges is out of range";
     assert_eq!(error.unwrap_err().to_string(), text);
     assert_eq!(RegionCoverer { min_level: 30, ..usual }.covering(&Shape::polygon(&[SQUARE])), Err(Error::Many));
+}
+
+#[test]
+fn zones() {
+    let mut zones = Zones::default();
+    assert_eq!(zones.pairs(&[1.0], &[2.0], true), Ok(vec![]));
+    assert_eq!(zones.pairs(&[1.0], &[], true), Err(Error::Argument));
+    assert_eq!(zones.add(&Shape::circle([0.0; 2], 1.0)), Err(Error::Argument));
+    let all: Vec<usize> = (0..100).map(|_| zones.add(&Shape::polygon(&[SQUARE])).unwrap()).collect();
+    assert_eq!(all, (0..100).collect::<Vec<_>>());
+    let zones = std::sync::Mutex::new(zones);
+    std::thread::scope(|threads| {
+        for _ in 0..8 {
+            threads.spawn(|| {
+                let pairs = zones.lock().unwrap().pairs(&[0.0, 2.5], &[0.0, 48.5], false).unwrap();
+                assert_eq!(pairs, (0..100).map(|zone| Pair { place: 1, zone }).collect::<Vec<_>>());
+            });
+        }
+    });
 }
 
 #[test]
