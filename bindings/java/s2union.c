@@ -4,7 +4,7 @@
  * So are lists of any length to calls that end soon. To others longer ones are copied. There is no arithmetic on cells
  * here. */
 #include <jni.h>
-#include <s2union_cover.h>
+#include <s2union_join.h>
 #include <s2union_outline.h>
 #include "calls.h" /* the numbers, and below what makes each call */
 
@@ -251,28 +251,103 @@ static int32_t cover_for(JNIEnv* env, jint call, covering* it, const jlong* numb
   return status;
 }
 
-/* A shape is bytes of WKB, or numbers: positions with rings, each of which is two numbers, or a circle or a box. `at`
- * gets the ring and the position of a fault. */
+/* Takes the arrays of a shape from Java: bytes of WKB, or numbers, which are positions with rings, each of which is two
+ * numbers, or a circle or a box. Whether they are there. */
+static int take_shape(JNIEnv* env, jint call, jarray given, jlongArray rings, covering* it) {
+  it->size = (size_t)(*env)->GetArrayLength(env, given);
+  it->given = call == COVER_WKB ? (void*)(*env)->GetByteArrayElements(env, given, NULL)
+                                : (void*)(*env)->GetDoubleArrayElements(env, given, NULL);
+  it->rings = (s2u_cover_ring*)(void*)(*env)->GetLongArrayElements(env, rings, NULL);
+  it->count = (size_t)(*env)->GetArrayLength(env, rings) / 2;
+  return it->given != NULL && it->rings != NULL;
+}
+
+/* Gives them back. `at` gets the ring and the position of a fault. */
+static void give_shape_back(JNIEnv* env, jint call, jarray given, jlongArray rings, const covering* it, int32_t status,
+                            jlongArray at) {
+  if (it->rings != NULL) (*env)->ReleaseLongArrayElements(env, rings, (jlong*)(void*)it->rings, JNI_ABORT);
+  if (it->given != NULL && call == COVER_WKB) (*env)->ReleaseByteArrayElements(env, given, it->given, JNI_ABORT);
+  else if (it->given != NULL) (*env)->ReleaseDoubleArrayElements(env, given, it->given, JNI_ABORT);
+  jlong place[] = {(jlong)it->fault.ring, (jlong)it->fault.position};
+  if (status != S2U_OK && status != S2U_MEMORY) (*env)->SetLongArrayRegion(env, at, 0, 2, place);
+}
+
 CALL(jint, cover)(JNIEnv* env, jclass of, jint call, jint wanted, jarray given, jlongArray rings, jlongArray options,
                   jdoubleArray meters, jobjectArray made, jlongArray at) {
   (void)of;
-  covering it = {.size = (size_t)(*env)->GetArrayLength(env, given)};
+  covering it = {.size = 0};
   jlong numbers[4];
   jdouble far[2];
   (*env)->GetLongArrayRegion(env, options, 0, 4, numbers);
   (*env)->GetDoubleArrayRegion(env, meters, 0, 2, far);
-  int is_bytes = call == COVER_WKB;
-  it.given = is_bytes ? (void*)(*env)->GetByteArrayElements(env, given, NULL)
-                      : (void*)(*env)->GetDoubleArrayElements(env, given, NULL);
-  jlong* ends = (*env)->GetLongArrayElements(env, rings, NULL);
-  it.rings = (s2u_cover_ring*)(void*)ends, it.count = (size_t)(*env)->GetArrayLength(env, rings) / 2;
   int32_t status = S2U_MEMORY;
-  if (it.given != NULL && ends != NULL) status = cover_for(env, call, &it, numbers, far, made, wanted);
-  if (ends != NULL) (*env)->ReleaseLongArrayElements(env, rings, ends, JNI_ABORT);
-  if (it.given != NULL && is_bytes) (*env)->ReleaseByteArrayElements(env, given, it.given, JNI_ABORT);
-  else if (it.given != NULL) (*env)->ReleaseDoubleArrayElements(env, given, it.given, JNI_ABORT);
-  jlong place[] = {(jlong)it.fault.ring, (jlong)it.fault.position};
-  if (status != S2U_OK && status != S2U_MEMORY) (*env)->SetLongArrayRegion(env, at, 0, 2, place);
+  if (take_shape(env, call, given, rings, &it)) status = cover_for(env, call, &it, numbers, far, made, wanted);
+  give_shape_back(env, call, given, rings, &it, status, at);
+  return status;
+}
+
+/* ---- which zones have which places */
+
+/* Zones, or 0 without memory. */
+CALL(jlong, zones)(JNIEnv* env, jclass of) {
+  (void)env, (void)of;
+  s2u_join_zones* zones = malloc(sizeof *zones);
+  if (zones != NULL) *zones = s2u_join_none();
+  return (jlong)(uintptr_t)zones;
+}
+
+CALL(void, freeZones)(JNIEnv* env, jclass of, jlong at) {
+  (void)env, (void)of;
+  s2u_join_free((s2u_join_zones*)(uintptr_t)at);
+  free((s2u_join_zones*)(uintptr_t)at);
+}
+
+/* Adds a shape, as `cover` takes it. A circle is no zone. */
+CALL(jint, addZone)(JNIEnv* env, jclass of, jlong to, jint call, jarray given, jlongArray rings, jlongArray at) {
+  (void)of;
+  s2u_join_zones* zones = (s2u_join_zones*)(uintptr_t)to;
+  covering it = {.size = 0};
+  int32_t status = S2U_MEMORY;
+  if (take_shape(env, call, given, rings, &it)) {
+    const double* n = it.given;
+    const s2u_cover_shape shape = {n, it.rings, it.count};
+    if (call == COVER_WKB) status = s2u_join_add_wkb(zones, it.given, it.size, &it.fault);
+    else if (call == COVER_BOX) status = s2u_join_add_box(zones, n[0], n[1], n[2], n[3], &it.fault);
+    else status = call == COVER ? s2u_join_add_shape(zones, &shape, &it.fault) : S2U_ARGUMENT;
+  }
+  give_shape_back(env, call, given, rings, &it, status, at);
+  return status;
+}
+
+/* Puts the places of pairs, and their zones. Whether Java has memory for them. */
+static int put_pairs(JNIEnv* env, jobjectArray made, const s2u_join_pair* pairs, size_t count) {
+  for (jsize k = 0; k < 2; k++) {
+    jintArray array = count <= INT32_MAX ? (*env)->NewIntArray(env, (jsize)count) : NULL;
+    jint* to = array != NULL ? (*env)->GetPrimitiveArrayCritical(env, array, NULL) : NULL;
+    if (to == NULL) return 0;
+    for (size_t n = 0; n < count; n++) to[n] = (jint)(k == 0 ? pairs[n].point : pairs[n].zone);
+    (*env)->ReleasePrimitiveArrayCritical(env, array, to, 0);
+    (*env)->SetObjectArrayElement(env, made, k, array);
+  }
+  return 1;
+}
+
+/* The pairs of places and zones that have them. There are as many longitudes as latitudes. */
+CALL(jint, pairs)(JNIEnv* env, jclass of, jlong at, jdoubleArray longitudes, jdoubleArray latitudes, jboolean borders,
+                  jobjectArray made, jlongArray bad) {
+  (void)of;
+  s2u_cover_list pairs = {NULL, 0, 0, 0};
+  size_t wrong = 0, count = (size_t)(*env)->GetArrayLength(env, longitudes);
+  jdouble *x = (*env)->GetDoubleArrayElements(env, longitudes, NULL), *y = NULL;
+  if (x != NULL) y = (*env)->GetDoubleArrayElements(env, latitudes, NULL);
+  int32_t status = S2U_MEMORY;
+  if (y != NULL) status = s2u_join_pairs_of((s2u_join_zones*)(uintptr_t)at, x, y, count, borders, &pairs, &wrong);
+  if (y != NULL) (*env)->ReleaseDoubleArrayElements(env, latitudes, y, JNI_ABORT);
+  if (x != NULL) (*env)->ReleaseDoubleArrayElements(env, longitudes, x, JNI_ABORT);
+  if (status == S2U_OK && !put_pairs(env, made, (const s2u_join_pair*)(void*)pairs.at, pairs.count))
+    status = S2U_MEMORY;
+  free(pairs.at);
+  if (status == S2U_ARGUMENT) put(env, bad, wrong);
   return status;
 }
 

@@ -103,6 +103,15 @@ final class Calls {
   static native int cover(int call, int wanted, Object given, long[] rings, long[] options, double[] meters,
       long[][] made, long[] at);
 
+  static native long zones();
+
+  static native void freeZones(long zones);
+
+  static native int addZone(long zones, int call, Object given, long[] rings, long[] at);
+
+  static native int pairs(
+      long zones, double[] longitudes, double[] latitudes, boolean borders, int[][] made, long[] bad);
+
   static native int draw(int call, long[] cells, Object[] made);
 
   static native int around(int call, long[] cells, int level, long[][] made);

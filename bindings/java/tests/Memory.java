@@ -4,6 +4,8 @@ import java.util.Set;
 import java.util.stream.IntStream;
 import s2union.CellId;
 import s2union.CellUnion;
+import s2union.Shape;
+import s2union.Zones;
 
 /**
  * Each call without memory, and what each keeps: java Memory REFUSE, with tests/refuse.c built as the library REFUSE
@@ -57,8 +59,34 @@ final class Memory extends Checks {
     check(taken() - before < 10, call + " keeps memory: " + (taken() - before) + " blocks in 10 calls");
   }
 
+  /** Adds a zone and asks for its places, with one call for memory refused: then the zones are as they were. */
+  private static boolean isZoneRefused(long turn) {
+    Zones zones = new Zones();
+    Shape shape = Shape.box(2, 48, 3, 49);
+    int count = zones.add(shape) + 1;
+    double[] x = {2.5, 9};
+    double[] y = {48.5, 9};
+    boolean isRefused = false;
+    try {
+      refuse(turn);
+      count = zones.add(shape) + 1;
+      int found = zones.pairs(x, y, true).zones().length;
+      refuse(0);
+      check(found == 2, "both zones");
+    } catch (OutOfMemoryError error) {
+      refuse(0);
+      isRefused = true;
+      check(error.getMessage().equals("s2union: out of memory"), "zones without memory: " + error);
+    }
+    check(zones.pairs(x, y, true).zones().length == count, "the zones are as they were");
+    return isRefused;
+  }
+
   public static void main(String[] words) {
     System.load(words[0]);
+    long turn = 1;
+    while (isZoneRefused(turn)) turn++;
+    check(turn > 10, "a zone takes memory: " + turn);
     for (int count : new int[] {SHORT, 100}) {
       long[] cells = IntStream.range(0, count).mapToLong(k -> CellId.fromFaceIJ(k % 6, 17 * k, 31 * k)).toArray();
       List<EachCall> calls = EachCall.about(CellUnion.of(cells));

@@ -18,6 +18,7 @@ import s2union.CellUnion;
 import s2union.Refusal;
 import s2union.RegionCoverer;
 import s2union.Shape;
+import s2union.Zones;
 
 /**
  * Asks the package for Java the questions of tests/model/shapes.py about shapes in degrees, and what these don't ask:
@@ -143,6 +144,26 @@ final class Shapes extends Checks {
         .flatMap(k -> Arrays.stream(polygons[k]).map(ring -> k + ":" + shown(ring))).collect(Collectors.joining(" "));
   }
 
+  /** The pairs of zones and places, twice the same. */
+  private static String joined(String[] fields) {
+    Zones zones = new Zones();
+    String[] each = fields[1].split("\\|", -1);
+    for (int k = 0; k < each.length; k++) {
+      String kind = each[k].matches("(wkb|box):.*") ? each[k].substring(0, 3) : "rings";
+      int number = zones.add(shape(kind, kind.equals("rings") ? each[k] : each[k].substring(4)));
+      if (number != k) return "zone " + k + " has the number " + number;
+    }
+    return IntStream.range(0, 2).mapToObj(turn -> {
+      try {
+        Zones.Pairs pairs = zones.pairs(numbers(fields[3]), numbers(fields[4]), fields[2].equals("1"));
+        return IntStream.range(0, pairs.places().length).mapToObj(k -> pairs.places()[k] + ":" + pairs.zones()[k])
+            .collect(Collectors.joining(" "));
+      } catch (Refusal refusal) {
+        return refusal.kind() == Refusal.Kind.SHAPE_NUMBER ? "!number " + refusal.place() : refusal.toString();
+      }
+    }).distinct().collect(Collectors.joining(", but then "));
+  }
+
   /** The answer to a question, of which the last fields are the answers that are wanted. */
   private static String answer(String[] fields) {
     double[] place = fields[0].equals("leaf") ? numbers(fields[1]) : null;
@@ -163,6 +184,7 @@ final class Shapes extends Checks {
       case "boundary":
         return Arrays.stream(union(fields[1]).boundary()).map(line -> "-:" + shown(line))
             .collect(Collectors.joining(" "));
+      case "zones": return answered(() -> joined(fields));
       case "holds":
         RegionCoverer.Coverings made = coverer(fields[2]).coverings(shape(fields[1]));
         return hasEach(made.outer(), fields[3], true) && hasEach(made.inner(), fields[4], false)
@@ -178,12 +200,13 @@ final class Shapes extends Checks {
     for (String line : Files.readAllLines(path)) {
       String[] fields = line.split("\t", -1);
       int given = fields[0].matches("leaf|middle|outline|boundary|edge_neighbors|bounds|area") ? 2 : 3;
+      if (fields[0].equals("zones")) given = 5;
       String wanted = String.join("\t", Arrays.copyOfRange(fields, given, fields.length));
       String found = answer(fields);
       check(found.equals(wanted), String.format("%.200s is %.200s, not %.200s", line, found, wanted));
       calls.add(fields[0]);
     }
-    check(calls.size() == 15, "15 calls are asked: " + calls);
+    check(calls.size() == 16, "16 calls are asked: " + calls);
   }
 
   // ---- what the questions don't ask
@@ -247,6 +270,22 @@ final class Shapes extends Checks {
         "a shape keeps what it was given");
   }
 
+  private static void zones() {
+    Zones zones = new Zones();
+    double[] x = {0, 2.5};
+    double[] y = {0, 48.5};
+    check(zones.pairs(x, y, true).zones().length == 0, "no zones");
+    refused(Refusal.Kind.ARGUMENT, 0, 0, "argument out of range", () -> zones.add(Shape.circle(0, 0, 1)));
+    refused(Refusal.Kind.ARGUMENT, 0, 0, "argument out of range", () -> zones.pairs(x, new double[1], true));
+    refused(Refusal.Kind.SHAPE_WKB, 0, 0, "the bytes are no WKB: at byte 0", () -> zones.add(Shape.wkb(new byte[1])));
+    for (int k = 0; k < 100; k++) check(zones.add(Shape.polygon(SQUARE)) == k, "its number");
+    IntStream threads = IntStream.range(0, 64).parallel();
+    boolean areRight = threads.allMatch(k -> IntStream.of(zones.pairs(x, y, false).zones()).sum() == 4950);
+    check(areRight && zones.pairs(x, y, false).places()[99] == 1, "threads that share zones");
+    for (int k = 0; k < 2000; k++) new Zones().add(Shape.polygon(SQUARE)); // which the collector frees
+    System.gc();
+  }
+
   /** A million positions, and threads that share a shape. */
   private static void many() {
     double[] ring = new double[2_000_002];
@@ -268,6 +307,7 @@ final class Shapes extends Checks {
     questions(Path.of(words[0]));
     refusals();
     usual();
+    zones();
     many();
     end();
   }
