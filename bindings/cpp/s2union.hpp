@@ -27,6 +27,9 @@
  *     Make it one before, with a status of its own. So may S2's Encoder, which takes its memory itself.
  * Copies of a union, its texts, and S2's unions that are made of it have no status: they take memory as std's do.
  *
+ * ZONES. Where <s2union_join.h> is included before this header, s2union::Zones is here too: exact joins of places with
+ * polygons in degrees.
+ *
  * THREADS. As with std::vector: any number of threads may call what is const of one union, or of one file, while none
  * changes it. Nothing is kept between calls.
  */
@@ -74,7 +77,10 @@ class Error : public std::runtime_error {
  public:
   /// The refusal of a status below 0, with its text. @since 0.1
   /// @snippet examples.cc Error
-  explicit Error(int32_t status) : std::runtime_error(s2u_status_text(status)), status_(status) {}
+  explicit Error(int32_t status) : Error(status, s2u_status_text(status)) {}
+  /// The same with another text. @since 1.5
+  /// @snippet examples.cc Error
+  Error(int32_t status, const char* text) : std::runtime_error(text), status_(status) {}
   /// The status of s2union.h, below 0. @since 0.1
   /// @snippet examples.cc Error.status
   int32_t status() const noexcept { return status_; }
@@ -1327,6 +1333,82 @@ class UnionFileOf {
 using CellUnion = CellUnionOf<uint64_t>;
 /// The file of such a union.
 using UnionFile = UnionFileOf<uint64_t>;
+
+#ifdef S2UNION_JOIN_H
+/// Polygons that are asked which of them have which places, exactly, also beside their borders: the zones of
+/// s2union_join.h. They have a copy of each shape. Edges are straight on the map. One thread at a time asks them.
+class Zones {
+ public:
+  /// No zones. @since 1.5
+  /// @snippet examples.cc Zones
+  Zones() : made_(s2u_join_none()) {}
+  Zones(Zones&& y) noexcept : made_(std::exchange(y.made_, s2u_join_none())) {}
+  Zones& operator=(Zones&& y) noexcept {
+    std::swap(made_, y.made_);
+    return *this;
+  }
+  ~Zones() { s2u_join_free(&made_); }
+
+  /// How many there are. @since 1.5
+  /// @snippet examples.cc Zones
+  size_t size() const noexcept { return made_.zones.count; }
+  /// Where the shape stands wrong that was last refused. @since 1.5
+  /// @snippet examples.cc Zones.fault
+  s2u_cover_fault fault() const noexcept { return fault_; }
+
+  /// Adds a shape in WKB and returns its number, which is 0 for the first. After an error, a status of s2union_cover.h
+  /// or S2U_MEMORY, the zones are as they were. @since 1.5
+  /// @snippet examples.cc Zones.Add
+  size_t Add(std::string_view wkb, int32_t* status = nullptr) {
+    const void* bytes = wkb.data();
+    return Added(s2u_join_add_wkb(&made_, static_cast<const uint8_t*>(bytes), wkb.size(), &fault_), status);
+  }
+  /// The same of polygons and lines. @since 1.5
+  /// @snippet examples.cc Zones.Add of rings
+  size_t Add(const s2u_cover_shape& shape, int32_t* status = nullptr) {
+    return Added(s2u_join_add_shape(&made_, &shape, &fault_), status);
+  }
+  /// The same of a box, as s2u_cover_box has it. S2U_ARGUMENT if it ends south of where it begins. @since 1.5
+  /// @snippet examples.cc Zones.AddBox
+  size_t AddBox(double west, double south, double east, double north, int32_t* status = nullptr) {
+    return Added(s2u_join_add_box(&made_, west, south, east, north, &fault_), status);
+  }
+
+  /// Each place and each zone that has it, in the order of places, and of zones for each, by s2u_join_pairs_of. With
+  /// `borders` a place on a border is in the zone; without, it is in none of the polygons that have that border, and
+  /// lines have no place. S2U_ARGUMENT if a place is out of range, or there are fewer longitudes than latitudes, or
+  /// more; S2U_MEMORY. @since 1.5
+  /// @snippet examples.cc Zones.Pairs
+  std::vector<s2u_join_pair> Pairs(const std::vector<double>& longitudes, const std::vector<double>& latitudes,
+                                   bool borders, int32_t* status = nullptr) {
+    s2u_cover_list found = {nullptr, 0, 0, 0};
+    size_t wrong = 0;
+    int32_t answer = S2U_ARGUMENT;
+    if (longitudes.size() == latitudes.size()) {
+      answer = s2u_join_pairs_of(&made_, longitudes.data(), latitudes.data(), longitudes.size(), borders, &found,
+                                 &wrong);
+    }
+    std::vector<s2u_join_pair> pairs;
+    const void* at = found.at;
+    const s2u_join_pair* first = static_cast<const s2u_join_pair*>(at);
+    if (answer == S2U_OK) answer = internal::taken([&] { pairs.assign(first, first + found.count); });
+    std::free(found.at);
+    internal::succeeded(answer, status);
+    return pairs;
+  }
+
+ private:
+  size_t Added(int32_t answer, int32_t* status) {
+#if S2UNION_THROWS
+    if (status == nullptr && answer <= S2U_COVER_NUMBER) throw Error(answer, s2u_cover_status_text(answer));
+#endif
+    return internal::succeeded(answer, status) ? size() - 1 : size();
+  }
+
+  s2u_join_zones made_;
+  s2u_cover_fault fault_ = {0, 0};
+};
+#endif
 
 }  // namespace throws, or aborts
 }  // namespace s2union

@@ -29,6 +29,12 @@ each_member() { # in the order of C++20, and of what comes first
   done
 }
 step "an example of each member" each_member
+step "shapes in degrees" shapes
+zones() {
+  g++ -std=c++17 -fsanitize=address,undefined -fno-sanitize-recover "${strict[@]}" -Wconversion -I"$include" \
+    "$tests/zones.cc" "$static" -o "$work/zones" && "$work/zones" "$work/shapes"
+}
+step "zones, and places that they have" zones
 step "g++, without exceptions" unions g++ -std=c++17 -fno-exceptions
 apart() { # no function of the header has one name in a file with exceptions and in one without
   local kind

@@ -2,6 +2,7 @@
  * M failed'. */
 #include "as_s2.h"
 #include "../../c/tests/tests.h"
+#include <s2union_join.h>
 #include <s2union.hpp>
 #include <set>
 #include <sstream>
@@ -20,6 +21,7 @@ int main() {
   {
     // [Error]
     check(std::string(s2union::Error(S2U_NO_CELL).what()) == "not a cell");
+    check(std::string(s2union::Error(S2U_COVER_WKB, "the bytes are no WKB").what()) == "the bytes are no WKB");
     // [Error]
   }
   {
@@ -639,6 +641,51 @@ int main() {
     UnionFile held(bytes.data(), bytes.size());
     check(held.Union().Tokens() == "04 14");
     // [UnionFile.Union]
+  }
+  {
+    // [Zones]
+    check(s2union::Zones().size() == 0);
+    // [Zones]
+  }
+  {
+    // [Zones.fault]
+    s2union::Zones zones;
+    const double open[] = {2, 48, 3, 48, 3, 49, 2, 49};
+    const s2u_cover_ring ring = {4, 0};
+    int32_t status;
+    zones.Add(s2u_cover_shape{open, &ring, 1}, &status);
+    check(status == S2U_COVER_OPEN && zones.fault().ring == 0 && zones.fault().position == 3);
+    // [Zones.fault]
+  }
+  {
+    // [Zones.Add]
+    s2union::Zones zones;
+    check(zones.Add(std::string_view("\1\7\0\0\0\0\0\0\0", 9)) == 0); // a collection of nothing
+    // [Zones.Add]
+  }
+  {
+    // [Zones.Add of rings]
+    s2union::Zones zones;
+    const double corners[] = {2, 48, 3, 48, 3, 49, 2, 48};
+    const s2u_cover_ring ring = {4, 0};
+    check(zones.Add(s2u_cover_shape{corners, &ring, 1}) == 0 && zones.size() == 1);
+    // [Zones.Add of rings]
+  }
+  {
+    // [Zones.AddBox]
+    s2union::Zones fiji;
+    fiji.AddBox(177, -19, -179, -16);
+    check(fiji.Pairs({180}, {-17}, true).size() == 1);
+    // [Zones.AddBox]
+  }
+  {
+    // [Zones.Pairs]
+    s2union::Zones zones;
+    zones.AddBox(2, 48, 3, 49);
+    zones.AddBox(2.5, 48, 4, 50);
+    const auto pairs = zones.Pairs({0, 2.7}, {0, 48.5}, true);
+    check(pairs.size() == 2 && pairs[0].point == 1 && pairs[0].zone == 0 && pairs[1].zone == 1);
+    // [Zones.Pairs]
   }
   return report();
 }
