@@ -301,10 +301,11 @@ typedef struct s2u_join_pair {
   uint64_t point, zone;
 } s2u_join_pair;
 
-/* The place in the slabs of a longitude that is not to the west of the box. */
+/* The place in the slabs of a longitude. */
 static inline size_t s2u_join_slab(const s2u_join_zone* zone, double x) {
   double slab = (x - zone->box.west) * ((double)zone->slabs / (zone->box.east - zone->box.west));
-  return slab < (double)zone->slabs ? (size_t)slab : zone->slabs - 1; /* of a box of no width it is no number */
+  if (!isfinite(slab) || slab <= 0) return 0; /* of a box of no width it is no number */
+  return slab < (double)zone->slabs ? (size_t)slab : zone->slabs - 1;
 }
 
 /* Writes the edges of a shape, at most one for each position, and returns how many there are. */
