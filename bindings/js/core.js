@@ -105,7 +105,8 @@ class Place {
 }
 
 class Core {
-  constructor(instance) {
+  constructor(module, instance) {
+    this.module = module;
     this.calls = instance.exports;
     this.base = even(Number(this.calls.__heap_base.value));
     this.front = this.base;
@@ -115,7 +116,13 @@ class Core {
   }
 
   static async from(bytes) {
-    return new Core((await WebAssembly.instantiate(bytes, {env: IMPORTS})).instance);
+    const {module, instance} = await WebAssembly.instantiate(bytes, {env: IMPORTS});
+    return new Core(module, instance);
+  }
+
+  /** The module once more, with a memory of its own. */
+  another() {
+    return new Core(this.module, new WebAssembly.Instance(this.module, {env: IMPORTS}));
   }
 
   // ---- lists that lie at the front of the memory, where calls find them without a copy
@@ -291,11 +298,16 @@ class Core {
 
   /**
    * What a call answers that takes memory, which begins at an address behind all places; it may grow, so that views of
-   * it are gone. If there is none, the call is left, and nothing is changed but its stack, which is put back.
+   * it are gone.
    */
   taking(end, name, ...words) {
-    const stack = this.calls.__stack_pointer.value;
     this.calls.s2js_begin(BigInt(end));
+    return this.takingMore(name, ...words);
+  }
+
+  /** The same of a heap that goes on. If there is no memory, the call is left, and its stack is put back. */
+  takingMore(name, ...words) {
+    const stack = this.calls.__stack_pointer.value;
     try {
       return this.calls[name](...words);
     } catch (error) {
@@ -385,6 +397,49 @@ class Core {
 
   areaOf(ids) {
     return new Float64Array(this.calls.memory.buffer, this.madeAt(8, "s2js_area", ids), 1)[0];
+  }
+
+  // ---- zones, in an instance of their own
+
+  /** An instance that has zones, and does nothing else. */
+  forZones() {
+    const made = this.another();
+    made.calls.s2js_zones(BigInt(made.base));
+    return made;
+  }
+
+  /** What a call of lists and numbers answers, with three numbers that it writes. Lists lie in the heap meanwhile. */
+  askZones(name, lists, ...words) {
+    const taken = [];
+    const take = (size) => {
+      taken.push(this.takingMore("s2js_take", BigInt(size)) >>> 0);
+      return taken.at(-1);
+    };
+    try {
+      const found = take(24);
+      const given = lists.flatMap((list) => [take(list.byteLength), list.length].map(BigInt));
+      lists.forEach((list, k) => this.copy(list, Number(given[2 * k])));
+      const status = this.takingMore(name, ...given, ...words, BigInt(found));
+      return [status, ...[0, 8, 16].map((at) => Number(this.number(found + at)))];
+    } finally {
+      for (const at of taken) this.calls.s2js_give_back(BigInt(at));
+    }
+  }
+
+  /** Adds a zone of positions and rings, or of the bytes of WKB: its status, and where its fault is. */
+  addZone(lists) {
+    const [status, ring, position] = this.askZones(lists.length > 1 ? "s2js_add" : "s2js_add_wkb", lists);
+    return {status, ring, position};
+  }
+
+  /** The pairs of places and zones; or the status of a fault, and its place. */
+  pairsOf(longitudes, latitudes, borders) {
+    const [status, at, count, wrong] = this.askZones("s2js_pairs", [longitudes, latitudes], borders);
+    const pairs = new Uint32Array(this.calls.memory.buffer, at, status < 0 ? 0 : 4 * count);
+    const made = {status, wrong, places: new Uint32Array(count), zones: new Uint32Array(count)};
+    for (let k = 0; 4 * k < pairs.length; k++) made.places[k] = pairs[4 * k], made.zones[k] = pairs[4 * k + 2];
+    this.calls.s2js_give_back(BigInt(at));
+    return made;
   }
 
   /** The level of cells at the border that keep within some meters. */

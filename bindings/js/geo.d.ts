@@ -151,3 +151,32 @@ export function bounds(union: CellUnion): [west: number, south: number, east: nu
  * area there differs by less than 1 percent. S2: S2CellUnion::ExactArea, on a sphere of radius 1. Since 1.5.
  */
 export function area(union: CellUnion): number;
+
+/** Places, and for each a zone that has it, by their numbers. Since 1.5. */
+export interface Pairs {
+  readonly places: Uint32Array;
+  readonly zones: Uint32Array;
+}
+
+/**
+ * Polygons that are asked which of them have which places, exactly, also beside their borders. They have a copy of each
+ * shape, in a memory of their own of up to 4 GB. Edges are straight on the map. Since 1.5.
+ */
+export class Zones {
+  /** @throws as `add` */
+  constructor(shapes?: Iterable<Shape>);
+  /**
+   * Adds a zone. After an error the zones are as they were.
+   * @returns its number, which is 0 for the first
+   * @throws ShapeError, SyntaxError, Error for what is no GeoJSON, Refusal -2
+   */
+  add(shape: Shape): number;
+  /**
+   * Each place and each zone that has it, in the order of places, and of zones for each: an exact join. With `borders`
+   * a place on a border is in the zone; without, it is in none of the polygons that have that border, and lines have no
+   * place. A place takes a step for each zone in whose box it lies, and for each edge there at its longitude.
+   * @throws ShapeError if a place is out of range, whose number is `position`, RangeError if there are more longitudes
+   *   than latitudes, or fewer, Refusal -2
+   */
+  pairs(longitudes: ArrayLike<number>, latitudes: ArrayLike<number>, options?: {borders?: boolean}): Pairs;
+}

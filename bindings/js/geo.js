@@ -123,4 +123,29 @@ export function bounds(union) {
 
 export const area = (union) => calls().areaOf(cellsIn(union));
 
+// ---- which zones have which places
+
+export class Zones {
+  #core = calls().forZones();
+  #count = 0;
+
+  constructor(shapes = []) {
+    for (const shape of shapes) this.add(shape);
+  }
+
+  add(shape) {
+    const zone = given(shape);
+    fine(this.#core, this.#core.addZone(listsOf(zone)), zone);
+    return this.#count++;
+  }
+
+  pairs(longitudes, latitudes, {borders = false} = {}) {
+    const [x, y] = [longitudes, latitudes].map((numbers) => Float64Array.from(numbers));
+    if (x.length !== y.length) throw new RangeError(`${x.length} longitudes and ${y.length} latitudes are no places`);
+    const {status, wrong, places, zones} = this.#core.pairsOf(x, y, borders ? 1 : 0);
+    if (status >= 0) return {places, zones};
+    throw new ShapeError("NUMBER", saidOf("NUMBER", calls().textOf(-101), "places", wrong), 0, wrong);
+  }
+}
+
 export {ShapeError};

@@ -1,9 +1,10 @@
-/* What the module for WebAssembly has beside the proved calls: coverings and outlines by s2union_cover.h and
- * s2union_outline.h, as the package for JavaScript calls them, and a heap. It is tested, not proved.
+/* What the module for WebAssembly has beside the proved calls: coverings, outlines and exact joins by s2union_cover.h,
+ * s2union_outline.h and s2union_join.h, as the package for JavaScript calls them, and a heap. It is tested, not proved.
  *
  * JavaScript lays out the memory. A call that takes some of it gets what lies behind all that JavaScript has there, and
- * what it made is gone when the next one begins. If there is none, s2js_no_memory is called, which doesn't return. */
-#include "s2union_cover.h"
+ * what it made is gone when the next one begins; but zones stay, which have an instance of the module of their own. If
+ * there is none, s2js_no_memory is called, which doesn't return. */
+#include "s2union_join.h"
 #include "s2union_outline.h"
 
 __attribute__((noreturn)) void s2js_no_memory(void);
@@ -197,6 +198,46 @@ int32_t s2js_bounds(const uint64_t* ids, size_t n, s2u_cover_bounds* box) { retu
 int32_t s2js_area(const uint64_t* ids, size_t n, double* area) {
   *area = s2u_geo_area(ids, n);
   return S2U_OK;
+}
+
+/* ---- which zones have which places, in an instance that does nothing else: what calls are given lies in its heap */
+
+static s2u_join_zones s2js_made;
+
+/* Begins the heap at some address, without a zone. */
+void s2js_zones(uint64_t at) {
+  s2js_begin(at);
+  s2js_made = s2u_join_none();
+}
+
+uint32_t s2js_take(uint64_t size) { return (uint32_t)(uint64_t)malloc(size); }
+
+void s2js_give_back(uint64_t at) { free((void*)at); }
+
+int32_t s2js_add(const double* positions, size_t numbers, const s2u_cover_ring* rings, size_t words,
+                 s2u_cover_fault* fault) {
+  s2u_cover_shape shape = {positions, rings, words / 2};
+  (void)numbers;
+  return s2u_join_add_shape(&s2js_made, &shape, fault);
+}
+
+int32_t s2js_add_wkb(const uint8_t* bytes, size_t size, s2u_cover_fault* fault) {
+  return s2u_join_add_wkb(&s2js_made, bytes, size, fault);
+}
+
+typedef struct s2js_found {
+  void* pairs; /* s2u_join_pair, which JavaScript gives back */
+  size_t count, wrong;
+} s2js_found;
+
+int32_t s2js_pairs(const double* longitudes, size_t places, const double* latitudes, size_t as_many, uint32_t borders,
+                   s2js_found* found) {
+  s2u_cover_list pairs;
+  (void)as_many;
+  int32_t status =
+      s2u_join_pairs_of(&s2js_made, longitudes, latitudes, places, (int)borders, &pairs, &found->wrong);
+  found->pairs = pairs.at, found->count = pairs.count;
+  return status;
 }
 
 /* The deepest level of cells at the border that keep within some meters. */

@@ -129,12 +129,15 @@ function shapeOf(geojson, isLoose = false) {
   return shape;
 }
 
+/** What the module takes of a shape, or of the bytes of WKB. */
+function listsOf(shape) {
+  return shape instanceof Uint8Array ? [shape] : [Float64Array.from(shape.numbers), BigUint64Array.from(shape.rings)];
+}
+
 /** The coverings that are wanted of a shape, or of the bytes of WKB; an error has its ring and position. */
 function coveringsIn(core, shape, {cells, least, deepest, edges, margin}, which) {
-  const words = [BigInt(cells), least, deepest, edges, margin, which];
-  if (shape instanceof Uint8Array) return fine(core, core.coveredBy("s2js_cover_wkb", [shape], ...words), null);
-  const lists = [Float64Array.from(shape.numbers), BigUint64Array.from(shape.rings)];
-  return fine(core, core.coveredBy("s2js_cover", lists, ...words), shape);
+  const words = [BigInt(cells), least, deepest, edges, margin, which], lists = listsOf(shape);
+  return fine(core, core.coveredBy(lists.length > 1 ? "s2js_cover" : "s2js_cover_wkb", lists, ...words), shape);
 }
 
 /** What a call made, or the error that it has in its place. */
@@ -143,7 +146,7 @@ function fine(core, made, shape) {
   if (status >= 0) return made;
   const kind = SHAPE_KINDS[status];
   if (!kind) throw new Refusal(status, 0);
-  throw new ShapeError(kind, saidOf(kind, core.textOf(status), shape?.names[ring] ?? `ring ${ring}`, position), ring,
+  throw new ShapeError(kind, saidOf(kind, core.textOf(status), shape?.names?.[ring] ?? `ring ${ring}`, position), ring,
     position);
 }
 

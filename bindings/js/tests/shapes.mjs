@@ -96,7 +96,42 @@ function foundBy(ask) {
   }
 }
 
+/** A zone of the file as GeoJSON, or as WKB. */
+function zoneOf(text) {
+  if (text.startsWith("wkb:")) return bytesOf(text.slice(4));
+  if (!text.startsWith("box:")) return shapeOf(text);
+  const [west, south, end, north] = doubles(text.slice(4)), east = end < west ? end + 360 : end;
+  const ring = [[west, south], [east, south], [east, north], [west, north], [west, south]];
+  return {type: "Polygon", coordinates: [ring]};
+}
+
+/** The pairs of zones and places, twice the same, or the name of the error. */
+function joined(zones, borders, longitudes, latitudes) {
+  const words = () => {
+    const found = made.pairs(doubles(longitudes), doubles(latitudes), {borders: borders === "1"});
+    return Array.from(found.places, (place, k) => `${place}:${found.zones[k]}`).join(" ");
+  };
+  const made = new geo.Zones();
+  try {
+    zones.split("|").forEach((zone, k) => assert.equal(made.add(zoneOf(zone)), k));
+  } catch (error) {
+    const at = error.kind === "WKB" ? [error.position] : [error.ring, error.position];
+    return `!${[error.kind?.toLowerCase() ?? error.stack, ...at].join(" ")}`;
+  }
+  try {
+    const found = words();
+    assert.equal(words(), found);
+    return found;
+  } catch (error) {
+    return `!${error.kind?.toLowerCase() ?? error.stack} ${error.position}`;
+  }
+}
+
 const TESTS = {
+  zones: (zones, ...words) => {
+    if (words.at(-1) === "!argument") return; // of a box, which GeoJSON doesn't have
+    assert.equal(joined(zones, ...words), words.at(-1));
+  },
   leaf: (place, wanted) => {
     if (wanted.startsWith("!")) assert.throws(() => geo.fromLngLat(...doubles(place)), RangeError);
     else assert.equal(geo.fromLngLat(...doubles(place)).toString(16), wanted);
