@@ -1335,19 +1335,26 @@ using CellUnion = CellUnionOf<uint64_t>;
 using UnionFile = UnionFileOf<uint64_t>;
 
 #ifdef S2UNION_JOIN_H
+namespace internal {
+/// Zones in memory of C, which go with it.
+struct HeldZones : s2u_join_zones {
+  HeldZones() : s2u_join_zones(s2u_join_none()) {}
+  HeldZones(HeldZones&& y) noexcept : HeldZones() { *this = std::move(y); }
+  HeldZones& operator=(HeldZones&& y) noexcept {
+    std::swap<s2u_join_zones>(*this, y);
+    return *this;
+  }
+  ~HeldZones() { s2u_join_free(this); }
+};
+}  // namespace internal
+
 /// Polygons that are asked which of them have which places, exactly, also beside their borders: the zones of
 /// s2union_join.h. They have a copy of each shape. Edges are straight on the map. One thread at a time asks them.
 class Zones {
  public:
   /// No zones. @since 1.5
   /// @snippet examples.cc Zones
-  Zones() : made_(s2u_join_none()) {}
-  Zones(Zones&& y) noexcept : made_(std::exchange(y.made_, s2u_join_none())) {}
-  Zones& operator=(Zones&& y) noexcept {
-    std::swap(made_, y.made_);
-    return *this;
-  }
-  ~Zones() { s2u_join_free(&made_); }
+  Zones() = default;
 
   /// How many there are. @since 1.5
   /// @snippet examples.cc Zones
@@ -1405,7 +1412,7 @@ class Zones {
     return internal::succeeded(answer, status) ? size() - 1 : size();
   }
 
-  s2u_join_zones made_;
+  internal::HeldZones made_;
   s2u_cover_fault fault_ = {0, 0};
 };
 #endif
