@@ -1,14 +1,12 @@
--- Two leaves of one face that lie beside each other, neither touched, lie on one side of closed rings.
+-- Closed rings on one face: a way along rows and columns has the parity of the rays from its two ends.
 use Rattle.std.proofs.Common.{◌≡◌, refl, sym, ap, ap₂, ◌∙◌, ℕ, zero, suc, ◌+◌, ◌*◌, ◌/◌, ◌^◌, ◌≤◌, ◌<◌, arith}
-use Rattle.std.proofs.Common.{inl, inr, Bool, true, false, List, [], ◌∷◌}
+use Rattle.std.proofs.Common.{Bool, true, false, List, [], ◌∷◌}
 use Rattle.std.proofs.Common.{All}
 use Rattle.std.proofs.Common.{min, max, nat_lt, ltb-true, ltb-false, pow-suc}
 use Rattle.std.proofs.lemmas.List.Elements.{All-cons, All-head, All-nil, All-tail}
 use Rattle.std.proofs.Math.Bool.{xor}
 use Rattle.std.specs.List.{list_any}
-use Rattle.s2cell.specs.Curve.{AreNeighbours, i_of, j_of}
-use Rattle.s2polygon.proofs.Along.{In}
-use Rattle.s2polygon.proofs.Cells.{column_held, even_over, row_held}
+use Rattle.s2cell.specs.Curve.{i_of, j_of}
 use Rattle.s2polygon.proofs.Changes.{xor_none, xor_self}
 use Rattle.s2polygon.proofs.Lines.{column_at, column_rising, lines_at, middles_alike, quarter_at, quarters_at, row_at}
 use Rattle.s2polygon.proofs.Lines.{row_rising}
@@ -22,7 +20,7 @@ use Rattle.s2polygon.specs.Crosses.{crosses_column_at, crosses_row_at, side}
 use Rattle.s2polygon.specs.Faces.{edges_on, top_of}
 use Rattle.s2polygon.specs.Directions.{Point}
 use Rattle.s2polygon.specs.Frames.{framed, in_frame}
-use Rattle.s2polygon.specs.Leaves.{Region, inside, is_touched, odd_at}
+use Rattle.s2polygon.specs.Leaves.{odd_at}
 use Rattle.s2polygon.specs.Meets.{above, left_of}
 use Rattle.s2polygon.specs.Parity.{is_odd_along, is_odd_by, is_odd_over}
 use Rattle.s2polygon.specs.Places.{along}
@@ -99,13 +97,13 @@ pub record IsFit (f : ℕ) (e : Edge) : Type 0 where
   pub b : IsProper (in_frame f e.b)
   pub short : HasShortWay (in_frame f e.a) (in_frame f e.b)
 
-odd_xor : (p q : Edge → Bool) (es : List Edge) → is_odd_by (λ e. xor (p e) (q e)) es
+pub odd_xor : (p q : Edge → Bool) (es : List Edge) → is_odd_by (λ e. xor (p e) (q e)) es
     ≡ xor (is_odd_by p es) (is_odd_by q es)
 odd_xor p q [] = sym (xor_self false)
 odd_xor p q (e ∷ es) = ap (xor (xor (p e) (q e))) (odd_xor p q es)
     ∙ xor_pairs (p e) (q e) (is_odd_by p es) (is_odd_by q es)
 
-odd_same : (p q : Edge → Bool) (P : Edge → Type 0) → ((e : Edge) → P e → p e ≡ q e) → (es : List Edge) → All P es
+pub odd_same : (p q : Edge → Bool) (P : Edge → Type 0) → ((e : Edge) → P e → p e ≡ q e) → (es : List Edge) → All P es
     → is_odd_by p es ≡ is_odd_by q es
 odd_same p q P h [] a = refl
 odd_same p q P h (e ∷ es) a = ap₂ xor (h e (All-head P e es a)) (odd_same p q P h es (All-tail P e es a))
@@ -196,95 +194,11 @@ module _ (f : ℕ) (es : List Edge) (fit : All (IsFit f) es) (closed : IsClosed 
       ap (λ (g : ℕ). odd_of (top_of es g) (edges_on g es) 30 0 (i_of x) (j_of x)) e
       ∙ below_over (top_of es f) 30 0 (i_of x) (j_of x) refl place.0 place.1
 
-  -- ---- leaves that no edge touches
-  column_any : (s t u : ℕ) → is_odd_over (column s t u) (edges_on f es) ≡ xor (columns s t) (columns s u)
-  column_any s t u =
-      odd_mapped f (column s t u) es
-      ∙ odd_same (λ e. crosses (column s t u) (framed f e)) (λ e. xor (column_at s t (in_frame f e.a) (in_frame f e.b))
-      (column_at s u (in_frame f e.a) (in_frame f e.b))) (IsFit f) (λ e h. column_pieces s t u (framed f e)) es fit
-      ∙ odd_xor (λ e. column_at s t (in_frame f e.a) (in_frame f e.b))
-      (λ e. column_at s u (in_frame f e.a) (in_frame f e.b)) es
-
-  module _ (i j : ℕ) (missed : All (λ e. Misses e (square_of 0 i j)) (edges_on f es)) where
-    row_stays : (u : ℕ) → In (i * 2 ^ 0) (2 ^ 0) u → rows (middle_of 0 i) (middle_of 0 j) ≡ rows u (middle_of 0 j)
-    row_stays u h =
-        same_of (rows (middle_of 0 i) (middle_of 0 j)) (rows u (middle_of 0 j))
-        (sym (row_over (middle_of 0 j) (middle_of 0 i) u)
-        ∙ even_over (square_of 0 i j) (row (middle_of 0 j) (middle_of 0 i) u) (edges_on f es)
-        (row_held (i * 2 ^ 0) (j * 2 ^ 0) (2 ^ 0) (middle_of 0 j) (middle_of 0 i) u
-        (record { from = omega arith; to = omega arith }) (record { from = omega arith; to = omega arith }) h) missed)
-
-    column_stays : (u : ℕ) → In (j * 2 ^ 0) (2 ^ 0) u → columns (middle_of 0 i) (middle_of 0 j)
-        ≡ columns (middle_of 0 i) u
-    column_stays u h =
-        same_of (columns (middle_of 0 i) (middle_of 0 j)) (columns (middle_of 0 i) u)
-        (sym (column_any (middle_of 0 i) (middle_of 0 j) u)
-        ∙ even_over (square_of 0 i j) (column (middle_of 0 i) (middle_of 0 j) u) (edges_on f es)
-        (column_held (i * 2 ^ 0) (j * 2 ^ 0) (2 ^ 0) (middle_of 0 i) (middle_of 0 j) u
-        (record { from = omega arith; to = omega arith }) (record { from = omega arith; to = omega arith }) h) missed)
-
-  abbrev Missed : ℕ → ℕ → Type 0
-  Missed i j = All (λ e. Misses e (square_of 0 i j)) (edges_on f es)
-
-  -- a leaf and the next one of its row, and of its column
-  next_in_row : (i j : ℕ) → Missed i j → Missed (i + 1) j → rows (middle_of 0 i) (middle_of 0 j)
-      ≡ rows (middle_of 0 (i + 1)) (middle_of 0 j)
-  next_in_row i j h k =
-      row_stays i j h (2 * (i + 1)) (record { from = omega arith; to = omega arith })
-      ∙ sym (row_stays (i + 1) j k (2 * (i + 1)) (record { from = omega arith; to = omega arith }))
-
-  next_in_column : (i j : ℕ) → Missed i j → Missed i (j + 1) → rows (middle_of 0 i) (middle_of 0 j)
-      ≡ rows (middle_of 0 i) (middle_of 0 (j + 1))
-  next_in_column i j h k =
-      same_of (rows (middle_of 0 i) (middle_of 0 j)) (rows (middle_of 0 i) (middle_of 0 (j + 1)))
-      (sym (columns_follow (i * 2 ^ 0 + 2 ^ 0 / 2) (j * 2 ^ 0 + 2 ^ 0 / 2) ((j + 1) * 2 ^ 0 + 2 ^ 0 / 2))
-      ∙ ap₂ xor (column_stays i j h (2 * (j + 1)) (record { from = omega arith; to = omega arith }))
-      (column_stays i (j + 1) k (2 * (j + 1)) (record { from = omega arith; to = omega arith }))
-      ∙ xor_self (columns (middle_of 0 i) (2 * (j + 1))))
-
-  on_column : (i j u v : ℕ) → i ≡ u → j + 1 ≡ v → Missed i j → Missed u v
-      → rows (middle_of 0 i) (middle_of 0 j) ≡ rows (middle_of 0 u) (middle_of 0 v)
-  on_column i j u v e g h k =
-      next_in_column i j h (rw (sym e, sym g) at k)
-      ∙ ap₂ (λ (m n : ℕ). rows (middle_of 0 m) (middle_of 0 n)) e g
-
-  on_row : (i j u v : ℕ) → j ≡ v → i + 1 ≡ u → Missed i j → Missed u v
-      → rows (middle_of 0 i) (middle_of 0 j) ≡ rows (middle_of 0 u) (middle_of 0 v)
-  on_row i j u v e g h k =
-      next_in_row i j h (rw (sym e, sym g) at k)
-      ∙ ap₂ (λ (m n : ℕ). rows (middle_of 0 m) (middle_of 0 n)) g e
-
-  neighbors : (i j u v : ℕ) → AreNeighbours i j u v → Missed i j → Missed u v
-      → rows (middle_of 0 i) (middle_of 0 j) ≡ rows (middle_of 0 u) (middle_of 0 v)
-  neighbors i j u v (inl (e, inl g)) h k = on_column i j u v e g h k
-  neighbors i j u v (inl (e, inr g)) h k = sym (on_column u v i j (sym e) g k h)
-  neighbors i j u v (inr (e, inl g)) h k = on_row i j u v e g h k
-  neighbors i j u v (inr (e, inr g)) h k = sym (on_row u v i j (sym e) g k h)
-
-  leaves_alike : (x y : ℕ) → x / 4 ^ 30 ≡ f → y / 4 ^ 30 ≡ f → AreNeighbours (i_of x) (j_of x) (i_of y) (j_of y)
-      → Missed (i_of x) (j_of x) → Missed (i_of y) (j_of y) → odd_at es x ≡ odd_at es y
-  leaves_alike x y e g beside h k =
-      leaf_over x e
-      ∙ ap (λ (t : Bool). xor (top_of es f) (xor (rows (middle_of 30 0) (middle_of 30 0)) t))
-      (neighbors (i_of x) (j_of x) (i_of y) (j_of y) beside h k)
-      ∙ sym (leaf_over y g)
-
-all_missed : (m i j : ℕ) (es : List FramedEdge) → list_any (meets_square (widened m (square_of 0 i j))) es ≡ false
+-- ---- leaves that no edge touches
+pub all_missed : (m i j : ℕ) (es : List FramedEdge) → list_any (meets_square (widened m (square_of 0 i j))) es ≡ false
     → All (λ e. Misses e (square_of 0 i j)) es
 all_missed m i j [] e = All-nil (λ e. Misses e (square_of 0 i j))
 all_missed m i j (o ∷ es) e =
     let parts = or_false (meets_square (widened m (square_of 0 i j)) o)
     (list_any (meets_square (widened m (square_of 0 i j))) es) e in
     All-cons (λ e. Misses e (square_of 0 i j)) o es (leaves_out_near m 0 i j o parts.0) (all_missed m i j es parts.1)
-
-pub one_side : (r : Region) (x y : ℕ) → IsClosed r.edges → All (IsFit (x / 4 ^ 30)) r.edges → x / 4 ^ 30 ≡ y / 4 ^ 30
-    → AreNeighbours (i_of x) (j_of x) (i_of y) (j_of y) → is_touched r x ≡ false → is_touched r y ≡ false
-    → inside r x ≡ inside r y
-unfolding is_touched
-one_side r x y closed fit e beside h k =
-    let f = x / 4 ^ 30 in
-    ap (λ (t : Bool). xor t (odd_at r.edges r.outside))
-    (leaves_alike f r.edges fit closed x y refl (sym e) beside
-    (all_missed r.margin (i_of x) (j_of x) (edges_on f r.edges) h)
-    (all_missed r.margin (i_of y) (j_of y) (edges_on f r.edges) (sym (ap (λ (g : ℕ). list_any
-    (meets_square (widened r.margin (square_of 0 (i_of y) (j_of y)))) (edges_on g r.edges)) (sym e)) ∙ k)))

@@ -1,13 +1,12 @@
 -- Edges of rings: closed, and the short way, in the frame of each face.
 use Rattle.std.proofs.Common.{◌≡◌, refl, sym, ap, ap₂, ◌∙◌, ℕ, zero, suc, ◌+◌, ◌-◌, ◌≤◌, ◌<◌, arith, ℤ, pos}
 use Rattle.std.proofs.Common.{neg_ℤ, ◌+ℤ◌, ◌-ℤ◌, ◌*ℤ◌, ◌≤ℤ◌, ◌<ℤ◌, ◌⊎◌, inl, inr, Bool, true, false, List, [], ◌∷◌}
-use Rattle.std.proofs.Common.{All, length, cond, get_or, subst, ◌/◌, ◌^◌, ◌==◌, eqb-true}
+use Rattle.std.proofs.Common.{All, length, cond, get_or, ◌==◌, eqb-true}
 use Rattle.std.proofs.lemmas.Int.{ints, by_lt_z}
 use Rattle.std.proofs.lemmas.Bool.{eqb-false}
 use Rattle.std.proofs.lemmas.List.Elements.{All-append, All-cons, All-get_or, All-nil}
 use Rattle.std.proofs.Math.Bool.{xor}
-use Rattle.s2cell.specs.Curve.{AreNeighbours, i_of, j_of}
-use Rattle.s2polygon.proofs.Beside.{IsClosed, IsFit, one_side}
+use Rattle.s2polygon.proofs.Beside.{IsClosed, IsFit}
 use Rattle.s2polygon.proofs.Changes.{odd_both, xor_self}
 use Rattle.s2polygon.proofs.Integers.{at, ◌⊖◌, ◌⊗◌, equal, product_at_most}
 use Rattle.s2polygon.proofs.Rays.{above_unlike, below_unlike}
@@ -17,7 +16,6 @@ use Rattle.s2polygon.proofs.Steps.{odd_more}
 use Rattle.s2polygon.proofs.Turned.{drop, proper}
 use Rattle.s2polygon.specs.Directions.{IsDirection, Point, origin}
 use Rattle.s2polygon.specs.Frames.{in_frame, normal_u_of, normal_v_of, normal_w_of}
-use Rattle.s2polygon.specs.Leaves.{Region, inside, is_touched}
 use Rattle.s2polygon.specs.Parity.{is_odd_by}
 use Rattle.s2polygon.specs.Rings.{AreOpposite, AreRings, IsRing, after, corner, edge_from, edges_from}
 use Rattle.s2polygon.specs.Rings.{ring_edges}
@@ -68,11 +66,11 @@ below_back p q x y e f h = other p q (kept (neg_ℤ p) (neg_ℤ q) x y e f h)
     other : (p q : ℤ) → neg_ℤ p -ℤ neg_ℤ q ≡ pos 0 → q -ℤ p ≡ pos 0
     other p q g = omega (arith, ints)
 
-record IsBack (a b : Framed) : Type 0 where
-  w : normal_w_of a b ≡ pos 0
-  u : normal_u_of a b ≡ pos 0
-  v : normal_v_of a b ≡ pos 0
-  away : (a.w *ℤ b.w +ℤ a.u *ℤ b.u +ℤ a.v *ℤ b.v) ≤ℤ pos 0
+pub record IsBack (a b : Framed) : Type 0 where
+  pub w : normal_w_of a b ≡ pos 0
+  pub u : normal_u_of a b ≡ pos 0
+  pub v : normal_v_of a b ≡ pos 0
+  pub away : (a.w *ℤ b.w +ℤ a.u *ℤ b.u +ℤ a.v *ℤ b.v) ≤ℤ pos 0
 
 sum_xyz : (p q r x y z : ℤ) → x ≡ p → y ≡ q → z ≡ r → (x +ℤ y +ℤ z) ≤ℤ pos 0 → (p +ℤ q +ℤ r) ≤ℤ pos 0
 sum_xyz p q r x y z e f g h = omega (arith, ints)
@@ -92,7 +90,7 @@ sum_yzx p q r x y z e f g h = omega (arith, ints)
 sum_zyx : (p q r x y z : ℤ) → x ≡ r → y ≡ q → z ≡ p → (x +ℤ y +ℤ z) ≤ℤ pos 0 → (p +ℤ q +ℤ r) ≤ℤ pos 0
 sum_zyx p q r x y z e f g h = omega (arith, ints)
 
-opposite : (f : ℕ) (a b : Point) → IsBack (in_frame f a) (in_frame f b) → AreOpposite (record { a = a; b = b })
+pub opposite : (f : ℕ) (a b : Point) → IsBack (in_frame f a) (in_frame f b) → AreOpposite (record { a = a; b = b })
 opposite zero a b h = record {
   x = kept (a.y *ℤ b.z) (a.z *ℤ b.y) (a.y *ℤ b.z) (a.z *ℤ b.y) refl refl h.w;
   y = kept (a.z *ℤ b.x) (a.x *ℤ b.z) (a.z *ℤ b.x) (a.x *ℤ b.z) refl refl h.u;
@@ -196,13 +194,19 @@ module _ (a b : Framed) (w : normal_w_of a b ≡ pos 0) (u : normal_u_of a b ≡
       first (inl c) = down_up a.w b.w (weak a.w c.0) (up b.w c.1)
       first (inr c) = product_at_most a.w b.w (up a.w c.0) (weak b.w c.1)
 
-fits : (f : ℕ) (e : Edge) → IsDirection e.a → IsDirection e.b → ¬ (AreOpposite e) → IsFit f e
-fits f e ha hb apart = record {
-  a = proper f e.a ha;
-  b = proper f e.b hb;
+-- the edge has directions as its ends, which don't lie opposite each other
+pub record IsSound (e : Edge) : Type 0 where
+  pub a : IsDirection e.a
+  pub b : IsDirection e.b
+  pub apart : ¬ (AreOpposite e)
+
+fits : (f : ℕ) (e : Edge) → IsSound e → IsFit f e
+fits f e s = record {
+  a = proper f e.a s.a;
+  b = proper f e.b s.b;
   short = record {
-    w = λ g h w u v. apart (opposite f e.a e.b (is_back (in_frame f e.a) (in_frame f e.b) w u v (inr (g, h))));
-    back = λ g h w u v. apart (opposite f e.a e.b (is_back (in_frame f e.a) (in_frame f e.b) w u v (inl (g, h))));
+    w = λ g h w u v. s.apart (opposite f e.a e.b (is_back (in_frame f e.a) (in_frame f e.b) w u v (inr (g, h))));
+    back = λ g h w u v. s.apart (opposite f e.a e.b (is_back (in_frame f e.a) (in_frame f e.b) w u v (inl (g, h))));
   };
 }
 
@@ -291,15 +295,17 @@ pub closed : (corners : List Point) (ends : List ℕ) → AreRings corners ends
     → IsClosed (rings_edges corners ends (length ends))
 closed corners ends h = rings_closed corners ends h.rings (length ends) (omega arith)
 
-pub all_fit : (f : ℕ) (corners : List Point) (ends : List ℕ) → AreRings corners ends → All IsDirection corners
-    → All (IsFit f) (rings_edges corners ends (length ends))
-all_fit f corners ends h directions =
-    each_of (IsFit f) corners ends
+all_of : (P : Edge → Type 0) → ((e : Edge) → IsSound e → P e) → (corners : List Point) (ends : List ℕ)
+    → AreRings corners ends → All IsDirection corners → All P (rings_edges corners ends (length ends))
+all_of P each corners ends h directions =
+    each_of P corners ends
     (λ r l i g k. let ring = h.rings r l in
-    fits f (edge_from corners (start_of ends r) (get_or ends r 0) i)
-    (All-get_or IsDirection corners i origin (within i k ring.ends_within) directions)
-    (All-get_or IsDirection corners (after (start_of ends r) (get_or ends r 0) i) origin
-    (follows (start_of ends r) (get_or ends r 0) i g k ring.ends_within) directions) (ring.edges i g k))
+    each (edge_from corners (start_of ends r) (get_or ends r 0) i) (record {
+      a = All-get_or IsDirection corners i origin (within i k ring.ends_within) directions;
+      b = All-get_or IsDirection corners (after (start_of ends r) (get_or ends r 0) i) origin
+          (follows (start_of ends r) (get_or ends r 0) i g k ring.ends_within) directions;
+      apart = ring.edges i g k;
+    }))
     (λ r l. let ring = h.rings r l in least (start_of ends r) (get_or ends r 0) ring.begins) (length ends) (omega arith)
   where
     within : (i : ℕ) {m n : ℕ} → i < m → m ≤ n → i < n
@@ -318,13 +324,10 @@ all_fit f corners ends h directions =
             cases : (i + 1 ≡ end → ⊥) → i + 1 < n
             cases ne = grind (arith, ne)
 
--- ---- leaves beside each other
-pub neighbors_alike : (r : Region) (corners : List Point) (ends : List ℕ) (x y : ℕ)
-    → r.edges ≡ rings_edges corners ends (length ends) → AreRings corners ends → All IsDirection corners
-    → x / 4 ^ 30 ≡ y / 4 ^ 30 → AreNeighbours (i_of x) (j_of x) (i_of y) (j_of y) → is_touched r x ≡ false
-    → is_touched r y ≡ false → inside r x ≡ inside r y
-neighbors_alike r corners ends x y e rings directions face beside h k =
-    one_side r x y (subst IsClosed (sym e) (closed corners ends rings))
-    (subst (λ (es : List Edge). All (IsFit (x / 4 ^ 30)) es) (sym e)
-    (all_fit (x / 4 ^ 30) corners ends rings directions))
-    face beside h k
+pub all_sound : (corners : List Point) (ends : List ℕ) → AreRings corners ends → All IsDirection corners
+    → All IsSound (rings_edges corners ends (length ends))
+all_sound = all_of IsSound (λ e s. s)
+
+pub all_fit : (f : ℕ) (corners : List Point) (ends : List ℕ) → AreRings corners ends → All IsDirection corners
+    → All (IsFit f) (rings_edges corners ends (length ends))
+all_fit f = all_of (IsFit f) (fits f)

@@ -1,6 +1,7 @@
 mod Accepts
 mod Acute
 mod Along
+mod Arcs
 mod Around
 mod Bare
 mod Beside
@@ -14,6 +15,7 @@ mod Cones
 mod Countings
 mod Crossings
 mod Descents
+mod Faraway
 mod Framing
 mod Halves
 mod Hulls
@@ -29,6 +31,7 @@ mod Middles
 mod Moved
 mod MovedCorners
 mod Moving
+mod Neighbors
 mod Octants
 mod Pairs
 pub mod Parity
@@ -41,10 +44,13 @@ pub mod Quarters
 mod Rays
 pub mod Rejects
 pub mod Ringing
+mod Sharing
 mod Sides
 pub mod Sizes
 pub mod Steps
 mod Tests
 mod Touching
+mod Triangles
 pub mod Turned
 mod Turning
+mod Vectors

@@ -56,13 +56,13 @@ pub record IsSign (z : ℤ) (s : Bool) : Type 0 where
   pub yes : s ≡ true → pos 0 ≤ℤ z
   pub no : s ≡ false → z ≤ℤ pos 0
 
-alike : (x y : ℤ) (s t : Bool) → IsSign x s → IsSign y t → s ≡ t → pos 0 ≤ℤ (x *ℤ y)
+pub alike : (x y : ℤ) (s t : Bool) → IsSign x s → IsSign y t → s ≡ t → pos 0 ≤ℤ (x *ℤ y)
 alike x y true true h k e = product_at_least x y (h.yes refl) (k.yes refl)
 alike x y false false h k e = down_down x y (h.no refl) (k.no refl)
 alike x y true false h k e = absurd (true≢false e)
 alike x y false true h k e = absurd (true≢false (sym e))
 
-unlike : (x y : ℤ) (s t : Bool) → IsSign x s → IsSign y t → s ≡ not t → (x *ℤ y) ≤ℤ pos 0
+pub unlike : (x y : ℤ) (s t : Bool) → IsSign x s → IsSign y t → s ≡ not t → (x *ℤ y) ≤ℤ pos 0
 unlike x y true false h k e = product_at_most x y (h.yes refl) (k.no refl)
 unlike x y false true h k e = down_up x y (h.no refl) (k.yes refl)
 unlike x y true true h k e = absurd (true≢false e)
@@ -112,19 +112,19 @@ sign_turn : (n d : ℤ) (t : Bool) → IsTurn n d t → IsSign n t
 sign_turn n d t h = record { yes = h.yes; no = h.no }
 
 -- three numbers on one side of 0 whose sum is 0
-record AreNone (x y z : ℤ) : Type 0 where
-  first : x ≡ pos 0
-  second : y ≡ pos 0
-  third : z ≡ pos 0
+pub record AreNone (x y z : ℤ) : Type 0 where
+  pub first : x ≡ pos 0
+  pub second : y ≡ pos 0
+  pub third : z ≡ pos 0
 
-none_up : (x y z : ℤ) → x +ℤ y +ℤ z ≡ pos 0 → pos 0 ≤ℤ x → pos 0 ≤ℤ y → pos 0 ≤ℤ z → AreNone x y z
+pub none_up : (x y z : ℤ) → x +ℤ y +ℤ z ≡ pos 0 → pos 0 ≤ℤ x → pos 0 ≤ℤ y → pos 0 ≤ℤ z → AreNone x y z
 none_up x y z e f g h = record {
   first = omega (arith, ints);
   second = omega (arith, ints);
   third = omega (arith, ints);
 }
 
-none_down : (x y z : ℤ) → x +ℤ y +ℤ z ≡ pos 0 → x ≤ℤ pos 0 → y ≤ℤ pos 0 → z ≤ℤ pos 0 → AreNone x y z
+pub none_down : (x y z : ℤ) → x +ℤ y +ℤ z ≡ pos 0 → x ≤ℤ pos 0 → y ≤ℤ pos 0 → z ≤ℤ pos 0 → AreNone x y z
 none_down x y z e f g h = record {
   first = omega (arith, ints);
   second = omega (arith, ints);
@@ -150,19 +150,19 @@ scaled_down : (k : ℕ) (n z : ℤ) → pos k *ℤ n ≡ z → n ≤ℤ pos 0 �
 scaled_down k n z e h = subst (λ (t : ℤ). t ≤ℤ pos 0) e (product_at_most (pos k) n (omega (arith, ints)) h)
 
 -- ---- not all three are on one side
-beq_yes : (a b : Bool) → beq a b ≡ true → a ≡ b
+pub beq_yes : (a b : Bool) → beq a b ≡ true → a ≡ b
 beq_yes true true e = refl
 beq_yes false false e = refl
 beq_yes true false e = absurd (true≢false (sym e))
 beq_yes false true e = absurd (true≢false (sym e))
 
-beq_no : (a b : Bool) → beq a b ≡ false → a ≡ not b
+pub beq_no : (a b : Bool) → beq a b ≡ false → a ≡ not b
 beq_no true false e = refl
 beq_no false true e = refl
 beq_no true true e = absurd (true≢false e)
 beq_no false false e = absurd (true≢false e)
 
-balanced_is : (x y w p q s : Bool) → (p ≡ x → q ≡ y → s ≡ w → ⊥) → (p ≡ not x → q ≡ not y → s ≡ not w → ⊥)
+pub balanced_is : (x y w p q s : Bool) → (p ≡ x → q ≡ y → s ≡ w → ⊥) → (p ≡ not x → q ≡ not y → s ≡ not w → ⊥)
     → balanced x y w p q s ≡ true
 balanced_is x y w p q s f g = by (beq p x) (beq q y) (beq s w) (beq_yes p x) (beq_no p x) (beq_yes q y) (beq_no q y)
     (beq_yes s w) (beq_no s w)
@@ -177,8 +177,8 @@ balanced_is x y w p q s f g = by (beq p x) (beq q y) (beq s w) (beq_yes p x) (be
     by false false true h i j k l m = refl
     by false false false h i j k l m = absurd (g (i refl) (k refl) (m refl))
 
-differs_is : (one other n : Bool) → (one ≡ true → other ≡ false → n ≡ true) → (one ≡ false → other ≡ true → n ≡ false)
-    → differs one other n ≡ true
+pub differs_is : (one other n : Bool) → (one ≡ true → other ≡ false → n ≡ true)
+    → (one ≡ false → other ≡ true → n ≡ false) → differs one other n ≡ true
 differs_is true true true f g = refl
 differs_is true true false f g = refl
 differs_is false false true f g = refl
@@ -392,7 +392,7 @@ less_more a b e h k l = k (omega (arith, ints))
 before_none : (a b : ℤ) → b ≡ pos 0 → pos 0 <ℤ a → pos 0 <ℤ (b -ℤ a) → ⊥
 before_none a b e h l = omega (arith, ints)
 
-swapped : (b c : Bool) → b ≡ not c → c ≡ not b
+pub swapped : (b c : Bool) → b ≡ not c → c ≡ not b
 swapped true false g = refl
 swapped false true g = refl
 swapped true true g = absurd (true≢false g)
@@ -424,7 +424,7 @@ wide_b wa xb xa wb e =
 tie_b : (wa wb : ℤ) → wb ≡ pos 0 → wb -ℤ wa ≡ pos 0 -ℤ wa
 tie_b wa wb e = omega (arith, ints)
 
-back : (z : ℤ) → pos 0 -ℤ z ≡ pos 0 → z ≡ pos 0
+pub back : (z : ℤ) → pos 0 -ℤ z ≡ pos 0 → z ≡ pos 0
 back z e = omega (arith, ints)
 
 module _ (k : ℕ) (xa ya wa xb yb wb s p q : ℤ) (ra aa ba rb ab bb so to uo : Bool)

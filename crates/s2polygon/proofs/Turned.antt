@@ -88,17 +88,17 @@ proper (suc (suc (suc (suc (suc n))))) p d = record {
 
 -- ---- over the side that two faces share
 -- from an even face to the next
-abbrev right : Framed → Framed
+abbrev pub right : Framed → Framed
 right c = record { w = c.u; u = pos 0 -ℤ c.w; v = c.v }
 
 -- from an odd one
-abbrev up : Framed → Framed
+abbrev pub up : Framed → Framed
 up c = record { w = c.v; u = c.u; v = pos 0 -ℤ c.w }
 
 pub minus_is : (z : ℤ) → neg_ℤ z ≡ pos 0 -ℤ z
 minus_is z = omega (arith, ints)
 
-minus_twice : (z : ℤ) → z ≡ pos 0 -ℤ neg_ℤ z
+pub minus_twice : (z : ℤ) → z ≡ pos 0 -ℤ neg_ℤ z
 minus_twice z = omega (arith, ints)
 
 at_even : (p : Point) (w u v s t : ℤ) → s ≡ t → ◌≡◌ {A = Framed} (record { w = w; u = s; v = v })
@@ -109,19 +109,19 @@ at_odd : (p : Point) (w u v s t : ℤ) → s ≡ t → ◌≡◌ {A = Framed} (r
     (record { w = w; u = u; v = t })
 at_odd p w u v s t e = rw e refl
 
-from_0 : (p : Point) → in_frame 1 p ≡ right (in_frame 0 p)
+pub from_0 : (p : Point) → in_frame 1 p ≡ right (in_frame 0 p)
 from_0 p = at_even p p.y p.x p.z (neg_ℤ p.x) (pos 0 -ℤ p.x) (minus_is p.x)
 
-from_1 : (p : Point) → in_frame 2 p ≡ up (in_frame 1 p)
+pub from_1 : (p : Point) → in_frame 2 p ≡ up (in_frame 1 p)
 from_1 p = at_odd p p.z (neg_ℤ p.x) p.y (neg_ℤ p.y) (pos 0 -ℤ p.y) (minus_is p.y)
 
-from_2 : (p : Point) → in_frame 3 p ≡ right (in_frame 2 p)
+pub from_2 : (p : Point) → in_frame 3 p ≡ right (in_frame 2 p)
 from_2 p = at_even p (neg_ℤ p.x) p.z (neg_ℤ p.y) (neg_ℤ p.z) (pos 0 -ℤ p.z) (minus_is p.z)
 
-from_3 : (p : Point) → in_frame 4 p ≡ up (in_frame 3 p)
+pub from_3 : (p : Point) → in_frame 4 p ≡ up (in_frame 3 p)
 from_3 p = at_odd p (neg_ℤ p.y) (neg_ℤ p.z) p.x p.x (pos 0 -ℤ neg_ℤ p.x) (minus_twice p.x)
 
-from_4 : (p : Point) → in_frame 5 p ≡ right (in_frame 4 p)
+pub from_4 : (p : Point) → in_frame 5 p ≡ right (in_frame 4 p)
 from_4 p = at_even p (neg_ℤ p.z) p.y p.x p.y (pos 0 -ℤ neg_ℤ p.y) (minus_twice p.y)
 
 module _ (k : ℕ) (t aw au av bw bu bv : ℤ) where
@@ -274,7 +274,7 @@ drop false true false = refl
 drop false false true = refl
 drop false false false = refl
 
-join : (a b c d : Bool) → b ≡ c → xor (xor a b) (xor c d) ≡ xor a d
+pub join : (a b c d : Bool) → b ≡ c → xor (xor a b) (xor c d) ≡ xor a d
 join a b c d e = rw e (drop a c d)
 
 -- a row over the border, and a column

@@ -7,6 +7,7 @@ pub mod Frames
 pub mod Leaves
 pub mod Meets
 pub mod Moves
+pub mod Neighbors
 pub mod Parity
 pub mod Places
 pub mod Rings

@@ -1,6 +1,6 @@
 //! Laws about the definitions themselves: functions that do nothing, whose clauses are proved.
 ghost use Rattle.std.specs.Prelude.{◌≡◌, ◌↔◌, ◌<◌, ◌≤◌, ◌<ℤ◌, ◌/◌, ◌^◌, ◌++◌, ℕ, All, IsTrue, List, false, length, not};
-ghost use Rattle.std.specs.Prelude.{pos, true};
+ghost use Rattle.std.specs.Prelude.{pos, true, ◌≢◌};
 ghost use Rattle.std.specs.List.Sorted.{IsPermutation};
 ghost use Rattle.s2cell.specs.Curve.{AreNeighbours, i_of, j_of};
 ghost use Rattle.s2cell.specs.declared.TheConstants.{LEAVES};
@@ -9,6 +9,7 @@ ghost use Rattle.s2polygon.specs.Leaves.{Region, inner_leaf, inside, is_touched,
 ghost use Rattle.s2polygon.specs.Meets.{MeetsSquare};
 ghost use Rattle.s2polygon.specs.Moves.{AreAcuteRings, AreNearRings, StaysClear, margin_of_moved, of_rings};
 ghost use Rattle.s2polygon.specs.Moves.{paid_for};
+ghost use Rattle.s2polygon.specs.Neighbors.{IsMiddleOfSide, ShareASide};
 ghost use Rattle.s2polygon.specs.Rings.{AreRings, HasDirections, rings_edges, turned_round};
 ghost use Rattle.s2polygon.specs.Tests.{meets_square};
 ghost use Rattle.s2polygon.specs.declared.directions.Edge.{Edge};
@@ -65,14 +66,22 @@ pub fn law_of_directions()
         ≡ inner_leaf (record r { edges = r.edges ++ ring }) x }
 {}
 
-/// Two leaves of one face that share a side, and that no edge touches, lie on one side of a polygon: both are inside,
-/// or neither is. So on a face 'inside' doesn't depend on the way by which crossings are counted: whoever goes from
-/// leaf to leaf, and over none that is touched, stays inside or stays outside.
+/// Two leaves that share a side, and that no edge touches, lie on one side of a polygon: both are inside, or neither
+/// is. So 'inside' doesn't depend on the way by which crossings are counted: whoever goes from leaf to leaf, over
+/// borders of faces and around corners of the cube too, and over no leaf that is touched, stays inside or stays
+/// outside.
+///
+/// On a face, leaves share a side where they are one step apart (`faces`). Each side of a leaf is a side of another
+/// leaf, on its face or over a border (`shared`).
 pub fn law_of_neighbors()
-    ensures { (r : Region) (corners : List Point) (ends : List ℕ) (x y : ℕ)
+    ensures inside { (r : Region) (corners : List Point) (ends : List ℕ) (x y : ℕ)
         → r.edges ≡ rings_edges corners ends (length ends) → AreRings corners ends → All IsDirection corners
-        → x / 4 ^ 30 ≡ y / 4 ^ 30 → AreNeighbours (i_of x) (j_of x) (i_of y) (j_of y)
-        → is_touched r x ≡ false → is_touched r y ≡ false → inside r x ≡ inside r y }
+        → x < LEAVES → y < LEAVES → ShareASide x y → is_touched r x ≡ false → is_touched r y ≡ false
+        → inside r x ≡ inside r y }
+    ensures faces { (x y : ℕ) → x / 4 ^ 30 ≡ y / 4 ^ 30 → AreNeighbours (i_of x) (j_of x) (i_of y) (j_of y)
+        → ShareASide x y }
+    ensures shared { (x : ℕ) (p : Point) → x < LEAVES → IsMiddleOfSide x p
+        → (y : ℕ) × (y < LEAVES) × (y ≢ x) × IsMiddleOfSide y p }
 {}
 
 /// How much is lost by rounding corners, and the margin that pays for it. `moved` are the true corners and `corners`
