@@ -2,7 +2,7 @@
 use Rattle.std.proofs.Common.{◌≡◌, ◌≢◌, refl, sym, ap, ap₂, ◌∙◌, ℕ, zero, suc, ◌+◌, ◌-◌, ◌*◌, ◌/◌, ◌%◌, ◌^◌, ◌≤◌, ◌<◌}
 use Rattle.std.proofs.Common.{arith, ℤ, pos, neg_ℤ, ◌-ℤ◌, inl, inr, ◌⊎◌, Bool, true, false, nat_lt, ltb-true, ltb-false}
 use Rattle.std.proofs.lemmas.Int.{ints}
-use Rattle.s2cell.specs.Curve.{AreNeighbours, i_of, j_of}
+use Rattle.s2cell.specs.Curve.{AreNeighbours, i_of, i_within, j_of, j_within, quadrant, quadrants, turn}
 use Rattle.s2cell.specs.declared.TheConstants.{LEAVES}
 use Rattle.s2cell.proofs.Levels.{at_bounds}
 use Rattle.s2cell.proofs.Places.{leaf_exists, place_is}
@@ -12,7 +12,7 @@ use Rattle.s2polygon.proofs.Turned.{below_side, from_0, from_1, from_2, from_3, 
 use Rattle.s2polygon.specs.Directions.{Point}
 use Rattle.s2polygon.specs.Frames.{in_frame}
 use Rattle.s2polygon.specs.Neighbors.{IsMiddleAt, IsMiddleOfSide, ShareASide, place}
-use Rattle.s2polygon.specs.Places.{along}
+use Rattle.s2polygon.specs.Places.{along, whole}
 use Rattle.s2polygon.specs.declared.frames.Framed.{Framed}
 
 same_framed : {w u v k l m : ℤ} → w ≡ k → u ≡ l → v ≡ m → ◌≡◌ {A = Framed} (record { w = w; u = u; v = v })
@@ -430,3 +430,25 @@ share_on_face x y e h = by h
       second = inr (inl (on (2 * i_of x) (2 * j_of x + 1) (2 * (i_of y + 1)) (2 * j_of y + 1)
           (ap (λ (i : ℕ). 2 * i) (sym q)) (ap (λ (j : ℕ). 2 * j + 1) p)));
     }
+
+-- ---- the three leaves at a corner of the cube
+pub around_corner : ShareASide 768614336404564650 2305843009213693951
+    × ShareASide 768614336404564650 2305843009213693952 × ShareASide 2305843009213693951 2305843009213693952
+unfolding i_of j_of i_within j_within quadrant quadrants turn
+around_corner = (
+  record {
+    point = record { x = whole; y = whole; z = along (2 ^ 31 - 1) };
+    first = inr (inl refl);
+    second = inl refl;
+  },
+  record {
+    point = record { x = whole; y = along (2 ^ 31 - 1); z = whole };
+    first = inr (inr (inr refl));
+    second = inl refl;
+  },
+  record {
+    point = record { x = along (2 ^ 31 - 1); y = whole; z = whole };
+    first = inr (inr (inr refl));
+    second = inr (inr (inl refl));
+  },
+)

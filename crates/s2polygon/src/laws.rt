@@ -72,7 +72,8 @@ pub fn law_of_directions()
 /// outside.
 ///
 /// On a face, leaves share a side where they are one step apart (`faces`). Each side of a leaf is a side of another
-/// leaf, on its face or over a border (`shared`).
+/// leaf, on its face or over a border (`shared`). Of the three leaves at the corner of faces 0, 1 and 2, each two share
+/// a side (`known`).
 pub fn law_of_neighbors()
     ensures inside { (r : Region) (corners : List Point) (ends : List ℕ) (x y : ℕ)
         → r.edges ≡ rings_edges corners ends (length ends) → AreRings corners ends → All IsDirection corners
@@ -82,6 +83,8 @@ pub fn law_of_neighbors()
         → ShareASide x y }
     ensures shared { (x : ℕ) (p : Point) → x < LEAVES → IsMiddleOfSide x p
         → (y : ℕ) × (y < LEAVES) × (y ≢ x) × IsMiddleOfSide y p }
+    ensures known { ShareASide 768614336404564650 2305843009213693951
+        × ShareASide 768614336404564650 2305843009213693952 × ShareASide 2305843009213693951 2305843009213693952 }
 {}
 
 /// How much is lost by rounding corners, and the margin that pays for it. `moved` are the true corners and `corners`
