@@ -89,7 +89,8 @@ int s2u_tokens(const void* ids, size_t n, char* text, size_t room, size_t* len) 
     grep S2U_MANY said
 )
 shapes_of_r() ( # the cells of shapes, and the names and places of errors, which tests/model/shapes.py has of Python
-  cd "$work" && /usr/bin/python3 -m model.shapes | grep -P '^(wkb|rings|neighbors|expanded|bounds|area)\t' >shapes &&
+  local calls='wkb|rings|zones|neighbors|expanded|bounds|area'
+  cd "$work" && /usr/bin/python3 -m model.shapes | grep -P "^($calls)\t" >shapes &&
     Rscript - <<'R'
 library(s2union)
 bytes <- function(hex) {
@@ -124,7 +125,28 @@ around <- function(call, cell, level) { # the answer to a question of cells, as 
   if (is.null(found)) "none" else paste(writeBin(unname(found), raw(), endian = "big"), collapse = "")
 }
 of_one <- c("bounds", "area") # which take no level
+zone <- function(text) { # as WKB, or as rings, also of a box, which R doesn't have; NULL if there are lines
+  if (startsWith(text, "wkb:")) return(bytes(substring(text, 5)))
+  if (!startsWith(text, "box:")) return(polygons(text))
+  at <- numbers(substring(text, 5))
+  if (at[3] < at[1]) at[3] <- at[3] + 360
+  list(cbind(at[c(1, 3, 3, 1, 1)], at[c(2, 2, 4, 4, 2)]))
+}
+joined <- function(zones, borders, x, y) {
+  found <- s2u_pairs(s2u_zones(zones), numbers(x), numbers(y), borders == "1")
+  paste(sprintf("%d:%d", as.integer(found$place - 1), as.integer(found$zone - 1)), collapse = " ")
+}
 for (line in strsplit(readLines("shapes"), "\t")) {
+  if (line[1] == "zones") {
+    zones <- lapply(strsplit(line[2], "|", fixed = TRUE)[[1]], zone)
+    if (any(vapply(zones, is.null, NA)) || anyNA(numbers(c(line[-(1:3)], "")[1]))) next # nor is a place of NaN wrong
+    said <- tryCatch(joined(zones, line[3], c(line[-(1:3)], "")[1], c(line[-(1:4)], "")[1]), s2union_error = name)
+    wanted <- c(line[-(1:5)], "")[1]
+    if (wanted == "!argument") next # of a box
+    if (!identical(said, wanted)) stop(paste(c("zones", "wanted", wanted, "said", said), collapse = "\n"))
+    asked <- asked + 1
+    next
+  }
   if (line[1] %in% c("neighbors", "expanded", of_one)) {
     said <- tryCatch(around(line[1], region(line[2]), as.numeric(line[3])), s2union_error = name)
     wanted <- c(line[-seq_len(if (line[1] %in% of_one) 2 else 3)], "")[1]

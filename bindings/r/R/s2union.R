@@ -18,10 +18,14 @@ s2u_decode <- function(bytes) new_s2_cell(.Call(C_decode, bytes_of(bytes)))
 s2u_file_contains_cells <- function(bytes, cells) .Call(C_file_contains_cells, bytes_of(bytes), cells_of(cells))
 
 s2u_leaf <- function(longitude, latitude) {
+  places <- places_of(longitude, latitude)
+  new_s2_cell(.Call(C_leaf, places[[1]], places[[2]]))
+}
+places_of <- function(longitude, latitude) { # vectors of one length
   counts <- range(length(longitude), length(latitude))
   if (counts[1] && counts[2] %% counts[1]) stop(length(longitude), " longitudes and ", length(latitude), " latitudes")
   count <- if (counts[1]) counts[2] else 0
-  new_s2_cell(.Call(C_leaf, rep_len(degrees_of(longitude), count), rep_len(degrees_of(latitude), count)))
+  list(rep_len(degrees_of(longitude), count), rep_len(degrees_of(latitude), count))
 }
 s2u_covering <- function(shape, ...) covered(shape, c(TRUE, FALSE), ...)$outer
 s2u_interior <- function(shape, ...) covered(shape, c(FALSE, TRUE), ...)$inner
@@ -32,18 +36,45 @@ covered <- function(shape, which, max_cells = if (is.null(within)) 200 else 1e6,
   kind <- match(match.arg(edges), c("map", "geodesic", "left")) - 1
   finest <- if (is.null(within)) NA_real_ else number_of(within)
   numbers <- c(number_of(max_cells), number_of(min_level), number_of(max_level), number_of(margin), kind, finest)
-  made <- if (is.raw(shape)) .Call(C_cover_wkb, shape, numbers, which) else cover_rings(shape, numbers, which)
+  made <- if (is.raw(shape)) .Call(C_cover_wkb, shape, numbers, which) else {
+    rings <- rings_of(shape)
+    .Call(C_cover_rings, rings[[1]], rings[[2]], rings[[3]], numbers, which)
+  }
   list(outer = new_s2_cell(made[[1]]), inner = new_s2_cell(made[[2]]))
 }
 
-# Polygons as package sf has them: a list of matrices, whose rows are positions, or a list of such lists.
-cover_rings <- function(shape, numbers, which) {
+s2u_zones <- function(shapes) {
+  made <- .Call(C_zones)
+  for (k in seq_along(shapes)) tryCatch(add_zone(made, shapes[[k]]), s2union_error = function(error) {
+    error$message <- sprintf("zone %d: %s", k, error$message)
+    error$zone <- k
+    stop(error)
+  })
+  made
+}
+add_zone <- function(zones, shape) {
+  if (is.raw(shape)) return(.Call(C_add_wkb, zones, shape))
+  rings <- rings_of(shape)
+  .Call(C_add_rings, zones, rings[[1]], rings[[2]], rings[[3]])
+}
+s2u_pairs <- function(zones, longitude, latitude, borders = FALSE) {
+  places <- places_of(longitude, latitude)
+  asked <- as.numeric(which(!is.na(places[[1]]) & !is.na(places[[2]])))
+  made <- tryCatch(.Call(C_pairs, zones, places[[1]][asked], places[[2]][asked], isTRUE(borders)),
+                   S2U_COVER_NUMBER = function(error)
+                     refuse(c(class(error)[1], sub(" at [0-9]+$", "", error$message)), asked[error$place], NA))
+  data.frame(place = asked[made[[1]]], zone = made[[2]])
+}
+
+# Polygons as package sf has them: a list of matrices, whose rows are positions, or a list of such lists. Their
+# positions, where each ring ends, and its polygon.
+rings_of <- function(shape) {
   if (!is.list(shape) || (inherits(shape, "sfg") && !inherits(shape, c("POLYGON", "MULTIPOLYGON"))))
     stop("not a raw vector of WKB, nor a list of matrices")
   polygons <- if (all(vapply(shape, is.list, NA))) shape else list(shape)
   rings <- lapply(do.call(c, c(list(list()), lapply(polygons, unclass))), positions_of)
   of <- rep(seq_along(polygons), lengths(polygons))
-  .Call(C_cover_rings, as.double(unlist(rings)), cumsum(lengths(rings) / 2), as.double(of), numbers, which)
+  list(as.double(unlist(rings)), cumsum(lengths(rings) / 2), as.double(of))
 }
 positions_of <- function(ring) {
   if (!is.matrix(ring) || !is.numeric(ring) || ncol(ring) < 2) stop("a ring is a matrix of longitudes and latitudes")

@@ -3,7 +3,7 @@
 \alias{s2u_symmetric_difference} \alias{s2u_contains} \alias{s2u_intersects} \alias{s2u_contains_cells}
 \alias{s2u_intersects_cells} \alias{s2u_tokens} \alias{s2u_from_tokens} \alias{s2u_encode} \alias{s2u_decode}
 \alias{s2u_file_contains_cells} \alias{s2u_leaf} \alias{s2u_covering} \alias{s2u_interior} \alias{s2u_coverings}
-\alias{s2u_neighbors} \alias{s2u_expanded} \alias{s2u_bounds} \alias{s2u_area}
+\alias{s2u_neighbors} \alias{s2u_expanded} \alias{s2u_bounds} \alias{s2u_area} \alias{s2u_zones} \alias{s2u_pairs}
 \title{Unions of S2 cells}
 \description{A region is a set of leaf cells, the cells of level 30. It has exactly one list of cells, in which no two
 share a leaf and no four are the children of one cell, and exactly one union file and one text.}
@@ -30,6 +30,8 @@ s2u_neighbors(cell, level = NULL)
 s2u_expanded(x, level)
 s2u_bounds(x)
 s2u_area(x)
+s2u_zones(shapes)
+s2u_pairs(zones, longitude, latitude, borders = FALSE)
 }
 \arguments{
 \item{x, y}{regions: each an \code{s2_cell} vector in any order, or an \code{s2_cell_union} of length 1.}
@@ -44,6 +46,10 @@ s2u_area(x)
 \code{s2_as_binary} is. Or polygons: a list of the rings of one, each a matrix whose rows are positions, longitude
 first, the last row the same as the first; or a list of such lists. \code{POLYGON} and \code{MULTIPOLYGON} of package
 \code{sf} are these.}
+\item{shapes}{a list of shapes.}
+\item{zones}{what \code{s2u_zones} returned, in the same session.}
+\item{borders}{whether a place on a border is in the zone. If not, it is in none of the polygons that have that border,
+and lines have no place.}
 \item{...}{in this order: \code{max_cells}, the most cells, 0 to 1,000,000 (200, and 1,000,000 with \code{within});
 \code{min_level}, to which cells at the border are at least as deep; \code{max_level}, the deepest (30);
 \code{within}, meters: no place of the covering is farther from the shape, if \code{max_cells} allows it;
@@ -64,7 +70,10 @@ and \code{s2u_expanded} the region with the cells of the level that touch it; of
 the level that have them are taken. \code{s2u_bounds} returns the \code{west}, \code{south}, \code{east} and
 \code{north} of a region in degrees, or \code{NULL} without cells; over the date line the east is less than the west.
 \code{s2u_area}, since 1.5, returns the area of a region in square kilometers, on a sphere with the earth's mean radius.
-The earth is flattened, so an area there differs by less than 1 percent. These four are tested beside S2, not proved.}
+The earth is flattened, so an area there differs by less than 1 percent. These four are tested beside S2, not proved.
+\code{s2u_zones}, since 1.5, keeps shapes for exact joins, and \code{s2u_pairs}, since 1.5, returns a data frame with
+the numbers of places and zones, \code{place} and \code{zone}, a row for each place and each zone that has it. Edges
+are straight in longitude and latitude, and a place of \code{NA} is in no zone. They are tested, not proved.}
 \section{Errors}{A wrong value is a condition of class \code{s2union_error}, and of a class with the name of the
 library's status: \code{S2U_NO_CELL} (\code{place} is that of the number, or the byte at which the word begins, from 1
 on), \code{S2U_FILE_SHORT}, \code{S2U_FILE_VERSION}, \code{S2U_FILE_TRAILING}, \code{S2U_FILE_CELL},
@@ -74,7 +83,8 @@ shapes: \code{S2U_COVER_NUMBER} (a longitude or a latitude is out of range), \co
 than four positions), \code{S2U_COVER_OPEN} (its last position isn't its first), \code{S2U_COVER_PIECES} (edges are
 too long for so few positions), \code{S2U_COVER_OUTSIDE} (no place is outside), \code{S2U_COVER_OPPOSITE} (two
 positions of geodesic edges lie opposite each other); their \code{ring} and \code{place} count from 1.
-\code{S2U_COVER_OPTION}: an option is out of range.
+\code{S2U_COVER_OPTION}: an option is out of range. An error of \code{s2u_zones} has the number of the shape as
+\code{zone}.
 Of WKB, with \code{place} that of the byte: \code{S2U_COVER_WKB} (it is none), \code{S2U_COVER_TYPE} (curves
 or surfaces), \code{S2U_COVER_SRID} (no degrees), \code{S2U_COVER_DEEP} (collections in more than 32 others). An
 argument of another type is a simple error.}
@@ -84,4 +94,6 @@ s2u_tokens(lawn)
 park <- s2u_covering(list(cbind(c(2, 3, 3, 2), c(48, 48, 49, 48))), max_cells = 20)
 s2u_contains_cells(park, s2u_leaf(c(2.9, 2.1), c(48.5, 48.9)))
 round(s2u_area(lawn) / s2u_area(s2u_from_tokens("1")), 2)
+zones <- s2u_zones(list(list(cbind(c(2, 3, 3, 2), c(48, 48, 49, 48)))))
+s2u_pairs(zones, c(2.9, 2.1), c(48.5, 48.9))
 }

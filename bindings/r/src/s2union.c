@@ -7,10 +7,11 @@
 #endif
 #define R_NO_REMAP
 #include <limits.h>
+#include <stdlib.h>
 #include <string.h>
 #include <Rinternals.h>
 #include <R_ext/Rdynload.h>
-#include <s2union_cover.h>
+#include <s2union_join.h>
 #include "rooms.h"
 
 typedef struct {
@@ -206,13 +207,16 @@ static void let_go(void* of) {
   s2u_cover_free(&it->outer);
   s2u_cover_free(&it->inner);
 }
+static void refuse_shape(int32_t status, const s2u_cover_fault* fault) {
+  int is_of_bytes = status <= S2U_COVER_WKB, is_nowhere = status == S2U_COVER_OPTION || status > S2U_COVER_NUMBER;
+  refuse(status, is_nowhere ? NA_REAL : (double)fault->position + 1,
+         is_nowhere || is_of_bytes ? NA_REAL : (double)fault->ring + 1);
+}
 /* The lists of an answer, or its error. Its memory goes back, also if R has none for them. */
 static SEXP given(int32_t status, both* it, const s2u_cover_fault* fault) {
   if (status == S2U_OK) return R_ExecWithCleanup(lists_of, it, let_go, it);
   let_go(it);
-  int is_of_bytes = status <= S2U_COVER_WKB, is_nowhere = status == S2U_COVER_OPTION || status > S2U_COVER_NUMBER;
-  refuse(status, is_nowhere ? NA_REAL : (double)fault->position + 1,
-         is_nowhere || is_of_bytes ? NA_REAL : (double)fault->ring + 1);
+  refuse_shape(status, fault);
   return R_NilValue;
 }
 static SEXP r_cover_wkb(SEXP bytes, SEXP numbers, SEXP wanted) {
@@ -224,18 +228,83 @@ static SEXP r_cover_wkb(SEXP bytes, SEXP numbers, SEXP wanted) {
                                  if_wanted(&it.inner, wanted, 1), &fault);
   return given(status, &it, &fault);
 }
-static SEXP r_cover_rings(SEXP positions, SEXP ends, SEXP polygons, SEXP numbers, SEXP wanted) {
+static s2u_cover_shape shape_of(SEXP positions, SEXP ends, SEXP polygons) {
   size_t count = (size_t)XLENGTH(ends);
   s2u_cover_ring* rings = (s2u_cover_ring*)R_alloc(count, sizeof *rings);
   for (size_t k = 0; k < count; k++)
     rings[k] = (s2u_cover_ring){(uint64_t)REAL(ends)[k], (uint64_t)REAL(polygons)[k]};
-  s2u_cover_shape shape = {REAL(positions), rings, count};
+  return (s2u_cover_shape){REAL(positions), rings, count};
+}
+static SEXP r_cover_rings(SEXP positions, SEXP ends, SEXP polygons, SEXP numbers, SEXP wanted) {
+  s2u_cover_shape shape = shape_of(positions, ends, polygons);
   s2u_cover_options options = options_of(numbers);
   s2u_cover_fault fault;
   both it;
   int32_t status = s2u_cover(&shape, &options, if_wanted(&it.outer, wanted, 0), if_wanted(&it.inner, wanted, 1),
                              &fault);
   return given(status, &it, &fault);
+}
+
+/* ---- which zones have which places: zones are an external pointer */
+
+static void free_zones(SEXP at) {
+  s2u_join_zones* zones = (s2u_join_zones*)R_ExternalPtrAddr(at);
+  if (zones) s2u_join_free(zones);
+  free(zones);
+  R_ClearExternalPtr(at);
+}
+static SEXP r_zones(void) {
+  SEXP at = PROTECT(R_MakeExternalPtr(NULL, R_NilValue, R_NilValue));
+  R_RegisterCFinalizerEx(at, free_zones, TRUE);
+  s2u_join_zones* zones = (s2u_join_zones*)malloc(sizeof *zones);
+  check(zones ? S2U_OK : S2U_MEMORY, 0);
+  *zones = s2u_join_none();
+  R_SetExternalPtrAddr(at, zones);
+  UNPROTECT(1);
+  return at;
+}
+static s2u_join_zones* zones_of(SEXP at) { /* of a session that was saved there are none */
+  s2u_join_zones* zones = TYPEOF(at) == EXTPTRSXP ? (s2u_join_zones*)R_ExternalPtrAddr(at) : NULL;
+  if (!zones) Rf_error("these zones are gone");
+  return zones;
+}
+static SEXP added(int32_t status, const s2u_cover_fault* fault) {
+  if (status != S2U_OK) refuse_shape(status, fault);
+  return R_NilValue;
+}
+static SEXP r_add_wkb(SEXP zones, SEXP bytes) {
+  s2u_cover_fault fault;
+  size_t n = (size_t)XLENGTH(bytes);
+  return added(s2u_join_add_wkb(zones_of(zones), n ? RAW(bytes) : NULL, n, &fault), &fault);
+}
+static SEXP r_add_rings(SEXP zones, SEXP positions, SEXP ends, SEXP polygons) {
+  s2u_cover_shape shape = shape_of(positions, ends, polygons);
+  s2u_cover_fault fault;
+  return added(s2u_join_add_shape(zones_of(zones), &shape, &fault), &fault);
+}
+static SEXP numbers_of(void* of) { /* of places and of zones, from 1 on */
+  const s2u_cover_list* list = (const s2u_cover_list*)of;
+  const s2u_join_pair* pairs = (const s2u_join_pair*)(void*)list->at;
+  SEXP made = PROTECT(Rf_allocVector(VECSXP, 2));
+  for (int which = 0; which < 2; which++) {
+    SEXP numbers = Rf_allocVector(REALSXP, (R_xlen_t)list->count);
+    SET_VECTOR_ELT(made, which, numbers);
+    for (size_t k = 0; k < list->count; k++) REAL(numbers)[k] = 1.0 + (double)(which ? pairs[k].zone : pairs[k].point);
+  }
+  UNPROTECT(1);
+  return made;
+}
+static void free_list(void* of) { free(((s2u_cover_list*)of)->at); }
+static SEXP r_pairs(SEXP zones, SEXP longitude, SEXP latitude, SEXP borders) { /* places in two vectors of one length */
+  s2u_cover_list pairs;
+  size_t wrong, count = (size_t)XLENGTH(longitude);
+  int32_t status = s2u_join_pairs_of(zones_of(zones), count ? REAL(longitude) : NULL, count ? REAL(latitude) : NULL,
+                                     count, LOGICAL(borders)[0] == TRUE, &pairs, &wrong);
+  if (status == S2U_OK) return R_ExecWithCleanup(numbers_of, &pairs, free_list, &pairs);
+  free_list(&pairs);
+  refuse(status == S2U_ARGUMENT ? S2U_COVER_NUMBER : status, status == S2U_ARGUMENT ? (double)wrong + 1 : NA_REAL,
+         NA_REAL);
+  return R_NilValue;
 }
 
 /* ---- what is around */
@@ -281,6 +350,7 @@ static const R_CallMethodDef calls[] = {CALL(normalise, 1), CALL(union, 2), CALL
   CALL(symmetric_difference, 2), CALL(contains, 2), CALL(intersects, 2), CALL(contains_cells, 2),
   CALL(intersects_cells, 2), CALL(tokens, 1), CALL(from_tokens, 1), CALL(encode, 1), CALL(decode, 1),
   CALL(file_contains_cells, 2), CALL(leaf, 2), CALL(cover_wkb, 3), CALL(cover_rings, 5),
+  CALL(zones, 0), CALL(add_wkb, 2), CALL(add_rings, 4), CALL(pairs, 4),
   CALL(neighbors, 2), CALL(expanded, 2), CALL(bounds, 1), CALL(area, 1), {NULL, NULL, 0}};
 void R_init_s2union(DllInfo* library) {
   R_registerRoutines(library, NULL, calls, NULL, NULL);

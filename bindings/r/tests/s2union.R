@@ -121,6 +121,18 @@ for (shape in list(NULL, 1, "POINT (1 2)", square, list(1), list(square, list(sq
   stopifnot(inherits(try(s2u_covering(shape), TRUE), "try-error"))
 for (options in list(list("9"), list(c(1, 2)), list(edges = "flat"), list(wide = 1)))
   stopifnot(inherits(try(do.call(s2u_covering, c(list(wkb), options)), TRUE), "try-error"))
+zones <- s2u_zones(list(wkb, list(square), list(list(square, hole), list(square + 10))))
+pairs <- s2u_pairs(zones, c(NA, 2.5, 12), c(0, 48.2, 58), TRUE)
+stopifnot(identical(pairs$place, c(2, 2, 2, 3)), identical(pairs$zone, c(1, 2, 3, 3)),
+          nrow(s2u_pairs(zones, 12, 58)) == 0, nrow(s2u_pairs(zones, numeric(), numeric())) == 0,
+          nrow(s2u_pairs(s2u_zones(list()), 1, 2, TRUE)) == 0)
+refused(s2u_pairs(zones, c(NA, 0, 541), 0), "S2U_COVER_NUMBER", 3)
+refused(s2u_zones(list(wkb, wkb[-93])), "S2U_COVER_WKB", 10)
+error <- tryCatch(s2u_zones(list(wkb, list(square, hole[-5, ]))), S2U_COVER_OPEN = identity)
+stopifnot(error$zone == 2, error$ring == 2, grepl("^zone 2: a ring is open: ", conditionMessage(error)))
+for (wrong in list(quote(s2u_pairs(1, 2, 3)), quote(s2u_pairs(zones, "1", 2)), quote(s2u_pairs(zones, 1:3, 1:2)),
+                   quote(s2u_pairs(unserialize(serialize(zones, NULL)), 1, 2)), quote(s2u_zones(list(1)))))
+  stopifnot(inherits(try(eval(wrong), TRUE), "try-error"))
 # With a collection at each allocation, what isn't protected is lost, and its memory is given to others.
 many <- s2u_difference(face, s2u_from_tokens("0000000000000001"))
 asked <- many[rep(1:90, 8)] # as many answers as the 90 cells have bytes
@@ -129,10 +141,12 @@ gctorture()
 made <- list(s2u_file_contains_cells(twice, asked), s2u_decode(twice), s2u_encode(many))
 covered <- list(s2u_covering(wkb, 9), s2u_interior(list(square), 9), s2u_leaf(2, 48))
 around <- list(s2u_neighbors(cell), s2u_expanded(cell, 8), s2u_bounds(face), s2u_area(many))
+joined <- s2u_pairs(s2u_zones(list(wkb, list(square))), 2.5, 48.2, TRUE)
 refused(s2u_interior(list(square, hole[-5, ])), "S2U_COVER_OPEN", 4)
 refused(s2u_union(many, none), "S2U_NO_CELL", 2)
 gctorture(FALSE)
 stopifnot(identical(made, list(rep(TRUE, 720), many, s2u_encode(many))),
+          identical(joined$zone, c(1, 2)),
           identical(around, list(near, s2u_union(cell, near), s2u_bounds(face), s2u_area(many))),
           identical(covered, list(s2u_covering(list(square), 9), s2u_interior(wkb, 9), s2u_leaf(2, 48))))
 for (k in 1:60000) stopifnot(s2u_encode(face)[1] == 1, s2u_file_contains_cells(twice, many[1])) # nothing stays so
