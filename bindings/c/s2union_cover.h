@@ -1324,9 +1324,11 @@ static inline double s2u_cover_stretch(const s2u_cover_build* build, double radi
   return 1.0001 * sqrt((1 + fmax(wide * wide, high * high)) * (1 + wide * wide + high * high));
 }
 
+/* The greatest number of 64 bits stands for one that is greater, or that isn't a number. */
 static inline uint64_t s2u_cover_margin(const s2u_cover_build* build, const s2u_cover_options* options) {
   double radians = options->margin / S2U_COVER_EARTH + build->bend + S2U_COVER_ROUNDING;
-  return (uint64_t)ceil(s2u_cover_stretch(build, radians) * radians * (double)S2U_COVER_WHOLE);
+  double margin = ceil(s2u_cover_stretch(build, radians) * radians * (double)S2U_COVER_WHOLE);
+  return isfinite(margin) && margin >= 0 && margin < 18446744073709551616.0 ? (uint64_t)margin : UINT64_MAX;
 }
 
 /* ---- coverings */

@@ -487,6 +487,21 @@ static void margins(void) {
   CHECK(s2u_cover_level_within(1e9) == 0 && s2u_cover_level_within(1) == 24 && s2u_cover_level_within(0) == 30);
 }
 
+/* A margin is a number of 64 bits, also if no number of 64 bits is as great, or if edges bend by what is no number. */
+static void greatest_margins(void) {
+  static const double bends[] = {1e9, 18.5, INFINITY, -INFINITY, -1, NAN};
+  const s2u_cover_options options = {200, 0, 30, S2U_COVER_MAP, S2U_COVER_MOST_MARGIN};
+  s2u_cover_build build;
+  memset(&build, 0, sizeof build);
+  const double radians = S2U_COVER_MOST_MARGIN / S2U_COVER_EARTH + S2U_COVER_ROUNDING;
+  const double margin = (double)s2u_cover_margin(&build, &options) / (double)S2U_COVER_WHOLE;
+  CHECK(margin >= radians && margin <= 3 * radians);
+  for (size_t k = 0; k < sizeof bends / sizeof *bends; k++) {
+    build.bend = bends[k];
+    CHECK(s2u_cover_margin(&build, &options) == UINT64_MAX);
+  }
+}
+
 /* Cells at the border are as deep as is asked for, however many they are. */
 static void least_levels(void) {
   double box[10];
@@ -884,6 +899,7 @@ int main(void) {
   lines();
   circles();
   margins();
+  greatest_margins();
   least_levels();
   one_level();
   geodesic();

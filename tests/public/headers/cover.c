@@ -146,6 +146,13 @@ void cover_stretch(void) {
   s2u_cover_stretch(&build, any_number);
 }
 
+void cover_margin(void) {
+  const s2u_cover_options options = {any_cell, any_level, any_level, any_level, any_number};
+  s2u_cover_build build = any_build();
+  build.bend = any_number;
+  s2u_cover_margin(&build, &options);
+}
+
 void cover_quad(void) {
   const s2u_cover_quad quad = s2u_cover_quad_of(any_cell);
   const s2u_cover_arc arc = s2u_cover_arc_of(any_vector(), any_vector());
