@@ -133,7 +133,7 @@ MISTAKES = (
     Mistake("one_corner_more_is_stretched", "cover_stretch", "s2union_cover.h",
             "k < build->corners.count; k++) {\n    int its", "k <= build->corners.count; k++) {\n    int its"),
     Mistake("a_margin_of_more_than_64_bits", "cover_margin", "s2union_cover.h",
-            "isfinite(margin) && margin >= 0 && margin < 18446744073709551616.0 ?", "isfinite(margin) && margin >= 0 ?"),
+            "margin >= 0 && margin < 18446744073709551616.0 ?", "margin >= 0 ?"),
     Mistake("a_margin_of_no_number", "cover_margin", "s2union_cover.h", "isfinite(margin) && margin >= 0 && margin <",
             "margin <"),
     Mistake("the_square_of_no_cell", "cover_quad", "s2union_cover.h",
