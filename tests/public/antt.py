@@ -16,6 +16,7 @@ import re
 from antt_terms import Bad, Parser, term  # noqa: F401
 
 MARKS = ("pub", "abbrev", "unfoldable", "pattern", "axiom")
+MARKED = re.compile(rf"^(?:(?:{'|'.join(MARKS)})\s+)+")
 USE = re.compile(r"(?:pub\s+)?use\s+([^{]*?)(?:\.\{(.*)\})?(?:\s+as\s+(\S+))?")
 HEAD = re.compile(r"(?:(?:pub|abbrev)\s+)*(?:record|data)\s+(\S+)(?:\s*\{[^}:]*\})?\s*(.*)$")
 SIGNATURE = re.compile(r"(\S+)(?:\s*\{[^}:=]*\})?\s*:\s")
@@ -76,7 +77,7 @@ def read_chunk(chunk, declarations, path, line):
     elif words[0] == "open":
         raise Bad("open")
     else:
-        body = chunk[chunk.index(words[0]):] if marks else chunk
+        body = MARKED.sub("", chunk)
         found = read_signature(body)
         if not found:
             definition = last_definition(declarations)

@@ -15,6 +15,7 @@ OPS = {  # name: (level, associativity)
     '≢': (4, 'n'), '⊎': (1, 'r'), '↔': (0, 'n'), '⊕': (6, 'l'), '⊖': (6, 'l'), '⊗': (7, 'l'),
     'and_then': (10, 'l'), 'gives': (10, 'l'), '>>=': (10, 'l'),
 }
+CONSTRUCTORS = ('⊕', '⊖', '⊗')  # operators that stand in patterns too
 KEY = {'λ', 'let', 'in', '→', '×', '=', '↦', '|', ':', '[', ']', 'elim', 'record', 'as', 'if', 'then', 'else', 'where',
        '∀'}
 
@@ -384,14 +385,13 @@ class Parser:
     def pattern(self):
         first = self.pattern_atom(False)
         args = []
-        while not self.is_('↦', '=', '∷', ',', ')', '→', '}', ';') and self.peek() is not None:
+        while not self.is_('↦', '=', '∷', ',', ')', '→', '}', ';', *CONSTRUCTORS) and self.peek() is not None:
             args.append(self.pattern_atom(False))
         p = first
         if args:
             p = ('con', first[1], args)
-        if self.is_('∷'):
-            self.next()
-            return ('con', '◌∷◌', [p, self.pattern()])
+        if self.is_('∷', *CONSTRUCTORS):
+            return ('con', f'◌{self.next()}◌', [p, self.pattern()])
         return p
 
     def pattern_atom(self, binder):

@@ -22,13 +22,14 @@ from typing import NamedTuple
 HERE = Path(__file__).resolve().parent
 sys.path[1:1] = [str(HERE.parent)]
 import laws  # noqa: E402
+import page  # noqa: E402
 from antt import Bad  # noqa: E402
 from translate import END_OF_HEAD, HEAD, Library  # noqa: E402
 
 CRATES = HERE.parents[2] / "crates"
 CLOSED = "Closed under the global context"
 LAWS, ONE = "Laws", "Definitions"
-PAGE = HERE.parents[2] / "docs" / "CHECK.md"
+PAGE = page.PAGES / "CHECK.md"
 PROGRAM = "s2union-check"
 OF_PROGRAM = HERE.parent / "program"
 PROGRAM_FILES = ("Makefile", "checker.ml", "s2union_check.ml")
@@ -230,6 +231,14 @@ def check_laws(build, count):
         check_answered(law, build, count)
 
 
+def check_claims(count):
+    """Whether CHECK says of each law on HEADLINE what is so; prints it."""
+    claims = page.check_page()
+    count.check(True, f"{PAGE.name} has the {len(claims)} laws of HEADLINE.md, each with its verdict")
+    for law, verdict in claims.items():
+        print(f"       {law}: {verdict}")
+
+
 def check_answered(law, build, count):
     """Whether no clause of a law stands on an axiom."""
     names = laws.answered_text(CRATES, law)[1]
@@ -342,7 +351,7 @@ def check_statement(right, count):
     And whether Coq takes the theorem that the page states over them."""
     modules = definitions()
     with tempfile.TemporaryDirectory() as folder:
-        reasons = why_not_read(folder, modules)
+        reasons = why_not_read(folder, untyped())
         build = Build(folder, [name for name in modules if name not in reasons])
         build.keep(right)
         refused = build.resting_on(build.library.file(name) for name in untyped() if name not in reasons)
@@ -354,10 +363,10 @@ def check_statement(right, count):
                     f"not as untyped.txt has it: {', '.join(sorted(set(reasons) ^ set(untyped())))}")
         for name, reason in reasons.items():
             print(f"       {name.removeprefix('Rattle.')}: not typed: {reason}")
-        page = PAGE.read_text(encoding="utf-8")
+        text = PAGE.read_text(encoding="utf-8")
         words = f"{len(typed)} of the {len(modules)} modules of definitions"
-        count.check(words in page, f"{PAGE.name} says: {words}", "it doesn't")
-        example = re.findall(r"^```coq\n(.*?)^```$", page, re.M | re.S)
+        count.check(words in text, f"{PAGE.name} says: {words}", "it doesn't")
+        example = re.findall(r"^```coq\n(.*?)^```$", text, re.M | re.S)
         for at, text in enumerate(example):
             Path(folder, f"Example{at}.v").write_text(text, encoding="utf-8")
             compiled(folder, f"Example{at}")
@@ -490,6 +499,7 @@ def check_files(folder, count):
 
 def check_all(folder, asked, count):
     right = Build(folder, MODULES)
+    check_claims(count)
     check_laws(right, count)
     check_statement(right, count)
     if asked.tier == "full":

@@ -73,8 +73,11 @@ ANSWERED = (
     Answered("s2file", "one_text", "a set is written as one byte string"),
     Answered("s2file", "one_reading", "bytes stand for at most one set, and have at most one first fault"),
 )
-# Those of the full tier alone: they stand on 560 definitions and lemmas.
+# Those of the full tier alone, which stand on many definitions and lemmas, or on long ones.
 SLOW = (
+    Answered("s2polygon", "law_of_tests", "the ten tests of signs say whether a direction of an edge lies in a square"),
+    Answered("s2polygon", "law_of_margins", "a greater margin takes no leaf from the outer ones, and gives none to the "
+             "inner ones"),
     Answered("s2calc", "undo_goes_back", "as far as the history reaches, undo gives each earlier table back"),
     Answered("s2calc", "redo_goes_ahead", "redo gives back each state that was undone, and all states stay"),
 )

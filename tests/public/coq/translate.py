@@ -34,10 +34,11 @@ DECLARED = re.compile(r"(?:Definition|Fixpoint|Lemma|Notation|Inductive|Record) 
 # Records of Kit.v that Rust's types are, with the fields that are read.
 KIT_RECORDS = {"Kit.Vec": "items", "Kit.GhostList": "entries", "Kit.Bor": "now"}
 # What a tactic is told beside facts: each of ours knows all of it.
-RULES = {"arith", "gets", "rules", "tests", "nat_tests"}
+RULES = {"arith", "gets", "rules", "tests", "nat_tests", "ints"}
 TACTICS = {"omega": "k_omega", "cc": "k_cc", "grind": "k_grind"}
 WITHIN_LITERAL = {"lit<", "lit≤"}
 GREATEST_LITERAL = 1024
+NO = "app", ("var", "¬")
 CLAIMS = {"◌≡◌", "◌≢◌", "◌<◌", "◌≤◌"}
 HEAD = """From Equations Require Import Equations.
 Require Import ZArith Lia ZifyNat ZifyBool.
@@ -75,6 +76,48 @@ def arrows(kind):
         groups += kind[1]
         kind = kind[2]
     return names_of(groups), kind
+
+
+def first_argument(kind):
+    """The first argument of a function's type, and the type of what is left."""
+    if kind[:2] == NO:
+        return (None, kind[2][0], False), ("var", "⊥")
+    if kind[0] != "pi":
+        raise Bad("more patterns than arguments")
+    (names, given, implicit), *groups = kind[1]
+    groups = [(names[1:], given, implicit), *groups] if len(names) > 1 else groups
+    return (names[0], given, implicit), ("pi", groups, kind[2]) if groups else kind[2]
+
+
+def with_fewer(clause, many):
+    """A clause with so many patterns, and the variables after these in front of what it is."""
+    patterns, body, where = clause
+    if len(patterns) <= many:
+        return clause
+    if where or any(it[0] != "var" for it in patterns[many:]):
+        raise Bad("more patterns than arguments")
+    return patterns[:many], ("lam", patterns[many:], body), where
+
+
+def without_first(clause, value):
+    """A clause without its first pattern, whose variable, if it is one, is this value."""
+    (first, *patterns), body, where = clause
+    return (patterns, replaced(body, first, value), replaced(where, first, value)) if first[0] == "var" else \
+        (patterns, body, where)
+
+
+def fields_of(term, variable):
+    """The fields of a variable that a term reads."""
+    if isinstance(term, tuple) and term[:2] == ("proj", variable):
+        yield term[2]
+    elif isinstance(term, (tuple, list)):
+        for part in term:
+            yield from fields_of(part, variable)
+
+
+def is_plain_fact(function, fact):
+    """Whether a function is written out, and a fact says by itself which values are the same."""
+    return function[0] == "lam" and fact[0] == "app" and fact[1][0] == "var" and not has_tactic(fact)
 
 
 def mentions(term, name):
@@ -121,7 +164,7 @@ def bound_by(term):
     """The names that a function or its type gives its arguments."""
     if term[0] == "pi":
         return {name for names, _, _ in term[1] for name in names}
-    return {name for binder in term[1] for name in (binder[1] if binder[0] == "typed" else binder[1:2])}
+    return {name for binder in term[1] for name in (binder[1] if binder[0] == "typed" else words_of(binder[1:]))}
 
 
 def words_of(part):
@@ -178,6 +221,8 @@ def term_of(pattern):
 def replaced(term, old, new):
     if term == old:
         return new
+    if isinstance(term, dict):
+        return {key: replaced(part, old, new) for key, part in term.items()}
     if isinstance(term, (tuple, list)):
         return type(term)(replaced(part, old, new) for part in term)
     return term
@@ -191,11 +236,15 @@ def with_parameters(each, groups, siblings):
         return each | {"params": [*groups, *params], "fields": given}
     if each["kind"] != "def":
         raise Bad(f"{each['kind']} in a module with parameters")
-    heads = [("ipat", name, ("var", name)) if implicit else ("var", name) for name, _, implicit in names_of(groups)]
     clauses = []
     for patterns, body, where in each["clauses"]:
-        left = siblings - set(words_of(patterns))
-        clauses.append(([*heads, *patterns], given_to(body, groups, left), given_to(where, groups, left)))
+        words = set(words_of(patterns))
+        renamed = [([f"{name}_outer" if name in words else name for name in names], kind, implicit)
+                   for names, kind, implicit in groups]
+        heads = [("ipat", old, ("var", name)) if implicit else ("var", name)
+                 for (name, _, implicit), (old, _, _) in zip(names_of(renamed), names_of(groups))]
+        body, where = given_to((body, where), renamed, siblings - words)
+        clauses.append(([*heads, *patterns], body, where))
     return each | {"type": ("pi", groups, given_to(each["type"], groups, siblings)), "clauses": clauses}
 
 
@@ -205,7 +254,11 @@ def given_to(term, groups, siblings):
     if not explicit:
         return term
     if isinstance(term, dict):
-        return {key: given_to(part, groups, siblings) for key, part in term.items()}
+        found = {key: given_to(part, groups, siblings) for key, part in term.items()}
+        if "clauses" in term:
+            found["clauses"] = [(patterns, *given_to((body, where), groups, siblings - set(words_of(patterns))))
+                                for patterns, body, where in term["clauses"]]
+        return found
     if isinstance(term, tuple) and term[:1] == ("app",) and term[1][0] == "var" and term[1][1] in siblings:
         return ("app", term[1], explicit + given_to(term[2], groups, siblings))
     if isinstance(term, tuple) and term[:1] == ("var",) and term[1] in siblings:
@@ -355,7 +408,7 @@ class Writer:
         self.records = {name: ({"fields": [(field, None)]}, "Kit.") for name, field in KIT_RECORDS.items()}
         self.unfolding = ()
         self.defined, self.implicit = None, []
-        self.depth = 0
+        self.depth = self.cases = 0
 
     def text(self):
         for each in self.module.uses():
@@ -492,8 +545,10 @@ class Writer:
         """A definition by cases."""
         clauses = with_tails(each["clauses"]) if ".specs." in self.module.name else each["clauses"]
         many = max(len(self.lined_up(patterns, arguments)) for patterns, _, _ in clauses)
-        if many > len(arguments):
-            raise Bad(f"{each['name']}: more patterns than arguments")
+        while many > len(arguments) and (result[0] == "pi" or result[:2] == NO):
+            argument, result = first_argument(result)
+            arguments.append(argument)
+        clauses, many = [with_fewer(it, len(arguments)) for it in clauses], min(many, len(arguments))
         earlier = [{arg for arg, _, _ in arguments[:at]} for at in range(many)]
         heads = [f"({coq_name(f'arg{at}' if arg in (None, *earlier[at]) else arg)} : {self.term(kind)})"
                  for at, (arg, kind, _) in enumerate(arguments[:many])]
@@ -518,15 +573,43 @@ class Writer:
     def with_where(self, body, where):
         lets = []
         for each in where:
-            if each["kind"] != "def" or not self.is_plain(each):
-                raise Bad("a definition by cases below where")
-            patterns, inner, further = each["clauses"][0]
-            function = self.function(patterns, arrows(each["type"])[0], inner, further)
+            if each["kind"] != "def" or mentions([body for _, body, _ in each["clauses"]], each["name"]):
+                raise Bad("a declaration below where that isn't a definition, or calls itself")
+            if self.is_plain(each):
+                patterns, inner, further = each["clauses"][0]
+                function = self.function(patterns, arrows(each["type"])[0], inner, further)
+            else:
+                function = self.by_cases(each["type"], each["clauses"])
             lets.append((coq_name(each["name"]), self.term(each["type"]), function))
         text = self.term(body)
         for name, kind, function in reversed(lets):
             text = f"(let {name} : {kind} := {function} in {text})"
         return text
+
+    def by_cases(self, kind, clauses):
+        """A definition by cases as a function of this type: what its first argument is, and so on."""
+        if not any(patterns for patterns, _, _ in clauses):
+            return self.with_where(*clauses[0][1:])
+        (name, _, implicit), rest = first_argument(kind)
+        if implicit:
+            raise Bad("a definition by cases below where with an argument that is left out")
+        firsts = [patterns[0] for patterns, _, _ in clauses]
+        if all(map(self.is_variable, firsts)):
+            said = next((it[1] for it in firsts if it[1] != "_"), name or "_")
+            name, rest = said, replaced(rest, ("var", name), ("var", said))
+            with self.bound([name]):
+                inner = self.by_cases(rest, [without_first(it, ("var", name)) for it in clauses])
+            return f"(fun {self.binder(name)} => {inner})"
+        value, rows = f"case{self.cases}", []
+        rest = replaced(rest, ("var", name), ("var", value))
+        self.cases += 1
+        for first in (it for at, it in enumerate(firsts) if it not in firsts[:at]):
+            taken = [it for it in clauses if it[0][0] == first or self.is_variable(it[0][0])]
+            with self.bound(self.variables(first)):
+                inner = self.by_cases(replaced(rest, ("var", value), term_of(first)),
+                                      [without_first(it, term_of(first)) for it in taken])
+            rows.append(f"| {self.pattern(first)} => {inner}")
+        return f"(fun {value} => match {value} as {value} return {self.term(rest)} with {' '.join(rows)} end)"
 
     # ---- patterns
 
@@ -625,7 +708,9 @@ class Writer:
         return f"({self.digits(high)} * 16 + {low})" if high else str(low)
 
     def lambda_(self, term):
-        heads, body = [], self.term(term[2])
+        heads = []
+        with self.bound(bound_by(term)):
+            body = self.term(term[2])
         for at, each in reversed(list(enumerate(term[1]))):
             if each[0] == "typed":
                 heads.append(f"({' '.join(map(coq_name, each[1]))} : {self.term(each[2])})")
@@ -706,6 +791,13 @@ class Writer:
         tries = " | ".join(f"exact ({record}__{coq_name(field)} r)" for record in reversed(having))
         return f"ltac:(let r := open_constr:({value}) in first [{tries}])"
 
+    def has_unknown_field(self, function):
+        """Whether a function of one argument, whose type isn't said, reads a field that several records have."""
+        if function[0] != "lam" or [binder[0] for binder in function[1]] != ["var"]:
+            return False
+        fields = set(fields_of(function[2], function[1][0]))
+        return any(sum(field in dict(each["fields"]) for each, _ in self.records.values()) > 1 for field in fields)
+
     def construct(self, term):
         _, base, fields = term
         values = dict(fields)
@@ -740,7 +832,12 @@ class Writer:
             return f"(Kit.before {self.term(arguments[1])} {self.term(arguments[0])})"
         if name == "⊎_elim" and len(arguments) == 3 and not has_tactic(arguments[2]):
             return f"(Kit.or_elim_of {' '.join(map(self.term, (arguments[2], *arguments[:2])))})"
-        if name == "ap" and arguments[1][0] == "var":
+        if name == "All" and len(arguments) == 2 and self.has_unknown_field(arguments[0]):
+            each, items = coq_name(arguments[0][1][0][1]), self.term(arguments[1])
+            return f"(Kit.All (fun ({each} : Kit.item {items}) => {self.term(arguments[0][2])}) {items})"
+        if name == "Decides-like" and len(arguments) == 4:
+            return f"(Kit.Decides_like_of {' '.join(map(self.term, (arguments[0], arguments[3], *arguments[1:3])))})"
+        if name == "ap" and (arguments[1][0] == "var" or is_plain_fact(*arguments)):
             return f"(Kit.ap_of {' '.join(map(self.term, arguments))})"
         if name == "ap" and arguments[1][0] == "proj":
             function, fact = map(self.term, arguments)

@@ -8,7 +8,7 @@ import z3
 from memory import UNWRITTEN, Memory, Pointer, Thing, as_bits
 from natural import fresh
 from bits import joined_bits, lowest_one, shifted
-from solver import Refuted, Undecided, is_possible, literal, prove
+from solver import Refuted, Undecided, at_once, is_possible, literal, numeral, prove
 from text import CASE, Unknown, arguments_of, fields_of, size_of, width
 
 MOST_STEPS = 200_000
@@ -16,6 +16,10 @@ SHAPES = ((0, 2), (0, 4), (4, 2), (0, 8))
 COMPARISONS = {
     "eq": lambda a, b: a == b, "ne": lambda a, b: a != b, "ult": z3.ULT, "ule": z3.ULE, "ugt": z3.UGT, "uge": z3.UGE,
     "slt": lambda a, b: a < b, "sle": lambda a, b: a <= b, "sgt": lambda a, b: a > b, "sge": lambda a, b: a >= b,
+}
+CONVERSIONS = {
+    "zext": lambda bits, a: z3.ZeroExt(bits - a.size(), a), "sext": lambda bits, a: z3.SignExt(bits - a.size(), a),
+    "trunc": lambda bits, a: z3.Extract(bits - 1, 0, a),
 }
 OPERATIONS = {
     "add": lambda a, b: a + b, "sub": lambda a, b: a - b, "mul": lambda a, b: a * b, "udiv": z3.UDiv, "urem": z3.URem,
@@ -108,8 +112,8 @@ class Way:
         if word in ("undef", "poison"):
             return UNWRITTEN
         if word in ("true", "false"):
-            return z3.BitVecVal(int(word == "true"), 1)
-        return z3.BitVecVal(int(word), width(kind))
+            return numeral(int(word == "true"), 1)
+        return numeral(int(word), width(kind))
 
     def number(self, kind, word):
         value = self.value(kind, word)
@@ -175,11 +179,7 @@ class Way:
 
     def convert(self, target, how, kind, word, wanted):
         value = self.value(kind, word)
-        if value is not UNWRITTEN:
-            more = width(wanted) - value.size()
-            value = z3.simplify({"zext": lambda: z3.ZeroExt(more, value), "sext": lambda: z3.SignExt(more, value),
-                                 "trunc": lambda: z3.Extract(width(wanted) - 1, 0, value)}[how]())
-        self.names[target] = value
+        self.names[target] = value if value is UNWRITTEN else at_once(converted, (how, width(wanted)), value)
 
     def compare(self, target, how, kind, left, right):
         if kind == "ptr":
@@ -191,16 +191,17 @@ class Way:
         else:
             if how not in COMPARISONS:
                 raise Unknown(f"icmp {how}")
-            holds = COMPARISONS[how](self.number(kind, left), self.number(kind, right))
-        self.names[target] = z3.simplify(z3.If(holds, z3.BitVecVal(1, 1), z3.BitVecVal(0, 1)))
+            self.names[target] = at_once(compared, (how,), self.number(kind, left), self.number(kind, right))
+            return
+        self.names[target] = at_once(bit_of, (), holds)
 
     def binary(self, target, how, kind, left, right):
         a, b = self.number(kind, left), self.number(kind, right)
-        if how in ("udiv", "urem"):
+        if how in ("udiv", "urem") and not literal(b):
             self.must(b != 0, "a divisor that is not 0")
-        if how in ("shl", "lshr", "ashr"):
+        if how in ("shl", "lshr", "ashr") and (literal(b) is None or literal(b) >= width(kind)):
             self.must(z3.ULT(b, width(kind)), "a shift by less than the width")
-        self.names[target] = z3.simplify(plain(how, a, b))
+        self.names[target] = at_once(plain, (how,), a, b)
 
     def extract(self, target, kind, word, index):
         value = self.value(kind, word)
@@ -222,7 +223,10 @@ class Way:
 
     def branch(self, word, yes, no):
         holds = self.number("i1", word)
-        self.choose([(holds == 1, yes), (holds == 0, no)])
+        if literal(holds) is None:
+            self.choose([(holds == 1, yes), (holds == 0, no)])
+        else:
+            self.jump(yes if literal(holds) else no)
 
     def switch(self, kind, word, otherwise, cases):
         value = self.number(kind, word)
@@ -297,6 +301,18 @@ class Way:
         if name == "llvm.trap":
             raise Refuted("a trap is reached")
         raise Unknown(f"the function {name}")
+
+
+def converted(how, bits, value):
+    return CONVERSIONS[how](bits, value)
+
+
+def compared(how, a, b):
+    return bit_of(COMPARISONS[how](a, b))
+
+
+def bit_of(claim):
+    return z3.If(claim, z3.BitVecVal(1, 1), z3.BitVecVal(0, 1))
 
 
 def plain(how, a, b):

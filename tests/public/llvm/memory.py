@@ -4,7 +4,7 @@ from typing import NamedTuple
 
 import z3
 
-from solver import FALSE, Refuted, Undecided, literal
+from solver import FALSE, Refuted, Undecided, at_once, literal, numeral
 from text import Unknown, fields_of, size_of, width
 
 UNWRITTEN = object()  # what bytes are that were never written
@@ -24,7 +24,7 @@ class Pointer(NamedTuple):
 
 
 def as_bits(number, bits=64):
-    return z3.BitVecVal(number, bits) if isinstance(number, int) else number
+    return numeral(number, bits) if isinstance(number, int) else number
 
 
 def simple(value):
@@ -53,7 +53,7 @@ class Thing:
     def byte(self, at):
         """The byte at an offset that is a number."""
         if self.content is not None:
-            return z3.BitVecVal(self.content[at], 8)
+            return numeral(self.content[at], 8)
         if self.array is not None:
             raise Undecided(f"a byte of {self.name} by itself")
         for begin in range(at, max(-1, at - 64), -1):
@@ -78,7 +78,7 @@ class Thing:
 
 
 def part(value, index):
-    return z3.simplify(z3.Extract(8 * index + 7, 8 * index, value))
+    return at_once(z3.Extract, (8 * index + 7, 8 * index), value)
 
 
 class State:
@@ -169,7 +169,7 @@ class Memory:
             raise Undecided(f"a pointer is taken for a number in {thing.name}")
         if kind == "ptr" or value.size() == width(kind):
             return value
-        return z3.simplify(z3.Extract(width(kind) - 1, 0, value))
+        return at_once(z3.Extract, (width(kind) - 1, 0), value)
 
     def element(self, state, thing, offset, count):
         """Elements of an argument of any length, as a number."""
@@ -251,12 +251,12 @@ class Memory:
             raise Undecided(f"a fill of {thing.name} at a place that is a formula")
         thing.cut(at, count)
         for place in range(at, at + count):
-            thing.chunks[place] = (1, value if number is None else z3.BitVecVal(number, 8))
+            thing.chunks[place] = (1, value if number is None else numeral(number, 8))
 
 
 def joined(values):
     """Bytes, the lowest first, as a number."""
-    return z3.simplify(z3.Concat(*reversed(values))) if len(values) > 1 else values[0]
+    return at_once(z3.Concat, (), *reversed(values)) if len(values) > 1 else values[0]
 
 
 def loaded(thing, at, count):

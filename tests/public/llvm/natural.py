@@ -3,6 +3,7 @@
 A number that may be any natural number, such as one that a clause speaks of for all, has the bound TOP. Its formula
 stands for all numbers from TOP on by TOP itself: no other number here is near TOP, so comparisons are right. A sum,
 difference or product that may reach LIMIT is not known, and so any number."""
+import functools
 import itertools
 
 import z3
@@ -28,6 +29,20 @@ class Number:
     @property
     def literal(self):
         return literal(self.bits)
+
+
+def kept(function):
+    """A function of a number, its last argument, that is asked once of each formula."""
+    answers = {}
+
+    @functools.wraps(function)
+    def asked(*arguments):
+        key = (*arguments[:-1], arguments[-1].bits.get_id())
+        if key not in answers:
+            answers[key] = arguments[-1], function(*arguments)  # the formula is kept, so that its identity is its own
+        return answers[key][1]
+
+    return asked
 
 
 def constant(number):
@@ -120,6 +135,7 @@ def choice(condition, a, b):
     return made(z3.If(condition, a.bits, b.bits), max(a.most, b.most))
 
 
+@kept
 def trailing_zeros(bits, number):
     """How many of this many lowest bits are zeros, from the lowest on."""
     seen = lowest_one(number.bits)

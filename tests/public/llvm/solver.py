@@ -1,4 +1,6 @@
 """Questions to Z3, and how it is told that something is false or not known."""
+import functools
+
 import z3
 
 MILLISECONDS = 600_000
@@ -50,8 +52,40 @@ def said(model):
     return ", ".join(f"{name} = {value}" for name, value in numbers) or "all numbers"
 
 
+NUMBERS = {}  # the numbers that formulas of `numeral` are, by the formulas' identities: they are all kept
+
+
+@functools.cache
+def numeral(number, bits):
+    """The formula of a number. It is always the same one, so that it is known without a question to Z3."""
+    formula = z3.BitVecVal(number, bits)
+    NUMBERS[id(formula)] = formula.as_long()
+    return formula
+
+
 def literal(value):
     """The number that a formula is, if it is one."""
     if isinstance(value, int):
         return value
+    if id(value) in NUMBERS:
+        return NUMBERS[id(value)]
     return value.as_long() if z3.is_bv_value(value) else None
+
+
+def simplified(formula):
+    """A formula of bits made simple, as `numeral` has it if it is a number."""
+    formula = z3.simplify(formula)
+    return numeral(formula.as_long(), formula.size()) if z3.is_bv_value(formula) else formula
+
+
+def at_once(operation, words, *formulas):
+    """What an operation with these words gives for formulas. Of numbers it is asked once."""
+    numbers = tuple(map(literal, formulas))
+    if None in numbers:
+        return simplified(operation(*words, *formulas))
+    return of_numbers(operation, words, tuple((number, it.size()) for number, it in zip(numbers, formulas)))
+
+
+@functools.cache
+def of_numbers(operation, words, numbers):
+    return simplified(operation(*words, *(numeral(*it) for it in numbers)))

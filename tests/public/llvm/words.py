@@ -8,7 +8,7 @@ import antt
 import natural as numbers
 from bits import variables_of
 from definitions import Words
-from natural import BITS, Number, constant, of_bits
+from natural import BITS, Number, constant, kept, of_bits
 from solver import TRUE, Refuted, prove
 
 LEVELS = range(31)
@@ -41,6 +41,7 @@ def same_order(level, other_level, size, other_size):
                   z3.UGE(level.bits, other_level.bits) == z3.ULE(size.bits, other_size.bits))
 
 
+@kept
 def is_cell(number):
     """A number ends in a one and then an even number of zeros, at most 60, and is below all numbers of face 6."""
     ends = [z3.Extract(2 * zeros, 0, number.bits) == z3.BitVecVal(1 << 2 * zeros, 2 * zeros + 1) for zeros in LEVELS]
@@ -150,6 +151,8 @@ class CellWords(Words):
 
     def steps_of(self, state, claim):
         """What the steps are whose names stand in a claim or in what is known."""
+        if not state.steps:
+            return []
         names = variables_of(claim).union(*map(variables_of, state.conditions))
         return [step == part for step, part, _ in state.steps if str(step) in names]
 
