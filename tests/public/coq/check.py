@@ -58,18 +58,26 @@ class Change(NamedTuple):
 
 CHANGES = (
     Change("s2list/src/laws.rt", "IsLocal xs → IsLocal ys → (", "IsLocal xs → (", LAWS),
-    Change("s2list/src/laws.rt", "IsLocal xs → IsNormalForm (has_leaf xs) xs", "IsNormalForm (has_leaf xs) xs", LAWS),
-    Change("s2cell/specs/Cell.antt", "level : k ≤ 30", "level : k ≤ 31", "s2cell_proofs_CellLemmas"),
     Change("s2list/specs/Union.antt", "greatest : 0 < level_of c", "greatest : 1 < level_of c", "s2list_proofs_Normal"),
     Change("s2list/proofs/Normal.antt", "pub normal_from_local : (u : List ℕ) → IsLocal u →",
            "pub normal_from_local : (u : List ℕ) → All IsCell u →", "s2list_proofs_Normal"),
+    Change("Kit.v", "P (get_or xs k d)", "P d", "Kit"),
+)
+# Those of the full tier alone, of the laws of all tiers and of the slow ones.
+MORE_CHANGES = (
+    Change("s2list/src/laws.rt", "IsLocal xs → IsNormalForm (has_leaf xs) xs", "IsNormalForm (has_leaf xs) xs", LAWS),
+    Change("s2cell/specs/Cell.antt", "level : k ≤ 30", "level : k ≤ 31", "s2cell_proofs_CellLemmas"),
     Change("s2cell/src/laws.rt", "IsPlaceOf (n + 1) face x y", "IsPlaceOf (n + 2) face x y", "laws_law_of_places"),
     Change("s2cell/src/laws.rt", "bit_xor (orientation_of c) (turn p)", "bit_xor (orientation_of c) p",
            "laws_law_of_squares"),
     Change("s2cell/src/laws.rt", "IsDebug text n ↔ (text ≡ debug_of n)", "IsDebug text n ↔ (text ≡ token_of n)",
            "laws_law_of_texts"),
     Change("s2cover/src/laws.rt", "≡ true) ↔ IsInInner R k x", "≡ true) ↔ IsInOuter R k x", "laws_covering_sets"),
-    Change("Kit.v", "P (get_or xs k d)", "P d", "Kit"),
+)
+SLOW_CHANGES = (
+    Change("s2polygon/src/laws.rt", "q.u0 <ℤ q.u1 → q.v0 <ℤ q.v1", "q.u0 <ℤ q.u1", "laws_law_of_tests"),
+    Change("s2polygon/src/laws.rt", "r.margin ≤ margin → outer_leaf r x", "margin ≤ r.margin → outer_leaf r x",
+           "laws_law_of_margins"),
 )
 # Random pairs, and pairs of coasts; of each, thirteen questions are asked.
 PAIRS = {"gate": (1500, 100), "full": (9000, 1000)}
@@ -250,11 +258,14 @@ def check_answered(law, build, count):
 def check_slow_laws(count):
     """Whether Coq takes the laws of the full tier, and none stands on an axiom."""
     with tempfile.TemporaryDirectory() as folder:
-        build = Build(folder, [law.module for law in laws.SLOW])
+        modules = [law.module for law in laws.SLOW]
+        build = Build(folder, modules)
         build.check()
         count.check(True, f"{len(build.files)} files, {build.library.declared} definitions and lemmas: taken by Coq")
         for law in laws.SLOW:
             check_answered(law, build, count)
+        for change in SLOW_CHANGES:
+            check_change(change, modules, build, count)
 
 
 def standing(axioms):
@@ -282,10 +293,10 @@ def with_change(change, folder):
     return crates, kit
 
 
-def check_change(change, right, count):
+def check_change(change, modules, right, count):
     words = f"{change.file}: {change.wrong} in place of {change.right}"
     with tempfile.TemporaryDirectory() as copy, tempfile.TemporaryDirectory() as folder:
-        build = Build(folder, MODULES, *with_change(change, copy))
+        build = Build(folder, modules, *with_change(change, copy))
         build.keep(right)
         try:
             build.check()
@@ -504,8 +515,8 @@ def check_all(folder, asked, count):
     check_statement(right, count)
     if asked.tier == "full":
         check_slow_laws(count)
-    for change in CHANGES:
-        check_change(change, right, count)
+    for change in (*CHANGES, *(MORE_CHANGES if asked.tier == "full" else ())):
+        check_change(change, MODULES, right, count)
     check_axiom(right, count)
     check_answers(right, str(Path(asked.library).resolve()), asked.tier, count)
     check_sources(right, count)

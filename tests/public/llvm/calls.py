@@ -91,7 +91,7 @@ PLANS = {
     "s2u_file_count": Plan(FILES, lists={"bytes": 9}, tier="gate"),
     "s2u_file_cell": Plan(FILES, arrays=("bytes",), tier="gate"),
     "s2u_token": Plan(TEXTS, cells=("id",), rooms={"text": digits_of_token}, tier="gate"),
-    "s2u_debug": Plan(TEXTS, cells=("id",), rooms={"text": bytes_of_debug}, tier="gate"),
+    "s2u_debug": Plan(TEXTS, cells=("id",), rooms={"text": bytes_of_debug}, tier="full"),
     "s2u_from_token": Plan(TEXTS, lists={"text": 16}, tier="gate", witnesses={
         "n": "digits_value 16 text.now * 16 ^ (16 - length text.now)"}),
     "s2u_from_debug": Plan(TEXTS, lists={"text": 32}, tier="full", witnesses={"n": DEBUGGED}),
