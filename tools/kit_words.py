@@ -40,6 +40,7 @@ WORDS = {
     # a value, or none
     "Option": ("Option A", "a value, or none"), "Some": ("Some x", "the value"), "None": ("None", "none"),
     "is_some": ("is_some o", "whether there is one"), "IfSome": ("IfSome o P", "P holds of the value, if there is one"),
+    "IfNone": ("IfNone o P", "P holds, if there is no value"),
     "option_and_then": ("option_and_then f o", "what `f` gives of the value, if there is one"),
     "option_map": ("option_map f o", "`f` of the value, if there is one"),
     "Result": ("Result A E", "a value, or an error"), "Ok": ("Ok x", "the value"), "Err": ("Err e", "the error"),

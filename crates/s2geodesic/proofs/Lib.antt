@@ -1,0 +1,4 @@
+mod Before
+mod Opposite
+mod Sides
+mod Tries
