@@ -1,11 +1,13 @@
 -- How cells lie by their boxes, and what is known of a covering on its way.
-use Rattle.std.proofs.Common.{◌≡◌, refl, sym, ap, ◌∙◌, subst, ℕ, ◌+◌, ◌-◌, ◌/◌, ◌^◌, ◌<◌, arith, inl, inr}
+use Rattle.std.proofs.Common.{◌≡◌, refl, sym, ap, ◌∙◌, subst, ℕ, ◌+◌, ◌-◌, ◌/◌, ◌^◌, ◌<◌, arith, ◌⊎◌, inl, inr}
 use Rattle.std.proofs.Common.{Bool, true, false, ◌||◌, pos, List, [], ◌∷◌, ◌++◌, All, div-one}
 use Rattle.std.proofs.lemmas.Bool.{cases_lt, or_left, or_right}
 use Rattle.std.proofs.lemmas.Int.{ints}
 use Rattle.std.proofs.lemmas.List.Elements.{All-cons, All-head, All-nil, All-push, All-tail}
 use Rattle.std.proofs.lemmas.List.Folds.{list_any-append}
 use Rattle.s2cell.proofs.CellLemmas.{own_place}
+use Rattle.s2cell.proofs.Family.{child_within}
+use Rattle.s2cell.proofs.Leaves.{inside_from_within}
 use Rattle.s2cell.proofs.Squares.{covers_block}
 use Rattle.s2cell.specs.Cell.{IsCell, child_of, covers, face_of, level_of, place_of}
 use Rattle.s2list.proofs.Normal.{child_of_leaf}
@@ -49,6 +51,14 @@ by_box shape c q answer parts boxed all n covered p proper holds = elim (boxed n
       sym (turned_inside p (on_map p proper) (on_next_turn p proper) shape (edges_of_parts shape parts))
       ∙ all (place_turned (pos 1) p) b
 ]
+
+-- a box of a child is one of its own, or its parent's
+pub child_boxed : (c i : ℕ) (q s r : MapBox) → IsCell c → level_of c < 30 → i < 4 → IsBoxOf c q
+    → IsBoxOf (child_of c i) s → (r ≡ q) ⊎ (r ≡ s) → IsBoxOf (child_of c i) r
+child_boxed c i q s r is deep four up own (inl e) =
+    subst (IsBoxOf (child_of c i)) (sym e)
+    (λ n p covered. up n p (inside_from_within (child_of c i) c (child_within c i is deep four) n covered))
+child_boxed c i q s r is deep four up own (inr e) = subst (IsBoxOf (child_of c i)) (sym e) own
 
 -- ---- a cell that is added to a list
 module _ (shape : List (List MapEdge)) (k : ℕ) where

@@ -5,11 +5,13 @@ mod Coverings
 mod Folding
 mod Leaves
 mod Meanings
+mod Nears
 mod Octants
 mod Passing
 mod Products
 mod Ringing
 mod Shapes
 mod Sides
+mod Sifting
 mod Sizes
 mod Turns

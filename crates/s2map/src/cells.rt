@@ -181,7 +181,7 @@ fn box_in(o: Octant) -> MapBox
 }
 
 /// The whole map but the poles.
-fn map() -> MapBox
+pub(crate) fn whole_map() -> MapBox
     ensures bounds { IsBox result }
     ensures all { (p : Place) → IsProperPlace p → InBoxOnTurn result p }
 {
@@ -205,10 +205,10 @@ impl MapBox {
     {
         let square = cell.square();
         let Some(u) = side_of(square.i, square.size) else {
-            return map();
+            return whole_map();
         };
         let Some(v) = side_of(square.j, square.size) else {
-            return map();
+            return whole_map();
         };
         box_in(octant_of(cell.face(), u, v))
     }

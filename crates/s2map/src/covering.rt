@@ -1,15 +1,20 @@
 //! How cells lie relative to a shape, and coverings of it.
-ghost use Rattle.std.specs.Prelude.{◌≡◌, ◌++◌, ◌≤◌, ℕ, IfOk, OnOk, true};
+ghost use Rattle.std.specs.Prelude.{◌≡◌, ◌++◌, ◌≤◌, ℕ, IfOk, OnOk, false, true};
 ghost use Rattle.s2cell.specs.Cell.{covers, level_of};
 ghost use Rattle.s2list.specs.Union.{has_leaf};
 ghost use Rattle.s2map.specs.Cells.{AreMet, HoldsPlace, IsPartOfCell, IsProperPlace, LeafInside, LeafOutside};
 ghost use Rattle.s2map.specs.Map.{inside};
 ghost use Rattle.s2map.specs.Working.Covering.{IsFound, IsSorted, Keeps};
+ghost use Rattle.s2map.specs.Working.Near.{HoldsBox, IsBoxedCell, IsKnown};
 ghost use Rattle.s2map.specs.declared.place.Place.{Place};
 
+use crate::boxed::BoxedCell;
+use crate::cells::whole_map;
+use crate::meeting::corner_of;
+use crate::near::Known;
 use crate::place::MapBox;
 use crate::shape::{BoxPart, MapShape};
-use s2cell::{CellId, GREATEST_LEVEL, PlacedCell};
+use s2cell::{CellId, GREATEST_LEVEL};
 use std::alloc::{AllocError, Global};
 
 /// The cells of two coverings of a shape.
@@ -21,41 +26,80 @@ pub struct MapCovering {
     pub within: Vec<CellId>,
 }
 
-/// Adds the cells of one cell to the coverings.
+/// Adds the cells of one cell to the coverings. `known` is what is known of its box.
 fn visit(
+    alloc: Global,
     shape: &MapShape,
-    cell: CellId,
+    at: &BoxedCell,
+    known: &Known,
     level: u8,
     met: &mut Vec<CellId>,
     within: &mut Vec<CellId>,
 ) -> Result<(), AllocError>
-    requires above { level_of cell ≤ level }
+    requires boxed { IsBoxedCell at.now }
+    requires known { IsKnown shape.now at.now.bounds known.now }
+    requires above { level_of at.now.cell ≤ level }
     requires level { level ≤ GREATEST_LEVEL }
     requires sorted { IsSorted shape.now level met.old.items within.old.items }
     ensures sorted { OnOk result (IsSorted shape.now level met.new.items within.new.items) }
     ensures keeps_met { OnOk result (Keeps met.old.items met.new.items) }
     ensures keeps_within { OnOk result (Keeps within.old.items within.new.items) }
-    ensures found { OnOk result ((n : ℕ) → covers cell n ≡ true
+    ensures found { OnOk result ((n : ℕ) → covers at.now.cell n ≡ true
         → IsFound shape.now met.new.items within.new.items n) }
 {
-    let _ = cell.id();
-    match shape.part_of_cell(cell) {
+    let _ = at.cell.id();
+    match part_by_known(shape, at, known) {
         BoxPart::Out => Ok(()),
         BoxPart::In => {
-            within.push(cell)?;
+            within.push(at.cell)?;
             Ok(())
         }
         BoxPart::Met => {
-            if cell.level() == level {
-                met.push(cell)?;
+            if at.cell.level() == level {
+                met.push(at.cell)?;
                 return Ok(());
             }
             for digit in 0..4u8 {
-                visit(shape, cell.child(digit), level, met, within)?;
+                let child = at.child(digit);
+                let near = known_of_child(alloc, shape, at, known, &child)?;
+                visit(alloc, shape, &child, &near, level, met, within)?;
             }
             Ok(())
         }
     }
+}
+
+/// How a cell lies, by what is known of its box.
+fn part_by_known(shape: &MapShape, at: &BoxedCell, known: &Known) -> BoxPart
+    requires boxed { IsBoxedCell at.now }
+    requires known { IsKnown shape.now at.now.bounds known.now }
+    ensures exact { IsPartOfCell shape.now at.now.cell result }
+    ensures inside { result ≡ BoxPart.In → (n : ℕ) → covers at.now.cell n ≡ true → LeafInside shape.now n }
+    ensures outside { result ≡ BoxPart.Out → (n : ℕ) → covers at.now.cell n ≡ true → LeafOutside shape.now n }
+    ensures none { result ≡ BoxPart.Met → known.now.inside ≡ false }
+{
+    shape.are_parts();
+    known.part()
+}
+
+/// What is known of the box of a child, from what is known of its parent's box, which no part has whole inside.
+fn known_of_child(
+    alloc: Global,
+    shape: &MapShape,
+    parent: &BoxedCell,
+    known: &Known,
+    child: &BoxedCell,
+) -> Result<Known, AllocError>
+    requires parent { IsBoxedCell parent.now }
+    requires known { IsKnown shape.now parent.now.bounds known.now }
+    requires none { known.now.inside ≡ false }
+    requires child { IsBoxedCell child.now }
+    requires held { HoldsBox parent.now.bounds child.now.bounds }
+    ensures { IfOk result (λ near. IsKnown shape.now child.now.bounds near) }
+{
+    shape.are_parts();
+    let near = known.narrowed(alloc, corner_of(parent.bounds), child.bounds)?;
+    Ok(near)
 }
 
 impl MapShape {
@@ -77,9 +121,9 @@ impl MapShape {
     /// meet and those within together, and no place outside is in those within. The cells that edges meet are all of
     /// this level.
     ///
-    /// Each cell around one that an edge meets is asked by all edges, so it takes the time of the edges times these
-    /// cells. Fails only if there is no memory for the cells. S2: `S2RegionCoverer::GetCovering` and
-    /// `GetInteriorCovering` with one level, in floating point.
+    /// Each cell is asked by the edges that meet a box of its parent. An edge is kept once for each level on the way
+    /// down to a cell that it meets. Fails only if there is no memory for the cells and these. S2:
+    /// `S2RegionCoverer::GetCovering` and `GetInteriorCovering` with one level, in floating point.
     pub fn covering(&self, alloc: Global, level: u8) -> Result<MapCovering, AllocError>
         requires { level ≤ GREATEST_LEVEL }
         ensures outer { IfOk result (λ c. (n : ℕ) (p : Place) → IsProperPlace p → HoldsPlace n p
@@ -90,14 +134,11 @@ impl MapShape {
     {
         let mut met = Vec::new(alloc);
         let mut within = Vec::new(alloc);
+        let map = whole_map();
+        let known = self.known(alloc, map)?;
         for face in 0..6u8 {
-            visit(
-                self,
-                PlacedCell::face(face).cell,
-                level,
-                &mut met,
-                &mut within,
-            )?;
+            let top = BoxedCell::face(face, map);
+            visit(alloc, self, &top, &known, level, &mut met, &mut within)?;
         }
         Ok(MapCovering { met, within })
     }

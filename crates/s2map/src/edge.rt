@@ -54,7 +54,7 @@ pub(crate) fn side_of(e: MapEdge, p: Place) -> i128
 }
 
 /// Whether an edge passes north of a place.
-fn passes_north(e: MapEdge, p: Place) -> bool
+pub(crate) fn passes_north(e: MapEdge, p: Place) -> bool
     requires edge { IsNearEdge e }
     requires place { IsNear p }
     ensures { result ≡ passes_north_of p e }

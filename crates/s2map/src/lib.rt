@@ -6,12 +6,14 @@
 #![tactic(auto)]
 
 mod angles;
+mod boxed;
 mod cells;
 mod covering;
 mod edge;
 mod fault;
 pub mod laws;
 mod meeting;
+mod near;
 mod part;
 mod place;
 mod shape;

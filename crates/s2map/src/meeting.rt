@@ -5,21 +5,29 @@ ghost use Rattle.s2map.specs.Boxes.{lies_aside as lies_aside_of, lies_east as li
 ghost use Rattle.s2map.specs.Boxes.{lies_north as lies_north_of, lies_south as lies_south_of};
 ghost use Rattle.s2map.specs.Boxes.{lies_west as lies_west_of, meets as meets_of};
 ghost use Rattle.s2map.specs.Boxes.{meets_on_turns as meets_on_turns_of, rises as rises_of};
-ghost use Rattle.s2map.specs.Boxes.{west_corner as west_corner_of};
+ghost use Rattle.s2map.specs.Boxes.{south_west, west_corner as west_corner_of};
 ghost use Rattle.s2map.specs.Map.{IsMapEdge};
 ghost use Rattle.s2map.specs.Working.Sizes.{IsNear, IsNearEdge};
 
 use crate::edge::{is_place, side_of, turned};
 use crate::place::{MapBox, MapEdge, Place};
 
+/// The corner of a box at its west and south.
+pub(crate) fn corner_of(q: MapBox) -> Place
+    ensures value { result ≡ south_west q }
+    ensures near { IsBox q → IsNear result }
+{
+    Place {
+        longitude: q.west,
+        latitude: q.south,
+    }
+}
+
 /// Whether a box has a place, and its corners are places of the map.
 pub(crate) fn is_box(q: MapBox) -> bool
     ensures { IsTrue result ↔ IsBox q }
 {
-    let first = Place {
-        longitude: q.west,
-        latitude: q.south,
-    };
+    let first = corner_of(q);
     let last = Place {
         longitude: q.east,
         latitude: q.north,

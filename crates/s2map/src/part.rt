@@ -4,13 +4,15 @@ ghost use Rattle.s2map.specs.Boxes.{IsBox, met_by};
 ghost use Rattle.s2map.specs.Map.{IsMapEdge, IsMapPlace, inside_part};
 ghost use Rattle.s2map.specs.Rings.{AreRings, FaultMeans, edges_from, rings_edges};
 ghost use Rattle.s2map.specs.Working.Even.{IsPart};
+ghost use Rattle.s2map.specs.Working.Near.{HasNearEdges, near_box, seen};
 ghost use Rattle.s2map.specs.declared.fault.MapFault.TheVariants.{Memory};
 
 use crate::edge::{is_place, passes_on_turns};
 use crate::fault::MapFault;
-use crate::meeting::meets_on_turns;
+use crate::meeting::{corner_of, meets_on_turns};
+use crate::near::{Near, edges_near};
 use crate::place::{MapBox, MapEdge, Place};
-use std::alloc::Global;
+use std::alloc::{AllocError, Global};
 use std::marker::Model;
 
 /// A part of a shape: closed rings of edges, straight on the map.
@@ -155,6 +157,17 @@ impl MapPart {
         ensures { result ≡ inside_part p self.now }
     {
         are_odd(&self.edges, p)
+    }
+
+    /// What is known of the part and a box.
+    pub(crate) fn near(&self, alloc: Global, q: MapBox) -> Result<Near, AllocError>
+        requires { IsBox q }
+        ensures value { IfOk result (λ part. seen part ≡ near_box q self.now) }
+        ensures near { IfOk result (λ part. HasNearEdges part) }
+    {
+        let odd = are_odd(&self.edges, corner_of(q));
+        let edges = edges_near(alloc, &self.edges, q)?;
+        Ok(Near { odd, edges })
     }
 
     /// Whether an edge meets a box.

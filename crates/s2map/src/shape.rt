@@ -3,12 +3,14 @@ ghost use Rattle.std.specs.Prelude.{◌≡◌, ◌++◌, [], ◌∷◌, All, IfE
 ghost use Rattle.s2map.specs.Boxes.{InBox, IsBox, part_of};
 ghost use Rattle.s2map.specs.Map.{IsMapPlace, inside};
 ghost use Rattle.s2map.specs.Working.Even.{IsPart};
+ghost use Rattle.s2map.specs.Working.Near.{IsKnown};
 ghost use Rattle.s2map.specs.declared.fault.MapFault.TheVariants.{OutOfRange, WrongBox};
 ghost use Rattle.s2map.specs.declared.place.Place.{Place};
 
 use crate::edge::is_place;
 use crate::fault::MapFault;
-use crate::meeting::is_box;
+use crate::meeting::{corner_of, is_box};
+use crate::near::Known;
 use crate::part::MapPart;
 use crate::place::{MapBox, Place};
 use std::alloc::{AllocError, Global};
@@ -61,10 +63,7 @@ fn box_part(parts: &[MapPart], q: MapBox) -> BoxPart
     requires { IsBox q }
     ensures { result ≡ part_of parts.now q }
 {
-    let corner = Place {
-        longitude: q.west,
-        latitude: q.south,
-    };
+    let corner = corner_of(q);
     let mut met = false;
     for part in parts {
         if part.meets(q) {
@@ -91,6 +90,14 @@ impl MapShape {
         ensures { All IsPart self.now }
     {
         let _ = &self.parts;
+    }
+
+    /// What is known of a box.
+    pub(crate) fn known(&self, alloc: Global, q: MapBox) -> Result<Known, AllocError>
+        requires { IsBox q }
+        ensures { IfOk result (λ known. IsKnown self.now q known) }
+    {
+        Known::new(alloc, &self.parts, q)
     }
 
     /// Adds a part. Fails only if there is no memory for it, and then the shape stays as it was.

@@ -6,24 +6,28 @@ use Rattle.s2map.proofs.covering.+visit.Goals as goal
 
 pub visit-requires : goal.visit-requires
 visit-requires t c =
-    let is : IsCell c.args.cell = (level_of c.args.cell, place_of c.args.cell, c.id.ensures.cell) in
+    let is : IsCell c.args.at.now.cell =
+    (level_of c.args.at.now.cell, place_of c.args.at.now.cell, c.id.ensures.cell) in
     let value = c.level.ensures.value in
     let other = c.if-level.false in
-    let deep : level_of c.args.cell + 1 ≤ c.args.level = (let k = c.requires.above in omega arith) in
+    let deep : level_of c.args.at.now.cell + 1 ≤ c.args.level = (let k = c.requires.above in omega arith) in
     let most = c.requires.level in
-    let own : level_of c.child.result ≡ level_of c.args.cell + 1 =
-    ap level_of c.child.ensures
-    ∙ level_of_child c.args.cell c.loop-digit.digit is (omega (arith, deep, most)) c.loop-digit-test.true in
-    let above : level_of c.child.result ≤ c.args.level = omega (arith, own, deep) in
-    let falls : 30 - level_of c.child.result < 30 - level_of c.args.cell = omega (arith, own, deep, most) in
+    let own : level_of c.child-child.result.cell ≡ level_of c.args.at.now.cell + 1 =
+    ap level_of c.child-child.ensures.cell
+    ∙ level_of_child c.args.at.now.cell c.loop-digit.digit is (omega (arith, deep, most)) c.loop-digit-test.true in
+    let above : level_of c.child-child.result.cell ≤ c.args.level = omega (arith, own, deep) in
+    let falls : 30 - level_of c.child-child.result.cell < 30 - level_of c.args.at.now.cell =
+    omega (arith, own, deep, most) in
     let sorted = c.loop-digit.invariant.sorted in
+    let boxed = c.child-child.ensures.boxed in
+    let near = c.in_ok-near-in-Met.ensures in
     search rules
 
 pub loop-digit-preserved : goal.loop-digit-preserved
 loop-digit-preserved t c =
-    let child = c.child.ensures in
+    let child = c.child-child.ensures.cell in
     let found = rw child at c.in_ok-visit-in-Met.ensures.found in
-    next_visited c.args.shape.now c.args.level c.args.cell c.loop-digit.digit c.args.met.now.items
+    next_visited c.args.shape.now c.args.level c.args.at.now.cell c.loop-digit.digit c.args.met.now.items
     c.args.within.now.items c.loop-digit.met.items c.loop-digit.within.items c.visit.new.met.items
     c.visit.new.within.items c.loop-digit.invariant c.in_ok-visit-in-Met.ensures.sorted
     c.in_ok-visit-in-Met.ensures.keeps_met c.in_ok-visit-in-Met.ensures.keeps_within found
@@ -31,9 +35,9 @@ loop-digit-preserved t c =
 pub returns-then-level-clause-sorted : goal.returns-then-level-clause-sorted
 returns-then-level-clause-sorted t c =
     let items = c.in_ok-push-in-Met.ensures.items in
-    let own : level_of c.args.cell ≡ c.args.level = sym c.level.ensures.value ∙ c.if-level.true in
-    rw items (met_pushed c.args.shape.now c.args.level c.args.met.now.items c.args.within.now.items c.args.cell
-    c.requires.sorted own c.in-Met.ensures.exact)
+    let own : level_of c.args.at.now.cell ≡ c.args.level = sym c.level.ensures.value ∙ c.if-level.true in
+    rw items (met_pushed c.args.shape.now c.args.level c.args.met.now.items c.args.within.now.items
+    c.args.at.now.cell c.requires.sorted own c.in-Met.ensures.exact)
 
 pub returns-in-Out-clause-found : goal.returns-in-Out-clause-found
 returns-in-Out-clause-found t c n h = inr (inr (c.in-Out.ensures.outside refl n h))
@@ -41,16 +45,18 @@ returns-in-Out-clause-found t c n h = inr (inr (c.in-Out.ensures.outside refl n 
 pub returns-in_ok-push-in-In-clause-sorted : goal.returns-in_ok-push-in-In-clause-sorted
 returns-in_ok-push-in-In-clause-sorted t c =
     let items = c.in_ok-push-in-In.ensures.items in
-    rw items (within_pushed c.args.shape.now c.args.level c.args.met.now.items c.args.within.now.items c.args.cell
-    c.requires.sorted (c.in-In.ensures.inside refl))
+    rw items (within_pushed c.args.shape.now c.args.level c.args.met.now.items c.args.within.now.items
+    c.args.at.now.cell c.requires.sorted (c.in-In.ensures.inside refl))
 
 pub returns-after-loop-digit-clause-found : goal.returns-after-loop-digit-clause-found
 returns-after-loop-digit-clause-found t c =
-    let is : IsCell c.args.cell = (level_of c.args.cell, place_of c.args.cell, c.id.ensures.cell) in
+    let is : IsCell c.args.at.now.cell =
+    (level_of c.args.at.now.cell, place_of c.args.at.now.cell, c.id.ensures.cell) in
     let value = c.level.ensures.value in
     let other = c.if-level.false in
-    let deep : level_of c.args.cell < 30 = (let k = c.requires.above in let l = c.requires.level in omega arith) in
+    let deep : level_of c.args.at.now.cell < 30 =
+    (let k = c.requires.above in let l = c.requires.level in omega arith) in
     let visited = c.loop-digit.invariant in
     let end : c.loop-digit.digit ≡ 4 = omega arith in
-    all_visited c.args.shape.now c.args.level c.args.cell c.args.met.now.items c.args.within.now.items
+    all_visited c.args.shape.now c.args.level c.args.at.now.cell c.args.met.now.items c.args.within.now.items
     c.loop-digit.met.items c.loop-digit.within.items (rw end at visited) is deep

@@ -4,9 +4,9 @@ use Rattle.s2map.proofs.shape.MapShape.covering.Goals as goal
 
 pub loop-face-preserved : goal.loop-face-preserved
 loop-face-preserved c =
-    next_topped c.args.self.now c.args.level c.loop-face.face c.face.result.cell c.loop-face.met.items
+    next_topped c.args.self.now c.args.level c.loop-face.face c.face-top.result.cell c.loop-face.met.items
     c.loop-face.within.items c.visit.new.met.items c.visit.new.within.items c.loop-face.invariant
-    c.face.ensures.placed.cell c.face.ensures.level c.face.ensures.face c.in_ok-visit.ensures.sorted
+    c.face-top.ensures.cell c.face-top.ensures.level c.face-top.ensures.face c.in_ok-visit.ensures.sorted
     c.in_ok-visit.ensures.keeps_met c.in_ok-visit.ensures.keeps_within c.in_ok-visit.ensures.found
 
 pub returns-clause-outer : goal.returns-clause-outer
