@@ -9,6 +9,39 @@ def camel(name):
     return re.sub(r"_(.)", lambda it: it[1].upper(), name)
 
 
+class Language:
+    """A language: what it calls things, and how it writes what the table has. Each has a module of its own."""
+
+    NAME, WIDTH, LONG, NONE, BETWEEN, SINCE = "", 120, "", "none", "\n", SINCE
+    RENAMED = {}  # arguments that have another name than in the header
+
+    def named(self, method, it):
+        return method.own(self.NAME).get(it.name) or self.RENAMED.get(it.name, it.name)
+
+    def since(self, method):
+        return max(self.SINCE, float(method.said.since or 0))
+
+    def code(self, word):
+        return f"`{word}`"
+
+    def marked(self, methods, text):
+        return wrapped_code(methods, self, text)
+
+    def sentence(self, methods, method):
+        """What is said of a method: the header's sentence, with its steps and what the language adds."""
+        own = method.own(self.NAME)
+        steps = f" It takes {method.said.steps}." if method.said.steps else ""
+        return self.marked(methods, header_sentence(method, self.NAME)) + steps + (
+            f" {own['also']}" if "also" in own else "")
+
+
+def header_sentence(method, language):
+    """That of the header, which tells of the union by its name; unless it tells of what C alone has."""
+    own, header = method.own(language), method.said.sentence
+    is_of_c = re.search(r"s2u_|S2U_|\b[xy]s\b|\bids\b", header) or method.call.answers_each or own.get("is_of_row")
+    return own.get("says") or (method.row.get("says", header) if is_of_c else header)
+
+
 def name_of(method, language):
     """The name of a method: its own one in the language or in both, or that of the call without its class."""
     own = method.own(language).get("name") or method.row.get("camel")

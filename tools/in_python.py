@@ -162,6 +162,8 @@ def answered(method):
     if answer:
         return answer
     answer = method.answer
+    if method.answers:
+        return repr(method.answers)
     if method.makes_union or method.example.startswith('" ".join('):
         return repr(answer.split())
     if answer in ("true", "false"):

@@ -10,7 +10,8 @@ It writes each SOURCE to FOLDER with what is made in the place of these lines, w
   // questions: all but NAME, .. what the tests ask of each method, for which a question is in tests/model/vectors.py
   // numbers: of the calls       those of Calls.java
 
-SOURCE may also be bindings/java/calls.h, which is made whole: the same numbers for s2union.c, and what makes each call.
+SOURCE may also be a file that is made whole: bindings/java/calls.h, the same numbers for s2union.c and what makes each
+call, or bindings/rust/src/calls.rs, each call as a safe function over slices, with the statuses and the limits.
 
 It takes a call from the exports and s2union.h (declared.py) and from its row of methods.toml. The form of a language is
 that of in_LANGUAGE.py.
@@ -24,13 +25,15 @@ from pathlib import Path
 import declared
 import in_java
 import in_python
+import in_rust
 import in_types
 import java_calls
+import rust_calls
 import usage
 
 TOP = Path(__file__).resolve().parents[1]
 TABLE = "tools/methods.toml"
-LANGUAGES = {".java": in_java, ".ts": in_types, ".mjs": in_types, ".py": in_python}
+LANGUAGES = {".java": in_java, ".ts": in_types, ".mjs": in_types, ".py": in_python, ".rs": in_rust.Rust()}
 MARK = re.compile(r"^ *(?://|#) (methods|comment|questions|numbers): ((?:.*,\n *// +)*.*)\n", re.M)
 UNION = "a new union"
 
@@ -120,6 +123,11 @@ class Method:
         return self.row["answer"]
 
     @property
+    def answers(self):
+        """The whole list of its answers, if the example shows one of them."""
+        return self.row.get("answers") if self.call.answers_each else None
+
+    @property
     def question(self):
         name = self.call.name if self.row.get("static") else self.call.name.removeprefix("file_")
         return self.row.get("question", name)
@@ -164,16 +172,18 @@ def table(top=TOP):
 
 
 def methods(top=TOP):
-    """The methods, by the names of their calls."""
+    """The methods, by the names of their calls, in the order of the table."""
     general, said = table(top), declared.said(declared.text_of(Path(top, declared.HEADER)))
     rows = {call.name: row_of(general["call"], call.name) for call in declared.calls(top)}
-    return {call.name: Method(call, said[call.name], rows[call.name], general)
-            for call in declared.calls(top) if rows[call.name] and call.name in said}
+    places = {name: place for place, name in enumerate(general["call"])}
+    calls = [call for call in declared.calls(top) if rows[call.name] and call.name in said]
+    calls.sort(key=lambda call: places.get(call.name, places.get(call.name.removeprefix("file_"))))
+    return {call.name: Method(call, said[call.name], rows[call.name], general) for call in calls}
 
 
-MADE_WHOLE = {"calls.h": java_calls.in_c}
+MADE_WHOLE = {"calls.h": java_calls.in_c, "calls.rs": rust_calls.whole}
 FORMS = {"methods": "whole", "comment": "comment", "questions": "question"}
-CLASS = re.compile(r"^(?:export |public |final )*class (\w+)", re.M)
+CLASS = re.compile(r"^(?:(?:export |public |final )*class|impl(?:<.*?>)?) (\w+)", re.M)
 
 
 def names_in(mark):
@@ -188,7 +198,7 @@ def named(text):
 
 def lost(path, top=TOP):
     """The calls that a source names and that have no row, or are no exports."""
-    names = named(declared.text_of(path)) if path.suffix in LANGUAGES else []
+    names = named(declared.text_of(path)) if path.suffix in LANGUAGES and path.exists() else []
     found = methods(top) if names else {}
     return [name for name in names if name not in found]
 
@@ -197,7 +207,7 @@ def filled(path, top=TOP):
     """The text of a source with what is made in it."""
     if path.name in MADE_WHOLE and not path.exists():
         return MADE_WHOLE[path.name](top)
-    language, text = LANGUAGES.get(path.suffix), declared.text_of(path)
+    language, text = LANGUAGES.get(path.suffix), in_rust.joined(path, declared.text_of(path))
     found = methods(top) if language and MARK.search(text) else {}
 
     def of(mark):
@@ -217,6 +227,12 @@ def filled(path, top=TOP):
         return between.join("\n".join(form(found, it, text[:mark.start()])) for it in of(mark)) + "\n"
 
     return MARK.sub(made, text) if found else text
+
+
+def of_rust(top=TOP):
+    """The sources of the crate, with those that are made whole."""
+    own = top / "bindings" / "rust" / "src"
+    return [*sorted(own.glob("*.rs")), own / "calls.rs"]
 
 
 def write(folder, sources):

@@ -1,6 +1,7 @@
-//! Finds libs2union.a: in the folder S2UNION_LIB_DIR, whose headers are in ../include, or where pkg-config says that it
-//! is, or made of its source, which is beside the crate in what tools/portable makes. src/geo.c, and that source, are
-//! compiled by the C compiler's driver: CC and AR, which are cc and ar if they aren't set.
+//! Makes the methods of the sources, by Python 3.11, where the crate lies in a checkout. Finds libs2union.a: in the
+//! folder S2UNION_LIB_DIR, whose headers are in ../include, or where pkg-config says that it is, or made of its source,
+//! which is beside the crate in what tools/portable makes. src/geo.c, and that source, are compiled by the C compiler's
+//! driver: CC and AR, which are cc and ar if they aren't set.
 use std::env;
 use std::path::{Path, PathBuf};
 use std::process::Command;
@@ -9,7 +10,8 @@ fn main() {
     for name in ["S2UNION_LIB_DIR", "PKG_CONFIG_PATH", "CC", "AR"] {
         println!("cargo:rerun-if-env-changed={name}");
     }
-    let own = Path::new(&env::var_os("CARGO_MANIFEST_DIR").expect("cargo runs this")).to_path_buf();
+    let own = folder_of("CARGO_MANIFEST_DIR");
+    make_methods(&own);
     let mut sources = vec![own.join("src/geo.c")];
     let folder = in_folder().or_else(|| of_source(&own, &mut sources)).or_else(by_pkg_config).expect(
         "libs2union.a is not found: set S2UNION_LIB_DIR to its folder, or PKG_CONFIG_PATH to that of s2union.pc",
@@ -23,6 +25,28 @@ fn main() {
     if env::var("CARGO_CFG_TARGET_FAMILY").map_or(false, |family| family == "unix") {
         println!("cargo:rustc-link-lib=m");
     }
+}
+
+/// In a checkout, makes the methods of the sources, which a package has in them: see docs/EXTENDING.md.
+fn make_methods(own: &Path) {
+    let (top, sources) = (own.join("../.."), own.join("src"));
+    let maker = top.join("tools/methods.py");
+    if !maker.exists() {
+        return;
+    }
+    let mut make = Command::new("python3");
+    make.arg("-B").arg(maker).arg(folder_of("OUT_DIR")).args([own.join("crate.rs"), sources.join("calls.rs")]);
+    for source in std::fs::read_dir(&sources).expect("sources have a folder").flatten() {
+        make.args(source.file_name().to_str().filter(|name| name.ends_with(".rs")).map(|name| sources.join(name)));
+    }
+    for source in [own.join("crate.rs"), sources, top.join("tools"), top.join("crates/s2union_c")] {
+        println!("cargo:rerun-if-changed={}", source.display());
+    }
+    run(&mut make);
+}
+
+fn folder_of(variable: &str) -> PathBuf {
+    PathBuf::from(env::var_os(variable).expect("cargo runs this"))
 }
 
 /// Where the headers are, and the library, if it isn't made here.
@@ -59,7 +83,7 @@ fn by_pkg_config() -> Option<Folders> {
 
 /// Makes libs2union_rust.a. As S2 has it, no multiplication and addition become one operation.
 fn compile(sources: &[PathBuf], include: &Path) {
-    let made = PathBuf::from(env::var_os("OUT_DIR").expect("cargo runs this"));
+    let made = folder_of("OUT_DIR");
     let library = made.join("libs2union_rust.a");
     let _ = std::fs::remove_file(&library);
     let mut archive = Command::new(env::var_os("AR").unwrap_or_else(|| "ar".into()));

@@ -49,16 +49,7 @@ impl<'a> UnionFile<'a> {
         }
     }
 
-    /// How many cells the union has. Since 0.2.
-    ///
-    /// # Examples
-    ///
-    /// ```
-    /// # use s2union::*;
-    /// let bytes = "04 0c".parse::<CellUnion>()?.encode()?;
-    /// assert_eq!(UnionFile::new(&bytes)?.len(), 2);
-    /// # Ok::<(), Error>(())
-    /// ```
+    // comment: file_count
     pub fn len(&self) -> usize {
         let mut count = 0;
         calls::file_count(self.bytes, &mut count);
@@ -79,130 +70,14 @@ impl<'a> UnionFile<'a> {
         self.len() == 0
     }
 
-    /// The cell at a place, in ascending order, if there is one. Since 0.2.
-    ///
-    /// # Examples
-    ///
-    /// ```
-    /// # use s2union::*;
-    /// let bytes = "04 0c".parse::<CellUnion>()?.encode()?;
-    /// let file = UnionFile::new(&bytes)?;
-    /// assert_eq!((file.cell(1), file.cell(2)), (Some("0c".parse()?), None));
-    /// # Ok::<(), Error>(())
-    /// ```
+    // comment: file_cell
     pub fn cell(&self, place: usize) -> Option<CellId> {
         let mut id = 0;
         calls::file_cell(self.bytes, place as u64, &mut id);
         CellId::made(id)
     }
 
-    /// How many leaves the union has. Since 0.2.
-    ///
-    /// # Examples
-    ///
-    /// ```
-    /// # use s2union::*;
-    /// let bytes = "04 0c".parse::<CellUnion>()?.encode()?;
-    /// assert_eq!(UnionFile::new(&bytes)?.leaf_count(), 1 << 59);
-    /// # Ok::<(), Error>(())
-    /// ```
-    pub fn leaf_count(&self) -> u64 {
-        let mut leaves = 0;
-        calls::file_leaf_count(self.bytes, &mut leaves);
-        leaves
-    }
-
-    /// Whether the union has all leaves of a cell. It takes log n steps. Since 0.2.
-    ///
-    /// # Examples
-    ///
-    /// ```
-    /// # use s2union::*;
-    /// let bytes = "04 0c".parse::<CellUnion>()?.encode()?;
-    /// let file = UnionFile::new(&bytes)?;
-    /// assert!(file.contains_cell("0401".parse()?) && !file.contains_cell("1".parse()?));
-    /// # Ok::<(), Error>(())
-    /// ```
-    pub fn contains_cell(&self, cell: CellId) -> bool {
-        calls::file_contains_cell(self.bytes, cell.id()) == 1
-    }
-
-    /// Whether the union has all leaves of each cell in turn. Cells in ascending order are quickest. Since 1.3.
-    ///
-    /// # Examples
-    ///
-    /// ```
-    /// # use s2union::*;
-    /// let bytes = "04 0c".parse::<CellUnion>()?.encode()?;
-    /// let cells = CellId::from_tokens("0401 1 14")?;
-    /// assert_eq!(UnionFile::new(&bytes)?.contains_cells(&cells), [true, false, false]);
-    /// # Ok::<(), Error>(())
-    /// ```
-    pub fn contains_cells(&self, cells: &[CellId]) -> Vec<bool> {
-        lists::file_contains_cells(self.bytes, numbers(cells))
-    }
-
-    /// Whether the union has a leaf of a cell. It takes log n steps. Since 0.2.
-    ///
-    /// # Examples
-    ///
-    /// ```
-    /// # use s2union::*;
-    /// let bytes = "04 0c".parse::<CellUnion>()?.encode()?;
-    /// let file = UnionFile::new(&bytes)?;
-    /// assert!(file.intersects_cell("1".parse()?) && !file.intersects_cell("14".parse()?));
-    /// # Ok::<(), Error>(())
-    /// ```
-    pub fn intersects_cell(&self, cell: CellId) -> bool {
-        calls::file_intersects_cell(self.bytes, cell.id()) == 1
-    }
-
-    /// Whether the union has all leaves of the union in another file. Since 0.2.
-    ///
-    /// # Examples
-    ///
-    /// ```
-    /// # use s2union::*;
-    /// let (park, pond) = ("1".parse::<CellUnion>()?.encode()?, "14".parse::<CellUnion>()?.encode()?);
-    /// let (park, pond) = (UnionFile::new(&park)?, UnionFile::new(&pond)?);
-    /// assert!(park.contains(&pond) && !pond.contains(&park));
-    /// # Ok::<(), Error>(())
-    /// ```
-    pub fn contains(&self, other: &UnionFile<'_>) -> bool {
-        calls::file_contains(self.bytes, other.bytes) == 1
-    }
-
-    /// Whether the unions of two files share a leaf. Since 0.2.
-    ///
-    /// # Examples
-    ///
-    /// ```
-    /// # use s2union::*;
-    /// let (park, pond) = ("1".parse::<CellUnion>()?.encode()?, "14".parse::<CellUnion>()?.encode()?);
-    /// assert!(UnionFile::new(&pond)?.intersects(&UnionFile::new(&park)?));
-    /// # Ok::<(), Error>(())
-    /// ```
-    pub fn intersects(&self, other: &UnionFile<'_>) -> bool {
-        calls::file_intersects(self.bytes, other.bytes) == 1
-    }
-
-    /// [`CellUnion::ancestors`] of the union. Since 0.2.
-    ///
-    /// # Errors
-    ///
-    /// - [`Error::Memory`]: there is no memory
-    ///
-    /// # Examples
-    ///
-    /// ```
-    /// # use s2union::*;
-    /// let bytes = "04 0c".parse::<CellUnion>()?.encode()?;
-    /// assert_eq!(format!("{:?}", UnionFile::new(&bytes)?.ancestors()?), "[0/0, 0/1, 0/]");
-    /// # Ok::<(), Error>(())
-    /// ```
-    pub fn ancestors(&self) -> Result<Vec<CellId>, Error> {
-        lists::file_ancestors(self.bytes).map(cells_of)
-    }
+    // methods: all others
 
     /// The union, copied. Since 0.2.
     ///

@@ -25,39 +25,4 @@
 //! numbers is plain C, tested beside S2 and not proved.
 #![warn(missing_docs)]
 
-mod around;
-mod calls;
-mod cell;
-mod cells;
-mod covering;
-mod error;
-mod file;
-mod geo;
-mod lists;
-mod operators;
-mod polygon;
-mod union;
-mod zones;
-
-pub use cell::{CellId, Square};
-pub use cells::{FacePoint, Point};
-pub use covering::{Rect, MOST_COVERING};
-pub use error::{Error, ShapeFault};
-pub use file::UnionFile;
-pub use geo::{Edges, Position, RegionCoverer, Shape};
-pub use polygon::{Direction, Polygon};
-pub use union::CellUnion;
-pub use zones::{Pair, Zones};
-
-/// The version of the library, as "1.0.0". Since 0.2.
-///
-/// # Examples
-///
-/// ```
-/// # use s2union::*;
-/// assert_eq!(version().split('.').count(), 3);
-/// ```
-pub fn version() -> String {
-    let version = calls::version();
-    format!("{}.{}.{}", version / 10_000, version / 100 % 100, version % 100)
-}
+include!(concat!(env!("OUT_DIR"), "/crate.rs"));

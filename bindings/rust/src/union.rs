@@ -4,6 +4,7 @@ use std::str::FromStr;
 
 use crate::calls;
 use crate::cell::{text, CellId};
+use crate::covering::Rect;
 use crate::error::Error;
 use crate::lists;
 
@@ -104,26 +105,6 @@ impl CellUnion {
         } else {
             Err(Error::NotNormalized)
         }
-    }
-
-    /// All leaves from the first of one cell to the last of another, also across faces. Since 0.2.
-    ///
-    /// # Errors
-    ///
-    /// - [`Error::Argument`]: the last leaf comes before the first
-    /// - [`Error::Memory`]: there is no memory
-    ///
-    /// # Examples
-    ///
-    /// ```
-    /// # use s2union::*;
-    /// let (first, last) = (CellId::from_token("04")?, CellId::from_token("14")?);
-    /// assert_eq!(CellUnion::from_range(first, last)?.to_string(), "04 0c 14");
-    /// assert_eq!(CellUnion::from_range(last, first), Err(Error::Argument));
-    /// # Ok::<(), Error>(())
-    /// ```
-    pub fn from_range(first: CellId, last: CellId) -> Result<CellUnion, Error> {
-        CellUnion::made(lists::range(first.id(), last.id()))
     }
 
     /// The leaves from `begin` up to `end`, which is not one of them; all from `begin` if there is no `end`. Since 0.2.
@@ -239,109 +220,11 @@ impl CellUnion {
         self.cells.iter().copied()
     }
 
-    // ---- as a set of leaves
-
-    /// Whether the union has all leaves of a cell. It takes log n steps. Since 0.2.
-    ///
-    /// # Examples
-    ///
-    /// ```
-    /// # use s2union::*;
-    /// let half: CellUnion = "04 0c".parse()?;
-    /// assert!(half.contains_cell("0401".parse()?) && !half.contains_cell("1".parse()?));
-    /// # Ok::<(), Error>(())
-    /// ```
-    pub fn contains_cell(&self, cell: CellId) -> bool {
-        calls::contains_cell(self.as_ref(), cell.id()) == 1
-    }
-
-    /// Whether the union has a leaf of a cell. It takes log n steps. Since 0.2.
-    ///
-    /// # Examples
-    ///
-    /// ```
-    /// # use s2union::*;
-    /// let half: CellUnion = "04 0c".parse()?;
-    /// assert!(half.intersects_cell("1".parse()?) && !half.intersects_cell("14".parse()?));
-    /// # Ok::<(), Error>(())
-    /// ```
-    pub fn intersects_cell(&self, cell: CellId) -> bool {
-        calls::intersects_cell(self.as_ref(), cell.id()) == 1
-    }
-
-    /// Whether the union has all leaves of each cell in turn. Cells in ascending order are quickest. Since 0.2.
-    ///
-    /// # Examples
-    ///
-    /// ```
-    /// # use s2union::*;
-    /// let half: CellUnion = "04 0c".parse()?;
-    /// let cells = CellId::from_tokens("0401 1 14")?;
-    /// assert_eq!(half.contains_cells(&cells), [true, false, false]);
-    /// # Ok::<(), Error>(())
-    /// ```
-    pub fn contains_cells(&self, cells: &[CellId]) -> Vec<bool> {
-        lists::contains_cells(self.as_ref(), numbers(cells))
-    }
-
-    /// Whether the union has a leaf of each cell in turn. Since 0.2.
-    ///
-    /// # Examples
-    ///
-    /// ```
-    /// # use s2union::*;
-    /// let half: CellUnion = "04 0c".parse()?;
-    /// let cells = CellId::from_tokens("0401 1 14")?;
-    /// assert_eq!(half.intersects_cells(&cells), [true, true, false]);
-    /// # Ok::<(), Error>(())
-    /// ```
-    pub fn intersects_cells(&self, cells: &[CellId]) -> Vec<bool> {
-        lists::intersects_cells(self.as_ref(), numbers(cells))
-    }
-
-    /// The cells of the union that share a leaf with a cell. It takes log n steps. Since 0.2.
-    ///
-    /// # Examples
-    ///
-    /// ```
-    /// # use s2union::*;
-    /// let half: CellUnion = "04 0c".parse()?;
-    /// assert_eq!(half.cells_at("1".parse()?), half.cells());
-    /// assert_eq!(half.cells_at("0401".parse()?), CellId::from_tokens("04")?);
-    /// # Ok::<(), Error>(())
-    /// ```
+    // comment: cells_at
     pub fn cells_at(&self, cell: CellId) -> &[CellId] {
         let (mut first, mut count) = (0, 0);
         calls::cells_at(self.as_ref(), cell.id(), &mut first, &mut count);
         &self.cells[first..first + count]
-    }
-
-    /// Whether the union has all leaves of another one. Since 0.2.
-    ///
-    /// # Examples
-    ///
-    /// ```
-    /// # use s2union::*;
-    /// let (park, pond): (CellUnion, CellUnion) = ("1".parse()?, "14".parse()?);
-    /// assert!(park.contains(&pond) && !pond.contains(&park));
-    /// # Ok::<(), Error>(())
-    /// ```
-    pub fn contains(&self, other: &CellUnion) -> bool {
-        calls::contains(self.as_ref(), other.as_ref()) == 1
-    }
-
-    /// Whether two unions share a leaf. Since 0.2.
-    ///
-    /// # Examples
-    ///
-    /// ```
-    /// # use s2union::*;
-    /// let (park, pond): (CellUnion, CellUnion) = ("1".parse()?, "14".parse()?);
-    /// assert!(pond.intersects(&park) && !pond.intersects(&(&park - &pond)));
-    /// # Ok::<(), Error>(())
-    /// ```
-    pub fn intersects(&self, other: &CellUnion) -> bool {
-        calls::intersects(self.as_ref(), other.as_ref()) == 1
     }
 
     /// `contains`, by the name that sets have for it. Since 0.2.
@@ -386,24 +269,6 @@ impl CellUnion {
         !self.intersects(other)
     }
 
-    /// The leaves of both. Since 0.2.
-    ///
-    /// # Errors
-    ///
-    /// - [`Error::Memory`]: there is no memory
-    ///
-    /// # Examples
-    ///
-    /// ```
-    /// # use s2union::*;
-    /// let (lawn, pond): (CellUnion, CellUnion) = ("04 0c 1c".parse()?, "14".parse()?);
-    /// assert_eq!(lawn.union(&pond)?.to_string(), "1");
-    /// # Ok::<(), Error>(())
-    /// ```
-    pub fn union(&self, other: &CellUnion) -> Result<CellUnion, Error> {
-        CellUnion::made(lists::union(self.as_ref(), other.as_ref()))
-    }
-
     /// The leaves of any of many unions, in one call, which merges them in pairs. It takes memory for about four times
     /// their cells. Since 1.0.
     ///
@@ -434,24 +299,6 @@ impl CellUnion {
         CellUnion::made(lists::union_of_many(&ids, &ends))
     }
 
-    /// The leaves that both have. Since 0.2.
-    ///
-    /// # Errors
-    ///
-    /// - [`Error::Memory`]: there is no memory
-    ///
-    /// # Examples
-    ///
-    /// ```
-    /// # use s2union::*;
-    /// let (park, pond): (CellUnion, CellUnion) = ("1".parse()?, "14".parse()?);
-    /// assert_eq!(park.intersection(&pond)?, pond);
-    /// # Ok::<(), Error>(())
-    /// ```
-    pub fn intersection(&self, other: &CellUnion) -> Result<CellUnion, Error> {
-        CellUnion::made(lists::intersection(self.as_ref(), other.as_ref()))
-    }
-
     /// The leaves of a cell that the union has. Since 0.2.
     ///
     /// # Errors
@@ -474,97 +321,7 @@ impl CellUnion {
         Ok(CellUnion { cells })
     }
 
-    /// The leaves that the other doesn't have. Since 0.2.
-    ///
-    /// # Errors
-    ///
-    /// - [`Error::Memory`]: there is no memory
-    ///
-    /// # Examples
-    ///
-    /// ```
-    /// # use s2union::*;
-    /// let (park, pond): (CellUnion, CellUnion) = ("1".parse()?, "14".parse()?);
-    /// assert_eq!(park.difference(&pond)?.to_string(), "04 0c 1c");
-    /// # Ok::<(), Error>(())
-    /// ```
-    pub fn difference(&self, other: &CellUnion) -> Result<CellUnion, Error> {
-        CellUnion::made(lists::difference(self.as_ref(), other.as_ref()))
-    }
-
-    /// The leaves that one of them has, and not the other. Since 0.2.
-    ///
-    /// # Errors
-    ///
-    /// - [`Error::Memory`]: there is no memory
-    ///
-    /// # Examples
-    ///
-    /// ```
-    /// # use s2union::*;
-    /// let (x, y): (CellUnion, CellUnion) = ("04 0c".parse()?, "0c 14".parse()?);
-    /// assert_eq!(x.symmetric_difference(&y)?.to_string(), "04 14");
-    /// # Ok::<(), Error>(())
-    /// ```
-    pub fn symmetric_difference(&self, other: &CellUnion) -> Result<CellUnion, Error> {
-        CellUnion::made(lists::symmetric_difference(self.as_ref(), other.as_ref()))
-    }
-
-    /// The leaves of the sphere that the union doesn't have. Since 1.1.
-    ///
-    /// # Errors
-    ///
-    /// - [`Error::Memory`]: there is no memory
-    ///
-    /// # Examples
-    ///
-    /// ```
-    /// use s2union::CellUnion;
-    ///
-    /// let lawn: CellUnion = "04 0c 1c".parse()?;
-    /// assert_eq!(lawn.complement()?.to_string(), "14 3 5 7 9 b");
-    /// assert_eq!(!&lawn, &CellUnion::whole_sphere() - &lawn);
-    /// # Ok::<(), s2union::Error>(())
-    /// ```
-    pub fn complement(&self) -> Result<CellUnion, Error> {
-        CellUnion::made(lists::complement(self.as_ref()))
-    }
-
-    /// How many leaves the union has, of 6 * 4^30. Since 0.2.
-    ///
-    /// # Examples
-    ///
-    /// ```
-    /// # use s2union::*;
-    /// let half: CellUnion = "04 0c".parse()?;
-    /// assert_eq!((half.leaf_count(), CellUnion::whole_sphere().leaf_count()), (1 << 59, 6 << 60));
-    /// # Ok::<(), Error>(())
-    /// ```
-    pub fn leaf_count(&self) -> u64 {
-        calls::leaf_count(self.as_ref())
-    }
-
-    /// The cells, each cut to the least level that is at least its own and is `min_level` or above it by a multiple of
-    /// `modulus`, which is 1 to 3; to leaves if there is none. Since 0.2.
-    ///
-    /// # Errors
-    ///
-    /// - [`Error::Argument`]: the level is above 30, or the modulus is not 1 to 3
-    /// - [`Error::Many`]: there would be more than `most` cells
-    /// - [`Error::Memory`]: there is no memory
-    ///
-    /// # Examples
-    ///
-    /// ```
-    /// use s2union::{CellUnion, Error};
-    ///
-    /// let face: CellUnion = "1".parse()?;
-    /// let quarters: Vec<String> = face.denormalized(1, 1, 100)?.iter().map(|cell| cell.token()).collect();
-    /// assert_eq!(quarters, ["04", "0c", "14", "1c"]);
-    /// assert_eq!(face.denormalized_len(30, 1)?, 1 << 60);
-    /// assert_eq!(face.denormalized(30, 1, 100), Err(Error::Many));
-    /// # Ok::<(), s2union::Error>(())
-    /// ```
+    // comment: denormalised
     pub fn denormalized(&self, min_level: u32, modulus: u32, most: usize) -> Result<Vec<CellId>, Error> {
         let len = self.denormalized_len(min_level, modulus)?;
         if len > most as u64 {
@@ -573,87 +330,7 @@ impl CellUnion {
         lists::denormalised(self.as_ref(), min_level, modulus, len as usize).map(cells_of)
     }
 
-    /// How many cells `denormalized` makes. Since 0.2.
-    ///
-    /// # Errors
-    ///
-    /// - [`Error::Argument`]: the level is above 30, or the modulus is not 1 to 3
-    ///
-    /// # Examples
-    ///
-    /// ```
-    /// # use s2union::*;
-    /// let face: CellUnion = "1".parse()?;
-    /// assert_eq!((face.denormalized_len(1, 1)?, face.denormalized_len(30, 1)?), (4, 1 << 60));
-    /// assert_eq!(face.denormalized_len(1, 4), Err(Error::Argument));
-    /// # Ok::<(), Error>(())
-    /// ```
-    pub fn denormalized_len(&self, min_level: u32, modulus: u32) -> Result<u64, Error> {
-        let mut len = 0;
-        Error::of(calls::denormalised_len(self.as_ref(), min_level, modulus, &mut len), 0)?;
-        Ok(len)
-    }
-
-    /// The cells and all their ancestors, ascending, each once: the keys of an index. Two unions share a leaf exactly
-    /// if a cell of one is among the ancestors of the other. Since 0.2.
-    ///
-    /// # Errors
-    ///
-    /// - [`Error::Memory`]: there is no memory
-    ///
-    /// # Examples
-    ///
-    /// ```
-    /// let pond: s2union::CellUnion = "14".parse()?;
-    /// assert_eq!(format!("{:?}", pond.ancestors()?), "[0/, 0/2]");
-    /// # Ok::<(), s2union::Error>(())
-    /// ```
-    pub fn ancestors(&self) -> Result<Vec<CellId>, Error> {
-        lists::ancestors(self.as_ref()).map(cells_of)
-    }
-
-    /// The union file: the bytes that S2's own `Encode` writes. Since 0.2.
-    ///
-    /// # Errors
-    ///
-    /// - [`Error::Memory`]: there is no memory
-    ///
-    /// # Examples
-    ///
-    /// ```
-    /// # use s2union::*;
-    /// let pond: CellUnion = "14".parse()?;
-    /// assert_eq!(pond.encode()?, [1, 1, 0, 0, 0, 0, 0, 0, 0, 0, 0, 0, 0, 0, 0, 0, 0x14]);
-    /// # Ok::<(), Error>(())
-    /// ```
-    pub fn encode(&self) -> Result<Vec<u8>, Error> {
-        lists::encode(self.as_ref())
-    }
-
-    /// The union in a union file, whose cells may be in any order. Since 0.2.
-    ///
-    /// # Errors
-    ///
-    /// - [`Error::FileShort`]: bytes are missing
-    /// - [`Error::FileVersion`]: the first byte is not 1
-    /// - [`Error::FileTrailing`]: bytes follow the last cell
-    /// - [`Error::FileCell`]: a number in the file is not the identifier of a cell
-    /// - [`Error::Memory`]: there is no memory
-    ///
-    /// # Examples
-    ///
-    /// ```
-    /// use s2union::{CellUnion, Error};
-    ///
-    /// let union: CellUnion = "04 0c".parse()?;
-    /// let bytes = union.encode()?;
-    /// assert_eq!((bytes.len(), CellUnion::decode(&bytes)?), (25, union));
-    /// assert_eq!(CellUnion::decode(&bytes[..24]), Err(Error::FileShort));
-    /// # Ok::<(), s2union::Error>(())
-    /// ```
-    pub fn decode(bytes: &[u8]) -> Result<CellUnion, Error> {
-        CellUnion::made(lists::decode(bytes))
-    }
+    // methods: all others
 
     /// The union whose normalized list a call has made.
     pub(crate) fn made(ids: Result<Vec<u64>, Error>) -> Result<CellUnion, Error> {

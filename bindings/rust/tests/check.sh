@@ -15,14 +15,16 @@ page=bindings/rust/README.md
 
 step "questions and edges" questions
 step "shapes in degrees" shapes
-for_rust() ( # in a copy, since cargo writes beside the sources
-  cp -r "$top/bindings/rust" "$work/for-rust" && cd "$work/for-rust" &&
+made() { /usr/bin/python3 -B "$top/tools/methods.py" "$@"; }
+for_rust() ( # as a package has it
+  cp -r "$top/bindings/rust" "$work/for-rust" && cd "$work/for-rust" && rm crate.rs &&
+    made src "$top"/bindings/rust/src/{*,calls}.rs && made tests "$top/bindings/rust/tests/vectors.rs" &&
     RUSTFLAGS=-Dwarnings CARGO_TARGET_DIR=$work/target timeout 7200 cargo test -q --offline
 )
-by_rust() (
+by_rust() ( # by the crate in the checkout
   mkdir -p "$work/by-rust/src" && cd "$work/by-rust" && program_of $page rust src/main.rs &&
     printf '%s\n' "[package]" 'name = "program"' 'version = "0.0.0"' 'edition = "2021"' "[dependencies]" \
-      "s2union = { path = \"$work/for-rust\" }" >Cargo.toml &&
+      "s2union = { path = \"$top/bindings/rust\" }" >Cargo.toml &&
     CARGO_TARGET_DIR=$work/target cargo build -q --offline && says $page rust "$work/target/debug/program"
 )
 first_lines() (
@@ -55,7 +57,7 @@ without_library() { # where pkg-config answers nothing: it is said what is missi
 step "without the library" without_library
 step "with serde" with_serde
 packed_crate() ( # cargo package finds nothing missing
-  cp -r "$top/bindings/rust" "$work/packed-crate" && rm -r "$work/packed-crate/serde" &&
+  cp -r "$work/for-rust" "$work/packed-crate" && rm -r "$work/packed-crate/serde" &&
     python3 "$top/tools/packaging/described.py" "$work/packed-crate" $page && cd "$work/packed-crate" &&
     CARGO_TARGET_DIR=$work/target cargo package --offline --allow-dirty --no-verify >packed 2>&1 &&
     ! grep -i warning packed

@@ -62,19 +62,18 @@ impl Given<'_> {
         Rect { face: corners[0], i0: corners[1], i1: corners[2], j0: corners[3], j1: corners[4] }
     }
 
-    fn bytes(&self) -> Vec<u8> {
-        let digits = self.0[0];
+    /// The file of a union; its bytes are never given back.
+    fn file(&self, place: usize) -> UnionFile<'static> {
+        UnionFile::new(self.union(place).encode().unwrap().leak()).unwrap()
+    }
+
+    fn bytes(&self, place: usize) -> Vec<u8> {
+        let digits = self.0[place];
         (0..digits.len()).step_by(2).map(|at| u8::from_str_radix(&digits[at..at + 2], 16).unwrap()).collect()
     }
 
-    fn text(&self) -> String {
-        String::from_utf8(self.bytes()).unwrap()
-    }
-
-    /// The answer of a union, and the same of its file.
-    fn twice<T: Shown>(&self, union: impl Fn(CellUnion) -> T, file: impl Fn(UnionFile<'_>) -> T) -> String {
-        let bytes = self.union(0).encode().unwrap();
-        same(union(self.union(0)), file(UnionFile::new(&bytes).unwrap()))
+    fn text(&self, place: usize) -> String {
+        String::from_utf8(self.bytes(place)).unwrap()
     }
 
     /// What is said of numbers that are no cells, where the call's own type takes cells alone.
@@ -102,145 +101,84 @@ impl Given<'_> {
         if self.id(0) == self.id(1) { "" } else { "!argument" }.to_string()
     }
 
+    /// What all ways to answer a question say, which have to agree.
     fn answer(&self, call: &str) -> String {
-        match call {
-            "version" => s2union::version(),
-            "text_of" => {
-                let text = refusal(self.0[0]).to_string();
-                text.strip_suffix(" at place 7").unwrap_or(&text).to_string()
-            }
-            "is_cell" => same(CellId::from_id(self.id(0)).is_some(), CellId::try_from(self.id(0) as i64).is_ok()),
-            "level" => {
-                let level = self.cell(0).level();
-                assert_eq!((self.cell(0).is_face(), self.cell(0).is_leaf()), (level == 0, level == 30));
-                level.to_string()
-            }
-            "face" => {
-                let face = self.cell(0).face();
-                same(face.to_string(), CellId::from_face(face).unwrap().face().to_string())
-            }
-            "range_min" => self.cell(0).range_min().shown(),
-            "range_max" => self.cell(0).range_max().shown(),
-            "size" => self.cell(0).leaf_count().to_string(),
-            "next" => self.cell(0).next().shown(),
-            "previous" => self.cell(0).prev().shown(),
-            "parent" => self.cell(0).parent(self.number(1)).shown(),
-            "children" => {
-                let children: Option<Vec<CellId>> = (0..4).map(|number| self.cell(0).child(number)).collect();
-                children.shown()
-            }
-            "token" => same(self.cell(0).token(), self.cell(0).to_string()),
-            "debug" => same(self.cell(0).debug(), format!("{:?}", self.cell(0))),
-            "from_token" => alone(CellId::from_token(&self.text())),
-            "from_debug" => alone(CellId::from_debug(&self.text())),
-            "square" => {
-                let square = self.cell(0).square();
-                format!("{} {} {} {}", square.face, square.i, square.j, square.size)
-            }
-            "from_face_ij" => {
-                let place = self.numbers(0);
-                CellId::from_face_ij(place[0], place[1], place[2]).shown()
-            }
-            "contains" => self.cell(0).contains(self.cell(1)).shown(),
-            "intersects" => self.cell(0).intersects(self.cell(1)).shown(),
-            "common_ancestor" => self.cell(0).common_ancestor(self.cell(1)).shown(),
-            _ => self.answer_of_many_cells(call),
-        }
-    }
-
-    fn answer_of_many_cells(&self, call: &str) -> String {
-        match call {
-            "levels" => {
-                let levels: Vec<String> = CellId::levels(&self.cells(0)).iter().map(u8::to_string).collect();
-                levels.join(" ")
-            }
-            "parents" => all(CellId::parents(&self.cells(0), self.number(1))),
-            "range_mins" => CellId::range_mins(&self.cells(0)).shown(),
-            "range_maxes" => CellId::range_maxes(&self.cells(0)).shown(),
-            "token_fields" => CellId::token_fields(&self.cells(0)).concat().shown(),
-            "from_points" => {
-                let numbers = self.numbers(0);
-                let points = numbers.chunks(3).map(|part| FacePoint { face: part[0], i: part[1], j: part[2] });
-                all(CellId::from_points(&points.collect::<Vec<_>>()))
-            }
-            _ => self.answer_of_unions(call),
-        }
-    }
-
-    fn answer_of_unions(&self, call: &str) -> String {
-        match call {
-            "normalise" => CellUnion::from_ids(self.ids(0)).shown(),
-            "is_union" => {
-                let cells: Option<Vec<CellId>> = self.ids(0).into_iter().map(CellId::from_id).collect();
-                cells.map_or(false, |cells| CellUnion::from_normalized(cells).is_ok()).shown()
-            }
-            "encode" => self.union(0).encode().shown(),
-            "decode" => CellUnion::decode(&self.bytes()).shown(),
-            "file_check" => match UnionFile::new(&self.bytes()) {
-                Err(Error::NotNormalized) => false.shown(),
-                Err(error) => Err::<bool, Error>(error).shown(),
-                Ok(file) => {
-                    let cells = (0..=file.len()).map_while(|place| file.cell(place));
-                    (cells.collect::<Vec<CellId>>() == file.to_union().unwrap().cells()).shown()
-                }
-            },
-            "tokens" => self.union(0).to_string().into_bytes().shown(),
-            "from_tokens" => self.text().parse::<CellUnion>().shown(),
-            "named" => CellId::from_tokens(&self.text()).shown(),
-            "compare" => (self.union(0).cmp(&self.union(1)) as i8).to_string(),
-            "union" => {
-                let unions = [self.union(0), CellUnion::new(), self.union(1)];
-                same(self.union(0) | self.union(1), unions.iter().collect::<CellUnion>())
-            }
-            "intersection" => same(self.union(0).intersection(&self.union(1)), Ok(self.union(0) & self.union(1))),
-            "difference" => same(self.union(0).difference(&self.union(1)), Ok(self.union(0) - self.union(1))),
-            "symmetric_difference" => {
-                let mut changed = self.union(0);
-                changed ^= &self.union(1);
-                same(changed, self.union(0) ^ &self.union(1))
-            }
-            "complement" => same(self.union(0).complement(), Ok(!self.union(0))),
-            "intersection_with_cell" => self.union(0).intersection_with_cell(self.cell(1)).shown(),
-            "union_contains" => {
-                let other = self.union(1).encode().unwrap();
-                self.twice(
-                    |union| union.contains(&self.union(1)),
-                    |file| file.contains(&UnionFile::new(&other).unwrap()),
-                )
-            }
-            "union_intersects" => {
-                let other = self.union(1).encode().unwrap();
-                self.twice(
-                    |union| union.intersects(&self.union(1)) && !union.is_disjoint(&self.union(1)),
-                    |file| file.intersects(&UnionFile::new(&other).unwrap()),
-                )
-            }
-            "leaf_count" => self.twice(|union| union.leaf_count().to_string(), |file| file.leaf_count().to_string()),
-            "ancestors" => self.twice(|union| union.ancestors(), |file| file.ancestors()),
-            "contains_cell" => {
-                self.twice(|union| union.contains_cell(self.cell(1)), |file| file.contains_cell(self.cell(1)))
-            }
-            "intersects_cell" => {
-                self.twice(|union| union.intersects_cell(self.cell(1)), |file| file.intersects_cell(self.cell(1)))
-            }
-            "cells_at" => self.union(0).cells_at(self.cell(1)).to_vec().shown(),
-            "contains_cells" => {
-                self.twice(|union| union.contains_cells(&self.cells(1)), |file| file.contains_cells(&self.cells(1)))
-            }
-            "intersects_cells" => self.union(0).intersects_cells(&self.cells(1)).shown(),
-            "range" => CellUnion::from_range(self.cell(0), self.cell(1)).shown(),
-            "leaves" => CellUnion::from_begin_end(self.cell(0), CellId::from_id(self.id(1))).shown(),
-            "denormalised" => self.union(0).denormalized(self.number(1), self.numbers(1)[1], MOST).shown(),
-            "outer" => self.union(0).outer(self.number(1), MOST).shown(),
-            "inner" => self.union(0).inner(self.number(1), MOST).shown(),
-            "outer_of_rectangle" => self.rect(0).outer(self.number(1), MOST).shown(),
-            "inner_of_rectangle" => self.rect(0).inner(self.number(1), MOST).shown(),
-            "outer_in" => self.union(0).outer_in(&self.rect(1), self.number(2), MOST).shown(),
-            "inner_in" => self.union(0).inner_in(&self.rect(1), self.number(2), MOST).shown(),
-            _ => panic!("there is no call {call}"),
-        }
+        let ways = METHODS.iter().chain(OTHERS).filter(|way| way.0 == call);
+        let answers: BTreeSet<String> = ways.map(|way| way.1(self)).collect();
+        assert!(!answers.is_empty(), "there is no call {call}");
+        Vec::from_iter(answers).join(", and ")
     }
 }
+
+type Way = (&'static str, fn(&Given<'_>) -> String);
+
+const METHODS: &[Way] = &[
+    // questions: all but cells_at, child, denormalised_len, file_cell, file_count, from_debug, from_points, from_token,
+    //            levels, parents, square_of, token_fields
+];
+
+/// What is asked otherwise, and further ways to answer what is asked above.
+const OTHERS: &[Way] = &[
+    ("version", |_| s2union::version()),
+    ("text_of", |g| {
+        let text = refusal(g.0[0]).to_string();
+        text.strip_suffix(" at place 7").unwrap_or(&text).to_string()
+    }),
+    ("is_cell", |g| same(CellId::from_id(g.id(0)).is_some(), CellId::try_from(g.id(0) as i64).is_ok())),
+    ("level", |g| {
+        let level = g.cell(0).level();
+        assert_eq!((g.cell(0).is_face(), g.cell(0).is_leaf()), (level == 0, level == 30));
+        level.to_string()
+    }),
+    ("face", |g| CellId::from_face(g.cell(0).face()).unwrap().face().to_string()),
+    ("children", |g| (0..4).map(|number| g.cell(0).child(number)).collect::<Option<Vec<CellId>>>().shown()),
+    ("token", |g| g.cell(0).to_string()),
+    ("debug", |g| format!("{:?}", g.cell(0))),
+    ("from_token", |g| alone(CellId::from_token(&g.text(0)))),
+    ("from_debug", |g| alone(CellId::from_debug(&g.text(0)))),
+    ("square", |g| {
+        let square = g.cell(0).square();
+        format!("{} {} {} {}", square.face, square.i, square.j, square.size)
+    }),
+    ("levels", |g| CellId::levels(&g.cells(0)).iter().map(u8::to_string).collect::<Vec<String>>().join(" ")),
+    ("parents", |g| all(CellId::parents(&g.cells(0), g.number(1)))),
+    ("token_fields", |g| CellId::token_fields(&g.cells(0)).concat().shown()),
+    ("from_points", |g| {
+        let numbers = g.numbers(0);
+        let points = numbers.chunks(3).map(|part| FacePoint { face: part[0], i: part[1], j: part[2] });
+        all(CellId::from_points(&points.collect::<Vec<_>>()))
+    }),
+    ("normalise", |g| CellUnion::from_ids(g.ids(0)).shown()),
+    ("is_union", |g| {
+        let cells: Option<Vec<CellId>> = g.ids(0).into_iter().map(CellId::from_id).collect();
+        cells.map_or(false, |cells| CellUnion::from_normalized(cells).is_ok()).shown()
+    }),
+    ("file_check", |g| match UnionFile::new(&g.bytes(0)) {
+        Err(Error::NotNormalized) => false.shown(),
+        Err(error) => Err::<bool, Error>(error).shown(),
+        Ok(file) => {
+            let cells = (0..=file.len()).map_while(|place| file.cell(place));
+            (cells.collect::<Vec<CellId>>() == file.to_union().unwrap().cells()).shown()
+        }
+    }),
+    ("tokens", |g| g.union(0).to_string().into_bytes().shown()),
+    ("from_tokens", |g| g.text(0).parse::<CellUnion>().shown()),
+    ("compare", |g| (g.union(0).cmp(&g.union(1)) as i8).to_string()),
+    ("union", |g| (g.union(0) | g.union(1)).shown()),
+    ("union", |g| [g.union(0), CellUnion::new(), g.union(1)].iter().collect::<CellUnion>().shown()),
+    ("intersection", |g| (g.union(0) & g.union(1)).shown()),
+    ("difference", |g| (g.union(0) - g.union(1)).shown()),
+    ("symmetric_difference", |g| {
+        let mut changed = g.union(0);
+        changed ^= &g.union(1);
+        same(changed, g.union(0) ^ &g.union(1))
+    }),
+    ("complement", |g| (!g.union(0)).shown()),
+    ("intersection_with_cell", |g| g.union(0).intersection_with_cell(g.cell(1)).shown()),
+    ("union_intersects", |g| (!g.union(0).is_disjoint(&g.union(1))).shown()),
+    ("cells_at", |g| g.union(0).cells_at(g.cell(1)).to_vec().shown()),
+    ("leaves", |g| CellUnion::from_begin_end(g.cell(0), CellId::from_id(g.id(1))).shown()),
+];
 
 /// The answers to many questions, or the place of the first that has none.
 fn all(answers: Vec<Option<CellId>>) -> String {
@@ -289,6 +227,18 @@ fn alone(answer: Result<CellId, Error>) -> String {
 impl Shown for bool {
     fn shown(&self) -> String {
         if *self { "yes" } else { "no" }.to_string()
+    }
+}
+
+impl Shown for u32 {
+    fn shown(&self) -> String {
+        self.to_string()
+    }
+}
+
+impl Shown for u64 {
+    fn shown(&self) -> String {
+        self.to_string()
     }
 }
 
