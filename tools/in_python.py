@@ -1,15 +1,10 @@
 """The docstrings of Python: each stands in a function that is written by hand, whose arguments and result it tells."""
 import ast
 import re
-import sys
 import textwrap
 
-import expressions
+import languages
 
-NAME, WIDTH, LONG, NONE, BETWEEN = "python", 120, "", "None", "\n"
-JOINED = "{1}"
-MADE = {"cell": "from_token({})", "union": "CellUnion.from_tokens({})", "len": "len({})",
-        "file": "UnionFile(CellUnion.from_tokens({}).to_bytes())"}
 NAMES = {"next": "next_cell", "prev": "previous_cell", "cell_contains": "contains", "cell_intersects": "intersects",
          "square_of": "square", "range": "from_range", "encode": "to_bytes", "decode": "from_bytes",
          "token_fields": "tokens"}
@@ -19,37 +14,7 @@ NO_MEMORY = "There is no memory for the result."
 DEF = re.compile(r"^ *def \w+\((?:[^()]|\([^()]*\))*\)(?: -> .*)?:\n\Z", re.M)
 
 
-def owner(method):
-    return "UnionFile" if method.is_of_file else "CellUnion" if method.makes_union or method.has_receiver else ""
-
-
-def name_of(method):
-    return NAMES.get(method.call.name, method.call.name.removeprefix("file_"))
-
-
-# ---- what is said
-
-
-def code(word):
-    return f"`{word}`"
-
-
-def marked(text):
-    """A text as Python writes its powers and what isn't there."""
-    return re.sub(r"\b(\d+|\))\^(\d+|\()", r"\1**\2", text.replace("{none}", "None"))
-
-
-def sentence(method):
-    """That of the header, which tells of the union by its name; unless it tells of what C alone has."""
-    own, header = method.own(NAME), method.said.sentence
-    is_of_c = re.search(r"s2u_|S2U_|\b[xy]s\b|\bids\b", header) or method.call.answers_each or own.get("is_of_row")
-    said = own.get("says") or marked(method.row.get("says", header) if is_of_c else header)
-    said = re.sub("^Its cells", "The cells of the union", said)  # numpydoc takes Its for a verb
-    steps = f" It takes {method.said.steps}." if method.said.steps else ""
-    return said + steps + (f" {own['also']}" if "also" in own else "")
-
-
-def whole(text):
+def as_sentence(text):
     """A text as a sentence."""
     return text[:1].upper() + text[1:].rstrip(".") + "."
 
@@ -62,120 +27,110 @@ def kind_of(annotation):
     return re.sub(r"^(list|tuple)\[(\w+).*\]$", r"\1 of \2", found)
 
 
-def parameters(method, head):
-    """The arguments of the function, each with its type and its sentence."""
-    tree = ast.parse(textwrap.dedent(head) + "    pass").body[0]
-    general, own = method.general["python"], method.own(NAME)
-    for word in tree.args.args:
-        if word.arg in ("self", "cls"):
-            continue
-        there = {"cell": "id", "number": "child"}.get(word.arg, word.arg)
-        named = "file" if "other: UnionFile" in head else word.arg
-        said = own.get(word.arg) or method.row.get(there) or general.get(named) or method.general["argument"][there]
-        kind, _, text = said.rpartition(" : ")
-        yield word.arg, kind or kind_of(ast.unparse(word.annotation)), whole(marked(text))
-
-
-def raises(method, head):
-    """The errors of the function, each with when it comes."""
-    own, general = method.own(NAME), method.general["python"]
-    found = {ERRORS[name]: why for name, why in method.errors() if name in ERRORS}
-    if "NotACellError" in found and "NO_CELL" not in method.row:
-        found["NotACellError"] = general["not_a_cell_of_many" if "cells: " in head else "not_a_cell"]
-    if "other: Cells" in head:
-        found |= {"NotACellError": general["not_a_cell_among"], "TypeError": general["no_int"]}
-    if "other: UnionFile" in head:
-        found["TypeError"] = general["no_file"]
-    if method.is_of_file:
-        found["UnionFileError"] = CHANGED
-    if method.call.out and method.call.arguments[-1].name == "len" and owner(method):
-        found["OutOfMemoryError"] = NO_MEMORY
-    found |= own.get("raises", {})
-    return {name: whole(marked(why)) for name, why in found.items() if why}
-
-
-def entries(method):
-    """The sentence about entries, one for each cell; nothing of another result."""
-    out, general = method.call.out, method.general["python"]
-    if not method.call.answers_each:
-        return ""
-    return general["mask"] if out.name == "answers" else general["numbers" if out.kind == "u8" else "relatives"]
-
-
 def section(title, lines):
     return ["", title, "-" * len(title), *lines] if lines else []
 
 
-def comment(methods, method, before):
-    """The docstring of the function whose head is the last thing before it."""
-    own, head = method.own(NAME), DEF.search(before)[0]
-    indent = re.match(" *", head)[0] + " " * 4
-    width = WIDTH - len(indent)
+class Python(languages.Language):
+    NAME, NONE = "python", "None"
+    JOINED = "{1}"
+    MADE = {"cell": "from_token({})", "union": "CellUnion.from_tokens({})", "len": "len({})",
+            "file": "UnionFile(CellUnion.from_tokens({}).to_bytes())"}
 
-    def wrapped(text):
-        return textwrap.wrap(text, width, initial_indent="    ", subsequent_indent="    ", break_on_hyphens=False)
+    def name_of(self, method):
+        return NAMES.get(method.call.name, method.call.name.removeprefix("file_"))
 
-    first = textwrap.wrap('"""' + sentence(method), width, break_on_hyphens=False)
-    given = [line for name, kind, text in parameters(method, head) for line in [f"{name} : {kind}", *wrapped(text)]]
-    returned = ast.unparse(ast.parse(textwrap.dedent(head) + "    pass").body[0].returns)
-    kind, _, text = own.get("returns", entries(method) or method.returns).rpartition(" : ")
-    errors = [line for name, why in raises(method, head).items() for line in [name, *wrapped(why)]]
-    notes = [f"S2: {marked(method.s2).replace('`', '``')}."] if own.get("s2", method.s2) else []
-    said = [*first, "", f".. versionadded:: {own.get('since', method.said.since)}", *section("Parameters", given),
-            *section("Returns", [kind or kind_of(returned), *wrapped(whole(marked(text)))]), *section("Raises", errors),
-            *section("Notes", notes), *section("Examples", example(methods, method)), '"""']
-    return [(indent + line).rstrip() for line in said]
+    # ---- what is said
 
+    def marked(self, _, text):
+        """A text as Python writes its powers and what isn't there."""
+        return re.sub(r"\b(\d+|\))\^(\d+|\()", r"\1**\2", text.replace("{none}", self.NONE))
 
-# ---- examples
+    def sentence(self, methods, method):
+        said = super().sentence(methods, method)
+        return re.sub("^Its cells", "The cells of the union", said)  # numpydoc takes Its for a verb
 
+    def parameters(self, methods, method, head):
+        """The arguments of the function, each with its type and its sentence."""
+        tree = ast.parse(textwrap.dedent(head) + "    pass").body[0]
+        general, own = method.general["python"], method.own(self.NAME)
+        for word in tree.args.args:
+            if word.arg in ("self", "cls"):
+                continue
+            there = {"cell": "id", "number": "child"}.get(word.arg, word.arg)
+            named = "file" if "other: UnionFile" in head else word.arg
+            said = own.get(word.arg) or method.row.get(there) or general.get(named) or method.general["argument"][there]
+            kind, _, text = said.rpartition(" : ")
+            yield word.arg, kind or kind_of(ast.unparse(word.annotation)), as_sentence(self.marked(methods, text))
 
-def listed(words):
-    return f"[{words}]"
+    def raises(self, methods, method, head):
+        """The errors of the function, each with when it comes."""
+        own, general = method.own(self.NAME), method.general["python"]
+        found = {ERRORS[name]: why for name, why in method.errors() if name in ERRORS}
+        if "NotACellError" in found and "NO_CELL" not in method.row:
+            found["NotACellError"] = general["not_a_cell_of_many" if "cells: " in head else "not_a_cell"]
+        if "other: Cells" in head:
+            found |= {"NotACellError": general["not_a_cell_among"], "TypeError": general["no_int"]}
+        if "other: UnionFile" in head:
+            found["TypeError"] = general["no_file"]
+        if method.is_of_file:
+            found["UnionFileError"] = CHANGED
+        if method.call.out and method.call.arguments[-1].name == "len" and self.owner(method):
+            found["OutOfMemoryError"] = NO_MEMORY
+        found |= own.get("raises", {})
+        return {name: as_sentence(self.marked(methods, why)) for name, why in found.items() if why}
 
+    def entries(self, method):
+        """The sentence about entries, one for each cell; nothing of another result."""
+        out, general = method.call.out, method.general["python"]
+        if not method.call.answers_each:
+            return ""
+        return general["mask"] if out.name == "answers" else general["numbers" if out.kind == "u8" else "relatives"]
 
-def array(words):
-    return words
+    def comment(self, methods, method, before):
+        """The docstring of the function whose head is the last thing before it."""
+        own, head = method.own(self.NAME), DEF.search(before)[0]
+        indent = re.match(" *", head)[0] + " " * 4
+        width = self.WIDTH - len(indent)
 
+        def wrapped(text):
+            return textwrap.wrap(text, width, initial_indent="    ", subsequent_indent="    ", break_on_hyphens=False)
 
-def compared(left, right):
-    return f"{left} == {right}"
+        first = textwrap.wrap('"""' + self.sentence(methods, method), width, break_on_hyphens=False)
+        given = [line for name, kind, text in self.parameters(methods, method, head)
+                 for line in [f"{name} : {kind}", *wrapped(text)]]
+        returned = ast.unparse(ast.parse(textwrap.dedent(head) + "    pass").body[0].returns)
+        kind, _, text = own.get("returns", self.entries(method) or method.returns).rpartition(" : ")
+        errors = [line for name, why in self.raises(methods, method, head).items() for line in [name, *wrapped(why)]]
+        notes = [f"S2: {self.marked(methods, method.s2).replace('`', '``')}."] if own.get("s2", method.s2) else []
+        said = [*first, "", f".. versionadded:: {own.get('since', method.said.since)}", *section("Parameters", given),
+                *section("Returns", [kind or kind_of(returned), *wrapped(as_sentence(self.marked(methods, text)))]),
+                *section("Raises", errors),
+                *section("Notes", notes), *section("Examples", self.example(methods, method)), '"""']
+        return [(indent + line).rstrip() for line in said]
 
+    # ---- examples
 
-def long(words):
-    return words
+    def shown(self, method, text):
+        if method.call.answers_each:  # all entries, where others show one
+            text = re.sub(r"\[\d\]$|\[\d\](?=\)$)", "", text)
+        return f"{text}.tokens()" if method.makes_union else text
 
+    def answer(self, method):
+        """The answer as Python shows it."""
+        answer = method.answer
+        if method.answers:
+            return repr(method.answers)
+        if method.makes_union or method.example.startswith('" ".join('):
+            return repr(answer.split())
+        if answer in ("true", "false"):
+            return answer.capitalize()
+        return repr(answer) if re.match(r"token\(|debug\(", method.example) else answer
 
-def called(method, given):
-    return f"{owner(method)}{'.' * bool(owner(method))}{name_of(method)}({given})"
-
-
-def shown(method, text):
-    if method.call.answers_each:  # all entries, where others show one
-        text = re.sub(r"\[\d\]$|\[\d\](?=\)$)", "", text)
-    return f"{text}.tokens()" if method.makes_union else text
-
-
-def answered(method):
-    """The answer as Python shows it."""
-    answer = method.own(NAME).get("answer")
-    if answer:
-        return answer
-    answer = method.answer
-    if method.answers:
-        return repr(method.answers)
-    if method.makes_union or method.example.startswith('" ".join('):
-        return repr(answer.split())
-    if answer in ("true", "false"):
-        return answer.capitalize()
-    is_text = re.match(r"token\(|debug\(", method.example)
-    return repr(answer) if is_text else answer
-
-
-def example(methods, method):
-    own = method.own(NAME).get("example")
-    if own:
-        return own.strip("\n").split("\n")
-    tree = ast.parse(method.example, mode="eval").body
-    return [f">>> {shown(method, expressions.Expression(sys.modules[__name__], methods).visit(tree))}",
-            answered(method)]
+    def example(self, methods, method, *_):
+        own = method.own(self.NAME).get("example")
+        if own:
+            return own.strip("\n").split("\n")
+        tree = ast.parse(method.example, mode="eval").body
+        return [f">>> {self.shown(method, languages.Expression(self, methods).visit(tree))}",
+                method.own(self.NAME).get("answer") or self.answer(method)]

@@ -1,9 +1,8 @@
 """The methods of Rust: their comments with examples that are run, what they forward to, and the questions of tests."""
 import ast
 import re
-import textwrap
 
-import expressions
+import languages
 from declared import text_of
 
 INDENT = " " * 4
@@ -19,7 +18,7 @@ def joined(path, text):
     return INCLUDED.sub(lambda it: text_of(path.parents[1] / it[1]), text)
 
 
-class Rust(expressions.Language):
+class Rust(languages.Language):
     NAME, BETWEEN, NONE, SINCE = "rust", "\n\n", "`None`", 0.2
     RENAMED = {"ids": "cells", "ys": "other", "b": "other", "part": "other", "k": "place", "bounds": "rect"}
 
@@ -110,34 +109,26 @@ class Rust(expressions.Language):
         return {"".join(word.capitalize() for word in name.split("_")): why for name, why in said.items()}
 
     def comment(self, methods, method, *_):
-        own = method.own(self.NAME)
-
-        def lines(text, more=""):
-            return textwrap.wrap(text, self.WIDTH, initial_indent=f"{INDENT}/// ", break_on_hyphens=False,
-                                 subsequent_indent=f"{INDENT}/// {more}", break_long_words=False)
-
-        said = lines(f"{self.sentence(methods, method)} Since {own.get('since', self.since(method))}.")
+        begin, empty = f"{INDENT}/// ", f"{INDENT}///"
+        said = self.lines(f"{self.sentence(methods, method)} Since {self.since(method)}.", begin)
         more = " ".join([*self.told(methods, method), *([f"S2: {method.s2}."] if method.s2 else [])])
-        said += [f"{INDENT}///", *lines(more)] if more else []
+        said += [empty, *self.lines(more, begin)] if more else []
         if self.has_errors(method):
-            said += [f"{INDENT}///", f"{INDENT}/// # Errors", f"{INDENT}///"]
+            said += [empty, f"{begin}# Errors", empty]
             for name, why in self.reasons(method).items():
-                said += lines(f"- [`Error::{name}`]: {self.marked(methods, why)}", "  ")
-        shown = [f"{INDENT}/// {line}" for line in self.example(methods, method)]
-        return [*said, f"{INDENT}///", f"{INDENT}/// # Examples", f"{INDENT}///", f"{INDENT}/// ```", *shown,
-                f"{INDENT}/// ```"]
+                said += self.lines(f"- [`Error::{name}`]: {self.marked(methods, why)}", begin, "  ")
+        shown = [begin + line for line in self.example(methods, method)]
+        return [*said, empty, f"{begin}# Examples", empty, f"{begin}```", *shown, f"{begin}```"]
 
     def told(self, methods, method):
         """Sentences on its arguments, but for those whose type says all, and on its result."""
-        own, names = method.own(self.NAME), {self.named(method, it): it for it in method.given}
+        names = {self.named(method, it): it for it in method.given}
         for name, kind, _ in self.parameters(method):
             is_told = name not in names or kind in ("u32", "usize", "&str") or names[name].name in method.row
             if is_told:
-                said = method.argument(name, self.RENAMED, self.NAME)
-                yield f"`{name}` is {self.marked(methods, said)}."
-        returns = own.get("returns", method.returns)
-        if not (method.makes_union and returns == UNION or method.is_question):
-            yield f"Returns {self.marked(methods, returns)}."
+                yield f"`{name}` is {self.argument(methods, method, name)}."
+        if not (method.makes_union and method.returns == UNION or method.is_question):
+            yield f"Returns {self.returns(methods, method)}."
 
     def has_errors(self, method):
         return self.result(method).startswith("Result")
@@ -151,7 +142,7 @@ class Rust(expressions.Language):
 
     # ---- examples
 
-    def example(self, methods, method):
+    def example(self, methods, method, *_):
         """The lines of an example: what it asks, what is answered, and what the language alone shows after it."""
         own = method.own(self.NAME)
         shown = Shown(self, methods)
@@ -165,11 +156,11 @@ class Rust(expressions.Language):
     # ---- the questions of the tests
 
     def asked(self, method):
-        for it, field, place in expressions.fields(method):
+        for it, field, place in languages.fields(method):
             if it.kind == "Rect":
                 yield f"g.rect({field})"
             else:
-                form = expressions.form_of(method, it)
+                form = languages.form_of(method, it)
                 yield f"g.{form}({field})" if place is None else f"g.numbers({field})[{place}]"
 
     def question(self, _, method, *__):
@@ -183,7 +174,7 @@ class Rust(expressions.Language):
                 ".shown()),"]
 
 
-class Shown(expressions.Expression):
+class Shown(languages.Expression):
     """An expression of the table in Rust, and the lines before it that make what it asks."""
 
     def __init__(self, language, methods):

@@ -33,7 +33,8 @@ import usage
 
 TOP = Path(__file__).resolve().parents[1]
 TABLE = "tools/methods.toml"
-LANGUAGES = {".java": in_java, ".ts": in_types, ".mjs": in_types, ".py": in_python, ".rs": in_rust.Rust()}
+LANGUAGES = {".java": in_java.Java(), ".ts": in_types.TypeScript(), ".mjs": in_types.TypeScript(),
+             ".py": in_python.Python(), ".rs": in_rust.Rust()}
 MARK = re.compile(r"^ *(?://|#) (methods|comment|questions|numbers): ((?:.*,\n *// +)*.*)\n", re.M)
 UNION = "a new union"
 
