@@ -26,6 +26,7 @@ from typing import Callable, NamedTuple
 
 TOP = Path(__file__).resolve().parents[1]
 sys.path += [str(TOP / "tests" / "docs"), str(TOP / "tests" / "mutants")]
+import budgets  # noqa: E402
 import figures  # noqa: E402
 import pages  # noqa: E402
 import prose  # noqa: E402
@@ -362,6 +363,11 @@ def ends_of_parts(counts, room):
     *rows, whole = [(int(row.split()[0].replace(",", "")), row) for row in the_runner().sizes()]
     counts.tell("a table of lines in which some are left out", sum(count for count, _ in rows) == whole[0] and
                 any(count == of_tools and "lines  tools" in row for count, row in rows), f"{of_tools}, {rows}")
+    lines = {top: of.total() for top, of in the_runner().lines_of_texts().items()
+             if top[0] != "." and (TOP / top).is_dir()}
+    count, wrong = budgets.passed(lines)
+    counts.tell("a folder, a call or a sentence beyond its figure", count and not wrong, "\n".join(wrong))
+    counts.tell("a folder that grows unseen", len(budgets.passed({**lines, "tools": 10 ** 6})[1]) == len(wrong) + 1)
     with unittest.mock.patch.object(module.shutil, "which", lambda name: None), \
             contextlib.redirect_stdout(io.StringIO()) as said:
         lacking = [module.lacks_kit(module.chosen([], tier)) for tier in ("quick", "gate")]

@@ -6,7 +6,6 @@ use std::{env, fs};
 use s2union::{CellId, CellUnion, Error, FacePoint, Rect, UnionFile};
 
 const MOST: usize = 100_000; // cells of a list
-const CALLS: usize = 60; // that vectors.py and edges.py ask
 
 #[test]
 fn vectors() {
@@ -22,7 +21,7 @@ fn vectors() {
         asked.insert(call);
         assert_eq!(given.refused_cells(call).unwrap_or_else(|| given.answer(call)), want, "{line}");
     }
-    assert_eq!(asked.len(), CALLS);
+    assert_eq!(asked, METHODS.iter().chain(OTHERS).map(|way| way.0).collect());
 }
 
 /// The arguments of a question.
