@@ -18,6 +18,10 @@ class Language:
     MADE = {}  # what makes a cell, a union or a file of tokens
     RENAMED = {}  # arguments that have another name than in the header
 
+    def has(self, method):
+        """Whether it is made in the language."""
+        return self.NAME not in method.lacked_by
+
     def owner(self, method):
         """The class that has a method, or nothing if the module has it."""
         if method.is_of_file:
@@ -54,7 +58,8 @@ class Language:
         is_of_c = re.search(r"s2u_|S2U_|\b[xy]s\b|\bids\b", header) or method.call.answers_each or own.get("is_of_row")
         said = own.get("says") or (method.row.get("says", header) if is_of_c else header)
         steps = f" It takes {method.said.steps}." if method.said.steps else ""
-        return self.marked(methods, said) + steps + (f" {own['also']}" if "also" in own else "")
+        also = own.get("also") or method.row.get("also")
+        return self.marked(methods, said) + steps + (f" {also}" if also else "")
 
     def argument(self, methods, method, name):
         """What is said of an argument, by its name in the language."""

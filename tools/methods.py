@@ -23,6 +23,7 @@ from functools import cached_property
 from pathlib import Path
 
 import declared
+import in_go
 import in_java
 import in_python
 import in_rust
@@ -34,8 +35,8 @@ import usage
 TOP = Path(__file__).resolve().parents[1]
 TABLE = "tools/methods.toml"
 LANGUAGES = {".java": in_java.Java(), ".ts": in_types.TypeScript(), ".mjs": in_types.TypeScript(),
-             ".py": in_python.Python(), ".rs": in_rust.Rust()}
-MARK = re.compile(r"^ *(?://|#) (methods|comment|questions|numbers): ((?:.*,\n *// +)*.*)\n", re.M)
+             ".py": in_python.Python(), ".rs": in_rust.Rust(), ".go": in_go.Go()}
+MARK = re.compile(r"^[ \t]*(?://|#) (methods|comment|questions|numbers): ((?:.*,\n *// +)*.*)\n", re.M)
 UNION = "a new union"
 
 
@@ -135,7 +136,7 @@ class Method:
 
     def argument(self, name, renamed, language):
         """What is said of an argument, by the name that it has in the language."""
-        own = {there: it for it, there in [*renamed.items(), *self.own(language).items()]}
+        own = {str(there): it for it, there in [*renamed.items(), *self.own(language).items()]}
         names = {it.name for it in self.given}
         word = own[name] if own.get(name) in names else name
         return self.row.get(word) or self.general["argument"][word]
@@ -178,7 +179,8 @@ def methods(top=TOP):
     rows = {call.name: row_of(general["call"], call.name) for call in declared.calls(top)}
     places = {name: place for place, name in enumerate(general["call"])}
     calls = [call for call in declared.calls(top) if rows[call.name] and call.name in said]
-    calls.sort(key=lambda call: places.get(call.name, places.get(call.name.removeprefix("file_"))))
+    calls.sort(key=lambda call: (places.get(call.name, places.get(call.name.removeprefix("file_"))),
+                                 call.name.startswith("file_")))
     return {call.name: Method(call, said[call.name], rows[call.name], general) for call in calls}
 
 
@@ -216,7 +218,7 @@ def filled(path, top=TOP):
         if not mark[2].startswith("all "):
             return [found[name] for name in names_in(mark) if name in found]
         left_out = names_in(mark) if mark[1] == "questions" else named(text)
-        there = [it for name, it in found.items() if name not in left_out and language.NAME not in it.lacked_by]
+        there = [it for name, it in found.items() if name not in left_out and language.has(it)]
         owner = CLASS.findall(text[:mark.start()])[-1] if mark[0].startswith(" ") else ""
         return there if mark[1] == "questions" else [it for it in there if language.owner(it) == owner]
 
@@ -228,6 +230,17 @@ def filled(path, top=TOP):
         return between.join("\n".join(form(found, it, text[:mark.start()])) for it in of(mark)) + "\n"
 
     return MARK.sub(made, text) if found else text
+
+
+def of_go(top=TOP):
+    """The methods of Go that no source has by hand, and the examples of them that none has, as two sources."""
+    own = "\n".join(declared.text_of(path) for path in sorted(Path(top, "bindings/go").glob("*.go"))
+                    if path.name not in ("calls.go", "example_calls_test.go"))
+    found, language = methods(top), LANGUAGES[".go"]
+    there = [it for name, it in found.items() if language.has(it) and not re.search(rf"\bC\.s2u_{name}\(", own)]
+    examples = [it for it in (language.example(found, it) for it in there) if it[0] not in own]
+    return [[line for lines in of for line in ["", *lines]] for of in ([language.whole(found, it) for it in there],
+                                                                     examples)]
 
 
 def of_rust(top=TOP):

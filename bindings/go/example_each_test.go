@@ -271,31 +271,11 @@ func ExampleWholeSphere() {
 	// Output: 1 3 5 7 9 b
 }
 
-func ExampleCellUnionFromIntersection() {
-	x, _ := s2union.CellUnionFromTokens("1")
-	y, _ := s2union.CellUnionFromTokens("04 3")
-	fmt.Println(s2union.CellUnionFromIntersection(x, y))
-	// Output: 04
-}
-
-func ExampleCellUnionFromSymmetricDifference() {
-	x, _ := s2union.CellUnionFromTokens("04 0c")
-	y, _ := s2union.CellUnionFromTokens("0c 14")
-	fmt.Println(s2union.CellUnionFromSymmetricDifference(x, y))
-	// Output: 04 14
-}
-
 func ExampleCellUnionFromIntersectionWithCellID() {
 	union, _ := s2union.CellUnionFromTokens("04 3")
 	face, _ := s2union.CellIDFromFace(0)
 	fmt.Println(s2union.CellUnionFromIntersectionWithCellID(union, face))
 	// Output: 04
-}
-
-func ExampleCellUnionFromComplement() {
-	union, _ := s2union.CellUnionFromTokens("04 0c 1c")
-	fmt.Println(s2union.CellUnionFromComplement(union))
-	// Output: 14 3 5 7 9 b
 }
 
 func ExampleCellUnion_Len() {
@@ -348,51 +328,11 @@ func ExampleCellUnion_Compare() {
 	// Output: -1
 }
 
-func ExampleCellUnion_Contains() {
-	x, _ := s2union.CellUnionFromTokens("1")
-	y, _ := s2union.CellUnionFromTokens("04")
-	fmt.Println(x.Contains(y))
-	// Output: true
-}
-
-func ExampleCellUnion_Intersects() {
-	x, _ := s2union.CellUnionFromTokens("04")
-	y, _ := s2union.CellUnionFromTokens("1")
-	fmt.Println(x.Intersects(y))
-	// Output: true
-}
-
-func ExampleCellUnion_IntersectsCellID() {
-	union, _ := s2union.CellUnionFromTokens("0401")
-	cell, _ := s2union.CellIDFromToken("04")
-	fmt.Println(union.IntersectsCellID(cell))
-	// Output: true
-}
-
 func ExampleCellUnion_CellIDsAt() {
 	union, _ := s2union.CellUnionFromTokens("04 0c 3")
 	cell, _ := s2union.CellIDFromToken("1")
 	fmt.Println(union.CellIDsAt(cell))
 	// Output: [0/0 0/1]
-}
-
-func ExampleCellUnion_ContainsCellIDs() {
-	union, _ := s2union.CellUnionFromTokens("04")
-	fmt.Println(union.ContainsCellIDs(1, 2))
-	// Output: [] s2union: not a cell at place 1
-}
-
-func ExampleCellUnion_IntersectsCellIDs() {
-	union, _ := s2union.CellUnionFromTokens("04")
-	cell, _ := s2union.CellIDFromToken("1")
-	fmt.Println(union.IntersectsCellIDs(1, cell))
-	// Output: [true true] <nil>
-}
-
-func ExampleCellUnion_LeafCellsCovered() {
-	union, _ := s2union.CellUnionFromTokens("1")
-	fmt.Println(union.LeafCellsCovered() == 1<<60)
-	// Output: true
 }
 
 func ExampleCellUnion_String() {
@@ -451,44 +391,6 @@ func ExampleCellUnion_Scan() {
 	// Output: <nil> 04 0c
 }
 
-func ExampleCellUnion_Covering() {
-	union, _ := s2union.CellUnionFromTokens("0401")
-	fmt.Println(union.Covering(1, 10))
-	// Output: 04 <nil>
-}
-
-func ExampleCellUnion_InteriorCovering() {
-	union, _ := s2union.CellUnionFromTokens("04 1401")
-	fmt.Println(union.InteriorCovering(1, 10))
-	// Output: 04 <nil>
-}
-
-func ExampleRect_InteriorCovering() {
-	edge := s2union.Rect{Face: 0, I0: 0, I1: 1<<30 - 1, J0: 0, J1: 0}
-	covering, err := edge.InteriorCovering(1, 10)
-	fmt.Println(covering.Len(), err)
-	// Output: 0 <nil>
-}
-
-func ExampleCellUnion_CoveringIn() {
-	union, _ := s2union.CellUnionFromTokens("1")
-	edge := s2union.Rect{Face: 0, I0: 0, I1: 1<<30 - 1, J0: 0, J1: 0}
-	fmt.Println(union.CoveringIn(edge, 1, 10))
-	_, err := union.CoveringIn(edge, 30, 10)
-	fmt.Println(err)
-	// Output:
-	// 04 1c <nil>
-	// s2union: too many cells
-}
-
-func ExampleCellUnion_InteriorCoveringIn() {
-	union, _ := s2union.CellUnionFromTokens("1")
-	edge := s2union.Rect{Face: 0, I0: 0, I1: 1<<30 - 1, J0: 0, J1: 0}
-	covering, err := union.InteriorCoveringIn(edge, 1, 10)
-	fmt.Println(covering.Len(), err)
-	// Output: 0 <nil>
-}
-
 func ExampleIsNormalized() {
 	fmt.Println(s2union.IsNormalized([]s2union.CellID{1, 5}), s2union.IsNormalized([]s2union.CellID{5, 1}))
 	// Output: true false
@@ -526,62 +428,6 @@ func ExampleUnionFile_CellID() {
 	file, _ := s2union.NewUnionFile(bytes)
 	fmt.Println(file.CellID(1))
 	// Output: 0/1
-}
-
-func ExampleUnionFile_LeafCellsCovered() {
-	union, _ := s2union.CellUnionFromTokens("04 0c")
-	bytes, _ := union.MarshalBinary()
-	file, _ := s2union.NewUnionFile(bytes)
-	fmt.Println(file.LeafCellsCovered() == 1<<59)
-	// Output: true
-}
-
-func ExampleUnionFile_ContainsCellID() {
-	union, _ := s2union.CellUnionFromTokens("04 0c")
-	bytes, _ := union.MarshalBinary()
-	file, _ := s2union.NewUnionFile(bytes)
-	fmt.Println(file.ContainsCellID(1))
-	// Output: true
-}
-
-func ExampleUnionFile_ContainsCellIDs() {
-	union, _ := s2union.CellUnionFromTokens("04 0c")
-	bytes, _ := union.MarshalBinary()
-	file, _ := s2union.NewUnionFile(bytes)
-	fmt.Println(file.ContainsCellIDs(1, 0x1000000000000000))
-	// Output: [true false] <nil>
-}
-
-func ExampleUnionFile_IntersectsCellID() {
-	union, _ := s2union.CellUnionFromTokens("04 0c")
-	bytes, _ := union.MarshalBinary()
-	file, _ := s2union.NewUnionFile(bytes)
-	fmt.Println(file.IntersectsCellID(1))
-	// Output: true
-}
-
-func ExampleUnionFile_Contains() {
-	union, _ := s2union.CellUnionFromTokens("04 0c")
-	bytes, _ := union.MarshalBinary()
-	file, _ := s2union.NewUnionFile(bytes)
-	fmt.Println(file.Contains(file))
-	// Output: true
-}
-
-func ExampleUnionFile_Intersects() {
-	union, _ := s2union.CellUnionFromTokens("04 0c")
-	bytes, _ := union.MarshalBinary()
-	file, _ := s2union.NewUnionFile(bytes)
-	fmt.Println(file.Intersects(file))
-	// Output: true
-}
-
-func ExampleUnionFile_Ancestors() {
-	union, _ := s2union.CellUnionFromTokens("04 0c")
-	bytes, _ := union.MarshalBinary()
-	file, _ := s2union.NewUnionFile(bytes)
-	fmt.Println(file.Ancestors())
-	// Output: [0/0 0/1 0/]
 }
 
 func ExampleUnionFile_CellUnion() {

@@ -92,44 +92,12 @@ func CellUnionFromUnion(unions ...CellUnion) CellUnion {
 	}
 }
 
-// CellUnionFromIntersection is the union of the leaves that two unions share. Since 0.2.
-func CellUnionFromIntersection(x, y CellUnion) CellUnion {
-	return x.with(y, roomOfIntersection, func(xs *C.uint64_t, nx C.size_t, ys *C.uint64_t, ny C.size_t,
-		out *C.uint64_t, room C.size_t, length *C.size_t) C.int32_t {
-		return C.s2u_intersection(xs, nx, ys, ny, out, room, length)
-	})
-}
-
 // CellUnionFromIntersectionWithCellID is the union of the leaves of a cell that a union has. Since 0.2.
 func CellUnionFromIntersectionWithCellID(x CellUnion, id CellID) CellUnion {
 	if x.ContainsCellID(id) {
 		return CellUnion{[]CellID{id}}
 	}
 	return CellUnion{x.CellIDsAt(id)}
-}
-
-// CellUnionFromDifference is the union of the leaves of x that y doesn't have. Since 0.2.
-func CellUnionFromDifference(x, y CellUnion) CellUnion {
-	return x.with(y, roomOfDifference, func(xs *C.uint64_t, nx C.size_t, ys *C.uint64_t, ny C.size_t,
-		out *C.uint64_t, room C.size_t, length *C.size_t) C.int32_t {
-		return C.s2u_difference(xs, nx, ys, ny, out, room, length)
-	})
-}
-
-// CellUnionFromSymmetricDifference is the union of the leaves that exactly one of two unions has. Since 1.1.
-func CellUnionFromSymmetricDifference(x, y CellUnion) CellUnion {
-	return x.with(y, roomOfSymmetricDifference, func(xs *C.uint64_t, nx C.size_t, ys *C.uint64_t, ny C.size_t,
-		out *C.uint64_t, room C.size_t, length *C.size_t) C.int32_t {
-		return C.s2u_symmetric_difference(xs, nx, ys, ny, out, room, length)
-	})
-}
-
-// CellUnionFromComplement is the union of the leaves of the sphere that a union doesn't have. Since 1.1.
-func CellUnionFromComplement(x CellUnion) CellUnion {
-	at, n := pointerTo(x.ids)
-	return always(made(roomOfComplement(len(x.ids)), func(out *C.uint64_t, room C.size_t, length *C.size_t) C.int32_t {
-		return C.s2u_complement(at, n, out, room, length)
-	}))
 }
 
 // Len is the number of cells. Since 0.2.
@@ -166,61 +134,12 @@ func (cu CellUnion) Compare(other CellUnion) int {
 	return int(C.s2u_compare(xs, nx, ys, ny))
 }
 
-// ContainsCellID is whether the union has all leaves of a cell. It takes log n steps. Since 0.2.
-func (cu CellUnion) ContainsCellID(id CellID) bool {
-	at, n := pointerTo(cu.ids)
-	return answer(C.s2u_contains_cell(at, n, C.uint64_t(id)))
-}
-
-// IntersectsCellID is whether the union has a leaf of a cell. It takes log n steps. Since 0.2.
-func (cu CellUnion) IntersectsCellID(id CellID) bool {
-	at, n := pointerTo(cu.ids)
-	return answer(C.s2u_intersects_cell(at, n, C.uint64_t(id)))
-}
-
 // CellIDsAt is a new list of the cells of the union that share a leaf with a cell. It takes log n steps. Since 0.2.
 func (cu CellUnion) CellIDsAt(id CellID) []CellID {
 	at, n := pointerTo(cu.ids)
 	var first, count C.size_t
 	answer(C.s2u_cells_at(at, n, C.uint64_t(id), &first, &count))
 	return append([]CellID(nil), cu.ids[first:first+count]...)
-}
-
-// ContainsCellIDs is whether the union has all leaves of each cell in turn. Cells in ascending order are quickest. A
-// PlaceError has the place of the first number that is no cell. Since 0.2.
-func (cu CellUnion) ContainsCellIDs(ids ...CellID) ([]bool, error) {
-	at, n := pointerTo(cu.ids)
-	return asked(ids, func(cells *C.uint64_t, m C.size_t, answers *C.uint8_t, bad *C.size_t) C.int32_t {
-		return C.s2u_contains_cells(at, n, cells, m, answers, m, bad)
-	})
-}
-
-// IntersectsCellIDs is whether the union has a leaf of each cell in turn, as ContainsCellIDs. Since 0.2.
-func (cu CellUnion) IntersectsCellIDs(ids ...CellID) ([]bool, error) {
-	at, n := pointerTo(cu.ids)
-	return asked(ids, func(cells *C.uint64_t, m C.size_t, answers *C.uint8_t, bad *C.size_t) C.int32_t {
-		return C.s2u_intersects_cells(at, n, cells, m, answers, m, bad)
-	})
-}
-
-// Contains is whether the union has all leaves of another one. Since 0.2.
-func (cu CellUnion) Contains(other CellUnion) bool {
-	xs, nx := pointerTo(cu.ids)
-	ys, ny := pointerTo(other.ids)
-	return answer(C.s2u_contains(xs, nx, ys, ny))
-}
-
-// Intersects is whether two unions share a leaf. Since 0.2.
-func (cu CellUnion) Intersects(other CellUnion) bool {
-	xs, nx := pointerTo(cu.ids)
-	ys, ny := pointerTo(other.ids)
-	return answer(C.s2u_intersects(xs, nx, ys, ny))
-}
-
-// LeafCellsCovered is how many leaves the union has, of 6 * 4^30. Since 0.2.
-func (cu CellUnion) LeafCellsCovered() int64 {
-	at, n := pointerTo(cu.ids)
-	return int64(C.s2u_leaf_count(at, n))
 }
 
 // Denormalize is a new list of the cells, each cut to the least level that is at least its own and is minLevel or above
@@ -243,15 +162,6 @@ func (cu CellUnion) Denormalize(minLevel, levelMod, most int) ([]CellID, error) 
 	return listed(int(length), func(out *C.uint64_t, room C.size_t, made *C.size_t) C.int32_t {
 		return C.s2u_denormalised(at, n, min, mod, out, room, made)
 	})
-}
-
-// Ancestors is a new list of the cells and all their ancestors, ascending, each once: the keys of an index. Two unions
-// share a leaf exactly if a cell of one is among the ancestors of the other. Since 0.2.
-func (cu CellUnion) Ancestors() []CellID {
-	at, n := pointerTo(cu.ids)
-	return always(listed(roomOfAncestors(len(cu.ids)), func(out *C.uint64_t, room C.size_t, length *C.size_t) C.int32_t {
-		return C.s2u_ancestors(at, n, out, room, length)
-	}))
 }
 
 // String is the tokens of the cells, with blanks between them. Since 0.2.

@@ -13,7 +13,9 @@ step "shapes in degrees" shapes
 export GOPATH=$work/go GOCACHE=$work/go-cache GOFLAGS=-mod=mod GOPROXY=off GOTOOLCHAIN=local
 path=$(sed -n 's/^module //p' "$top/bindings/go/go.mod")
 for_go() (
-  cd "$top/bindings/go" && [ -z "$(gofmt -l .)" ] && go vet . && timeout 7200 go test -count=1 .
+  [ -z "$(gofmt -l "$top/bindings/go")" ] && cp -r "$top/bindings/go" "$work/for-go" && cd "$work/for-go" &&
+    /usr/bin/python3 -B "$top/tools/methods.py" . "$top/bindings/go/vectors_test.go" && go vet . &&
+    timeout 7200 go test -count=1 .
 )
 by_go() ( # the page's program, in a module of its own
   mkdir -p "$work/by-go" && cd "$work/by-go" && program_of $page go main.go && [ -z "$(gofmt -l .)" ] &&
