@@ -11,6 +11,7 @@ class Java(languages.Language):
     JOINED = "String.join({}, {})"
     MADE = {"cell": "CellId.fromToken({})", "union": "CellUnion.fromTokens({})", "len": "{}.length",
             "is_empty": "{}.isEmpty()", "file": "new UnionFile(CellUnion.fromTokens({}).encode())"}
+    RESULTS = {"union": "CellUnion", "cells": "long[]", "text": "String", "bytes": "byte[]", "answer": "boolean"}
     RENAMED = {"ids": "cells", "ys": "other", "k": "place"}
 
     def owner(self, method):
@@ -45,13 +46,8 @@ class Java(languages.Language):
         if out and call.answers_each:
             plain = "byte[]" if out.kind == "u8" else "long[]"
             return {"answers": "boolean[]", "text": "String[]"}.get(out.name, plain)
-        if out and out.kind == "u64":
-            return "CellUnion" if method.makes_union else "long[]"
-        if out:
-            return "String" if out.is_text else "byte[]"
-        if method.is_question:
-            return "boolean"
-        return "int" if call.result == "i32" and method.written is None or call.name == "file_count" else "long"
+        is_short = call.result == "i32" and method.written is None or call.name == "file_count"
+        return self.usual_result(method) or ("int" if is_short else "long")
 
     # ---- what it forwards to
 

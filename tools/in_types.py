@@ -11,6 +11,8 @@ class TypeScript(languages.Language):
     JOINED = "{1}.join({0})"
     MADE = {"cell": "fromToken({})", "union": "CellUnion.fromTokens({})", "len": "{}.length",
             "file": "new UnionFile(CellUnion.fromTokens({}).encode())"}
+    RESULTS = {"union": "CellUnion", "cells": "BigUint64Array", "text": "string", "bytes": "Uint8Array",
+               "answer": "boolean"}
     RENAMED = {"id": "cell", "ids": "cells", "ys": "other", "k": "place"}
 
     def parameters(self, method):
@@ -27,13 +29,9 @@ class TypeScript(languages.Language):
 
     def result(self, method):
         """The type of what it answers."""
-        call, out = method.call, method.call.out
-        if out and out.kind == "u64":
-            return "CellUnion" if method.makes_union else "BigUint64Array"
-        if out:
-            return "string" if out.is_text else "Uint8Array"
-        if method.is_question:
-            return "boolean"
+        call, usual = method.call, self.usual_result(method)
+        if usual:
+            return usual
         if call.result == "i32" and method.written is None:
             return "number"
         return "bigint" if method.is_count else "Cell | null" if "{none}" in method.returns else "Cell"

@@ -16,6 +16,7 @@ class Language:
     CUT = 2  # the spaces before the second line of an example
     JOINED = "{1}.join({0})"  # a list of texts, with a text between two
     MADE = {}  # what makes a cell, a union or a file of tokens
+    RESULTS = {}  # the types of a union, cells, a text, bytes, and yes or no
     RENAMED = {}  # arguments that have another name than in the header
 
     def has(self, method):
@@ -36,6 +37,13 @@ class Language:
     def named(self, method, it):
         """The name of an argument."""
         return method.own(self.NAME).get(it.name) or self.RENAMED.get(it.name, it.name)
+
+    def usual_result(self, method):
+        """The type of what it answers, if that is one of RESULTS."""
+        out = method.call.out
+        kind = "" if not out else ("union" if method.makes_union else "cells") if out.kind == "u64" else \
+            "text" if out.is_text else "bytes"
+        return self.RESULTS.get(kind or ("answer" if method.is_question else ""))
 
     def since(self, method):
         return method.own(self.NAME).get("since") or max(self.SINCE, float(method.said.since or 0))
