@@ -29,17 +29,17 @@ fn main() {
 
 /// In a checkout, makes the methods of the sources, which a package has in them: see docs/EXTENDING.md.
 fn make_methods(own: &Path) {
-    let (top, sources) = (own.join("../.."), own.join("src"));
+    let (top, sources, root) = (own.join("../.."), own.join("src"), own.join("crate.rs"));
     let maker = top.join("tools/methods.py");
-    if !maker.exists() {
+    if !(maker.exists() && root.exists()) {
         return;
     }
     let mut make = Command::new("python3");
-    make.arg("-B").arg(maker).arg(folder_of("OUT_DIR")).args([own.join("crate.rs"), sources.join("calls.rs")]);
+    make.arg("-B").arg(maker).arg(folder_of("OUT_DIR")).args([&root, &sources.join("calls.rs")]);
     for source in std::fs::read_dir(&sources).expect("sources have a folder").flatten() {
         make.args(source.file_name().to_str().filter(|name| name.ends_with(".rs")).map(|name| sources.join(name)));
     }
-    for source in [own.join("crate.rs"), sources, top.join("tools"), top.join("crates/s2union_c")] {
+    for source in [root, sources, top.join("tools"), top.join("crates/s2union_c")] {
         println!("cargo:rerun-if-changed={}", source.display());
     }
     run(&mut make);
