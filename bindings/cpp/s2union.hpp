@@ -137,6 +137,7 @@ inline bool succeeded(int32_t status, int32_t* outcome) {
 
 // made by tools/calls: the room that what a call makes is first given
 namespace rooms {
+inline size_t of_from_tokens(size_t n) { return n / 2 + 1; }
 inline size_t of_union(size_t nx, size_t ny) { return nx + ny; }
 inline size_t of_intersection(size_t nx, size_t ny) { return 2 * std::min(nx, ny); }
 inline size_t of_difference(size_t nx, size_t ny) { return nx + std::min(nx, ny) + 90; }
@@ -144,14 +145,13 @@ inline size_t of_symmetric_difference(size_t nx, size_t ny) { return nx + ny + 9
 inline size_t of_complement(size_t n) { return 64 * n + 90; }
 inline size_t of_range() { return 184; }
 inline size_t of_ancestors(size_t n) { return 2 * n + 30; }
-inline size_t of_file_ancestors(size_t n) { return n / 4 + 30; }
 inline size_t of_outer() { return 64; }
-inline size_t of_outer_in() { return 64; }
 inline size_t of_outer_of(size_t n) { return n; }
+inline size_t of_outer_in() { return 64; }
+inline size_t of_decode(size_t n) { return n / 8; }
+inline size_t of_file_ancestors(size_t n) { return n / 4 + 30; }
 inline size_t of_polygon_outer() { return 4096; }
 inline size_t of_polygon_outer_up_to() { return 1024; }
-inline size_t of_decode(size_t n) { return n / 8; }
-inline size_t of_from_tokens(size_t n) { return n / 2 + 1; }
 }  // namespace rooms
 
 /// Does what takes memory: S2U_OK, or S2U_MEMORY.

@@ -118,16 +118,6 @@ func (cu CellUnion) Ancestors() []CellID {
 	}))
 }
 
-// Ancestors is a new list of its cells and all their ancestors, ascending, each once: the keys of an index. Two unions
-// share a leaf if, and only if, a cell of one is among the keys of the other. Since 0.2.
-func (f UnionFile) Ancestors() []CellID {
-	at, n := pointerToBytes(f.file)
-	most := roomOfFileAncestors(len(f.file))
-	return always(listed(most, func(out *C.uint64_t, room C.size_t, length *C.size_t) C.int32_t {
-		return C.s2u_file_ancestors(at, n, out, room, length)
-	}))
-}
-
 // Covering is the union of the cells of a level that share a leaf with a rectangle, normalized. It isn't the best few
 // cells of several levels, as golang/geo's RegionCoverer finds them for regions of the sphere. level is 0, a face, to
 // 30, a leaf. most is the most cells that there may be. ErrMemory: the library got no memory. ErrArgument: a number is
@@ -194,6 +184,16 @@ func (cu CellUnion) InteriorCoveringIn(rect Rect, level, most int) (CellUnion, e
 	return made(roomOfInnerIn(), func(out *C.uint64_t, room C.size_t, length *C.size_t) C.int32_t {
 		return C.s2u_inner_in(at, n, &corners, narrowed(level), atLeastZero(most), out, room, length)
 	})
+}
+
+// Ancestors is a new list of its cells and all their ancestors, ascending, each once: the keys of an index. Two unions
+// share a leaf if, and only if, a cell of one is among the keys of the other. Since 0.2.
+func (f UnionFile) Ancestors() []CellID {
+	at, n := pointerToBytes(f.file)
+	most := roomOfFileAncestors(len(f.file))
+	return always(listed(most, func(out *C.uint64_t, room C.size_t, length *C.size_t) C.int32_t {
+		return C.s2u_file_ancestors(at, n, out, room, length)
+	}))
 }
 
 // ContainsCellID is whether all leaves of a cell are in the union in a file. It takes log n steps. Since 0.2.

@@ -97,14 +97,6 @@ func ExampleCellUnionFromComplement() {
 	// Output: 14 3 5 7 9 b
 }
 
-func ExampleUnionFile_Ancestors() {
-	union, _ := s2union.CellUnionFromTokens("04")
-	bytes, _ := union.MarshalBinary()
-	file, _ := s2union.NewUnionFile(bytes)
-	fmt.Println(s2union.Tokens(file.Ancestors()))
-	// Output: [04 1] <nil>
-}
-
 func ExampleRect_InteriorCovering() {
 	edge := s2union.Rect{Face: 0, I0: 0, I1: 1<<30 - 1, J0: 0, J1: 0}
 	covering, err := edge.InteriorCovering(1, 10)
@@ -141,6 +133,14 @@ func ExampleCellUnion_InteriorCoveringIn() {
 	covering, err := union.InteriorCoveringIn(edge, 1, 10)
 	fmt.Println(covering.Len(), err)
 	// Output: 0 <nil>
+}
+
+func ExampleUnionFile_Ancestors() {
+	union, _ := s2union.CellUnionFromTokens("04")
+	bytes, _ := union.MarshalBinary()
+	file, _ := s2union.NewUnionFile(bytes)
+	fmt.Println(s2union.Tokens(file.Ancestors()))
+	// Output: [04 1] <nil>
 }
 
 func ExampleUnionFile_ContainsCellID() {

@@ -27,16 +27,16 @@ const KINDS = {[-1]: "ROOM", [-2]: "MEMORY", [-3]: "NO_CELL", [-4]: "NO_UNION", 
   [-14]: "CORNER", [-15]: "RING"};
 /** The room that what a call makes is first given. */
 const ROOMS = {
+  s2u_from_tokens: (n) => Math.floor(n / 2) + 1,
+  s2u_tokens: (n) => 17 * n,
   s2u_union: (nx, ny) => nx + ny,
   s2u_intersection: (nx, ny) => 2 * Math.min(nx, ny),
   s2u_difference: (nx, ny) => nx + Math.min(nx, ny) + 90,
   s2u_symmetric_difference: (nx, ny) => nx + ny + 90,
   s2u_complement: (n) => 2 * n + 90,
   s2u_ancestors: (n) => 2 * n + 30,
-  s2u_file_ancestors: (n) => Math.floor(n / 4) + 30,
   s2u_encode: (n) => 8 * n + 9,
-  s2u_tokens: (n) => 17 * n,
-  s2u_from_tokens: (n) => Math.floor(n / 2) + 1,
+  s2u_file_ancestors: (n) => Math.floor(n / 4) + 30,
 };
 
 const HEAD_SIZE = 9;

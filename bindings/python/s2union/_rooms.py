@@ -1,6 +1,14 @@
 """The room that what a call makes is first given, by the lengths of its lists: made by tools/calls."""
 
 
+def from_tokens(n: int) -> int:
+    return n // 2 + 1
+
+
+def tokens(n: int) -> int:
+    return 17 * n
+
+
 def union(nx: int, ny: int) -> int:
     return nx + ny
 
@@ -29,16 +37,20 @@ def ancestors(n: int) -> int:
     return 2 * n + 30
 
 
-def file_ancestors(n: int) -> int:
-    return n // 4 + 30
-
-
 def outer() -> int:
     return 64
 
 
 def inner() -> int:
     return 64
+
+
+def outer_of(n: int) -> int:
+    return n
+
+
+def inner_of(n: int) -> int:
+    return n
 
 
 def outer_in() -> int:
@@ -49,12 +61,16 @@ def inner_in() -> int:
     return 64
 
 
-def outer_of(n: int) -> int:
-    return n
+def encode(n: int) -> int:
+    return 8 * n + 9
 
 
-def inner_of(n: int) -> int:
-    return n
+def decode(n: int) -> int:
+    return n // 8
+
+
+def file_ancestors(n: int) -> int:
+    return n // 4 + 30
 
 
 def polygon_outer() -> int:
@@ -71,19 +87,3 @@ def polygon_outer_up_to() -> int:
 
 def polygon_inner_up_to() -> int:
     return 1024
-
-
-def encode(n: int) -> int:
-    return 8 * n + 9
-
-
-def decode(n: int) -> int:
-    return n // 8
-
-
-def tokens(n: int) -> int:
-    return 17 * n
-
-
-def from_tokens(n: int) -> int:
-    return n // 2 + 1
