@@ -2,24 +2,21 @@
 -- the parity of the arcs from its two ends.
 use Rattle.std.proofs.Common.{◌≡◌, refl, sym, ap, ap₂, ◌∙◌, ℕ, zero, suc, ◌+◌, ◌*◌, ◌/◌, ◌^◌, ◌≤◌, ◌<◌, arith, ℤ, pos}
 use Rattle.std.proofs.Common.{◌-ℤ◌, ◌*ℤ◌, ◌<ℤ◌, ◌⊎◌, inl, inr, Bool, true, false, ◌&&◌, List, All, min, max, nat_lt}
-use Rattle.std.proofs.Common.{ltb-true, ltb-false, pow-suc}
+use Rattle.std.proofs.Common.{ltb-true, ltb-false}
 use Rattle.std.proofs.lemmas.Int.{ints, by_lt_z}
 use Rattle.std.proofs.Math.Bool.{xor, beq}
-use Rattle.std.proofs.Math.Nat.{div-eq_of_lt}
 use Rattle.s2cell.specs.Curve.{i_of, j_of}
 use Rattle.s2polygon.proofs.Along.{along_rises}
-use Rattle.s2polygon.proofs.Beside.{IsClosed, odd_same, odd_xor}
-use Rattle.s2polygon.proofs.Cells.{middle_within}
+use Rattle.s2polygon.proofs.Beside.{IsClosed, leaf_by, odd_same, odd_xor}
 use Rattle.s2polygon.proofs.Changes.{xor_none, xor_self}
 use Rattle.s2polygon.proofs.Closed.{IsSound, opposite}
 use Rattle.s2polygon.proofs.Faraway.{column_apart, far_at, far_point, row_apart, some_or_along}
 use Rattle.s2polygon.proofs.Steps.{column_piece, never_of_crossing, row_piece, xor_same}
 use Rattle.s2polygon.proofs.Triangles.{IsAlong, IsApart, arc, arc_right, arc_up, like_answers, over_piece, piece_over}
 use Rattle.s2polygon.proofs.Triangles.{within}
-use Rattle.s2polygon.proofs.Turned.{below_side, drop, from_0, from_1, from_2, from_3, from_4, further, join, odd_mapped}
+use Rattle.s2polygon.proofs.Turned.{drop, from_0, from_1, from_2, from_3, from_4, join, odd_mapped}
 use Rattle.s2polygon.proofs.Turned.{proper, right, up}
 use Rattle.s2polygon.proofs.Vectors.{column_plane, row_plane, triple}
-use Rattle.s2polygon.specs.Cells.{odd_of, step_to}
 use Rattle.s2polygon.specs.Crosses.{crosses_column_at, crosses_row_at, is_at_least_0, side}
 use Rattle.s2polygon.specs.Directions.{Point}
 use Rattle.s2polygon.specs.Faces.{crosses_border, edges_on, top_of}
@@ -27,7 +24,7 @@ use Rattle.s2polygon.specs.Frames.{framed, in_frame, normal_of}
 use Rattle.s2polygon.specs.Leaves.{odd_at}
 use Rattle.s2polygon.specs.Meets.{above, left_of}
 use Rattle.s2polygon.specs.Neighbors.{place}
-use Rattle.s2polygon.specs.Parity.{is_odd_along, is_odd_by, is_odd_over}
+use Rattle.s2polygon.specs.Parity.{is_odd_by, is_odd_over}
 use Rattle.s2polygon.specs.Places.{along}
 use Rattle.s2polygon.specs.Ways.{Piece, row, column, crosses, middle_of}
 use Rattle.s2polygon.specs.Working.Rings.{IsNone, dot_of}
@@ -194,9 +191,6 @@ one_arc (suc (suc (suc (suc (suc n))))) p z a b =
     arc_on_5 p z a b ∙ arc_on_4 p z a b ∙ arc_on_3 p z a b ∙ arc_on_2 p z a b ∙ arc_on_1 p z a b
 
 -- ---- all edges
-middle_most : (n k i : ℕ) → n + k ≡ 30 → i < 2 ^ n → middle_of k i ≤ 2 ^ 31
-middle_most n k i e h = (middle_within n k 30 i 0 e (div-eq_of_lt h)).to
-
 module _ (es : List Edge) (sound : All IsSound es) (closed : IsClosed es) where
   -- whether the edges come over the arc from the place an odd number of times
   abbrev pub arcs : ℕ → Framed → Bool
@@ -273,39 +267,6 @@ module _ (es : List Edge) (sound : All IsSound es) (closed : IsClosed es) where
   column_over f m t u k h l =
       line_over f (λ t u. column (2 * m + 1) t u) (λ t. place (2 * m + 1) t) (column_line f m k) t u h l
 
-  -- ---- a leaf
-  step_over : (f k i j : ℕ) → middle_of (suc k) (i / 2) ≤ 2 ^ 31 → middle_of (suc k) (j / 2) ≤ 2 ^ 31
-      → middle_of k i ≤ 2 ^ 31 → middle_of k j ≤ 2 ^ 31
-      → is_odd_along (step_to k i j) (edges_on f es)
-      ≡ xor (arcs f (place (middle_of (suc k) (i / 2)) (middle_of (suc k) (j / 2))))
-      (arcs f (place (middle_of k i) (middle_of k j)))
-  step_over f k i j h l m n =
-      ap₂ xor (row_over f (j / 2 * 2 ^ suc k + 2 ^ suc k / 2) (middle_of (suc k) (i / 2)) (middle_of k i) l h m)
-      (xor_none (is_odd_over (column (middle_of k i) (middle_of (suc k) (j / 2)) (middle_of k j)) (edges_on f es))
-      ∙ column_over f (i * 2 ^ k + 2 ^ k / 2) (middle_of (suc k) (j / 2)) (middle_of k j) m l n)
-      ∙ drop (arcs f (place (middle_of (suc k) (i / 2)) (middle_of (suc k) (j / 2))))
-      (arcs f (place (middle_of k i) (middle_of (suc k) (j / 2)))) (arcs f (place (middle_of k i) (middle_of k j)))
-
-  below_over : (f : ℕ) (top : Bool) (n k i j : ℕ) → n + k ≡ 30 → i < 2 ^ n → j < 2 ^ n
-      → odd_of top (edges_on f es) n k i j
-      ≡ xor top (xor (arcs f (place (middle_of 30 0) (middle_of 30 0)))
-      (arcs f (place (middle_of k i) (middle_of k j))))
-  below_over f top zero k i j e hi hj =
-      let p : k ≡ 30 = omega arith in
-      let q : i ≡ 0 = omega arith in
-      let r : j ≡ 0 = omega arith in
-      rw (p, q, r) (sym (ap (xor top) (xor_self (arcs f (place (middle_of 30 0) (middle_of 30 0)))) ∙ xor_none top))
-  below_over f top (suc n) k i j e hi hj =
-      let two = pow-suc 2 n in
-      let up_i : i / 2 < 2 ^ n = omega (arith, two) in
-      let up_j : j / 2 < 2 ^ n = omega (arith, two) in
-      ap₂ xor (below_over f top n (suc k) (i / 2) (j / 2) (omega arith) up_i up_j)
-      (step_over f k i j (middle_most n (suc k) (i / 2) (omega arith) up_i)
-      (middle_most n (suc k) (j / 2) (omega arith) up_j) (middle_most (suc n) k i e hi) (middle_most (suc n) k j e hj))
-      ∙ further top (arcs f (place (middle_of 30 0) (middle_of 30 0)))
-      (arcs f (place (middle_of (suc k) (i / 2)) (middle_of (suc k) (j / 2))))
-      (arcs f (place (middle_of k i) (middle_of k j)))
-
   -- ---- the middles of the faces
   abbrev middles : ℕ → Bool
   middles f = arcs f (place (middle_of 30 0) (middle_of 30 0))
@@ -366,8 +327,10 @@ module _ (es : List Edge) (sound : All IsSound es) (closed : IsClosed es) where
   unfolding odd_at
   leaf_over x l =
       let f = x / 4 ^ 30 in
-      let side = below_side x in
-      below_over f (top_of es f) 30 0 (i_of x) (j_of x) refl side.0 side.1
+      leaf_by (edges_on f es) (λ s t. arcs f (place s t)) (record {
+        rows = λ m s u h k l. row_over f m s u h k l;
+        columns = λ m n p h k l. column_over f m (2 * n + 1) (2 * p + 1) h k l;
+      }) (top_of es f) x
       ∙ ap (λ (t : Bool). xor t (xor (middles f) (arcs f (place (middle_of 0 (i_of x)) (middle_of 0 (j_of x))))))
       (top_over f l)
       ∙ drop (middles 0) (middles f) (arcs f (place (middle_of 0 (i_of x)) (middle_of 0 (j_of x))))

@@ -5,8 +5,10 @@ use Rattle.std.proofs.Common.{All}
 use Rattle.std.proofs.Common.{min, max, nat_lt, ltb-true, ltb-false, pow-suc}
 use Rattle.std.proofs.lemmas.List.Elements.{All-cons, All-head, All-nil, All-tail}
 use Rattle.std.proofs.Math.Bool.{xor}
+use Rattle.std.proofs.Math.Nat.{div-eq_of_lt}
 use Rattle.std.specs.List.{list_any}
 use Rattle.s2cell.specs.Curve.{i_of, j_of}
+use Rattle.s2polygon.proofs.Cells.{middle_within}
 use Rattle.s2polygon.proofs.Changes.{xor_none, xor_self}
 use Rattle.s2polygon.proofs.Lines.{column_at, column_rising, lines_at, middles_alike, quarter_at, quarters_at, row_at}
 use Rattle.s2polygon.proofs.Lines.{row_rising}
@@ -86,6 +88,51 @@ column_pieces s t u e = sym (column_piece s t u e) ∙ by (nat_lt t u) refl
         rw (low, high) (column_rising s t u e.a e.b l)
     by false p = falling (nat_lt u t) refl (ltb-false t u p)
 
+-- ---- ways of which each piece has the parity of its two ends
+middle_most : (n k i : ℕ) → n + k ≡ 30 → i < 2 ^ n → middle_of k i ≤ 2 ^ 31
+middle_most n k i e h = (middle_within n k 30 i 0 e (div-eq_of_lt h)).to
+
+pub record HasEnds (edges : List FramedEdge) (g : ℕ → ℕ → Bool) : Type 0 where
+  pub rows : (m s u : ℕ) → 2 * m + 1 ≤ 2 ^ 31 → s ≤ 2 ^ 31 → u ≤ 2 ^ 31
+      → is_odd_over (row (2 * m + 1) s u) edges ≡ xor (g s (2 * m + 1)) (g u (2 * m + 1))
+  pub columns : (m n p : ℕ) → 2 * m + 1 ≤ 2 ^ 31 → 2 * n + 1 ≤ 2 ^ 31 → 2 * p + 1 ≤ 2 ^ 31
+      → is_odd_over (column (2 * m + 1) (2 * n + 1) (2 * p + 1)) edges
+      ≡ xor (g (2 * m + 1) (2 * n + 1)) (g (2 * m + 1) (2 * p + 1))
+
+module _ (edges : List FramedEdge) (g : ℕ → ℕ → Bool) (ends : HasEnds edges g) where
+  step_over : (k i j : ℕ) → middle_of (suc k) (i / 2) ≤ 2 ^ 31 → middle_of (suc k) (j / 2) ≤ 2 ^ 31
+      → middle_of k i ≤ 2 ^ 31 → middle_of k j ≤ 2 ^ 31
+      → is_odd_along (step_to k i j) edges
+      ≡ xor (g (middle_of (suc k) (i / 2)) (middle_of (suc k) (j / 2))) (g (middle_of k i) (middle_of k j))
+  step_over k i j h l m n =
+      ap₂ xor (ends.rows (j / 2 * 2 ^ suc k + 2 ^ suc k / 2) (middle_of (suc k) (i / 2)) (middle_of k i) l h m)
+      (xor_none (is_odd_over (column (middle_of k i) (middle_of (suc k) (j / 2)) (middle_of k j)) edges)
+      ∙ ends.columns (i * 2 ^ k + 2 ^ k / 2) (j / 2 * 2 ^ suc k + 2 ^ suc k / 2) (j * 2 ^ k + 2 ^ k / 2) m l n)
+      ∙ drop (g (middle_of (suc k) (i / 2)) (middle_of (suc k) (j / 2)))
+      (g (middle_of k i) (middle_of (suc k) (j / 2))) (g (middle_of k i) (middle_of k j))
+
+  below_over : (top : Bool) (n k i j : ℕ) → n + k ≡ 30 → i < 2 ^ n → j < 2 ^ n → odd_of top edges n k i j
+      ≡ xor top (xor (g (middle_of 30 0) (middle_of 30 0)) (g (middle_of k i) (middle_of k j)))
+  below_over top zero k i j e hi hj =
+      let p : k ≡ 30 = omega arith in
+      let q : i ≡ 0 = omega arith in
+      let r : j ≡ 0 = omega arith in
+      rw (p, q, r) (sym (ap (xor top) (xor_self (g (middle_of 30 0) (middle_of 30 0))) ∙ xor_none top))
+  below_over top (suc n) k i j e hi hj =
+      let two = pow-suc 2 n in
+      let up_i : i / 2 < 2 ^ n = omega (arith, two) in
+      let up_j : j / 2 < 2 ^ n = omega (arith, two) in
+      ap₂ xor (below_over top n (suc k) (i / 2) (j / 2) (omega arith) up_i up_j)
+      (step_over k i j (middle_most n (suc k) (i / 2) (omega arith) up_i)
+      (middle_most n (suc k) (j / 2) (omega arith) up_j) (middle_most (suc n) k i e hi) (middle_most (suc n) k j e hj))
+      ∙ further top (g (middle_of 30 0) (middle_of 30 0)) (g (middle_of (suc k) (i / 2)) (middle_of (suc k) (j / 2)))
+      (g (middle_of k i) (middle_of k j))
+
+  -- a leaf, by the way to it from the middle of its face
+  pub leaf_by : (top : Bool) (x : ℕ) → odd_of top edges 30 0 (i_of x) (j_of x)
+      ≡ xor top (xor (g (middle_of 30 0) (middle_of 30 0)) (g (middle_of 0 (i_of x)) (middle_of 0 (j_of x))))
+  leaf_by top x = below_over top 30 0 (i_of x) (j_of x) refl (below_side x).0 (below_side x).1
+
 -- ---- closed lists of edges
 -- each test of directions differs at the two ends of an even number of the edges
 abbrev pub IsClosed : List Edge → Type 0
@@ -161,38 +208,16 @@ module _ (f : ℕ) (es : List Edge) (fit : All (IsFit f) es) (closed : IsClosed 
       (λ e. column_at s u (in_frame f e.a) (in_frame f e.b)) es
       ∙ columns_follow m n p
 
-  step_over : (k i j : ℕ) → is_odd_along (step_to k i j) (edges_on f es)
-      ≡ xor (rows (middle_of (suc k) (i / 2)) (middle_of (suc k) (j / 2))) (rows (middle_of k i) (middle_of k j))
-  step_over k i j =
-      ap₂ xor (row_over (middle_of (suc k) (j / 2)) (middle_of (suc k) (i / 2)) (middle_of k i))
-      (xor_none (is_odd_over (column (middle_of k i) (middle_of (suc k) (j / 2)) (middle_of k j)) (edges_on f es))
-      ∙ column_over (i * 2 ^ k + 2 ^ k / 2) (j / 2 * 2 ^ suc k + 2 ^ suc k / 2) (j * 2 ^ k + 2 ^ k / 2))
-      ∙ drop (rows (middle_of (suc k) (i / 2)) (middle_of (suc k) (j / 2)))
-      (rows (middle_of k i) (middle_of (suc k) (j / 2))) (rows (middle_of k i) (middle_of k j))
-
-  below_over : (top : Bool) (n k i j : ℕ) → n + k ≡ 30 → i < 2 ^ n → j < 2 ^ n → odd_of top (edges_on f es) n k i j
-      ≡ xor top (xor (rows (middle_of 30 0) (middle_of 30 0)) (rows (middle_of k i) (middle_of k j)))
-  below_over top zero k i j e hi hj =
-      let p : k ≡ 30 = omega arith in
-      let q : i ≡ 0 = omega arith in
-      let r : j ≡ 0 = omega arith in
-      rw (p, q, r) (sym (ap (xor top) (xor_self (rows (middle_of 30 0) (middle_of 30 0))) ∙ xor_none top))
-  below_over top (suc n) k i j e hi hj =
-      let two = pow-suc 2 n in
-      ap₂ xor (below_over top n (suc k) (i / 2) (j / 2) (omega arith) (omega (arith, two)) (omega (arith, two)))
-      (step_over k i j)
-      ∙ further top (rows (middle_of 30 0) (middle_of 30 0))
-      (rows (middle_of (suc k) (i / 2)) (middle_of (suc k) (j / 2)))
-      (rows (middle_of k i) (middle_of k j))
-
   pub leaf_over : (x : ℕ) → x / 4 ^ 30 ≡ f → odd_at es x
       ≡ xor (top_of es f) (xor (rows (middle_of 30 0) (middle_of 30 0))
       (rows (middle_of 0 (i_of x)) (middle_of 0 (j_of x))))
   unfolding odd_at
   leaf_over x e =
-      let place = below_side x in
       ap (λ (g : ℕ). odd_of (top_of es g) (edges_on g es) 30 0 (i_of x) (j_of x)) e
-      ∙ below_over (top_of es f) 30 0 (i_of x) (j_of x) refl place.0 place.1
+      ∙ leaf_by (edges_on f es) (λ s t. rows s t) (record {
+        rows = λ m s u h k l. row_over (2 * m + 1) s u;
+        columns = λ m n p h k l. column_over m n p;
+      }) (top_of es f) x
 
 -- ---- leaves that no edge touches
 pub all_missed : (m i j : ℕ) (es : List FramedEdge) → list_any (meets_square (widened m (square_of 0 i j))) es ≡ false
