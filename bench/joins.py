@@ -375,6 +375,9 @@ def main(folder, modules, file, *words):
                 beside_others(job, *points_of_the_sphere(1_000_000))
             if are_provinces:
                 in_python(job._replace(predicate="intersects"))
+                for count in 10, 1000:
+                    print(f"\n{count} points")
+                    in_python(job._replace(x=job.x[-count:], y=job.y[-count:]))
         return
     passed = 0
     for layer, every in ("countries", 1), ("states_provinces", 10):
