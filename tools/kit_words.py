@@ -95,6 +95,7 @@ WORDS = {
     # floats
     "Float": ("Float", "the floats of IEEE 754"), "binary64": ("binary64", "those of 64 bits, doubles"),
     "is_nan": ("is_nan x", "whether it is not a number"), "to_bits": ("to_bits binary64 x", "its 64 bits, as a number"),
+    "from_bits": ("from_bits binary64 n", "the double of these bits"),
     "parse_float": ("parse_float binary64 text", "the double that is nearest to a text, if that is a number's"),
     # JSON
     "Json": ("Json", "a value of JSON: `null`, a `boolean`, `number`, `string`, `array` or `object`"),

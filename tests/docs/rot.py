@@ -38,7 +38,7 @@ MANY_ARMS = {"s2calc/src/command_line.rt: arg_of", "s2calc/src/edits.rt: edit_re
              "s2script/src/misfit.rt: refusal", "s2script/src/misfit_text.rt: put_wanted",
              "s2script/src/refusal.rt: name"}
 # Files whose lines may be long: pages and tables of rows, which are not wrapped, texts of others, and what pins a line.
-UNWRAPPED = re.compile(r"\.(?:md|svg|png|outer|cells|sums)$|^LICENSE$|/(?:stdin|stdout|mutants\.txt)$")
+UNWRAPPED = re.compile(r"\.(?:md|svg|png|outer|cells|sums)$|^(?:LICENSE|crates\.txt)$|/(?:stdin|stdout|mutants\.txt)$")
 
 
 def text_of(name):

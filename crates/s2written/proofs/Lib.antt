@@ -1,0 +1,4 @@
+mod Degrees
+mod Leaves
+mod Maps
+mod Walks

@@ -1,0 +1,4 @@
+pub mod Coverings
+pub mod Faults
+pub mod Maps
+pub mod Walks

@@ -1,0 +1,43 @@
+//! Why a shape has no covering.
+ghost use Rattle.std.specs.Prelude.{◌≡◌};
+ghost use Rattle.s2written.specs.declared.fault.CoverError.TheVariants.{Memory};
+
+use s2shape::Fault;
+use std::alloc::{AllocError, AllocFailed};
+use thiserror::Error;
+
+/// Why a shape has no covering.
+#[derive(Clone, Copy, Debug, PartialEq, Eq, Drop, Error)]
+pub enum CoverError {
+    /// An allocation failed.
+    #[error("out of memory")]
+    Memory,
+    /// The bytes are no shape: their first fault.
+    #[error("{}", .0.name)]
+    Fault(Fault),
+    /// This part, counted from 0, is a point or a line, which has no inside.
+    #[error("a point or a line has no inside")]
+    NoInside(usize),
+    /// A position is no place, or a ring no ring. No shape that was read is so.
+    #[error("a position is no place, or a ring no ring")]
+    NoMap,
+    /// The walks to the level would take more work than is allowed.
+    #[error("too many cells")]
+    TooManyCells,
+}
+
+impl From<AllocError> for CoverError {
+    ghost from_gives = { λ _ error. error ≡ Memory };
+
+    fn from(_error: AllocError) -> CoverError {
+        CoverError::Memory
+    }
+}
+
+impl<T: Drop> From<AllocFailed<T>> for CoverError {
+    ghost from_gives = { λ _ error. error ≡ Memory };
+
+    fn from(_error: AllocFailed<T>) -> CoverError {
+        CoverError::Memory
+    }
+}
