@@ -1,6 +1,7 @@
 -- Edges whose ends lie before a plane meet no square behind it.
 use Rattle.std.proofs.Common.{◌≡◌, refl, sym, ap₂, ◌∙◌, ℕ, zero, suc, ◌+◌, ◌-◌, ◌≤◌, ◌<◌, ◌/◌, ◌^◌, arith, ℤ, pos}
-use Rattle.std.proofs.Common.{negsuc, neg_ℤ, ◌+ℤ◌, ◌*ℤ◌, ◌-ℤ◌, ◌≤ℤ◌, ◌<ℤ◌, Bool, true, false, cond, ◌==◌, ◌↔◌, IsTrue, subst}
+use Rattle.std.proofs.Common.{negsuc, neg_ℤ, ◌+ℤ◌, ◌*ℤ◌, ◌≤ℤ◌, ◌<ℤ◌, Bool, true, false, cond, ◌==◌}
+use Rattle.std.proofs.Common.{◌↔◌, IsTrue, subst}
 use Rattle.std.proofs.Common.{List, [], ◌∷◌, All, length, get_or, rules}
 use Rattle.std.proofs.lemmas.Bool.{eqb-false}
 use Rattle.std.proofs.lemmas.Int.{ints}
@@ -11,6 +12,7 @@ use Rattle.std.specs.List.{list_any}
 use Rattle.s2polygon.proofs.Changes.{touched_more}
 use Rattle.s2polygon.proofs.Integers.{at, ◌⊕◌, ◌⊖◌, ◌⊗◌, equal, product_at_least, sum_above, above_sum}
 use Rattle.s2polygon.proofs.Rejects.{product_above}
+use Rattle.s2polygon.proofs.Turned.{minus_is}
 use Rattle.s2geodesic.proofs.Sides.{leaf_high, leaf_wide}
 use Rattle.s2polygon.specs.Cells.{square_of, widened}
 use Rattle.s2cell.specs.Curve.{i_of, j_of}
@@ -28,18 +30,15 @@ use Rattle.s2polygon.specs.declared.frames.FramedEdge.{FramedEdge}
 use Rattle.s2polygon.specs.declared.places.Square.{Square}
 
 -- ---- mixtures of directions
-minus_as : (z : ℤ) → pos 0 -ℤ z ≡ neg_ℤ z
-minus_as z = omega (arith, ints)
-
 abbrev blend : ℤ → ℤ → Point → Point → Point
 blend x y a b = record { x = x *ℤ a.x +ℤ y *ℤ b.x; y = x *ℤ a.y +ℤ y *ℤ b.y; z = x *ℤ a.z +ℤ y *ℤ b.z }
 
-minus_mixed : (x y p q : ℤ) → x *ℤ neg_ℤ p +ℤ y *ℤ neg_ℤ q ≡ neg_ℤ (x *ℤ p +ℤ y *ℤ q)
-minus_mixed x y p q =
-    ap₂ (λ (s t : ℤ). x *ℤ s +ℤ y *ℤ t) (sym (minus_as p)) (sym (minus_as q))
+minus_mixed : (x y p q w : ℤ) → x *ℤ p +ℤ y *ℤ q ≡ w → x *ℤ neg_ℤ p +ℤ y *ℤ neg_ℤ q ≡ neg_ℤ w
+minus_mixed x y p q w e =
+    ap₂ (λ (s t : ℤ). x *ℤ s +ℤ y *ℤ t) (minus_is p) (minus_is q)
     ∙ equal (at x ⊗ (at (pos 0) ⊖ at p) ⊕ at y ⊗ (at (pos 0) ⊖ at q)) (at (pos 0) ⊖ (at x ⊗ at p ⊕ at y ⊗ at q))
     (omega arith)
-    ∙ minus_as (x *ℤ p +ℤ y *ℤ q)
+    ∙ rw e (sym (minus_is w))
 
 framed_by : (x y : ℤ) (wa ua va wb ub vb w u v : ℤ) → x *ℤ wa +ℤ y *ℤ wb ≡ w → x *ℤ ua +ℤ y *ℤ ub ≡ u
     → x *ℤ va +ℤ y *ℤ vb ≡ v
@@ -50,18 +49,18 @@ framed_by x y wa ua va wb ub vb w u v e f g = rw (e, f, g) refl
 mixed : (f : ℕ) (a b : Point) (x y : ℤ) → mix x y (in_frame f a) (in_frame f b) ≡ in_frame f (blend x y a b)
 mixed zero a b x y = refl
 mixed (suc zero) a b x y =
-    framed_by x y a.y (neg_ℤ a.x) a.z b.y (neg_ℤ b.x) b.z _ _ _ refl (minus_mixed x y a.x b.x) refl
+    framed_by x y a.y (neg_ℤ a.x) a.z b.y (neg_ℤ b.x) b.z _ _ _ refl (minus_mixed x y a.x b.x _ refl) refl
 mixed (suc (suc zero)) a b x y =
-    framed_by x y a.z (neg_ℤ a.x) (neg_ℤ a.y) b.z (neg_ℤ b.x) (neg_ℤ b.y) _ _ _ refl (minus_mixed x y a.x b.x)
-    (minus_mixed x y a.y b.y)
+    framed_by x y a.z (neg_ℤ a.x) (neg_ℤ a.y) b.z (neg_ℤ b.x) (neg_ℤ b.y) _ _ _ refl (minus_mixed x y a.x b.x _ refl)
+    (minus_mixed x y a.y b.y _ refl)
 mixed (suc (suc (suc zero))) a b x y =
     framed_by x y (neg_ℤ a.x) (neg_ℤ a.z) (neg_ℤ a.y) (neg_ℤ b.x) (neg_ℤ b.z) (neg_ℤ b.y) _ _ _
-    (minus_mixed x y a.x b.x) (minus_mixed x y a.z b.z) (minus_mixed x y a.y b.y)
+    (minus_mixed x y a.x b.x _ refl) (minus_mixed x y a.z b.z _ refl) (minus_mixed x y a.y b.y _ refl)
 mixed (suc (suc (suc (suc zero)))) a b x y =
-    framed_by x y (neg_ℤ a.y) (neg_ℤ a.z) a.x (neg_ℤ b.y) (neg_ℤ b.z) b.x _ _ _ (minus_mixed x y a.y b.y)
-    (minus_mixed x y a.z b.z) refl
+    framed_by x y (neg_ℤ a.y) (neg_ℤ a.z) a.x (neg_ℤ b.y) (neg_ℤ b.z) b.x _ _ _ (minus_mixed x y a.y b.y _ refl)
+    (minus_mixed x y a.z b.z _ refl) refl
 mixed (suc (suc (suc (suc (suc f))))) a b x y =
-    framed_by x y (neg_ℤ a.z) a.y a.x (neg_ℤ b.z) b.y b.x _ _ _ (minus_mixed x y a.z b.z) refl refl
+    framed_by x y (neg_ℤ a.z) a.y a.x (neg_ℤ b.z) b.y b.x _ _ _ (minus_mixed x y a.z b.z _ refl) refl refl
 
 blended : (n a b : Point) (x y : ℤ) → product_of n (blend x y a b) ≡ x *ℤ product_of n a +ℤ y *ℤ product_of n b
 blended n a b x y =
@@ -83,7 +82,8 @@ mixture_above (negsuc a) y p q h k some l m = absurd (omega (arith, ints, h))
 
 -- an edge before a plane meets no square behind it
 never_meets : (n : Point) (f : ℕ) (q : Square) → ((p : Point) → InSquare (in_frame f p) q → product_of n p ≤ℤ pos 0)
-    → (a b : Point) → pos 0 <ℤ product_of n a → pos 0 <ℤ product_of n b → ¬ (MeetsSquare (in_frame f a) (in_frame f b) q)
+    → (a b : Point) → pos 0 <ℤ product_of n a → pos 0 <ℤ product_of n b
+    → ¬ (MeetsSquare (in_frame f a) (in_frame f b) q)
 never_meets n f q behind a b before_a before_b m =
     let within = subst (λ c. InSquare c q) (mixed f a b m.x m.y) m.inside in
     let most = behind (blend m.x m.y a b) within in
@@ -110,7 +110,8 @@ module _ (P : Point → Type 0) (corners : List Point) (all : All P corners) whe
       by true e = l
       by false e = let d = eqb-false (i + 1) end e in omega (arith, d)
 
-  from_corners : (from end n : ℕ) → from + n ≤ end → end ≤ length corners → All (HaveBoth P) (edges_from corners from end n)
+  from_corners : (from end n : ℕ) → from + n ≤ end → end ≤ length corners
+      → All (HaveBoth P) (edges_from corners from end n)
   from_corners from end zero l m = All-nil (HaveBoth P)
   from_corners from end (suc n) l m =
       All-push (HaveBoth P) (edges_from corners from end n) (edge_from corners from end (from + n))
@@ -143,7 +144,8 @@ not_true true h = absurd (h (search rules))
 not_true false h = refl
 
 abbrev pub Testing : Type 0
-Testing = (q : Square) (e : FramedEdge) → q.u0 <ℤ q.u1 → q.v0 <ℤ q.v1 → IsTrue (meets_square q e) ↔ MeetsSquare e.a e.b q
+Testing =
+    (q : Square) (e : FramedEdge) → q.u0 <ℤ q.u1 → q.v0 <ℤ q.v1 → IsTrue (meets_square q e) ↔ MeetsSquare e.a e.b q
 
 pub untouched : Testing → (n : Point) (r : Region) (corners : List Point) (ends : List ℕ) (x : ℕ)
     → r.edges ≡ rings_edges corners ends (length ends) → AreRings corners ends → LieBefore n corners

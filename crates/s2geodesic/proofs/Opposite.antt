@@ -10,13 +10,15 @@ use Rattle.s2geodesic.specs.Halves.{IsBehind}
 use Rattle.s2geodesic.specs.Working.Places.{IsFarLeaf, IsFarthest, LieFar}
 use Rattle.s2polygon.proofs.Integers.{at, ◌⊖◌, ◌⊗◌, equal, product_at_most, weaken}
 use Rattle.s2polygon.proofs.Quarters.{down_up}
+use Rattle.s2polygon.proofs.Turned.{minus_is}
 use Rattle.s2polygon.specs.Cells.{square_of, widened}
 use Rattle.s2polygon.specs.Directions.{Point}
 use Rattle.s2polygon.specs.Frames.{in_frame}
 use Rattle.s2polygon.specs.Meets.{InSquare}
 use Rattle.s2polygon.specs.Moves.{product_of}
 
-pub far_leaf : (x face i j : ℕ) (u v : ℤ) → IsPlaceOf x face i j → IsFarthest u i → IsFarthest v j → IsFarLeaf face u v x
+pub far_leaf : (x face i j : ℕ) (u v : ℤ) → IsPlaceOf x face i j → IsFarthest u i → IsFarthest v j
+    → IsFarLeaf face u v x
 far_leaf x face i j u v place row column =
     let same = one_place x face i j (x / 4 ^ 30) (i_of x) (j_of x) place (place_is x) in
     record {
@@ -36,30 +38,30 @@ minus_up p h = omega (arith, ints, h)
 without_minus : (n p : ℤ) → (neg_ℤ n *ℤ neg_ℤ p) ≤ℤ pos 0 → (n *ℤ p) ≤ℤ pos 0
 without_minus n p h =
     subst (λ (z : ℤ). z ≤ℤ pos 0)
-    (ap (λ (z : ℤ). z *ℤ neg_ℤ p) (as_difference n) ∙ ap (λ (z : ℤ). (pos 0 -ℤ n) *ℤ z) (as_difference p)
+    (ap (λ (z : ℤ). z *ℤ neg_ℤ p) (minus_is n) ∙ ap (λ (z : ℤ). (pos 0 -ℤ n) *ℤ z) (minus_is p)
     ∙ equal ((at (pos 0) ⊖ at n) ⊗ (at (pos 0) ⊖ at p)) (at n ⊗ at p) (omega arith)) h
-  where
-    as_difference : (z : ℤ) → neg_ℤ z ≡ pos 0 -ℤ z
-    as_difference z = omega (arith, ints)
 
 behind_on : (n : Point) (f x : ℕ) (u v : ℤ) → IsFarLeaf f u v x
     → ((p : Point) → LieFar u (in_frame f p).w (in_frame f p).u → LieFar v (in_frame f p).w (in_frame f p).v
     → product_of n p ≤ℤ pos 0)
     → IsBehind n (2 ^ 60) x
 behind_on n f x u v leaf most p within =
-    let there = subst (λ (g : ℕ). InSquare (in_frame g p) (widened (2 ^ 60) (square_of 0 (i_of x) (j_of x)))) leaf.face_is
-    within in
+    let there = subst (λ (g : ℕ). InSquare (in_frame g p) (widened (2 ^ 60) (square_of 0 (i_of x) (j_of x))))
+    leaf.face_is within in
     most p (leaf.rows (in_frame f p) there) (leaf.columns (in_frame f p) there)
 
 -- what code passes on is the number itself
-pub kept : (n : ℤ) → unsigned_abs n ≤ 1 → to_z w64 (of_z w64 n) ≡ n
+pub kept : (n : ℤ) → unsigned_abs n ≤ 2 ^ 62 → to_z w64 (of_z w64 n) ≡ n
 kept n h = to_z-of_z w64 n (fits_signed_from_abs w64 n (omega (arith, h)))
+
+pub kept_sign : (n : ℤ) → unsigned_abs n ≤ 1 → to_z w64 (of_z w64 n) ≡ n
+kept_sign n h = kept n (omega (arith, h))
 
 pub minus_kept : (n : ℤ) → unsigned_abs n ≤ 1 → to_z w64 (of_z w64 (pos 0 -ℤ to_z w64 (of_z w64 n))) ≡ neg_ℤ n
 minus_kept n h =
     let small : unsigned_abs (pos 0 -ℤ n) ≤ 1 = omega (arith, ints, h) in
     let same : pos 0 -ℤ n ≡ neg_ℤ n = omega (arith, ints) in
-    rw (kept n h) (kept (pos 0 -ℤ n) small ∙ same)
+    rw (kept_sign n h) (kept_sign (pos 0 -ℤ n) small ∙ same)
 
 pub as_given : (f : ℕ) (p q u v : ℤ) (leaf : ℕ) → IsFarLeaf f p q leaf → p ≡ u → q ≡ v → IsFarLeaf f u v leaf
 as_given f p q u v leaf h e g = subst (λ (m : ℤ). IsFarLeaf f m v leaf) e (subst (λ (m : ℤ). IsFarLeaf f p m leaf) g h)

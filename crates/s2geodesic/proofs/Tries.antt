@@ -3,7 +3,7 @@ use Rattle.std.proofs.Common.{◌≡◌, refl, ap, ◌∙◌, subst, ℕ, zero, 
 use Rattle.std.proofs.Common.{negsuc, ◌*ℤ◌, ◌^◌, Bool, true, false, nat_lt, ltb-true, ltb-false, List, unsigned_abs}
 use Rattle.std.proofs.Common.{FitsSigned, to_z, of_z, w64}
 use Rattle.std.proofs.lemmas.Int.{ints}
-use Rattle.s2geodesic.proofs.Opposite.{kept}
+use Rattle.s2geodesic.proofs.Opposite.{kept, kept_sign}
 use Rattle.s2geodesic.specs.Halves.{AreSpread, IsTried, LieBefore}
 use Rattle.s2geodesic.specs.Working.Places.{normal_at, sign_at}
 use Rattle.s2polygon.proofs.Sizes.{exact, within_64, within_product}
@@ -53,12 +53,13 @@ pub record IsSmallProduct (r a b : ℤ) : Type 0 where
   pub small : unsigned_abs r ≤ 2 ^ 125
 
 pub small_product : (r a b : ℤ) → FitsSigned w64 a → FitsSigned w64 b
-    → r ≡ to_z w64 (of_z w64 a) *ℤ to_z w64 (of_z w64 b) → unsigned_abs a ≤ 1 → IsSmallProduct r a b
+    → r ≡ to_z w64 (of_z w64 a) *ℤ to_z w64 (of_z w64 b) → unsigned_abs a ≤ 2 ^ 62 → IsSmallProduct r a b
 small_product r a b f g e h =
     let is = exact r a b f g e in
-    record { is = is; small = rw is (omega (arith, within_product a b 1 (2 ^ 63) h (within_64 b g))) }
+    record { is = is; small = rw is (omega (arith, within_product a b (2 ^ 62) (2 ^ 63) h (within_64 b g))) }
 
-pub product_kept : (x y z : ℤ) → unsigned_abs x ≤ 1 → unsigned_abs y ≤ 1 → unsigned_abs z ≤ 1 → (p : Point)
+pub product_kept : (x y z : ℤ) → unsigned_abs x ≤ 2 ^ 62 → unsigned_abs y ≤ 2 ^ 62 → unsigned_abs z ≤ 2 ^ 62
+    → (p : Point)
     → product_of (record { x = to_z w64 (of_z w64 x); y = to_z w64 (of_z w64 y); z = to_z w64 (of_z w64 z) }) p
     ≡ product_of (record { x = x; y = y; z = z }) p
 product_kept x y z h k l p = rw (kept x h, kept y k, kept z l) refl
@@ -75,4 +76,4 @@ pub normal_kept : (x y z p q r : ℤ) → unsigned_abs x ≤ 1 → unsigned_abs 
     → z ≡ r
     → ◌≡◌ {A = Point} (record { x = to_z w64 (of_z w64 x); y = to_z w64 (of_z w64 y); z = to_z w64 (of_z w64 z) })
     (record { x = p; y = q; z = r })
-normal_kept x y z p q r h k l e f g = rw (kept x h, kept y k, kept z l, e, f, g) refl
+normal_kept x y z p q r h k l e f g = rw (kept_sign x h, kept_sign y k, kept_sign z l, e, f, g) refl

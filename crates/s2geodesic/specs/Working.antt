@@ -1,2 +1,3 @@
 -- What only private contracts and proofs need.
 pub mod Places
+pub mod Shortness

@@ -12,10 +12,10 @@ use s2polygon::Direction;
 const TRIES: u8 = 27;
 
 /// The product of a normal and a corner.
-fn product(x: i64, y: i64, z: i64, corner: Direction) -> i128
-    requires x { unsigned_abs x ≤ 1 }
-    requires y { unsigned_abs y ≤ 1 }
-    requires z { unsigned_abs z ≤ 1 }
+pub(crate) fn product(x: i64, y: i64, z: i64, corner: Direction) -> i128
+    requires x { unsigned_abs x ≤ 2 ^ 62 }
+    requires y { unsigned_abs y ≤ 2 ^ 62 }
+    requires z { unsigned_abs z ≤ 2 ^ 62 }
     ensures { result ≡ product_of (record { x = x; y = y; z = z }) corner }
 {
     times(x, corner.x()) + times(y, corner.y()) + times(z, corner.z())
@@ -105,9 +105,9 @@ fn sign(t: u8) -> i64
 /// behind it, also if its square is widened by the greatest margin. No edge between such corners touches the leaf, or
 /// any other behind that plane (`law_of_halves`), so it may be the leaf outside of a polygon with these corners.
 ///
-/// None if the corners are too far apart: of the 26 planes whose normals have -1, 0 or 1 as coordinates, none has all of
-/// them before it. That some plane of another direction has is not asked. Corners within 62 degrees of a place are never
-/// too far apart.
+/// None if the corners are too far apart: of the 26 planes whose normals have -1, 0 or 1 as coordinates, none has all
+/// of them before it. That some plane of another direction has is not asked. Corners within 62 degrees of a place are
+/// never too far apart.
 ///
 /// Each corner is looked at 27 times at most. S2: a loop has its inside on the left, and this asks for no direction.
 pub fn outside_of(corners: &[Direction]) -> Option<CellId>

@@ -4,7 +4,13 @@
 //! a plane through the center of the sphere, a leaf on the other side does.
 #![tactic(auto)]
 
+mod edges;
+mod fault;
 mod half;
 pub mod laws;
+mod polygon;
 
+pub use edges::HEIGHT;
+pub use fault::GeodesicFault;
 pub use half::outside_of;
+pub use polygon::{MARGIN, polygon_of};

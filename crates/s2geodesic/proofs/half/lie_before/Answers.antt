@@ -19,7 +19,8 @@ made : (c : After-product) → c.product.result
     ≡ product_of (record { x = c.args.x; y = c.args.y; z = c.args.z }) c.corner-item.result
 made c =
     c.product.ensures
-    ∙ product_kept c.args.x c.args.y c.args.z c.requires.x c.requires.y c.requires.z c.corner-item.result
+    ∙ product_kept c.args.x c.args.y c.args.z (omega (arith, c.requires.x)) (omega (arith, c.requires.y))
+    (omega (arith, c.requires.z)) c.corner-item.result
 
 pub returns-then-product-le0 : goal.returns-then-product-le0
 returns-then-product-le0 c =

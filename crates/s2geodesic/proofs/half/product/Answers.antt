@@ -30,10 +30,12 @@ products c = record {
 pub overflow_add-result-2 : goal.overflow_add-result-2
 overflow_add-result-2 c =
     let at = products (goal.at.overflow_add-result-2 c).After-times-3 in
-    (three_steps c.times.result c.times-2.result c.times-3.result at.first.small at.second.small at.third.small).step.fits
+    (three_steps c.times.result c.times-2.result c.times-3.result at.first.small at.second.small
+    at.third.small).step.fits
 
 pub returns : goal.returns
 returns c =
     let at = products (goal.at.returns c).After-times-3 in
-    (three_steps c.times.result c.times-2.result c.times-3.result at.first.small at.second.small at.third.small).step.is
+    (three_steps c.times.result c.times-2.result c.times-3.result at.first.small at.second.small
+    at.third.small).step.is
     ∙ rw (at.first.is, at.second.is, at.third.is, c.x.ensures, c.y.ensures, c.z.ensures) refl
