@@ -1,6 +1,7 @@
 -- How cells lie by their boxes, and what is known of a covering on its way.
 use Rattle.std.proofs.Common.{◌≡◌, refl, sym, ap, ◌∙◌, subst, ℕ, ◌+◌, ◌-◌, ◌/◌, ◌^◌, ◌<◌, arith, ◌⊎◌, inl, inr}
-use Rattle.std.proofs.Common.{Bool, true, false, ◌||◌, pos, List, [], ◌∷◌, ◌++◌, All, div-one}
+use Rattle.std.proofs.Common.{Bool, true, false, ◌||◌, pos, List, [], ◌∷◌, ◌++◌, All, div-one, length}
+use Rattle.std.proofs.lemmas.List.{length-append}
 use Rattle.std.proofs.lemmas.Bool.{cases_lt, or_left, or_right}
 use Rattle.std.proofs.lemmas.Int.{ints}
 use Rattle.std.proofs.lemmas.List.Elements.{All-cons, All-head, All-nil, All-push, All-tail}
@@ -14,7 +15,7 @@ use Rattle.s2list.proofs.Normal.{child_of_leaf}
 use Rattle.s2list.specs.Union.{has_leaf}
 use Rattle.s2map.proofs.Turns.{turned_inside}
 use Rattle.s2map.specs.Boxes.{InBox}
-use Rattle.s2map.specs.Cells.{HoldsPlace, IsBoxOf, IsPartOfCell, IsProperPlace, LeafInside}
+use Rattle.s2map.specs.Cells.{HasMore, HoldsPlace, IsBoxOf, IsPartOfCell, IsProperPlace, LeafInside}
 use Rattle.s2map.specs.Map.{IsMapEdge, IsMapPlace, inside, place_turned}
 use Rattle.s2map.specs.Working.Covering.{IsFound, IsSorted, Keeps}
 use Rattle.s2map.specs.Working.Even.{IsPart}
@@ -82,6 +83,34 @@ module _ (shape : List (List MapEdge)) (k : ℕ) where
       either n true b ea eb h = s.are_inside n ea
       either n false true ea eb h = all n eb
       either n false false ea eb h = cc
+
+  -- ---- and if there are too many with it
+  pub more_met : (met within : List ℕ) (c most : ℕ) → IsSorted shape k met within → level_of c ≡ k
+      → IsPartOfCell shape c Met → most < length met + 1 + length within → HasMore shape k most
+  more_met met within c most s e m more =
+      let t = met_pushed met within c s e m in
+      let l = length-append met (c ∷ []) in
+      record {
+        met = met ++ (c ∷ []);
+        within = within;
+        are_met = t.are_met;
+        are_inside = t.are_inside;
+        more = omega (arith, l, more);
+      }
+
+  pub more_within : (met within : List ℕ) (c most : ℕ) → IsSorted shape k met within
+      → ((n : ℕ) → covers c n ≡ true → LeafInside shape n) → most < length within + 1 + length met
+      → HasMore shape k most
+  more_within met within c most s all more =
+      let t = within_pushed met within c s all in
+      let l = length-append within (c ∷ []) in
+      record {
+        met = met;
+        within = within ++ (c ∷ []);
+        are_met = t.are_met;
+        are_inside = t.are_inside;
+        more = omega (arith, l, more);
+      }
 
   -- ---- after some of the four children
   pub record Visited (cell digit : ℕ) (met0 within0 met within : List ℕ) : Type 0 where

@@ -1,10 +1,11 @@
 -- Which places of the map lie in a leaf.
 use Rattle.std.specs.Prelude.{◌≡◌, ℕ, ◌*◌, ◌/◌, ◌^◌, ◌<◌, ◌⊎◌, ℤ, pos, neg_ℤ, ◌*ℤ◌, ◌≤ℤ◌, ◌<ℤ◌, unsigned_abs}
-use Rattle.std.specs.Prelude.{All, List, false, true}
+use Rattle.std.specs.Prelude.{◌+◌, All, List, false, length, true}
 use Rattle.s2cell.specs.Cell.{covers, level_of}
 use Rattle.s2cell.specs.Curve.{i_of, j_of}
 use Rattle.s2cell.specs.declared.TheConstants.{LEAVES}
 use Rattle.s2degrees.specs.Degrees.{IsCosine, IsSine, quarter}
+use Rattle.s2list.specs.Union.{has_leaf}
 use Rattle.s2polygon.specs.Cells.{square}
 use Rattle.s2polygon.specs.Directions.{Point}
 use Rattle.s2polygon.specs.Frames.{in_frame}
@@ -81,3 +82,11 @@ IsPartOfCell shape c part = (q : MapBox) × IsBoxOf c q × (part ≡ part_of sha
 -- the cells `u` are of level `k`, and an edge meets a box of each, which no part has whole inside
 abbrev pub AreMet : List (List MapEdge) → ℕ → List ℕ → Type 0
 AreMet shape k u = All (λ c. (level_of c ≡ k) × IsPartOfCell shape c Met) u
+
+-- there are more cells than `most` of which each is of level `k`, and an edge meets a box of it, or lies inside
+pub record HasMore (shape : List (List MapEdge)) (k most : ℕ) : Type 0 where
+  pub met : List ℕ
+  pub within : List ℕ
+  pub are_met : AreMet shape k met
+  pub are_inside : (n : ℕ) → has_leaf within n ≡ true → LeafInside shape n
+  pub more : most < length met + length within

@@ -1,8 +1,9 @@
 //! How cells lie relative to a shape, and coverings of it.
-ghost use Rattle.std.specs.Prelude.{◌≡◌, ◌++◌, ◌≤◌, ℕ, IfOk, OnOk, false, true};
+ghost use Rattle.std.specs.Prelude.{◌≡◌, ◌+◌, ◌++◌, ◌∷◌, [], ◌<◌, ◌≤◌, ℕ, IfErr, IfOk, OnOk, false, length, true};
 ghost use Rattle.s2cell.specs.Cell.{covers, level_of};
+ghost use Rattle.s2cover.specs.declared.region.CoverFault.TheVariants.{TooMany};
 ghost use Rattle.s2list.specs.Union.{has_leaf};
-ghost use Rattle.s2map.specs.Cells.{AreMet, HoldsPlace, IsPartOfCell, IsProperPlace, LeafInside, LeafOutside};
+ghost use Rattle.s2map.specs.Cells.{AreMet, HasMore, HoldsPlace, IsPartOfCell, IsProperPlace, LeafInside, LeafOutside};
 ghost use Rattle.s2map.specs.Map.{inside};
 ghost use Rattle.s2map.specs.Working.Covering.{IsFound, IsSorted, Keeps};
 ghost use Rattle.s2map.specs.Working.Near.{HoldsBox, IsBoxedCell, IsKnown};
@@ -15,6 +16,7 @@ use crate::near::Known;
 use crate::place::MapBox;
 use crate::shape::{BoxPart, MapShape};
 use s2cell::{CellId, GREATEST_LEVEL};
+use s2cover::CoverFault;
 use std::alloc::{AllocError, Global};
 
 /// The cells of two coverings of a shape.
@@ -26,21 +28,39 @@ pub struct MapCovering {
     pub within: Vec<CellId>,
 }
 
-/// Adds the cells of one cell to the coverings. `known` is what is known of its box.
+/// Adds a cell to a list that may have `most` cells, together with others.
+fn add(cell: CellId, others: usize, most: usize, list: &mut Vec<CellId>) -> Result<(), CoverFault>
+    requires few { length list.old.items + others ≤ most }
+    ensures added { OnOk result (list.new.items ≡ list.old.items ++ cell ∷ []) }
+    ensures few { OnOk result (length list.new.items + others ≤ most) }
+    ensures fault { IfErr result (λ fault. fault ≡ TooMany → most < length list.old.items + 1 + others) }
+{
+    if most - others <= list.len() {
+        return Err(CoverFault::TooMany);
+    }
+    list.push(cell)?;
+    Ok(())
+}
+
+/// Adds the cells of one cell to the coverings, of at most `most` cells. `known` is what is known of its box.
 fn visit(
     alloc: Global,
     shape: &MapShape,
     at: &BoxedCell,
     known: &Known,
     level: u8,
+    most: usize,
     met: &mut Vec<CellId>,
     within: &mut Vec<CellId>,
-) -> Result<(), AllocError>
+) -> Result<(), CoverFault>
     requires boxed { IsBoxedCell at.now }
     requires known { IsKnown shape.now at.now.bounds known.now }
     requires above { level_of at.now.cell ≤ level }
     requires level { level ≤ GREATEST_LEVEL }
     requires sorted { IsSorted shape.now level met.old.items within.old.items }
+    requires few { length met.old.items + length within.old.items ≤ most }
+    ensures few { OnOk result (length met.new.items + length within.new.items ≤ most) }
+    ensures fault { IfErr result (λ fault. fault ≡ TooMany → HasMore shape.now level most) }
     ensures sorted { OnOk result (IsSorted shape.now level met.new.items within.new.items) }
     ensures keeps_met { OnOk result (Keeps met.old.items met.new.items) }
     ensures keeps_within { OnOk result (Keeps within.old.items within.new.items) }
@@ -51,18 +71,18 @@ fn visit(
     match part_by_known(shape, at, known) {
         BoxPart::Out => Ok(()),
         BoxPart::In => {
-            within.push(at.cell)?;
+            add(at.cell, met.len(), most, within)?;
             Ok(())
         }
         BoxPart::Met => {
             if at.cell.level() == level {
-                met.push(at.cell)?;
+                add(at.cell, within.len(), most, met)?;
                 return Ok(());
             }
             for digit in 0..4u8 {
                 let child = at.child(digit);
                 let near = known_of_child(alloc, shape, at, known, &child)?;
-                visit(alloc, shape, &child, &near, level, met, within)?;
+                visit(alloc, shape, &child, &near, level, most, met, within)?;
             }
             Ok(())
         }
@@ -132,13 +152,48 @@ impl MapShape {
             → HoldsPlace n p → inside self.now p ≡ true) }
         ensures met { IfOk result (λ c. AreMet self.now level c.met.items) }
     {
+        match self.covering_up_to(alloc, level, usize::MAX) {
+            Ok(covering) => Ok(covering),
+            Err(_) => Err(AllocError),
+        }
+    }
+
+    /// The same coverings, if they have at most `most` cells together. Else `TooMany`, as soon as there is one more,
+    /// and before memory is taken for it.
+    ///
+    /// Looking into a cell takes the time of the boxes of its four children, and of the edges that meet its own box, of
+    /// which there are at most all on each turn. So `most` bounds the time too.
+    pub fn covering_up_to(
+        &self,
+        alloc: Global,
+        level: u8,
+        most: usize,
+    ) -> Result<MapCovering, CoverFault>
+        requires { level ≤ GREATEST_LEVEL }
+        ensures outer { IfOk result (λ c. (n : ℕ) (p : Place) → IsProperPlace p → HoldsPlace n p
+            → inside self.now p ≡ true → has_leaf (c.met.items ++ c.within.items) n ≡ true) }
+        ensures inner { IfOk result (λ c. (n : ℕ) (p : Place) → has_leaf c.within.items n ≡ true → IsProperPlace p
+            → HoldsPlace n p → inside self.now p ≡ true) }
+        ensures met { IfOk result (λ c. AreMet self.now level c.met.items) }
+        ensures few { IfOk result (λ c. length c.met.items + length c.within.items ≤ most) }
+        ensures fault { IfErr result (λ fault. fault ≡ TooMany → HasMore self.now level most) }
+    {
         let mut met = Vec::new(alloc);
         let mut within = Vec::new(alloc);
         let map = whole_map();
         let known = self.known(alloc, map)?;
         for face in 0..6u8 {
             let top = BoxedCell::face(face, map);
-            visit(alloc, self, &top, &known, level, &mut met, &mut within)?;
+            visit(
+                alloc,
+                self,
+                &top,
+                &known,
+                level,
+                most,
+                &mut met,
+                &mut within,
+            )?;
         }
         Ok(MapCovering { met, within })
     }

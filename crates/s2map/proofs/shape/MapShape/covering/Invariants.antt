@@ -1,5 +1,0 @@
-use Rattle.s2map.proofs.Coverings.{Topped}
-use Rattle.s2map.proofs.shape.MapShape.covering.Given as goal
-
-abbrev pub invariant-loop-face : goal.invariant-loop-face
-invariant-loop-face l = Topped l.self l.level l.face l.met.items l.within.items
