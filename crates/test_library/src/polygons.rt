@@ -3,6 +3,7 @@
 use crate::texts::{add_cells, cut, numbers_of, small, yes_or_no};
 use s2cell::{CellId, GREATEST_LEVEL};
 use s2cover::{CoverFault, MOST_COVERING, Part};
+use s2geodesic::{GeodesicFault, polygon_of};
 use s2polygon::{Direction, Polygon, PolygonFault};
 use s2union::CellUnion;
 use std::alloc::{AllocError, Global};
@@ -17,7 +18,8 @@ struct Rings {
 
 /// Makes a call `polygon`, `outer LEVEL MOST`, `inner LEVEL MOST`, `outer_up_to LEVEL MOST`, `inner_up_to LEVEL MOST`,
 /// `part CELL` or `holds LEAF`, each followed by `/ MARGIN OUTSIDE / X Y Z X Y Z .. / X Y Z ..`, and adds its answer.
-/// False for the name of another call.
+/// With `rounded` for margin and leaf the polygon is that of rounded corners, of `s2geodesic`. False for the name of
+/// another call.
 pub fn answer(
     alloc: Global,
     name: &str,
@@ -33,6 +35,13 @@ pub fn answer(
         add_line(found, "no direction")?;
         return Ok(true);
     };
+    if place == "rounded" {
+        match polygon_of(alloc, &rings.corners, &rings.ends) {
+            Ok(polygon) => add_answer(alloc, &polygon, question, found)?,
+            Err(fault) => add_line(found, name_of_geodesic(fault))?,
+        }
+        return Ok(true);
+    }
     let (margin, outside) = place.split_once(" ").unwrap_or((place, ""));
     let Some(outside) = CellId::from_token(outside.as_bytes()) else {
         add_line(found, "no cell")?;
@@ -90,6 +99,14 @@ fn name_of(fault: PolygonFault) -> &'static str {
         PolygonFault::NotALeaf => "not a leaf",
         PolygonFault::MarginTooLarge => "margin too large",
         PolygonFault::Memory => "memory",
+    }
+}
+
+fn name_of_geodesic(fault: GeodesicFault) -> &'static str {
+    match fault {
+        GeodesicFault::Rings(fault) => name_of(fault),
+        GeodesicFault::LongEdge(_) => "long edge",
+        GeodesicFault::Spread => "spread",
     }
 }
 
