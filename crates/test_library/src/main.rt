@@ -3,11 +3,10 @@
 //!
 //! Modules, by what is called: `cells` (of `s2cell`), `unions` (`s2union`), `counted` (`s2union` and `s2list`),
 //! `coverings` (`s2cover`), `polygons` (`s2polygon`), `directions` (`s2degrees`), `maps` (`s2map`), `shapes`
-//! (`s2shape`),
-//! `files` (`s2file`), `shelves` (`s2shelf`), `edits`, `changes` and `sessions` (`s2edit` and `s2session`). `even` and
-//! `weighed` are regions of its own. `curve`, `rectangles` and `differing` compare calls with other calls, or with
-//! plain readings that stand here as test code. `table` has a row answered, and `texts` reads and writes the words of
-//! calls.
+//! (`s2shape`), `written` (`s2written`), `files` (`s2file`), `shelves` (`s2shelf`), `edits`, `changes` and `sessions`
+//! (`s2edit` and `s2session`). `even` and `weighed` are regions of its own. `curve`, `rectangles` and `differing`
+//! compare calls with other calls, or with plain readings that stand here as test code. `table` has a row answered, and
+//! `texts` reads and writes the words of calls.
 #![tactic(auto)]
 
 mod cells;
@@ -30,6 +29,7 @@ mod table;
 mod texts;
 mod unions;
 mod weighed;
+mod written;
 
 use s2shelf::DirShelf;
 use std::{fs, io};

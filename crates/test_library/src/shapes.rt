@@ -1,5 +1,5 @@
 //! Calls of `s2shape`: the shapes of WKB and of texts of GeoJSON.
-use s2shape::{Kind, Part, Shape, ShapeError, read_geojson, read_wkb};
+use s2shape::{Fault, Kind, Part, Shape, ShapeError, read_geojson, read_wkb};
 use std::alloc::{AllocError, Global};
 use test_table::{add_line, bytes_of};
 
@@ -32,15 +32,18 @@ fn add_read(
     match read {
         Ok(shape) => add_shape(alloc, found, &shape),
         Err(ShapeError::Memory) => add_line(found, "memory"),
-        Err(ShapeError::Fault(fault)) => {
-            let (name, byte, part) = (fault.name, fault.byte, fault.part);
-            let (ring, position) = (fault.ring, fault.position);
-            let text = format!(in alloc;
-                "{name:?} byte {byte} part {part} ring {ring} position {position}"
-            )?;
-            add_line(found, &text)
-        }
+        Err(ShapeError::Fault(fault)) => add_fault(alloc, found, fault),
     }
+}
+
+/// Adds the name of a fault and its place.
+pub fn add_fault(alloc: Global, found: &mut Vec<u8>, fault: Fault) -> Result<(), AllocError> {
+    let (name, byte, part) = (fault.name, fault.byte, fault.part);
+    let (ring, position) = (fault.ring, fault.position);
+    let text = format!(in alloc;
+        "{name:?} byte {byte} part {part} ring {ring} position {position}"
+    )?;
+    add_line(found, &text)
 }
 
 /// Adds a line for each part.

@@ -1,7 +1,7 @@
 //! The calls of a row, made in turn.
 use crate::{
     cells, changes, counted, coverings, curve, differing, directions, edits, files, maps, polygons,
-    rectangles, sessions, shapes, shelves, unions,
+    rectangles, sessions, shapes, shelves, unions, written,
 };
 use s2edit::{Editor, MOST_REGISTER, MOST_STATES};
 use s2shelf::{DirShelf, MemoryShelf};
@@ -124,7 +124,7 @@ fn answer_on_cells(
     counted::answer(alloc, name, words, found)
 }
 
-/// The same for a call of `s2cover`, `s2polygon`, `s2degrees`, `s2map`, `s2shape` or `s2file`.
+/// The same for a call of `s2cover`, `s2polygon`, `s2degrees`, `s2map`, `s2shape`, `s2written` or `s2file`.
 fn answer_on_values(
     alloc: Global,
     name: &str,
@@ -144,6 +144,9 @@ fn answer_on_values(
         return Ok(true);
     }
     if shapes::answer(alloc, name, words, found)? {
+        return Ok(true);
+    }
+    if written::answer(alloc, name, words, found)? {
         return Ok(true);
     }
     files::answer(alloc, name, words, found)

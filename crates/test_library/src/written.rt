@@ -1,0 +1,70 @@
+//! Calls of `s2written`: coverings of shapes as they are written.
+use crate::shapes::add_fault;
+use crate::texts::{cut, numbers_of, small};
+use s2cell::{CellId, GREATEST_LEVEL};
+use s2written::{CoverError, Coverings, cover_geojson, cover_wkb};
+use std::alloc::{AllocError, Global};
+use test_table::{add_line, bytes_of};
+
+/// Makes a call `cover_wkb LEVEL WORK LEAF / BYTES` or `cover_geojson LEVEL WORK LEAF / TEXT`, and adds which of the
+/// coverings have the leaf, or why there is none. False for the name of another call.
+pub fn answer(
+    alloc: Global,
+    name: &str,
+    words: &str,
+    found: &mut Vec<u8>,
+) -> Result<bool, AllocError> {
+    let (question, bytes) = cut(words);
+    let [level, work, ..] = numbers_of(question);
+    let level = small(level);
+    if name != "cover_wkb" && name != "cover_geojson" {
+        return Ok(false);
+    }
+    if level > GREATEST_LEVEL {
+        add_line(found, "out of range")?;
+        return Ok(true);
+    }
+    let leaf = question.split_whitespace().last().unwrap_or("");
+    let covered = if name == "cover_wkb" {
+        cover_wkb(alloc, &bytes_of(alloc, bytes)?, level, work)
+    } else {
+        cover_geojson(alloc, bytes.as_bytes(), level, work)
+    };
+    add_covered(alloc, found, covered, CellId::from_token(leaf.as_bytes()))?;
+    Ok(true)
+}
+
+/// Adds which coverings have a leaf, or why there are none.
+fn add_covered(
+    alloc: Global,
+    found: &mut Vec<u8>,
+    covered: Result<Coverings, CoverError>,
+    leaf: Option<CellId>,
+) -> Result<(), AllocError> {
+    match covered {
+        Ok(coverings) => add_line(found, place_in(&coverings, leaf)),
+        Err(CoverError::Fault(fault)) => add_fault(alloc, found, fault),
+        Err(CoverError::NoInside(part)) => {
+            add_line(found, &format!(in alloc; "NoInside part {part}")?)
+        }
+        Err(CoverError::Memory) => add_line(found, "memory"),
+        Err(CoverError::NoMap) => add_line(found, "NoMap"),
+        Err(CoverError::TooManyCells) => add_line(found, "TooManyCells"),
+    }
+}
+
+/// Which coverings have a leaf.
+fn place_in(coverings: &Coverings, leaf: Option<CellId>) -> &'static str {
+    let Some(leaf) = leaf else {
+        return "no cell";
+    };
+    match (
+        coverings.outer.contains_cell(leaf),
+        coverings.inner.contains_cell(leaf),
+    ) {
+        (true, true) => "both",
+        (true, false) => "outer",
+        (false, true) => "inner",
+        (false, false) => "neither",
+    }
+}
