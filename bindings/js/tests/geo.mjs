@@ -34,7 +34,8 @@ async function withPages(pages) {
   assert.equal(bytes[from + 1], 0, "a memory without a limit");
   const section = [5, size + 2, 1, 1, ...bytes.slice(from + 2, from + size), 128 + pages % 128, pages >> 7];
   const limited = Uint8Array.from([...bytes.slice(0, at), ...section, ...bytes.slice(from + size)]);
-  return new (internals.calls().constructor)((await instantiate(limited, imports)).instance);
+  const {module, instance} = await instantiate(limited, imports);
+  return new (internals.calls().constructor)(module, instance);
 }
 
 const tests = {
