@@ -121,7 +121,7 @@ class Rust(languages.Language):
         return [*said, empty, f"{begin}# Examples", empty, f"{begin}```", *shown, f"{begin}```"]
 
     def told(self, methods, method):
-        """Sentences on its arguments, but for those whose type says all, and on its result."""
+        """Sentences on its result and on its arguments, except those whose type says all."""
         names = {self.named(method, it): it for it in method.given}
         for name, kind, _ in self.parameters(method):
             is_told = name not in names or kind in ("u32", "usize", "&str") or names[name].name in method.row

@@ -38,7 +38,7 @@ python() {
   )
 }
 step "against the model, and the module" python -m pytest test_library.py
-# What it leaves behind is counted here alone: under the sanitizers, memory isn't Python's own.
+# Memory that it leaves behind is counted here alone: under the sanitizers it isn't Python's own.
 if [ "${1:-}" = --short ]; then
   step "what its module in C leaves behind" python -m pytest test_calls.py::LeftBehind::test_memory
 else
