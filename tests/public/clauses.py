@@ -10,6 +10,8 @@ ENDS = re.compile(r"\) -> (\w+)$")
 CLAUSE = re.compile(r"(ensures|requires)(?: (\w+))? \{ (.*) \}")
 STRUCTURE = re.compile(r"^#\[repr\(C\)\]\n(?:#\[.*\]\n)*pub struct (\w+) \{\n(.*?)^\}", re.S | re.M)
 FIELD = re.compile(r"^    pub (\w+): (\w+),$", re.M)
+IMPLEMENTED = re.compile(r"^impl(?:<[^>]*>)? (\w+) for (\w+)(?:<[^>]*>)? \{\n(.*?)^\}", re.S | re.M)
+GHOST = re.compile(r"^    ghost (\w+) = \{ (.*) \};$", re.M)
 
 
 class Clause(NamedTuple):
@@ -73,3 +75,12 @@ def structures(path):
     """The fields of each structure that a file shares with C, with their types."""
     with open(path, encoding="utf-8") as it:
         return {name: FIELD.findall(body) for name, body in STRUCTURE.findall(it.read())}
+
+
+def ghosts(path, trait, name):
+    """What a trait's words mean for a type that a file implements it for."""
+    with open(path, encoding="utf-8") as it:
+        found = [body for *of, body in IMPLEMENTED.findall(it.read()) if of == [trait, name]]
+    if len(found) != 1:
+        raise Bad(f"{path}: {trait} for {name} stands there {len(found)} times")
+    return {word: term(text) for word, text in GHOST.findall(found[0])}

@@ -118,7 +118,8 @@ class Build:
         self.folder = Path(folder)
         (self.folder / "Kit.v").write_text(kit or (HERE / "Kit.v").read_text(encoding="utf-8"), encoding="utf-8")
         self.library = Library(crates, axioms, by_hand(), laws.texts(crates, modules))
-        self.all = ["Kit", *self.library.write(folder, modules, cited() if OF_CHECKER[0] in modules else ())]
+        more = (*cited(), *(law[:2] for law in laws.OF_CALLS)) if OF_CHECKER[0] in modules else ()
+        self.all = ["Kit", *self.library.write(folder, modules, more)]
         self.files = list(self.all)
         chosen, module_of = self.library.chosen, self.library.module
         self.below = {"Kit": []} | {module.file: ["Kit", *(module_of(each["module"]).file for each in module.uses()
@@ -237,6 +238,9 @@ def check_laws(build, count):
         count.check(not found, f"{laws.NAMES[name]}: checked by Coq, {standing(found)}")
     for law in laws.ANSWERED:
         check_answered(law, build, count)
+    for file, lemma, says in laws.OF_CALLS:
+        found = build.axioms_of(file, [lemma])[lemma]
+        count.check(not found, f"{lemma}: {says}: checked by Coq, {standing(found)}")
 
 
 def check_claims(count):

@@ -1,11 +1,14 @@
 """The laws that Coq has to accept, as a module of definitions: each is stated by the clause in crates, and its proof is
 a lemma in crates."""
 import re
+import sys
 from pathlib import Path
 from typing import NamedTuple
 
-import clauses
-from antt import Bad
+sys.path += [str(Path(__file__).resolve().parents[1] / "llvm")]
+import calls  # noqa: E402
+import clauses  # noqa: E402
+from antt import Bad  # noqa: E402
 
 MODULE = "Rattle.Laws"
 
@@ -73,6 +76,8 @@ ANSWERED = (
     Answered("s2file", "one_text", "a set is written as one byte string"),
     Answered("s2file", "one_reading", "bytes stand for at most one set, and have at most one first fault"),
 )
+# Lemmas by which Z3 proves calls: the file in Coq, the lemma, and what it says.
+OF_CALLS = [(law.file.removesuffix(".antt").replace("/", "_"), law.name, law.says) for law in calls.LAWS.values()]
 # Those of the full tier alone, which stand on many definitions and lemmas, or on long ones.
 SLOW = (
     Answered("s2polygon", "law_of_tests", "the ten tests of signs say whether a direction of an edge lies in a square"),

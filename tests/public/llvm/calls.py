@@ -4,30 +4,59 @@ from typing import NamedTuple
 
 
 class Loop(NamedTuple):
-    """A loop over a range: the function and the label where it begins, the file with its invariant, below crates, and
-    the invariant's name there; which local has the number that runs through the range, by its name in the invariant,
-    which has the range's end, which others it changes, which arguments it writes into, and which names are what a
-    constructor makes of arguments."""
+    """A loop: the function and the label where it begins, the file with its invariant, below crates, and the
+    invariant's name there. Of a loop over a range, which local has the number that runs through the range, by its name
+    in the invariant, and which has the range's end; any other ends because of what the file says that decreases. Then
+    which other locals it changes, which arguments it writes into, which names are what a constructor makes of
+    arguments, which locals it leaves as they are, which names are of types with traits, and those fields of the
+    invariant that are used, if not all."""
 
     function: str
     label: str
     file: str
     invariant: str
-    name: str
-    at: str
-    end: str
+    name: str = ""
+    at: str = ""
+    end: str = ""
     others: dict = {}
     writes: tuple = ()
     built: dict = {}
+    fixed: dict = {}
+    traits: tuple = ()
+    fields: tuple = ()
+
+
+class Trait(NamedTuple):
+    """What stands for a type parameter: its name, the trait, the file where it is implemented for the type, and the
+    type; which name of an invariant is such a value, and which argument of the call each of its fields is."""
+
+    parameter: str
+    trait: str
+    file: str
+    type: str
+    name: str
+    fields: dict
+
+
+class Law(NamedTuple):
+    """A lemma about lists that Coq checks: the file, below crates, its name, what it says, and for which it is used:
+    arguments of the call, and what a function answers."""
+
+    file: str
+    name: str
+    says: str
+    arguments: dict
+    answers: dict = {}
 
 
 class Plan(NamedTuple):
     """How a call is proved. `file` has its contract, below crates. `cells` are the arguments that are looked at level
     by level. If `is_apart`, cells are known by facts alone. `lists` has the length up to which each list is looked at,
     `arrays` the lists of which any place is looked at, `rooms` what a result needs by the levels of `cells`, and
-    `witnesses` the numbers for statements about some or all numbers. `loops` go on for lists of any length. An answer
-    of the functions of `named` has a name of its own, and `turns` are the levels at which the curve's orientation has
-    one. `tier` is the first one that has it: quick, gate or full."""
+    `witnesses` the numbers for statements about some or all numbers. `loops` go on for lists of any length, and `laws`
+    say what follows for these. An answer of the functions of `named` has a name of its own, and `turns` are the levels
+    at which the curve's orientation has one. `tier` is the first one that has it: quick, gate or full. Mistakes are
+    made in functions whose names begin as `spoilt`."""
 
     file: str = "s2union_c/src/cells.rt"
     cells: tuple = ()
@@ -37,9 +66,11 @@ class Plan(NamedTuple):
     rooms: dict = {}
     witnesses: dict = {}
     loops: tuple = ()
+    laws: tuple = ()
     named: tuple = ()
     turns: tuple = ()
     tier: str = "quick"
+    spoilt: str = ""
 
 
 def digits_of_token(levels):
@@ -71,6 +102,17 @@ def relatives(which):
         built={"which": (which,)}),))
 
 
+IDS = Trait("C", "Listed", "s2list/src/cells.rt", "IdList", "cells", {"ids": "ids"})
+SEARCH = (
+    Loop("s2list_find_narrow_until", "loop.2", "s2list/proofs/find/narrow_until/Invariants.antt", "invariant-loop-last",
+         others={"first": "%r2", "last": "%r3"}, fixed={"start": "%a2", "end": "%a3", "lo": "%a4"}, traits=(IDS,),
+         fields=("from", "order", "to", "found")),
+    Loop("s2list_find_among_few", "loop.2", "s2list/proofs/find/among_few/Invariants.antt", "invariant-loop-size",
+         others={"base": "%r2", "size": "%r3", "below": "%r4"}, traits=(IDS,), fields=("left",),
+         fixed={"start": "%a1", "end": "%a2", "lo": "%a3", "mark": "%r1"}),
+)
+
+
 PLANS = {
     "s2u_version": Plan(),
     "s2u_is_cell": CELL,
@@ -98,9 +140,16 @@ PLANS = {
     "s2u_compare": Plan(QUESTIONS, arrays=("xs", "ys"), tier="gate", loops=(Loop(
         "s2union_c_questions_s2u_compare", "loop.2", "s2union_c/proofs/questions/s2u_compare/Invariants.antt",
         "invariant-loop-k", "k", at="%r6", end="%r5"),)),
+    "s2u_contains_cell": Plan(QUESTIONS, is_apart=True, arrays=("ids",), tier="full", loops=SEARCH,
+                              spoilt="s2list_", laws=(
+        Law("s2list/proofs/Checking.antt", "packed_from_local", "each cell of a union ends before the next begins",
+            {"u": "ids"}),
+        Law("s2list/proofs/Asking.antt", "held_there", "the first cell of a union that ends after the first leaf of a "
+            "cell holds it exactly if the union does", {"u": "ids", "c": "cell"}, {"at": "s2list_find_find_counted"}))),
     "s2u_levels": Plan(MANY, arrays=("ids", "out"), tier="full", loops=(Loop(
         "s2union_c_many_cells_s2u_levels", "loop.5", "s2union_c/proofs/many_cells/s2u_levels/Invariants.antt",
         "invariant-loop-k", "k", at="%r6", end="%r11", others={"first": "%r5"}, writes=("out",)),)),
     "s2u_range_mins": relatives("FirstLeaf"),
     "s2u_range_maxes": relatives("LastLeaf"),
 }
+LAWS = {law.name: law for plan in PLANS.values() for law in plan.laws}  # all of these have to be checked by Coq

@@ -7,9 +7,9 @@ import z3
 
 from memory import UNWRITTEN, Memory, Pointer, Thing, as_bits
 from natural import fresh
-from bits import joined_bits, lowest_one, shifted
+from bits import joined_bits, lowest_one, shifted, zeros_at_front
 from solver import Refuted, Undecided, at_once, is_possible, literal, numeral, prove
-from text import CASE, Unknown, arguments_of, fields_of, size_of, width
+from text import CASE, Unknown, arguments_of, fields_of, plain_name, size_of, width
 
 MOST_STEPS = 200_000
 SHAPES = ((0, 2), (0, 4), (4, 2), (0, 8))
@@ -278,6 +278,9 @@ class Way:
             ways = list(self.machine.run(self.state, callee, values))
         if not ways:
             raise Undecided(f"{callee} ends on no way")
+        if self.machine.loops and plain_name(callee) in self.machine.loops.asked:
+            for state, value in ways:
+                state.answers[plain_name(callee)] = value
         for state, value in ways[1:]:
             names = {**self.names, target: value} if target else dict(self.names)
             self.others.append((state, names, self.label, self.at, tuple(self.locals)))
@@ -325,6 +328,8 @@ def plain(how, a, b):
             power = literal(factor)
             if power and power & (power - 1) == 0:
                 return shifted(other, power.bit_length() - 1)
+            if zeros_at_front(factor) == a.size() - 1:
+                return z3.If(z3.Extract(0, 0, factor) == 1, other, z3.BitVecVal(0, a.size()))
     if how == "add":
         return joined_bits(a, b)
     return OPERATIONS[how](a, b)

@@ -84,11 +84,12 @@ def part(value, index):
 class State:
     """What is known on one way through a function: the memory, what is given, and the conditions of the way. `steps`
     has the numbers that were given a name of their own on the way, each with what it is, `cuts` the loops that the way
-    goes through, and `supposed` what is known by invariants."""
+    goes through, and `supposed` what is known by invariants. `looks` has the indexes at which lists of any length were
+    read, and `answers` what functions answered of which a law speaks."""
 
     def __init__(self):
         self.things, self.given, self.conditions, self.addresses, self.count = {}, [], [], {}, 0
-        self.steps, self.cuts, self.supposed = [], {}, []
+        self.steps, self.cuts, self.supposed, self.looks, self.answers = [], {}, [], [], {}
 
     def known(self):
         return self.given + self.conditions
@@ -99,6 +100,7 @@ class State:
         other.given, other.conditions = list(self.given), list(self.conditions)
         other.addresses, other.count, other.steps = dict(self.addresses), self.count, list(self.steps)
         other.cuts, other.supposed = dict(self.cuts), list(self.supposed)
+        other.looks, other.answers = list(self.looks), dict(self.answers)
         return other
 
     def add(self, thing):
@@ -175,6 +177,7 @@ class Memory:
         """Elements of an argument of any length, as a number."""
         many = count // thing.step
         at = self.index(state, thing, offset, count, many)
+        state.looks.append(at)
         return joined([z3.Select(thing.array, z3.simplify(at + place)) for place in range(many)])
 
     def index(self, state, thing, offset, count, many):

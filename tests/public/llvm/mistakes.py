@@ -22,6 +22,8 @@ SAME = {
         "the zeros at the end of a cell are even, so never 61", None),
     ("s2cell_cell_CellId_from_id", "store i64 0, ptr %r, align 1", "store i64 1, ptr %r, align 1"): (
         "any other number than a cell is then taken for 0, of which the answer is 0", ("s2u_next", "s2u_size")),
+    ("s2list_find_ends_after", "icmp ult i64 0, %a0", "icmp ule i64 0, %a0"): (
+        "the number 0 ends by each leaf, so that the answer is the same", None),
     (None, "mul i64 %r, 4096", "mul i64 %r, 4097"): ("nothing is read where an empty list would be", None),
     (None, "mul i64 %r, 4096", "mul i64 %r, 4095"): ("nothing is read where an empty list would be", None),
 }
@@ -51,7 +53,8 @@ class Mistake:
 def mistakes(text, name, lines):
     """Mistakes in these lines of a call and of what it calls, always the same ones, at most one in a line."""
     chooser = random.Random(name)
-    spots = [(function, *spot) for function in text.reached(name) for spot in lines_of(text, function)]
+    spots = [(function, *spot) for function in text.reached(name)
+             if function.startswith(PLANS[name].spoilt) for spot in lines_of(text, function)]
     chooser.shuffle(spots)
     while spots:
         function, at, line = spots.pop()
@@ -96,7 +99,8 @@ class Change(NamedTuple):
 
     def made(self, crates, room):
         """A copy of the contracts and the definitions with the change."""
-        files = {file for plan in PLANS.values() for file in (plan.file, *(loop.file for loop in plan.loops))}
+        files = {file for plan in PLANS.values() for file in (plan.file, *(loop.file for loop in plan.loops), *(
+            it.file for loop in plan.loops for it in loop.traits))}
         for name in [*(f"{name}.antt" for name in DEFINITIONS), *files]:
             (room / name).parent.mkdir(parents=True, exist_ok=True)
             shutil.copy(crates / name, room / name)
@@ -119,6 +123,14 @@ CHANGES = [
     Change("s2union_c/specs/Order.antt", "order [] (y ∷ ys) = negsuc 0", "order [] (y ∷ ys) = pos 0", "s2u_compare"),
     Change("s2union_c/proofs/questions/s2u_compare/Invariants.antt", "(drop l.k l.ys)", "l.ys", "s2u_compare"),
     Change("s2union_c/proofs/many_cells/s2u_levels/Invariants.antt", " 255\n", " 254\n", "s2u_levels"),
+    Change("s2list/proofs/find/narrow_until/Invariants.antt", "from : l.start ≤ l.first", "from : l.start < l.first",
+           "s2u_contains_cell"),
+    Change("s2list/proofs/find/narrow_until/Invariants.antt", "g l = l.last - l.first", "g l = l.last + l.first",
+           "s2u_contains_cell"),
+    Change("s2list/proofs/Narrowing.antt", "pub to : base + size ≤ end", "pub to : base + size < end",
+           "s2u_contains_cell"),
+    Change("s2union_c/src/questions.rt", "(IsWithin (covers cell) (has_leaf ids.now))",
+           "(IsWithin (has_leaf ids.now) (covers cell))", "s2u_contains_cell"),
     Change("s2union_c/src/cells.rt", "result ≡ size_of id", "result ≡ weight_of id", "s2u_size",
            "not decided: s2union_c/src/cells.rt:"),
 ]

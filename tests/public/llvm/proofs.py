@@ -11,6 +11,7 @@ TOP = Path(__file__).resolve().parents[3]
 sys.path += [str(TOP / "tests" / "public"), str(TOP / "tests" / "public" / "llvm")]
 from clauses import contracts, structures  # noqa: E402
 from inputs import cases  # noqa: E402
+from lists import ListWords  # noqa: E402
 from loops import Loops  # noqa: E402
 from machine import Machine  # noqa: E402
 from natural import constant  # noqa: E402
@@ -21,7 +22,9 @@ DEFINITIONS = ["s2cell/specs/Cell", "s2cell/specs/Curve", "s2cell/specs/Neighbou
                "s2cell/specs/Text", "s2cell/specs/Token", "s2cell/specs/Debug", "s2union_c/specs/Status",
                "s2union_c/specs/Results", "s2union_c/specs/Order", "s2union_c/specs/ManyCells",
                "s2union_c/specs/Working/ManyCells", "s2union_c/proofs/Firsts", "s2union_c/specs/Files",
-               "s2list/specs/Numbers", "s2file/specs/File", "s2file/specs/Numbers"]
+               "s2list/specs/Numbers", "s2file/specs/File", "s2file/specs/Numbers", "s2list/specs/Union",
+               "s2list/specs/Packed", "s2list/specs/Working/Search", "s2list/proofs/Narrowing",
+               "s2list/proofs/Checking", "s2list/proofs/Asking"]
 
 
 class Proved:
@@ -32,9 +35,10 @@ class Proved:
         self.seconds, self.cases, self.ways, self.lines = dict.fromkeys(names, 0.0), 0, 0, set()
 
 
-def words_of(crates, is_apart=False):
+def words_of(crates, plan=None):
     paths = [TOP / "tests" / "public" / "kit.txt", *(crates / f"{name}.antt" for name in DEFINITIONS)]
-    words = SquareWords([str(path) for path in paths], is_apart)
+    files = [str(path) for path in paths]
+    words = ListWords(files) if plan and plan.laws else SquareWords(files, bool(plan and plan.is_apart))
     words.forms["NO_LEVEL"] = lambda: no_level(crates / "s2union_c" / "src" / "many_cells.rt")
     words.side = side(TOP / "crates" / "s2cell" / "src" / "lib.rt")
     return words
@@ -71,7 +75,7 @@ def prove_call(text, crates, name, plan):
     done = Proved([clause.name for clause in contract.ensures])
     for case in cases(contract, plan, fields):
         begun = time.process_time()
-        loops = Loops(plan.loops, crates, functools.partial(words_of, crates), case)
+        loops = Loops(plan, crates, functools.partial(words_of, crates, plan), case)
         machine = Machine(text, plan.named, loops)
         if not is_possible(*case.state.given):
             raise Undecided(f"{name}: nothing fits the case {', '.join(case.names)}")
@@ -80,7 +84,7 @@ def prove_call(text, crates, name, plan):
         prove_all_ways(name, given, [state for state, _ in ways] + loops.closed)
         done.cases, done.ways = done.cases + 1, done.ways + len(ways)
         done.lines |= machine.lines
-        ways = joined(ways, case)
+        ways = ways if plan.laws else joined(ways, case)
         for clause in contract.ensures:
             prove_clause(crates, name, plan, contract, clause, case, ways, loops)
             done.seconds[clause.name] += time.process_time() - begun
@@ -117,10 +121,11 @@ def any_of(states):
 
 def prove_clause(crates, name, plan, contract, clause, case, ways, loops):
     for state, result in ways:
-        words = words_of(crates, plan.is_apart)
+        words = words_of(crates, plan)
         if plan.named:
             words.go_by_steps(state, plan.turns)
         words.where, words.witnesses = f"{contract.path}:{clause.line}", plan.witnesses
         claim = words.holds(clause.term, case.after(state, result, contract.result), True)
+        used = loops.used_for(z3.simplify(claim), state, words.claimed_of, words)
         prove(claim, f"{contract.path}:{clause.line}: {name}, clause {clause.name}, {', '.join(case.names)}",
-              *state.known(), *words.facts, *words.steps_of(state, claim), *loops.used(state, words.claimed_of))
+              *state.known(), *words.steps_of(state, claim), *used, *words.facts)

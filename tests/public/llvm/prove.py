@@ -105,6 +105,8 @@ def main():
     prove_forms("the forms of words", words_of(asked.crates).prove_forms, count)
     if "s2u_square_of" in names:
         prove_forms("the form of squares", words_of(asked.crates).prove_squares, count)
+    for plan in [PLANS[name] for name in names if PLANS[name].laws][:1]:
+        prove_forms("the facts about elements of lists", words_of(asked.crates, plan).prove_elements, count)
     for name in names:
         done = prove_one(text, asked.crates, name, count)
         if done and asked.tier != "quick":

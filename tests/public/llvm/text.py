@@ -143,6 +143,11 @@ class Text:
         return known
 
 
+def plain_name(name):
+    """The name of a function without what the compiler adds to it for the types that it is made for."""
+    return re.sub(r"_[0-9a-f]{16}$", "", name)
+
+
 def bytes_of(text):
     """The bytes that LLVM writes as characters, a backslash twice, or as a backslash with two hexadecimal digits."""
     return bytes(int(word[1:], 16) if len(word) == 3 else ord(word[0])
