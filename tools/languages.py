@@ -70,7 +70,7 @@ class Language:
         return self.marked(methods, said) + steps + (f" {also}" if also else "")
 
     def argument(self, methods, method, name):
-        """What is said of an argument, by its name in the language."""
+        """The sentence on an argument, by its name in the language."""
         own = method.own(self.NAME).get(f"{name}_is")
         return self.marked(methods, own or method.argument(name, self.RENAMED, self.NAME))
 

@@ -115,7 +115,7 @@ impl Zones {
             return Err(Error::Shape { fault: ShapeFault::Number, ring: 0, position: count });
         }
         Error::of(status, 0)?;
-        // SAFETY: the call has written so many pairs.
+        // SAFETY: the call has written this many pairs.
         let all: &[[u64; 2]] = unsafe { parts(found.0, count) };
         let mut pairs = roomy(count)?;
         pairs.extend(all.iter().map(|&[place, zone]| Pair { place: place as usize, zone: zone as usize }));

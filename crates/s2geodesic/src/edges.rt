@@ -28,7 +28,7 @@ fn sum(a: i64, b: i64) -> i64
 struct Reach {
     /// The product of the end where it begins.
     a: i128,
-    /// That of the other.
+    /// The product of the other end.
     b: i128,
     /// The sizes.
     sizes: u64,

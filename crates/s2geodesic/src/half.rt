@@ -106,8 +106,8 @@ fn sign(t: u8) -> i64
 /// any other behind that plane (`law_of_halves`), so it may be the leaf outside of a polygon with these corners.
 ///
 /// None if the corners are too far apart: of the 26 planes whose normals have -1, 0 or 1 as coordinates, none has all
-/// of them before it. That some plane of another direction has is not asked. Corners within 62 degrees of a place are
-/// never too far apart.
+/// of them before it. Planes of other directions aren't tried. Corners within 62 degrees of a place are never too far
+/// apart.
 ///
 /// Each corner is looked at 27 times at most. S2: a loop has its inside on the left, and this asks for no direction.
 pub fn outside_of(corners: &[Direction]) -> Option<CellId>

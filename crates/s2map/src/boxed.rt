@@ -66,8 +66,8 @@ impl BoxedCell {
         }
     }
 
-    /// The child with this number, 0 to 3 along the curve, and its box. That is its parent's, if its own should lie in
-    /// it not whole, as boxes are not exact.
+    /// The child with this number, 0 to 3 along the curve, and its box. Boxes are not exact: if a child's own lies
+    /// partly outside of its parent's, the child has its parent's.
     pub(crate) fn child(&self, digit: u8) -> BoxedCell
         requires boxed { IsBoxedCell self.now }
         requires deep { level_of self.now.cell < GREATEST_LEVEL }

@@ -102,7 +102,7 @@ fn part_by_known(shape: &MapShape, at: &BoxedCell, known: &Known) -> BoxPart
     known.part()
 }
 
-/// What is known of the box of a child, from what is known of its parent's box, which no part has whole inside.
+/// The facts on the box of a child, from those on its parent's box, which no part has whole inside.
 fn known_of_child(
     alloc: Global,
     shape: &MapShape,

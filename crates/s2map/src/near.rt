@@ -14,7 +14,7 @@ use crate::place::{MapBox, MapEdge, Place};
 use crate::shape::BoxPart;
 use std::alloc::{AllocError, Global};
 
-/// What is known of a part and a box.
+/// The facts on a part and a box that the walk hands down.
 #[derive(Drop)]
 pub struct Near {
     /// Whether the box's corner at its west and south lies inside the part.
@@ -23,7 +23,7 @@ pub struct Near {
     pub edges: Vec<MapEdge>,
 }
 
-/// What is known of a box.
+/// The facts on a box that the walk hands down.
 #[derive(Drop)]
 pub struct Known {
     /// Whether a part has the whole box inside.
@@ -123,8 +123,8 @@ pub(crate) fn edges_near(
     Ok(list)
 }
 
-/// What is known of a part and a box, from what is known of it and a box that has this one: which answers its edges
-/// change between the two corners, and which of them meet the smaller box. `from` is the corner of the larger box.
+/// The facts on a part and a box, from those on the part and a box that has this one: which answers its edges change
+/// between the two corners, and which of them meet the smaller box. `from` is the corner of the larger box.
 fn narrowed(alloc: Global, near: &Near, from: Place, q: MapBox) -> Result<Near, AllocError>
     requires from { IsNear from }
     requires bounds { IsBox q }
@@ -161,7 +161,7 @@ fn add_near(near: Near, parts: &mut Vec<Near>) -> Result<bool, AllocError>
 }
 
 impl Known {
-    /// What is known of a box from all edges of all parts.
+    /// The facts on a box, from all edges of all parts.
     pub(crate) fn new(alloc: Global, parts: &[MapPart], q: MapBox) -> Result<Known, AllocError>
         requires { IsBox q }
         ensures { IfOk result (λ known. IsSummary (map (near_box q) parts.now) known) }
@@ -181,7 +181,7 @@ impl Known {
         })
     }
 
-    /// What is known of a box, from what is known of a box that has this one, of which no part has the whole inside.
+    /// The facts on a box, from those on a box that has this one, and that no part has whole inside.
     pub(crate) fn narrowed(
         &self,
         alloc: Global,

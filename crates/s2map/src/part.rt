@@ -159,7 +159,7 @@ impl MapPart {
         are_odd(&self.edges, p)
     }
 
-    /// What is known of the part and a box.
+    /// The facts on the part and a box.
     pub(crate) fn near(&self, alloc: Global, q: MapBox) -> Result<Near, AllocError>
         requires { IsBox q }
         ensures value { IfOk result (λ part. seen part ≡ near_box q self.now) }

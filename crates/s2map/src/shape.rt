@@ -92,7 +92,7 @@ impl MapShape {
         let _ = &self.parts;
     }
 
-    /// What is known of a box.
+    /// The facts on a box.
     pub(crate) fn known(&self, alloc: Global, q: MapBox) -> Result<Known, AllocError>
         requires { IsBox q }
         ensures { IfOk result (λ known. IsKnown self.now q known) }

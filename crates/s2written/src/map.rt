@@ -51,7 +51,7 @@ pub(crate) fn first_other(parts: &[Part]) -> Option<usize>
     None
 }
 
-/// The femtodegrees of a double of degrees, if there are at most so many, by its bits.
+/// The femtodegrees of a double of degrees, by its bits, if they are not more than a bound.
 fn femtodegrees_in(bits: u64, most: u64) -> Option<i64>
     requires { most < 2 ^ 63 }
     ensures some { IfSome result (λ z. IsFemtodegreesOf (from_bits binary64 bits) z × (unsigned_abs z ≤ most)) }

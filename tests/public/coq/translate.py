@@ -90,7 +90,7 @@ def first_argument(kind):
 
 
 def with_fewer(clause, many):
-    """A clause with so many patterns, and the variables after these in front of what it is."""
+    """A clause with this many patterns, and the variables after these in front of its right side."""
     patterns, body, where = clause
     if len(patterns) <= many:
         return clause

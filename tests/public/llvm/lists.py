@@ -1,5 +1,5 @@
 """Words that speak of each two cells of a list of any length, or of all its leaves. A statement of such a word has a
-name, so that it is one wherever it stands. What it says of all indexes is used for those that a claim speaks of; what
+name, so that it is one wherever it stands. It speaks of all indexes, and is used for those that a claim names; whatever
 else follows from it are laws, whose lemmas Coq checks."""
 import itertools
 
@@ -117,7 +117,7 @@ class ListWords(SquareWords):
         return z3.Or(name, fields) if claimed else z3.And(name, fields)
 
     def of_all(self, count, statement, among, claimed):
-        """What is said of all elements of a list, or of each two in their order, for the indexes that are used."""
+        """A statement on all elements of a list, or on each two in their order, for the indexes that are used."""
         if claimed or not isinstance(among, Stretch):
             raise self.unknown("a claim about all elements")
         formulas = [TRUE]

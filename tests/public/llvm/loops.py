@@ -119,8 +119,8 @@ class Loops:
         return self.used(state, numbers, words) if not self.laws or speaks(claim, words) else []
 
     def used(self, state, numbers, words=None):
-        """What the laws and the invariants say of these numbers, and what follows of lists. What is said of any number,
-        where it is supposed, is said of a number too: what stands before is used for it as well."""
+        """The facts on these numbers by the laws and the invariants, and those that follow on lists. A fact on any
+        number holds for each number that is supposed: those before it are used for it as well."""
         known, numbers = [], [constant(0), *numbers]
         is_own = words is None or not self.laws
         words = self.words_of() if is_own else words
