@@ -83,8 +83,10 @@ SLOW_CHANGES = (
 PAIRS = {"gate": (1500, 100), "full": (9000, 1000)}
 SPOILT = (60, 40)
 THEOREMS = {
-    "Checker": ("accepted_is_right", "the_only_one", "refused_is_wrong", "yes_is_right", "no_is_right", "cut_is_right"),
-    "Coverings": ("accepted_covering_is_right", "the_only_covering", "refused_covering_is_wrong")}
+    "Checker": ("accepted_is_right", "the_only_one", "refused_is_wrong", "right_is_accepted", "yes_is_right",
+                "no_is_right", "holds_is_yes", "fails_is_no", "cut_is_right", "cut_is_accepted"),
+    "Coverings": ("accepted_covering_is_right", "the_only_covering", "refused_covering_is_wrong",
+                  "right_covering_is_accepted")}
 # A lemma that a law stands on, and the law.
 NEEDED = "s2list_proofs_Shortest.shorter", "shortest"
 
