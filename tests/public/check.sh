@@ -78,11 +78,21 @@ choose_library_file() { # $library: the one that is installed for this run, or e
   library=$work/package/usr/lib/x86_64-linux-gnu/libs2union.so.1
 }
 
+tell_versions() {
+  local programs
+  programs="Z3 $(/usr/bin/python3 -c 'import z3; print(z3.get_version_string())')"
+  if [ "$tier" != quick ]; then
+    programs+=", Frama-C $(frama-c -version), Coq $(coqc --print-version | cut -d ' ' -f 1), OCaml $(ocamlopt -version)"
+  fi
+  echo "       with $programs"
+}
+
 if [ ${#made[@]} -gt 0 ]; then
   counted /usr/bin/python3 -B "$top/tests/public/coq/check.py" "${made[@]}"
   finish
 fi
 choose_text
+tell_versions
 counted /usr/bin/python3 -B "$top/tests/public/llvm/prove.py" --tier "$tier" --text "$text" "${others[@]}" \
   "${calls[@]}"
 if [ "$tier" != quick ] && [ ${#calls[@]} -eq 0 ]; then

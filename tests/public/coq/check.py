@@ -245,12 +245,14 @@ def check_laws(build, count):
         count.check(not found, f"{lemma}: {says}: checked by Coq, {standing(found)}")
 
 
-def check_claims(count):
-    """Whether CHECK says of each law on HEADLINE what is so; prints it."""
+def check_claims(tier, count):
+    """Whether CHECK says of each law on HEADLINE what is so; prints it, and of laws that only the full tier checks that
+    this run doesn't."""
     claims = page.check_page()
     count.check(True, f"{PAGE.name} has the {len(claims)} laws of HEADLINE.md, each with its verdict")
     for law, verdict in claims.items():
-        print(f"       {law}: {verdict}")
+        is_left_out = verdict == page.LATER and tier != "full"
+        print(f"       {law}: {'not in this run, in the full tier' if is_left_out else verdict}")
 
 
 def check_answered(law, build, count):
@@ -516,7 +518,7 @@ def check_files(folder, count):
 
 def check_all(folder, asked, count):
     right = Build(folder, MODULES)
-    check_claims(count)
+    check_claims(asked.tier, count)
     check_laws(right, count)
     check_statement(right, count)
     if asked.tier == "full":
