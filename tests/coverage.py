@@ -12,6 +12,9 @@ import sys
 from pathlib import Path
 
 ROOT = Path(__file__).resolve().parents[1]
+sys.path.append(str(ROOT / "tools"))
+import methods  # noqa: E402
+
 LIST = ROOT / "tests" / "uncovered.txt"
 
 
@@ -31,7 +34,7 @@ def most_of(source):
 
 def judged(source, lines):
     """Prints what was executed of a source, and answers whether that is enough."""
-    most, written = most_of(source), (ROOT / source).read_text().splitlines()
+    most, written = most_of(source), methods.filled(ROOT / source).splitlines()
     missed = [line["line_number"] for line in lines if line["count"] == 0]
     counts = [(line["line_number"], branch["count"]) for line in lines for branch in line["branches"]]
     left = [number for number, count in counts if count == 0]

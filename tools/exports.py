@@ -163,8 +163,9 @@ def of_rust(found, name, text):
 
 
 def of_go(name, text, examples):
+    shown = set(re.findall(r"^func Example(\w+)\(\)", examples, re.M))
     for comment, _, kind, member in GOES.findall(text):
-        is_shown = re.search(rf"^func Example{kind}{'_' * bool(kind)}{member}\(\)", examples, re.M)
+        is_shown = f"{kind}{'_' * bool(kind)}{member}" in shown
         yield f"Go: {name}: {kind}{'.' * bool(kind)}{member}", [
             *([] if is_shown or "Error" in kind else ["an Example function"]),
             *([] if re.match(rf"// {member} \S", comment) else ["a sentence that begins with its name"]),

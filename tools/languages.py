@@ -63,7 +63,8 @@ class Language:
         """The header's sentence, which tells of the union by its name, with its steps and what the language adds; that
         of the row, if the header tells of what C alone has."""
         own, header = method.own(self.NAME), method.said.sentence
-        is_of_c = re.search(r"s2u_|S2U_|\b[xy]s\b|\bids\b", header) or method.call.answers_each or own.get("is_of_row")
+        is_of_c = re.search(r"s2u_|S2U_|\b[xy]s\b|\bids\b", header) or method.call.answers_each or \
+            own.get("is_of_row", method.row.get("is_of_row"))
         said = own.get("says") or (method.row.get("says", header) if is_of_c else header)
         steps = f" It takes {method.said.steps}." if method.said.steps else ""
         also = own.get("also") or method.row.get("also")

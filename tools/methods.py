@@ -5,10 +5,12 @@ It writes each SOURCE to FOLDER with what is made in the place of these lines, w
   // methods: NAME, ..           each as a method with its comment, which forwards to the call
   // methods: all others         each other method of the class, or in JavaScript of the module; `but NAME, ..` leaves
                                  out what stands there by hand
+  // functions: all              in C++ what is asked of lists, in no class
+  // examples: all others        in examples.cc those of C++ that don't stand there by hand
   // comment: NAME               the comment of the call, whose method stands below it by hand; in Python
                                  `# comment: NAME`, for a docstring
   // questions: all but NAME, .. what the tests ask of each method, for which a question is in tests/model/vectors.py
-  // numbers: of the calls       those of Calls.java
+  // numbers: of the calls       those of Calls.java; in s2union.hpp the room that what each makes is first given
 
 SOURCE may also be a file that is made whole: bindings/java/calls.h, the same numbers for s2union.c and what makes each
 call, or bindings/rust/src/calls.rs, each call as a safe function over slices, with the statuses and the limits.
@@ -19,10 +21,11 @@ that of in_LANGUAGE.py.
 import re
 import sys
 import tomllib
-from functools import cached_property
+from functools import cache, cached_property
 from pathlib import Path
 
 import declared
+import in_cpp
 import in_go
 import in_java
 import in_python
@@ -35,8 +38,10 @@ import usage
 TOP = Path(__file__).resolve().parents[1]
 TABLE = "tools/methods.toml"
 LANGUAGES = {".java": in_java.Java(), ".ts": in_types.TypeScript(), ".mjs": in_types.TypeScript(),
-             ".py": in_python.Python(), ".rs": in_rust.Rust(), ".go": in_go.Go()}
-MARK = re.compile(r"^[ \t]*(?://|#) (methods|comment|questions|numbers): ((?:.*,\n *// +)*.*)\n", re.M)
+             ".py": in_python.Python(), ".rs": in_rust.Rust(), ".go": in_go.Go(), ".hpp": in_cpp.Cpp(),
+             ".cc": in_cpp.Cpp()}
+MARK = re.compile(r"^[ \t]*(?://|#) (methods|functions|comment|examples|questions|numbers): ((?:.*,\n *// +)*.*)\n",
+                  re.M)
 UNION = "a new union"
 
 
@@ -173,6 +178,7 @@ def table(top=TOP):
     return tomllib.loads(declared.text_of(Path(top, TABLE)))
 
 
+@cache
 def methods(top=TOP):
     """The methods, by the names of their calls, in the order of the table."""
     general, said = table(top), declared.said(declared.text_of(Path(top, declared.HEADER)))
@@ -185,7 +191,9 @@ def methods(top=TOP):
 
 
 MADE_WHOLE = {"calls.h": java_calls.in_c, "calls.rs": rust_calls.whole}
-FORMS = {"methods": "whole", "comment": "comment", "questions": "question"}
+NUMBERS = {".java": java_calls.in_java, ".hpp": in_cpp.rooms}
+FORMS = {"methods": "whole", "functions": "function", "comment": "comment", "examples": "examples",
+         "questions": "question"}
 CLASS = re.compile(r"^(?:(?:export |public |final )*class|impl(?:<.*?>)?) (\w+)", re.M)
 
 
@@ -215,29 +223,34 @@ def filled(path, top=TOP):
 
     def of(mark):
         """The methods that a line stands for; after `all others` those of the class in which it stands."""
-        if not mark[2].startswith("all "):
+        if not mark[2].startswith("all"):
             return [found[name] for name in names_in(mark) if name in found]
-        left_out = names_in(mark) if mark[1] == "questions" else named(text)
+        left_out = named(text) if mark[1] == "methods" else names_in(mark)
         there = [it for name, it in found.items() if name not in left_out and language.has(it)]
+        if mark[1] != "methods":
+            return there
         owner = CLASS.findall(text[:mark.start()])[-1] if mark[0].startswith(" ") else ""
-        return there if mark[1] == "questions" else [it for it in there if language.owner(it) == owner]
+        return [it for it in there if language.owner(it) == owner]
 
     def made(mark):
         if mark[1] == "numbers":
-            return "\n".join([*java_calls.in_java(top), ""])
+            return "\n".join([*NUMBERS[path.suffix](top), ""])
         form = getattr(language, FORMS[mark[1]])
         between = language.BETWEEN if mark[1] == "methods" else "\n"
-        return between.join("\n".join(form(found, it, text[:mark.start()])) for it in of(mark)) + "\n"
+        texts = ("\n".join(form(found, it, text[:mark.start()])) for it in of(mark))
+        return between.join(text for text in texts if text) + "\n"
 
     return MARK.sub(made, text) if found else text
 
 
+@cache
 def of_go(top=TOP):
     """The methods of Go that no source has by hand, and the examples of them that none has, as two sources."""
     own = "\n".join(declared.text_of(path) for path in sorted(Path(top, "bindings/go").glob("*.go"))
                     if path.name not in ("calls.go", "example_calls_test.go"))
     found, language = methods(top), LANGUAGES[".go"]
-    there = [it for name, it in found.items() if language.has(it) and not re.search(rf"\bC\.s2u_{name}\(", own)]
+    by_hand = set(re.findall(r"\bC\.s2u_(\w+)\(", own))
+    there = [it for name, it in found.items() if language.has(it) and name not in by_hand]
     examples = [it for it in (language.example(found, it) for it in there) if it[0] not in own]
     return [[line for lines in of for line in ["", *lines]] for of in ([language.whole(found, it) for it in there],
                                                                      examples)]

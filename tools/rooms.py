@@ -6,8 +6,11 @@ from pathlib import Path
 TABLE = tomllib.loads((Path(__file__).parent / "methods.toml").read_text(encoding="utf-8"))
 FIRST_ROOMS = {name: row["room"] for name, row in TABLE["call"].items() if "room" in row} | TABLE["room"]
 # s2union.hpp fills nothing before a call, and goes on with less if there is no memory for this: each cell that is left
-# out of the sphere takes up to three cells a level.
-CPP_ROOMS = FIRST_ROOMS | {"complement": "64 * n + 90"}
+# out of the sphere takes up to three cells a level. It gives texts and files their own size, and inner coverings of
+# polygons the room of outer ones.
+CPP_HAS_NONE = ("tokens", "encode", "polygon_inner", "polygon_inner_up_to")
+CPP_ROOMS = {name: room for name, room in FIRST_ROOMS.items() if name not in CPP_HAS_NONE} | \
+    {"complement": "64 * n + 90"}
 
 
 def room_lengths(room):

@@ -135,23 +135,9 @@ inline bool succeeded(int32_t status, int32_t* outcome) {
   return status >= 0;
 }
 
-// made by tools/calls: the room that what a call makes is first given
+/// The room that what a call makes is first given, by the lengths of its lists.
 namespace rooms {
-inline size_t of_from_tokens(size_t n) { return n / 2 + 1; }
-inline size_t of_union(size_t nx, size_t ny) { return nx + ny; }
-inline size_t of_intersection(size_t nx, size_t ny) { return 2 * std::min(nx, ny); }
-inline size_t of_difference(size_t nx, size_t ny) { return nx + std::min(nx, ny) + 90; }
-inline size_t of_symmetric_difference(size_t nx, size_t ny) { return nx + ny + 90; }
-inline size_t of_complement(size_t n) { return 64 * n + 90; }
-inline size_t of_range() { return 184; }
-inline size_t of_ancestors(size_t n) { return 2 * n + 30; }
-inline size_t of_outer() { return 64; }
-inline size_t of_outer_of(size_t n) { return n; }
-inline size_t of_outer_in() { return 64; }
-inline size_t of_decode(size_t n) { return n / 8; }
-inline size_t of_file_ancestors(size_t n) { return n / 4 + 30; }
-inline size_t of_polygon_outer() { return 4096; }
-inline size_t of_polygon_outer_up_to() { return 1024; }
+// numbers: of the calls
 }  // namespace rooms
 
 /// Does what takes memory: S2U_OK, or S2U_MEMORY.
@@ -605,41 +591,8 @@ class CellUnionOf {
 
   // ---- as a set of leaves
 
-  /// Whether all leaves of the cell are in the union. S2U_NO_CELL. log n steps. @since 0.1
-  /// @snippet examples.cc Contains a cell
-  bool Contains(Id id, int32_t* status = nullptr) const {
-    int32_t found = s2u_contains_cell(ids(), size(), internal::number_of(id));
-    return internal::succeeded(found, status) && found == 1;
-  }
-  /// Whether the union has a leaf of the cell. S2U_NO_CELL. log n steps. @since 0.1
-  /// @snippet examples.cc Intersects a cell
-  bool Intersects(Id id, int32_t* status = nullptr) const {
-    int32_t found = s2u_intersects_cell(ids(), size(), internal::number_of(id));
-    return internal::succeeded(found, status) && found == 1;
-  }
-  /// Whether all leaves of each cell in turn are in the union. Cells in ascending order are quickest. S2U_NO_CELL,
-  /// S2U_MEMORY. @since 1.1
-  /// @snippet examples.cc ContainsCells
-  std::vector<bool> ContainsCells(const std::vector<Id>& cells, int32_t* status = nullptr) const {
-    return AboutEach(s2u_contains_cells, ids(), size(), cells, status);
-  }
-  /// Whether the union has a leaf of each cell in turn. S2U_NO_CELL, S2U_MEMORY. @since 1.1
-  /// @snippet examples.cc IntersectsCells
-  std::vector<bool> IntersectsCells(const std::vector<Id>& cells, int32_t* status = nullptr) const {
-    return AboutEach(s2u_intersects_cells, ids(), size(), cells, status);
-  }
-  /// Whether all leaves of y are in the union. @since 0.1
-  /// @snippet examples.cc Contains
-  bool Contains(const CellUnionOf& y) const { return s2u_contains(ids(), size(), y.ids(), y.size()) == 1; }
-  /// Whether the two share a leaf. @since 0.1
-  /// @snippet examples.cc Intersects
-  bool Intersects(const CellUnionOf& y) const { return s2u_intersects(ids(), size(), y.ids(), y.size()) == 1; }
+  // methods: all others
 
-  /// The leaves of both. S2U_MEMORY. @since 0.1
-  /// @snippet examples.cc Union
-  CellUnionOf Union(const CellUnionOf& y, int32_t* status = nullptr) const {
-    return Both(s2u_union, internal::rooms::of_union, y, status);
-  }
   /// The leaves of any of many unions, which are merged in pairs. Takes memory for four times their cells. S2U_MEMORY.
   /// @since 1.0
   /// @snippet examples.cc UnionOf
@@ -663,11 +616,6 @@ class CellUnionOf {
     internal::succeeded(found, status);
     return made;
   }
-  /// The leaves that both have. S2U_MEMORY. @since 0.1
-  /// @snippet examples.cc Intersection
-  CellUnionOf Intersection(const CellUnionOf& y, int32_t* status = nullptr) const {
-    return Both(s2u_intersection, internal::rooms::of_intersection, y, status, internal::Apart::kEmpty);
-  }
   /// The leaves of the cell that the union has. S2U_NO_CELL. log n steps, and one for each cell of the result.
   /// @since 0.1
   /// @snippet examples.cc Intersection with a cell
@@ -685,80 +633,8 @@ class CellUnionOf {
     }
     return made;
   }
-  /// The leaves that y doesn't have. S2U_MEMORY. @since 0.1
-  /// @snippet examples.cc Difference
-  CellUnionOf Difference(const CellUnionOf& y, int32_t* status = nullptr) const {
-    return Both(s2u_difference, internal::rooms::of_difference, y, status, internal::Apart::kFirst);
-  }
 
-  /// The leaves that exactly one of them has. S2U_MEMORY. @since 1.1
-  /// @snippet examples.cc SymmetricDifference
-  CellUnionOf SymmetricDifference(const CellUnionOf& y, int32_t* status = nullptr) const {
-    return Both(s2u_symmetric_difference, internal::rooms::of_symmetric_difference, y, status);
-  }
-  /// The leaves of the sphere that the union doesn't have. S2U_MEMORY. @since 1.1
-  /// @snippet examples.cc Complement
-  CellUnionOf Complement(int32_t* status = nullptr) const {
-    return Made(internal::rooms::of_complement(size()), status, [&](uint64_t* out, size_t room, size_t* len) {
-      return s2u_complement(ids(), size(), out, room, len);
-    });
-  }
-
-  /// How many leaves the union has, of 6 * 4^30. @since 0.1
-  /// @snippet examples.cc LeafCellsCovered
-  uint64_t LeafCellsCovered() const { return s2u_leaf_count(ids(), size()); }
-
-  /// The cells and all their ancestors, ascending, each once: the keys of an index. S2U_MEMORY. @since 1.1
-  /// @snippet examples.cc Ancestors
-  std::vector<Id> Ancestors(int32_t* status = nullptr) const {
-    return Made(internal::rooms::of_ancestors(size()), status, [&](uint64_t* out, size_t room, size_t* len) {
-      return s2u_ancestors(ids(), size(), out, room, len);
-    }).Release();
-  }
-
-  // ---- coverings: all cells of one level, normalized. S2U_ARGUMENT, S2U_MEMORY; S2U_MANY: there would be more than
-  // `most` cells, or more than S2U_MOST_COVERING
-
-  /// The cells of the level that share a leaf with the union. The level is 0 to 30.
-  /// S2U_ARGUMENT, S2U_MANY, S2U_MEMORY. @since 1.1
-  /// @snippet examples.cc Covering
-  CellUnionOf Covering(int level, size_t most = S2U_MOST_COVERING, int32_t* status = nullptr) const {
-    return Covered(s2u_outer_of, level, most, status);
-  }
-  /// The cells of the level that lie in the union. The level is 0 to 30.
-  /// S2U_ARGUMENT, S2U_MANY, S2U_MEMORY. @since 1.1
-  /// @snippet examples.cc InteriorCovering
-  CellUnionOf InteriorCovering(int level, size_t most = S2U_MOST_COVERING, int32_t* status = nullptr) const {
-    return Covered(s2u_inner_of, level, most, status);
-  }
-  /// The cells of the level that share a leaf with what the union and a rectangle share. The level is 0 to 30.
-  /// S2U_ARGUMENT, S2U_MANY, S2U_MEMORY. @since 1.1
-  /// @snippet examples.cc CoveringIn
-  CellUnionOf CoveringIn(const s2u_rect& rect, int level, size_t most = S2U_MOST_COVERING,
-                         int32_t* status = nullptr) const {
-    return CoveredIn(s2u_outer_in, rect, level, most, status);
-  }
-  /// The cells of the level that lie in both. The level is 0 to 30.
-  /// S2U_ARGUMENT, S2U_MANY, S2U_MEMORY. @since 1.1
-  /// @snippet examples.cc InteriorCoveringIn
-  CellUnionOf InteriorCoveringIn(const s2u_rect& rect, int level, size_t most = S2U_MOST_COVERING,
-                                 int32_t* status = nullptr) const {
-    return CoveredIn(s2u_inner_in, rect, level, most, status);
-  }
-  /// The cells of the level that share a leaf with a rectangle. The level is 0 to 30.
-  /// S2U_ARGUMENT, S2U_MANY, S2U_MEMORY. @since 1.1
-  /// @snippet examples.cc CoveringOf
-  static CellUnionOf CoveringOf(const s2u_rect& rect, int level, size_t most = S2U_MOST_COVERING,
-                                int32_t* status = nullptr) {
-    return CoveredRect(s2u_outer, rect, level, most, status);
-  }
-  /// The cells of the level that lie in a rectangle. The level is 0 to 30.
-  /// S2U_ARGUMENT, S2U_MANY, S2U_MEMORY. @since 1.1
-  /// @snippet examples.cc InteriorCoveringOf
-  static CellUnionOf InteriorCoveringOf(const s2u_rect& rect, int level, size_t most = S2U_MOST_COVERING,
-                                        int32_t* status = nullptr) {
-    return CoveredRect(s2u_inner, rect, level, most, status);
-  }
+  // ---- coverings of polygons: all cells of one level, normalized; or a few of several levels
 
   /// The polygon of an S2Polygon or an S2Loop, of the same corners to within 1.5 mm along each axis. Its leaf outside
   /// lies opposite the cap around it that S2 knows, for which S2 makes no index; if the cap is nearly the sphere, it is
@@ -1064,25 +940,6 @@ class CellUnionOf {
     return made;
   }
 
-  template <class Call>
-  CellUnionOf Covered(Call call, int level, size_t most, int32_t* status) const {
-    return Made(internal::rooms::of_outer_of(size()), status, [&](uint64_t* out, size_t room, size_t* len) {
-      return call(ids(), size(), static_cast<uint32_t>(level), most, out, room, len);
-    });
-  }
-  template <class Call>
-  CellUnionOf CoveredIn(Call call, const s2u_rect& rect, int level, size_t most, int32_t* status) const {
-    return Made(internal::rooms::of_outer_in(), status, [&](uint64_t* out, size_t room, size_t* len) {
-      return call(ids(), size(), &rect, static_cast<uint32_t>(level), most, out, room, len);
-    });
-  }
-  template <class Call>
-  static CellUnionOf CoveredRect(Call call, const s2u_rect& rect, int level, size_t most, int32_t* status) {
-    return Made(internal::rooms::of_outer(), status, [&](uint64_t* out, size_t room, size_t* len) {
-      return call(&rect, static_cast<uint32_t>(level), most, out, room, len);
-    });
-  }
-
   // A vertex of a region of S2, which is a polygon with loops or a loop.
   template <class Region>
   static auto VertexOf(const Region& region, int) -> decltype(region.loop(0)->vertex(0));
@@ -1179,62 +1036,7 @@ class CellUnionOf {
 // it was made. An assertion alone looks at the cells of another class, as in S2: with NDEBUG the answer about cells
 // that aren't normalized means nothing, but nothing outside of them is read or written.
 
-/// Whether all leaves of the cell are in the union. S2U_NO_CELL, S2U_NO_UNION. @since 1.4
-/// @snippet examples.cc ContainsCell
-template <class X>
-bool ContainsCell(const X& x, internal::CellOf<X> id, int32_t* status = nullptr) {
-  return internal::answer(x, status, [id](const uint64_t* xs, size_t n) {
-    return s2u_contains_cell(xs, n, internal::number_of(id));
-  });
-}
-/// Whether the union has a leaf of the cell. S2U_NO_CELL, S2U_NO_UNION. @since 1.4
-/// @snippet examples.cc IntersectsCell
-template <class X>
-bool IntersectsCell(const X& x, internal::CellOf<X> id, int32_t* status = nullptr) {
-  return internal::answer(x, status, [id](const uint64_t* xs, size_t n) {
-    return s2u_intersects_cell(xs, n, internal::number_of(id));
-  });
-}
-/// Whether all leaves of y are in x. S2U_NO_UNION. @since 1.4
-/// @snippet examples.cc Contains of lists
-template <class X, class Y>
-bool Contains(const X& x, const Y& y, int32_t* status = nullptr) {
-  return internal::answer(x, y, status, s2u_contains);
-}
-/// Whether the two share a leaf. S2U_NO_UNION. @since 1.4
-/// @snippet examples.cc Intersects of lists
-template <class X, class Y>
-bool Intersects(const X& x, const Y& y, int32_t* status = nullptr) {
-  return internal::answer(x, y, status, s2u_intersects);
-}
-/// The leaves of both: a list, or an X if that is a class of unions as S2CellUnion is. S2U_NO_UNION, S2U_MEMORY.
-/// @since 1.4
-/// @snippet examples.cc Union of lists
-template <class X, class Y>
-internal::MadeOf<X> Union(const X& x, const Y& y, int32_t* status = nullptr) {
-  return internal::made_as<X>(internal::made_of(s2u_union, internal::rooms::of_union, x, y, status));
-}
-/// The leaves that both have. S2U_NO_UNION, S2U_MEMORY. @since 1.4
-/// @snippet examples.cc Intersection of lists
-template <class X, class Y>
-internal::MadeOf<X> Intersection(const X& x, const Y& y, int32_t* status = nullptr) {
-  return internal::made_as<X>(internal::made_of(s2u_intersection, internal::rooms::of_intersection, x, y, status,
-                                                internal::Apart::kEmpty));
-}
-/// The leaves of x that y doesn't have. S2U_NO_UNION, S2U_MEMORY. @since 1.4
-/// @snippet examples.cc Difference of lists
-template <class X, class Y>
-internal::MadeOf<X> Difference(const X& x, const Y& y, int32_t* status = nullptr) {
-  return internal::made_as<X>(
-      internal::made_of(s2u_difference, internal::rooms::of_difference, x, y, status, internal::Apart::kFirst));
-}
-/// The leaves that exactly one of them has. S2U_NO_UNION, S2U_MEMORY. @since 1.4
-/// @snippet examples.cc SymmetricDifference of lists
-template <class X, class Y>
-internal::MadeOf<X> SymmetricDifference(const X& x, const Y& y, int32_t* status = nullptr) {
-  return internal::made_as<X>(
-      internal::made_of(s2u_symmetric_difference, internal::rooms::of_symmetric_difference, x, y, status));
-}
+// functions: all
 
 /// The bytes of a union file, which answer questions in place, as in a mapped file or a row of a table: nothing is
 /// copied. They stay where they are, and nobody writes them, as long as the object is used.
@@ -1273,47 +1075,7 @@ class UnionFileOf {
     return Id(number);
   }
 
-  /// Whether all leaves of the cell are in the union. S2U_NO_CELL. log n steps. @since 1.1
-  /// @snippet examples.cc UnionFile.Contains a cell
-  bool Contains(Id id, int32_t* status = nullptr) const {
-    int32_t found = s2u_file_contains_cell(bytes_, n_, internal::number_of(id));
-    return internal::succeeded(found, status) && found == 1;
-  }
-  /// Whether the union has a leaf of the cell. S2U_NO_CELL. log n steps. @since 1.1
-  /// @snippet examples.cc UnionFile.Intersects a cell
-  bool Intersects(Id id, int32_t* status = nullptr) const {
-    int32_t found = s2u_file_intersects_cell(bytes_, n_, internal::number_of(id));
-    return internal::succeeded(found, status) && found == 1;
-  }
-  /// Whether all leaves of each cell in turn are in the union. Cells in ascending order are quickest. S2U_NO_CELL,
-  /// S2U_MEMORY. @since 1.3
-  /// @snippet examples.cc UnionFile.ContainsCells
-  std::vector<bool> ContainsCells(const std::vector<Id>& cells, int32_t* status = nullptr) const {
-    return CellUnionOf<Id>::AboutEach(s2u_file_contains_cells, bytes_, n_, cells, status);
-  }
-  /// Whether all leaves of the union in the other file are in this one. @since 1.1
-  /// @snippet examples.cc UnionFile.Contains
-  bool Contains(const UnionFileOf& y) const { return s2u_file_contains(bytes_, n_, y.bytes_, y.n_) == 1; }
-  /// Whether the two share a leaf. @since 1.1
-  /// @snippet examples.cc UnionFile.Intersects
-  bool Intersects(const UnionFileOf& y) const { return s2u_file_intersects(bytes_, n_, y.bytes_, y.n_) == 1; }
-
-  /// How many leaves the union has, of 6 * 4^30. @since 1.1
-  /// @snippet examples.cc UnionFile.LeafCellsCovered
-  uint64_t LeafCellsCovered() const {
-    uint64_t leaves = 0;
-    s2u_file_leaf_count(bytes_, n_, &leaves);
-    return leaves;
-  }
-
-  /// The cells and all their ancestors, as those of the union. S2U_MEMORY. @since 1.1
-  /// @snippet examples.cc UnionFile.Ancestors
-  std::vector<Id> Ancestors(int32_t* status = nullptr) const {
-    size_t most = internal::rooms::of_file_ancestors(n_);
-    return CellUnionOf<Id>::Made(most, status, [&](uint64_t* out, size_t room, size_t* len) {
-      return s2u_file_ancestors(bytes_, n_, out, room, len);
-    }).Release();
-  }
+  // methods: all others but file_count
 
   /// The union itself, copied. S2U_MEMORY. @since 1.1
   /// @snippet examples.cc UnionFile.Union

@@ -10,22 +10,23 @@ need gcovr gcovr
 . "$top/tests/library.sh"
 
 step "questions and edges" questions
+step "what is made in its tests" /usr/bin/python3 -B "$top/tools/methods.py" "$work" "$tests"/{examples,vectors}.cc
 unions() { # COMPILER OPTION..: builds the test of s2union.hpp and runs it
   "$@" -D_DEFAULT_SOURCE "${strict[@]}" -Wconversion -I"$include" "$tests/cell_union.cc" "$noheap" \
     -o "$work/unions" && "$work/unions"
 }
 step "g++, under the sanitizers" unions g++ -std=c++17 -fsanitize=address,undefined -fno-sanitize-recover
 step "clang++" unions clang++ -std=c++20
-at_edges() {
+asked() {
   g++ -std=c++17 -fsanitize=address,undefined -fno-sanitize-recover "${strict[@]}" -Wconversion -I"$include" \
-    "$tests/edges.cc" "$static" -o "$work/at-edges" && "$work/at-edges" "$work/edges"
+    "$work/vectors.cc" "$static" -o "$work/asked" && "$work/asked" "$work/vectors"
 }
-step "the edges, also of s2union.h" at_edges
+step "the plain model's questions, also of s2union.h" asked
 each_member() { # in the order of C++20, and of what comes first
   local standard
   for standard in 17 20; do
-    g++ -std=c++$standard -fsanitize=address,undefined -fno-sanitize-recover "${strict[@]}" -Wconversion -I"$include" \
-      "$tests/examples.cc" "$static" -o "$work/each-member" && "$work/each-member" || return 1
+    g++ -std=c++$standard -fsanitize=address,undefined -fno-sanitize-recover "${strict[@]}" -Wconversion \
+      -I"$include" -I"$tests" "$work/examples.cc" "$static" -o "$work/each-member" && "$work/each-member" || return 1
   done
 }
 step "an example of each member" each_member

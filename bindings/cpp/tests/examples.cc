@@ -253,58 +253,10 @@ int main() {
     // [Denormalize]
   }
   {
-    // [Contains a cell]
-    CellUnion half = CellUnion::FromTokens("04 0c");
-    check(half.Contains(1) && !half.Contains(0x1000000000000000));
-    // [Contains a cell]
-  }
-  {
-    // [Intersects a cell]
-    CellUnion half = CellUnion::FromTokens("04 0c");
-    check(half.Intersects(0x1000000000000000) && !half.Intersects(0x1400000000000000));
-    // [Intersects a cell]
-  }
-  {
-    // [ContainsCells]
-    CellUnion half = CellUnion::FromTokens("04 0c");
-    check(half.ContainsCells({1, 0x1000000000000000}) == std::vector<bool>({true, false}));
-    // [ContainsCells]
-  }
-  {
-    // [IntersectsCells]
-    CellUnion half = CellUnion::FromTokens("04 0c");
-    check(half.IntersectsCells({0x1000000000000000, 0x1400000000000000}) == std::vector<bool>({true, false}));
-    // [IntersectsCells]
-  }
-  {
-    // [Contains]
-    CellUnion park = CellUnion::FromTokens("1"), pond = CellUnion::FromTokens("14");
-    check(park.Contains(pond) && !pond.Contains(park));
-    // [Contains]
-  }
-  {
-    // [Intersects]
-    CellUnion park = CellUnion::FromTokens("1"), pond = CellUnion::FromTokens("14");
-    check(pond.Intersects(park) && !pond.Intersects(park.Difference(pond)));
-    // [Intersects]
-  }
-  {
-    // [Union]
-    CellUnion half = CellUnion::FromTokens("04 0c");
-    check(half.Union(CellUnion::FromTokens("14 1c")).Tokens() == "1");
-    // [Union]
-  }
-  {
     // [UnionOf]
     CellUnion half = CellUnion::FromTokens("04 0c");
     check(CellUnion::UnionOf({half, CellUnion::FromTokens("14"), half}).Tokens() == "04 0c 14");
     // [UnionOf]
-  }
-  {
-    // [Intersection]
-    CellUnion park = CellUnion::FromTokens("1"), pond = CellUnion::FromTokens("14");
-    check(park.Intersection(pond) == pond);
-    // [Intersection]
   }
   {
     // [Intersection with a cell]
@@ -313,58 +265,11 @@ int main() {
     // [Intersection with a cell]
   }
   {
-    // [Difference]
-    CellUnion park = CellUnion::FromTokens("1"), pond = CellUnion::FromTokens("14");
-    check(park.Difference(pond).Tokens() == "04 0c 1c");
-    // [Difference]
-  }
-  {
-    // [SymmetricDifference]
-    CellUnion half = CellUnion::FromTokens("04 0c");
-    check(half.SymmetricDifference(CellUnion::FromTokens("0c 14")).Tokens() == "04 14");
-    // [SymmetricDifference]
-  }
-  {
-    // [Complement]
-    CellUnion half = CellUnion::FromTokens("04 0c");
-    check(half.Complement().Tokens() == "14 1c 3 5 7 9 b");
-    // [Complement]
-  }
-  {
-    // [LeafCellsCovered]
-    CellUnion half = CellUnion::FromTokens("04 0c");
-    check(half.LeafCellsCovered() == uint64_t{1} << 59);
-    // [LeafCellsCovered]
-  }
-  {
-    // [Ancestors]
-    std::vector<uint64_t> keys = CellUnion::FromTokens("14").Ancestors();
-    check(keys == std::vector<uint64_t>({0x1000000000000000, 0x1400000000000000}));
-    // [Ancestors]
-  }
-  {
     // [Covering]
     check(CellUnion(std::vector<uint64_t>{1}).Covering(1).Tokens() == "04");
     int32_t status;
     check(CellUnion::WholeSphere().Covering(0, 5, &status).empty() && status == S2U_MANY);
     // [Covering]
-  }
-  {
-    // [InteriorCovering]
-    check(CellUnion(std::vector<uint64_t>{1, 0x1400000000000000}).InteriorCovering(1).Tokens() == "14");
-    // [InteriorCovering]
-  }
-  {
-    // [CoveringIn]
-    s2u_rect corner = {0, 0, 9, 0, 9};
-    check(CellUnion::FromTokens("1").CoveringIn(corner, 1).Tokens() == "04");
-    // [CoveringIn]
-  }
-  {
-    // [InteriorCoveringIn]
-    s2u_rect side = {0, 0, (1 << 30) - 1, 0, (1 << 29) - 1};
-    check(CellUnion::FromTokens("04 0c").InteriorCoveringIn(side, 1).Tokens() == "04");
-    // [InteriorCoveringIn]
   }
   {
     // [CoveringOf]
@@ -379,6 +284,12 @@ int main() {
     s2u_rect side = {0, 0, (1 << 30) - 1, 0, (1 << 29) - 1};
     check(CellUnion::InteriorCoveringOf(side, 1).Tokens() == "04 1c");
     // [InteriorCoveringOf]
+  }
+  {
+    // [InteriorCoveringIn]
+    s2u_rect side = {0, 0, (1 << 30) - 1, 0, (1 << 29) - 1};
+    check(CellUnion::FromTokens("04 0c").InteriorCoveringIn(side, 1).Tokens() == "04");
+    // [InteriorCoveringIn]
   }
   const s2union::Polygon triangle = {{{10, 1, 1}, {10, 9, 1}, {10, 1, 9}}, {3}, s2u_from_face_ij(3, 0, 0), 0};
   {
@@ -513,55 +424,11 @@ int main() {
     // [GetIntersection]
   }
   {
-    // [ContainsCell]
-    const S2CellUnion land({S2CellId(0x0400000000000000), S2CellId(0x1400000000000000)});
-    check(s2union::ContainsCell(land, S2CellId(1)));
-    // [ContainsCell]
-  }
-  {
-    // [IntersectsCell]
-    const S2CellUnion land({S2CellId(0x0400000000000000), S2CellId(0x1400000000000000)});
-    check(s2union::IntersectsCell(land, S2CellId(0x1000000000000000)));
-    // [IntersectsCell]
-  }
-  {
-    // [Contains of lists]
-    const S2CellUnion face({S2CellId(0x1000000000000000)}), land({S2CellId(0x0400000000000000)});
-    check(s2union::Contains(face, land) && !s2union::Contains(land.cell_ids(), face.cell_ids()));
-    // [Contains of lists]
-  }
-  {
-    // [Intersects of lists]
-    const S2CellUnion face({S2CellId(0x1000000000000000)}), land({S2CellId(0x0400000000000000)});
-    check(s2union::Intersects(face, land));
-    // [Intersects of lists]
-  }
-  {
-    // [Union of lists]
-    const S2CellUnion land({S2CellId(0x0400000000000000)}), sea({S2CellId(0x1400000000000000)});
-    const S2CellUnion both = s2union::Union(land, sea);
-    check(both.cell_ids().size() == 2);
-    // [Union of lists]
-  }
-  {
-    // [Intersection of lists]
-    const S2CellUnion face({S2CellId(0x1000000000000000)}), land({S2CellId(0x0400000000000000)});
-    const S2CellUnion shared = s2union::Intersection(face, land);
-    check(shared.cell_ids() == land.cell_ids());
-    // [Intersection of lists]
-  }
-  {
     // [Difference of lists]
     const S2CellUnion face({S2CellId(0x1000000000000000)}), land({S2CellId(0x0400000000000000)});
     const std::vector<S2CellId> rest = s2union::Difference(face.cell_ids(), land.cell_ids());
     check(rest.size() == 3 && s2union::Difference(face, land).cell_ids() == rest);
     // [Difference of lists]
-  }
-  {
-    // [SymmetricDifference of lists]
-    const S2CellUnion land({S2CellId(0x0400000000000000)}), sea({S2CellId(0x1400000000000000)});
-    check(s2union::SymmetricDifference(land, sea).cell_ids().size() == 2);
-    // [SymmetricDifference of lists]
   }
   {
     // [UnionFile]
@@ -593,48 +460,6 @@ int main() {
     UnionFile held(bytes.data(), bytes.size());
     check(held.cell_id(1) == 0x1400000000000000 && held.cell_id(2) == 0);
     // [UnionFile.cell_id]
-  }
-  {
-    // [UnionFile.Contains a cell]
-    UnionFile held(bytes.data(), bytes.size());
-    check(held.Contains(1) && !held.Contains(0x1000000000000000));
-    // [UnionFile.Contains a cell]
-  }
-  {
-    // [UnionFile.ContainsCells]
-    UnionFile held(bytes.data(), bytes.size());
-    check(held.ContainsCells({1, 0x1000000000000000}) == std::vector<bool>({true, false}));
-    // [UnionFile.ContainsCells]
-  }
-  {
-    // [UnionFile.Intersects a cell]
-    UnionFile held(bytes.data(), bytes.size());
-    check(held.Intersects(0x1000000000000000) && !held.Intersects(0x0c00000000000000));
-    // [UnionFile.Intersects a cell]
-  }
-  {
-    // [UnionFile.Contains]
-    UnionFile held(bytes.data(), bytes.size());
-    check(held.Contains(held));
-    // [UnionFile.Contains]
-  }
-  {
-    // [UnionFile.Intersects]
-    UnionFile held(bytes.data(), bytes.size());
-    check(held.Intersects(held));
-    // [UnionFile.Intersects]
-  }
-  {
-    // [UnionFile.LeafCellsCovered]
-    UnionFile held(bytes.data(), bytes.size());
-    check(held.LeafCellsCovered() == uint64_t{1} << 59);
-    // [UnionFile.LeafCellsCovered]
-  }
-  {
-    // [UnionFile.Ancestors]
-    UnionFile held(bytes.data(), bytes.size());
-    check(held.Ancestors() == std::vector<uint64_t>({0x0400000000000000, 0x1000000000000000, 0x1400000000000000}));
-    // [UnionFile.Ancestors]
   }
   {
     // [UnionFile.Union]
@@ -687,5 +512,6 @@ int main() {
     check(pairs.size() == 2 && pairs[0].point == 1 && pairs[0].zone == 0 && pairs[1].zone == 1);
     // [Zones.Pairs]
   }
+  // examples: all others but file_count
   return report();
 }
