@@ -28,6 +28,7 @@ import declared
 import in_cpp
 import in_go
 import in_java
+import in_js
 import in_python
 import in_rust
 import in_types
@@ -39,7 +40,7 @@ TOP = Path(__file__).resolve().parents[1]
 TABLE = "tools/methods.toml"
 LANGUAGES = {".java": in_java.Java(), ".ts": in_types.TypeScript(), ".mjs": in_types.TypeScript(),
              ".py": in_python.Python(), ".rs": in_rust.Rust(), ".go": in_go.Go(), ".hpp": in_cpp.Cpp(),
-             ".cc": in_cpp.Cpp()}
+             ".cc": in_cpp.Cpp(), ".js": in_js.JavaScript()}
 MARK = re.compile(r"^[ \t]*(?://|#) (methods|functions|comment|examples|questions|numbers): ((?:.*,\n *// +)*.*)\n",
                   re.M)
 UNION = "a new union"

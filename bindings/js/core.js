@@ -264,6 +264,12 @@ class Core {
     return isYes(call(at, length, cell));
   }
 
+  /** What a call answers about two lists that stay: yes or no. */
+  askBoth(name, xs, ys) {
+    this.stay(xs, ys);
+    return isYes(this.ask(name, [xs, ys]));
+  }
+
   /** The list that a call makes of lists, in the room of the table for lists of these lengths. */
   make(name, lists, Kind) {
     return this.makeIn(ROOMS[name](...lists.map((list) => list.length)), name, lists, Kind);
@@ -467,24 +473,12 @@ class Core {
     return this.calls.s2u_level(id);
   }
 
-  face(id) {
-    return this.calls.s2u_face(id);
-  }
-
   token(id) {
     return this.text("s2u_token", id);
   }
 
   debug(id) {
     return this.text("s2u_debug", id);
-  }
-
-  fromToken(text) {
-    return this.answer("s2u_from_token", [encoded(text)]);
-  }
-
-  fromDebug(text) {
-    return this.answer("s2u_from_debug", [encoded(text)]);
   }
 
   text(name, id) {
@@ -497,38 +491,6 @@ class Core {
 
   parent(id, level) {
     return unsigned(this.calls.s2u_parent(id, level));
-  }
-
-  child(id, number) {
-    return unsigned(this.calls.s2u_child(id, number));
-  }
-
-  rangeMin(id) {
-    return unsigned(this.calls.s2u_range_min(id));
-  }
-
-  rangeMax(id) {
-    return unsigned(this.calls.s2u_range_max(id));
-  }
-
-  next(id) {
-    return unsigned(this.calls.s2u_next(id));
-  }
-
-  prev(id) {
-    return unsigned(this.calls.s2u_prev(id));
-  }
-
-  commonAncestor(a, b) {
-    return unsigned(this.calls.s2u_common_ancestor(a, b));
-  }
-
-  cellContains(whole, part) {
-    return this.calls.s2u_cell_contains(whole, part) === 1;
-  }
-
-  cellIntersects(a, b) {
-    return this.calls.s2u_cell_intersects(a, b) === 1;
   }
 
   leafAt(face, i, j) {
@@ -565,10 +527,6 @@ class Core {
     return this.marks("s2u_contains_cells", ids, cells);
   }
 
-  intersectsCells(ids, cells) {
-    return this.marks("s2u_intersects_cells", ids, cells);
-  }
-
   /** 1 or 0 for each of the cells, of a list or the bytes of a file. */
   marks(name, of, cells) {
     if (cells.length <= FEW) return this.marksOfFew(this.calls[name.slice(0, -1)], of, cells);
@@ -588,16 +546,6 @@ class Core {
       if (status < 0) throw new Refusal(status, place);
       return status;
     });
-  }
-
-  containsUnion(xs, ys) {
-    this.stay(xs, ys);
-    return this.ask("s2u_contains", [xs, ys]) === 1;
-  }
-
-  intersectsUnion(xs, ys) {
-    this.stay(xs, ys);
-    return this.ask("s2u_intersects", [xs, ys]) === 1;
   }
 
   compare(xs, ys) {
@@ -750,10 +698,6 @@ class Core {
     return Number(this.ofFile("s2u_file_count", bytes));
   }
 
-  fileLeafCount(bytes) {
-    return this.answer("s2u_file_leaf_count", [bytes]);
-  }
-
   fileCell(bytes, place) {
     return this.ofFile("s2u_file_cell", bytes, BigInt(place));
   }
@@ -762,28 +706,6 @@ class Core {
   ofFile(name, bytes, ...more) {
     this.stay(bytes);
     return this.answer(name, [bytes], ...more);
-  }
-
-  fileContainsCells(bytes, cells) {
-    return this.marks("s2u_file_contains_cells", bytes, cells);
-  }
-
-  fileContains(bytes, cell) {
-    return this.askOf(this.calls.s2u_file_contains_cell, bytes, cell);
-  }
-
-  fileIntersects(bytes, cell) {
-    return this.askOf(this.calls.s2u_file_intersects_cell, bytes, cell);
-  }
-
-  fileContainsFile(xs, ys) {
-    this.stay(xs, ys);
-    return isYes(this.ask("s2u_file_contains", [xs, ys]));
-  }
-
-  fileIntersectsFile(xs, ys) {
-    this.stay(xs, ys);
-    return isYes(this.ask("s2u_file_intersects", [xs, ys]));
   }
 
   /** Whether the bytes are the file that `encode` makes; those that are no file are refused. */

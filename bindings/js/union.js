@@ -73,50 +73,12 @@ export function version() {
 
 export const isCell = (value) => typeof value === "bigint" && fits(value) && calls().isCell(value);
 
-export const level = (cell) => calls().level(cellOf(cell));
-export const face = (cell) => calls().face(cellOf(cell));
-export const size = (cell) => calls().size(cellOf(cell));
-export const rangeMin = (cell) => calls().rangeMin(cellOf(cell));
-export const rangeMax = (cell) => calls().rangeMax(cellOf(cell));
-export const parent = (cell, above) => orNull(calls().parent(cellOf(cell), within(above, LAST_LEVEL)));
-export const child = (cell, number) => orNull(calls().child(cellOf(cell), within(number, 3)));
 export const children = (cell) => [0, 1, 2, 3].map((number) => child(cell, number)).filter((it) => it !== null);
-export const next = (cell) => orNull(calls().next(cellOf(cell)));
-export const prev = (cell) => orNull(calls().prev(cellOf(cell)));
-export const commonAncestor = (a, b) => orNull(calls().commonAncestor(cellOf(a), cellOf(b)));
-export const contains = (whole, part) => calls().cellContains(cellOf(whole), cellOf(part));
-export const intersects = (a, b) => calls().cellIntersects(cellOf(a), cellOf(b));
 export const square = (cell) => calls().square(cellOf(cell));
-export const token = (cell) => calls().token(cellOf(cell));
-export const debug = (cell) => calls().debug(cellOf(cell));
-export const fromToken = (text) => calls().fromToken(text);
-export const fromDebug = (text) => calls().fromDebug(text);
 
-export function fromFaceIJ(face, i, j) {
-  return calls().leafAt(within(face, 5), within(i, MOST_SIDE), within(j, MOST_SIDE));
-}
+// methods: all others but is_cell, square_of
 
 // ---- many cells
-
-export function levels(cells) {
-  const ids = numbersOf(cells);
-  return whole(ids, calls().levels(ids), 255);
-}
-
-export function parents(cells, above) {
-  const ids = numbersOf(cells);
-  return whole(ids, calls().parents(ids, above), 0n);
-}
-
-export function rangeMins(cells) {
-  const ids = numbersOf(cells);
-  return whole(ids, calls().rangeMins(ids), 0n);
-}
-
-export function rangeMaxes(cells) {
-  const ids = numbersOf(cells);
-  return whole(ids, calls().rangeMaxes(ids), 0n);
-}
 
 export function tokens(cells) {
   const ids = numbersOf(cells);
@@ -215,50 +177,19 @@ export class CellUnion {
     return this.#ids.values();
   }
 
-  /** How many leaves it has, as a BigInt: 6 * 4^30 if it is the whole sphere. */
-  leafCount() {
-    return calls().leafCount(this.#ids);
-  }
-
   // ---- questions
-
-  /** Whether all leaves of the cell are in it. */
-  has(cell) {
-    return calls().contains(this.#ids, numberOf(cell));
-  }
-
-  intersectsCell(cell) {
-    return calls().intersects(this.#ids, numberOf(cell));
-  }
-
-  /** `has` of many cells in one call, which is quickest if they ascend: 1 or 0 for each. */
-  hasEach(cells) {
-    return calls().containsCells(this.#ids, numbersOf(cells));
-  }
-
-  intersectsEach(cells) {
-    return calls().intersectsCells(this.#ids, numbersOf(cells));
-  }
 
   /** Its cells that share a leaf with the cell. */
   cellsAt(cell) {
     return calls().cellsAt(this.#ids, cellOf(cell));
   }
 
-  isSupersetOf(other) {
-    return calls().containsUnion(this.#ids, cellsIn(other));
-  }
-
   isSubsetOf(other) {
-    return calls().containsUnion(cellsIn(other), this.#ids);
+    return calls().askBoth("s2u_contains", cellsIn(other), this.#ids);
   }
 
   isDisjointFrom(other) {
     return !this.intersects(other);
-  }
-
-  intersects(other) {
-    return calls().intersectsUnion(this.#ids, cellsIn(other));
   }
 
   /** Whether both have the same leaves, and so the same list. */
@@ -273,26 +204,7 @@ export class CellUnion {
 
   // ---- other unions
 
-  union(other) {
-    return unionOf(calls().union(this.#ids, cellsIn(other)));
-  }
-
-  intersection(other) {
-    return unionOf(calls().intersection(this.#ids, cellsIn(other)));
-  }
-
-  difference(other) {
-    return unionOf(calls().difference(this.#ids, cellsIn(other)));
-  }
-
-  symmetricDifference(other) {
-    return unionOf(calls().symmetricDifference(this.#ids, cellsIn(other)));
-  }
-
-  /** The leaves of the six faces that it doesn't have. */
-  complement() {
-    return unionOf(calls().complement(this.#ids));
-  }
+  // methods: all others but tokens
 
   intersectionWithCell(cell) {
     return unionOf(calls().intersection(this.#ids, BigUint64Array.of(cellOf(cell))));
@@ -310,11 +222,6 @@ export class CellUnion {
 
   // ---- lists, texts and files
 
-  /** Its cells and all their ancestors, ascending: the keys of an index. */
-  ancestors() {
-    return calls().make("s2u_ancestors", [this.#ids], BigUint64Array);
-  }
-
   /** Its cells cut to the least level that is at least `min`, and `min` plus a multiple of the modulus. */
   denormalized(min, modulus = 1, most = MOST_LISTED) {
     if (this.denormalizedSize(min, modulus) > BigInt(within(most, Number.MAX_SAFE_INTEGER))) throw new Refusal(MANY, 0);
@@ -323,11 +230,6 @@ export class CellUnion {
 
   denormalizedSize(min, modulus = 1) {
     return calls().denormalisedCount(this.#ids, min, modulus);
-  }
-
-  /** The bytes of its file, in S2's own encoding. */
-  encode() {
-    return calls().encode(this.#ids);
   }
 
   /** Its tokens, with a blank between. */
@@ -376,33 +278,7 @@ export class UnionFile {
     return calls().fileCell(this.#bytes, within(place, Number.MAX_SAFE_INTEGER));
   }
 
-  leafCount() {
-    return calls().fileLeafCount(this.#bytes);
-  }
-
-  has(cell) {
-    return calls().fileContains(this.#bytes, numberOf(cell));
-  }
-
-  hasEach(cells) {
-    return calls().fileContainsCells(this.#bytes, numbersOf(cells));
-  }
-
-  intersectsCell(cell) {
-    return calls().fileIntersects(this.#bytes, numberOf(cell));
-  }
-
-  isSupersetOf(other) {
-    return calls().fileContainsFile(this.#bytes, other.#bytes);
-  }
-
-  intersects(other) {
-    return calls().fileIntersectsFile(this.#bytes, other.#bytes);
-  }
-
-  ancestors() {
-    return calls().make("s2u_file_ancestors", [this.#bytes], BigUint64Array);
-  }
+  // methods: all others but file_count
 
   toUnion() {
     return CellUnion.decode(this.#bytes);
