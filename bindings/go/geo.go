@@ -231,6 +231,9 @@ func within(ctx context.Context, call func() C.int32_t) (status C.int32_t, err e
 	asked := (*C.s2u_heap_asked)(C.calloc(1, C.sizeof_s2u_heap_asked))
 	defer C.free(unsafe.Pointer(flag))
 	defer C.free(unsafe.Pointer(asked))
+	if flag == nil || asked == nil {
+		return C.S2U_MEMORY, nil
+	}
 	ended, watched := make(chan struct{}), make(chan struct{})
 	go func() {
 		defer close(watched)

@@ -52,9 +52,6 @@ const FEW = 12;
 const IMPORTS = {
   ...Object.fromEntries(["sin", "cos", "tan", "asin", "atan", "atan2"].map((name) => [name, Math[name]])),
   fmod: (x, y) => x % y,
-  s2js_no_memory: () => {
-    throw new Refusal(MEMORY, 0);
-  },
 };
 
 /** A refusal of the library: its kind, its status, and the place that it reports. */
@@ -308,18 +305,7 @@ class Core {
    */
   taking(end, name, ...words) {
     this.calls.s2js_begin(BigInt(end));
-    return this.takingMore(name, ...words);
-  }
-
-  /** The same of a heap that goes on. If there is no memory, the call is left, and its stack is put back. */
-  takingMore(name, ...words) {
-    const stack = this.calls.__stack_pointer.value;
-    try {
-      return this.calls[name](...words);
-    } catch (error) {
-      this.calls.__stack_pointer.value = stack;
-      throw error;
-    }
+    return this.calls[name](...words);
   }
 
   /** Copies of what pairs of an address and a count at a place say, as lists of some kinds. */
@@ -418,14 +404,16 @@ class Core {
   askZones(name, lists, ...words) {
     const taken = [];
     const take = (size) => {
-      taken.push(this.takingMore("s2js_take", BigInt(size)) >>> 0);
-      return taken.at(-1);
+      const at = this.calls.s2js_take(BigInt(size)) >>> 0;
+      if (!at) throw new Refusal(MEMORY, 0);
+      taken.push(at);
+      return at;
     };
     try {
       const found = take(24);
       const given = lists.flatMap((list) => [take(list.byteLength), list.length].map(BigInt));
       lists.forEach((list, k) => this.copy(list, Number(given[2 * k])));
-      const status = this.takingMore(name, ...given, ...words, BigInt(found));
+      const status = this.calls[name](...given, ...words, BigInt(found));
       return [status, ...[0, 8, 16].map((at) => Number(this.number(found + at)))];
     } finally {
       for (const at of taken) this.calls.s2js_give_back(BigInt(at));
@@ -441,11 +429,15 @@ class Core {
   /** The pairs of places and zones; or the status of a fault, and its place. */
   pairsOf(longitudes, latitudes, borders) {
     const [status, at, count, wrong] = this.askZones("s2js_pairs", [longitudes, latitudes], borders);
-    const pairs = new Uint32Array(this.calls.memory.buffer, at, status < 0 ? 0 : 4 * count);
-    const made = {status, wrong, places: new Uint32Array(count), zones: new Uint32Array(count)};
-    for (let k = 0; 4 * k < pairs.length; k++) made.places[k] = pairs[4 * k], made.zones[k] = pairs[4 * k + 2];
-    this.calls.s2js_give_back(BigInt(at));
-    return made;
+    try {
+      if (status === MEMORY) throw new Refusal(MEMORY, 0);
+      const pairs = new Uint32Array(this.calls.memory.buffer, at, status < 0 ? 0 : 4 * count);
+      const made = {status, wrong, places: new Uint32Array(count), zones: new Uint32Array(count)};
+      for (let k = 0; 4 * k < pairs.length; k++) made.places[k] = pairs[4 * k], made.zones[k] = pairs[4 * k + 2];
+      return made;
+    } finally {
+      this.calls.s2js_give_back(BigInt(at));
+    }
   }
 
   /** The level of cells at the border that keep within some meters. */

@@ -2,12 +2,9 @@
  * s2union_outline.h and s2union_join.h, as the package for JavaScript calls them, and a heap. It is tested, not proved.
  *
  * JavaScript lays out the memory. A call that takes some of it gets what lies behind all that JavaScript has there, and
- * what it made is gone when the next one begins; but zones stay, which have an instance of the module of their own. If
- * there is none, s2js_no_memory is called, which doesn't return. */
+ * what it made is gone when the next one begins; but zones stay, which have an instance of the module of their own. */
 #include "s2union_join.h"
 #include "s2union_outline.h"
-
-__attribute__((noreturn)) void s2js_no_memory(void);
 
 /* ---- the heap: blocks of a power of two, with their exponent in front */
 
@@ -23,15 +20,15 @@ void s2js_begin(uint64_t at) {
   s2js_front = (at + 15) / 16 * 16;
 }
 
-/* Sees to it that the memory has the bytes before some address. */
-static void s2js_reach(uint64_t end) {
+/* Whether the memory has the bytes before some address, or could be given them. */
+static int s2js_reach(uint64_t end) {
   uint64_t pages = __builtin_wasm_memory_size(0), wanted = (end + S2JS_PAGE - 1) / S2JS_PAGE;
-  if (end > S2JS_MOST) s2js_no_memory();
-  if (wanted > pages && (uint32_t)__builtin_wasm_memory_grow(0, wanted - pages) == UINT32_MAX) s2js_no_memory();
+  if (end > S2JS_MOST) return 0;
+  return wanted <= pages || (uint32_t)__builtin_wasm_memory_grow(0, wanted - pages) != UINT32_MAX;
 }
 
 __attribute__((noinline)) void* malloc(size_t size) {
-  if (size > S2JS_MOST / 2) s2js_no_memory();
+  if (size > S2JS_MOST / 2) return NULL;
   uint32_t exponent = size <= 1 << S2JS_LEAST ? S2JS_LEAST : 64 - (uint32_t)__builtin_clzll(size - 1);
   void** block = (void**)s2js_freed[exponent];
   if (block) {
@@ -39,7 +36,7 @@ __attribute__((noinline)) void* malloc(size_t size) {
     return block;
   }
   uint64_t at = s2js_front + S2JS_HEAD, end = at + ((uint64_t)1 << exponent);
-  s2js_reach(end);
+  if (!s2js_reach(end)) return NULL;
   s2js_front = end;
   ((uint64_t*)at)[-1] = exponent;
   return (void*)at;
@@ -56,27 +53,32 @@ void* realloc(void* at, size_t size) {
   uint64_t old = at ? (uint64_t)1 << ((uint64_t*)at)[-1] : 0;
   if (size <= old && at) return at;
   void* more = malloc(size);
+  if (!more) return NULL;
   if (at) memcpy(more, at, old);
   free(at);
   return more;
 }
 
 void* calloc(size_t count, size_t size) {
-  if (size && count > S2JS_MOST / size) s2js_no_memory();
-  return memset(malloc(count * size), 0, count * size);
+  void* at = size && count > S2JS_MOST / size ? NULL : malloc(count * size);
+  return at ? memset(at, 0, count * size) : NULL;
 }
 
-/* The same for the proved calls. */
+/* The same for the proved calls, to which no address is 0. */
+static void s2js_block(s2u_block* block, void* found, void* instead) {
+  block->ok = found != NULL;
+  block->at = found ? found : instead;
+}
+
 void s2u_block_take(s2u_block* block, size_t size, size_t align) {
+  static uint64_t nowhere[2];
   (void)align;
-  block->ok = 1;
-  block->at = malloc(size);
+  s2js_block(block, malloc(size), nowhere);
 }
 
 void s2u_block_grow(s2u_block* block, void* at, size_t old_size, size_t size, size_t align) {
   (void)old_size, (void)align;
-  block->ok = 1;
-  block->at = realloc(at, size);
+  s2js_block(block, realloc(at, size), at);
 }
 
 void s2u_block_give_back(void* at) { free(at); }
@@ -174,19 +176,20 @@ int32_t s2js_neighbors(const uint64_t* ids, size_t n, uint32_t level, s2u_cover_
   return s2u_cover_neighbors(ids[0], level, made);
 }
 
-static uint64_t* s2js_four(s2u_cover_cells* made) {
+static int s2js_has_four(s2u_cover_cells* made) {
   made->count = 4;
-  return made->ids = (uint64_t*)malloc(4 * sizeof *made->ids);
+  made->ids = (uint64_t*)malloc(4 * sizeof *made->ids);
+  return made->ids != NULL;
 }
 
 int32_t s2js_edge_neighbors(const uint64_t* ids, size_t n, uint32_t level, s2u_cover_cells* made) {
   (void)n, (void)level;
-  return s2u_geo_edge_neighbors(ids[0], s2js_four(made));
+  return s2js_has_four(made) ? s2u_geo_edge_neighbors(ids[0], made->ids) : S2U_MEMORY;
 }
 
 int32_t s2js_vertex_neighbors(const uint64_t* ids, size_t n, uint32_t level, s2u_cover_cells* made) {
   (void)n;
-  return s2u_geo_vertex_neighbors(ids[0], level, s2js_four(made), &made->count);
+  return s2js_has_four(made) ? s2u_geo_vertex_neighbors(ids[0], level, made->ids, &made->count) : S2U_MEMORY;
 }
 
 int32_t s2js_expanded(const uint64_t* ids, size_t n, uint32_t level, s2u_cover_cells* made) {
@@ -210,6 +213,7 @@ void s2js_zones(uint64_t at) {
   s2js_made = s2u_join_none();
 }
 
+/* Where so many bytes are, or 0. */
 uint32_t s2js_take(uint64_t size) { return (uint32_t)(uint64_t)malloc(size); }
 
 void s2js_give_back(uint64_t at) { free((void*)at); }

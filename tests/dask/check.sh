@@ -175,6 +175,60 @@ for (line in strsplit(readLines("shapes"), "\t")) {
 cat(asked, "passed, 0 failed\n")
 R
 )
+without_memory_of_r() ( # R's own memory is refused too, so calls are those below the functions, which do more in R
+  cd "$work" && gcc -std=c11 -O2 -fPIC -shared -I"$top/tests" "$top/tests/refuse.c" -x c - -o refuse.so <<'C' &&
+#include "refuse.h"
+void refuse(int *turn, int *asked) { *asked = (int)refuse_memory(*turn); }
+void blocks(int *taken) { *taken = (int)blocks_taken(); }
+C
+    LD_PRELOAD=$work/refuse.so Rscript - <<'R'
+library(s2union)
+invisible(compiler::enableJIT(0))
+dyn.load("refuse.so")
+refuse <- function(turn) .C("refuse", turn, 0L)[[2]]
+blocks <- function() {
+  gc() # by which zones that nobody has any more are given back
+  .C("blocks", 0L)[[1]]
+}
+ring <- c(2, 48, 3, 48, 3, 49, 2, 49, 2, 48)
+wkb <- c(as.raw(1), writeBin(c(3L, 1L, 5L), raw(), endian = "little"), writeBin(ring, raw(), endian = "little"))
+kept <- s2u_zones(list(wkb))
+held <- 1
+places <- list(c(2.5, 9), c(48.5, 9))
+zones_of <- function(zones) .Call(s2union:::C_pairs, zones, places[[1]], places[[2]], TRUE)[[2]]
+calls <- list(function() {
+  made <- .Call(s2union:::C_zones)
+  .Call(s2union:::C_add_wkb, made, wkb)
+  zones_of(made)
+}, function() {
+  .Call(s2union:::C_add_wkb, kept, wkb)
+  held <<- held + 1
+  zones_of(kept)
+})
+refused <- function(call, turn) { # whether an allocation was refused; then it is said, and the zones are as they were
+  refuse(turn)
+  found <- tryCatch(call(), S2U_MEMORY = identity)
+  is_refused <- refuse(0L) >= turn
+  stopifnot(is_refused == inherits(found, "S2U_MEMORY"), identical(zones_of(kept), as.numeric(seq_len(held))))
+  is_refused
+}
+asked <- 0
+for (call in calls) {
+  turn <- 1L
+  while (refused(call, turn)) turn <- turn + 1L
+  stopifnot(turn > 10)
+  asked <- asked + turn
+}
+for (turn in 1:12) {
+  for (k in 1:5) refused(calls[[1]], turn)
+  before <- blocks()
+  for (k in 1:50) refused(calls[[1]], turn)
+  stopifnot(blocks() - before < 50)
+  asked <- asked + 1
+}
+cat(asked, "passed, 0 failed\n")
+R
+)
 page_of_r() (
   cd "$work" && block bindings/r/README.md r >first.R && block bindings/r/README.md "text r" >wanted && [ -s wanted ] &&
     Rscript first.R >said && diff wanted said
@@ -182,6 +236,7 @@ page_of_r() (
 step "the package for R: R CMD check, with its tests beside S2's own operations" for_r
 step "the package for R: no text that is longer than R's" long_text_of_r
 step "the package for R: the cells of shapes, beside Python" shapes_of_r
+step "the package for R: zones, each allocation refused in turn" without_memory_of_r
 step "bindings/r/README.md" page_of_r
 step "bindings/r/README.md: all pairs" pairs_by bindings/r/README.md "r pairs" R Rscript pairs.R
 

@@ -24,6 +24,12 @@ by_go() ( # the page's program, in a module of its own
 )
 step "against the model, the edges, what is refused, and the examples" for_go
 step "$page" by_go
+without_memory() (
+  gcc -std=c11 -O2 "${strict[@]}" -fPIC -shared "$top/tests/refuse.c" -o "$work/refuse.so" && mkdir "$work/memory" &&
+    cd "$work/memory" && cp "$top/bindings/go/tests/memory/memory.go" "$work/by-go/go.mod" . && go build -o program &&
+    LD_PRELOAD=$work/refuse.so ./program
+)
+step "zones, each allocation of C refused in turn" without_memory
 first_lines() (
   mkdir -p "$work/first" && cd "$work/first" && cp "$work/by-go/go.mod" . &&
     lines_of go "package main

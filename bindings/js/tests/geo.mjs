@@ -155,7 +155,6 @@ const tests = {
       () => geo.outline(geo.covering(polygon, {maxCells: 3000})).coordinates[0][0].length,
       () => geo.neighbors(fromToken("1"), 16).size];
     const wanted = asked.map((ask) => ask());
-    const stack = own.calls.__stack_pointer.value;
     /** What the first call with enough memory answers; those before it are refused. */
     const first = async (ask) => {
       for (let pages = 12; ; pages += 5) {
@@ -165,7 +164,6 @@ const tests = {
         } catch (error) {
           assert.ok(error instanceof Refusal && error.kind === "MEMORY", error.stack);
           assert.equal(geo.covering({type: "Point", coordinates: [0, 0]}, {maxCells: 1}).size, 1);
-          assert.equal(internals.calls().calls.__stack_pointer.value, stack);
         }
       }
     };
@@ -177,6 +175,39 @@ const tests = {
     } finally {
       Object.assign(internals.calls(), own);
     }
+  },
+  "zones with more and more memory: an error by its name, and those that were added stay": async () => {
+    const limited = await withPages(12);
+    const teeth = Array.from({length: 100}, (_, k) => [k % 2 ? 9 : 5, k / 25]);
+    const zone = {type: "Polygon", coordinates: [[[0, 0], ...teeth, [0, 4], [0, 0]]]};
+    /** What a call answers, or nothing without memory. */
+    const tried = (call) => {
+      try {
+        return call();
+      } catch (error) {
+        assert.ok(error instanceof Refusal && error.kind === "MEMORY", error.stack);
+        return undefined;
+      }
+    };
+    /** Whether all is had where this many blocks of the least size are left. */
+    const isHad = (left) => {
+      const core = limited.forZones();
+      let blocks = 0;
+      while (core.calls.s2js_take(1n)) blocks++;
+      core.calls.s2js_zones(BigInt(core.base));
+      for (let k = left; k < blocks; k++) core.calls.s2js_take(1n);
+      internals.calls().forZones = () => core;
+      const zones = new geo.Zones();
+      delete internals.calls().forZones;
+      const added = [1, 2].map(() => tried(() => zones.add(zone))).filter((number) => number !== undefined);
+      const found = tried(() => zones.pairs([1, 20], [2, 2]));
+      assert.deepEqual(added, [0, 1].slice(0, added.length));
+      if (found) assert.deepEqual([...found.places, ...found.zones], [...added.map(() => 0), ...added]);
+      return added.length === 2 && found !== undefined;
+    };
+    let left = 0;
+    while (!isHad(left)) left += 4;
+    assert.ok(left > 100, `${left}`);
   },
   "a covering has all points of a polygon, and few more with more cells": () => {
     const sizes = [[50, 0], [1000, 0], [1000, 360], [1000, -360]].map(([most, turn]) => {

@@ -1,9 +1,8 @@
 /* The heap of the page's module and its product of 128 bits, which bindings/js/module.c has, compiled for this system:
- * the product beside the processor's, and blocks that each have a pattern of their own. The last line is 'N passed, M
- * failed'. */
+ * the product beside the processor's, blocks that each have a pattern of their own, and zones with less and less
+ * memory. The last line is 'N passed, M failed'. */
 #define _GNU_SOURCE
 #include <math.h>
-#include <setjmp.h>
 #include <stdbool.h>
 #include <stdint.h>
 #include <stdio.h>
@@ -15,12 +14,11 @@ enum { BLOCKS = 500, ROUNDS = 300000, PAIRS = 1000000 };
 #define BEGIN 0x10000000u
 #define PAGES 1024u /* of the memory, at the most, behind BEGIN */
 
-static uint64_t page_count = BEGIN / 65536;
-static jmp_buf out_of_memory;
+static uint64_t page_count = BEGIN / 65536, most_pages = PAGES;
 static unsigned long passed, failed;
 
 static uint64_t grown(uint64_t more) {
-  if (page_count + more > BEGIN / 65536 + PAGES) return UINT32_MAX;
+  if (page_count + more > BEGIN / 65536 + most_pages) return UINT32_MAX;
   return page_count += more, 0;
 }
 
@@ -40,8 +38,6 @@ void heap_free(void* at);
 #undef calloc
 #undef realloc
 #undef free
-
-void s2js_no_memory(void) { longjmp(out_of_memory, 1); }
 
 static void is(int holds, const char* what) {
   if (!holds && failed < 9) printf("FAILED: %s\n", what);
@@ -127,9 +123,52 @@ static uint64_t end_of_all(void) {
   return s2js_front;
 }
 
-static int refuses(size_t count, size_t size) {
-  if (setjmp(out_of_memory)) return 1;
-  return heap_calloc(count, size) == NULL;
+static int refuses(size_t count, size_t size) { return heap_calloc(count, size) == NULL; }
+
+/* How many blocks were taken, of which none was given back. */
+static size_t blocks_taken(void) {
+  size_t count = 0;
+  for (uint64_t at = BEGIN; at < s2js_front; count++)
+    at += S2JS_HEAD + ((uint64_t)1 << *(uint64_t*)(uintptr_t)(at + S2JS_HEAD - 8));
+  for (size_t exponent = 0; exponent < sizeof s2js_freed / sizeof *s2js_freed; exponent++)
+    for (void** block = s2js_freed[exponent]; block; block = *block) count--;
+  return count;
+}
+
+/* Adds two zones and asks them, where this many blocks of the least size are left: what cannot be had is said, the
+ * zones that were added stay, and no block is lost. Whether all was had. */
+static int has_zones(size_t left) {
+  static const double corners[] = {0, 0, 9, 0, 9, 9, 5, 4, 4, 5, 3, 4, 2, 5, 1, 4, 0, 9, 0, 0};
+  static const double x[] = {1, 20}, y[] = {1, 2};
+  const s2u_cover_ring ring = {sizeof corners / 16, 0};
+  s2u_cover_fault fault;
+  s2js_found found;
+  s2js_zones(BEGIN);
+  while (s2js_take(1)) continue;
+  size_t all = blocks_taken();
+  s2js_zones(BEGIN);
+  for (size_t k = left; k < all; k++) s2js_take(1);
+  size_t before = blocks_taken(), added = 0;
+  for (int zone = 0; zone < 2; zone++) {
+    int32_t status = s2js_add(corners, 2 * ring.end, &ring, 2, &fault);
+    is(status == S2U_OK || status == S2U_MEMORY, "a zone is added, or there is no memory");
+    added += status == S2U_OK;
+    is(s2js_made.zones.count == added, "the zones are as they were");
+  }
+  int32_t status = s2js_pairs(x, 2, y, 2, 1, &found);
+  is(status == S2U_OK ? found.count == added : status == S2U_MEMORY, "each zone that was added has the place");
+  s2js_give_back((uintptr_t)found.pairs);
+  s2u_join_free(&s2js_made);
+  is(blocks_taken() == before, "what was taken is given back");
+  return added == 2 && status == S2U_OK;
+}
+
+static void zones(void) {
+  size_t left = 0;
+  most_pages = 2;
+  while (left < 1000 && !has_zones(left)) left++;
+  is(left > 30 && left < 1000, "zones take memory");
+  most_pages = PAGES;
 }
 
 int main(void) {
@@ -137,6 +176,7 @@ int main(void) {
                   MAP_PRIVATE | MAP_ANONYMOUS | MAP_FIXED_NOREPLACE, -1, 0);
   if (at != (void*)(uintptr_t)BEGIN) return perror("mmap"), 2;
   products();
+  zones();
   s2js_begin(BEGIN + 3);
   uint64_t end = end_of_all();
   for (int turn = 0; turn < 20; turn++) is(end_of_all() == end, "what was given back is used again");

@@ -38,6 +38,13 @@ with_serde() ( # by Debian's sources of serde, in place of a registry
     --config 'source.debian.directory="/usr/share/cargo/registry"' test -q --offline
 )
 step "against the model, the edges, what is refused, and the examples" for_rust
+without_memory() ( # of C, which zones have
+  gcc -std=c11 -O2 "${strict[@]}" -fPIC -shared "$top/tests/refuse.c" -o "$work/refuse.so" && cd "$work/for-rust" &&
+    RUSTFLAGS=-Dwarnings CARGO_TARGET_DIR=$work/target cargo test -q --offline --test memory --no-run &&
+    LD_PRELOAD=$work/refuse.so RUSTFLAGS=-Dwarnings CARGO_TARGET_DIR=$work/target timeout 600 cargo test --offline \
+      --test memory zones -- --nocapture >"$work/zones" && ! grep 'not loaded' "$work/zones"
+)
+step "zones, each allocation of C refused in turn" without_memory
 step "$page" by_rust
 step "README.md" first_lines
 by_cargo() ( # COMMAND WORD..: in the program's folder

@@ -1,12 +1,15 @@
 //! Each allocation refused in turn: a call that returns a `Result` returns `Error::Memory`, or what it would have. And
-//! each block goes back to the allocator by the size and the alignment with which it was taken.
+//! each block goes back to the allocator by the size and the alignment with which it was taken. Zones lie in memory of
+//! C, which tests/refuse.c refuses, if that was loaded before the C library.
 
 use std::alloc::{GlobalAlloc, Layout, System};
 use std::cell::Cell;
+use std::ffi::CStr;
 use std::fmt::Debug;
+use std::os::raw::{c_char, c_long, c_void};
 use std::sync::atomic::{AtomicUsize, Ordering};
 
-use s2union::{CellId, CellUnion, Error, Rect, RegionCoverer, Shape, UnionFile};
+use s2union::{CellId, CellUnion, Error, Rect, RegionCoverer, Shape, UnionFile, Zones};
 
 thread_local! {
     /// The allocation of this thread that is refused, counted from 1; or 0, if none is left.
@@ -138,4 +141,49 @@ fn each_allocation_refused_in_turn() {
     ids.extend(kept.iter().map(|cell| cell.id()));
     drop((CellUnion::from_cells(cells), CellUnion::from_ids(ids), x.clone(), bytes));
     assert_eq!(OTHERS.load(Ordering::SeqCst), 0);
+}
+
+extern "C" {
+    fn dlsym(library: *mut c_void, name: *const c_char) -> *mut c_void;
+}
+
+/// The functions of tests/refuse.c: what refuses an allocation of C, and how many blocks there are.
+fn refusing_c() -> Option<(extern "C" fn(c_long) -> c_long, extern "C" fn() -> c_long)> {
+    let found = ["refuse_memory\0", "blocks_taken\0"].map(|name| {
+        let name = CStr::from_bytes_with_nul(name.as_bytes()).unwrap();
+        // SAFETY: the name ends with a 0, and any library may have it.
+        unsafe { dlsym(std::ptr::null_mut(), name.as_ptr()) }
+    });
+    // SAFETY: refuse.h declares them so.
+    found
+        .iter()
+        .all(|at| !at.is_null())
+        .then(|| unsafe { (std::mem::transmute(found[0]), std::mem::transmute(found[1])) })
+}
+
+#[test]
+fn zones_without_memory() {
+    let (refuse, blocks_taken) = match refusing_c() {
+        Some(calls) => calls,
+        None => return println!("tests/refuse.c is not loaded before the C library"),
+    };
+    let square = Shape::polygon(&[[[2.0, 48.0], [3.0, 48.0], [3.0, 49.0], [2.0, 49.0], [2.0, 48.0]]]);
+    let ask = |zones: &mut Zones| zones.pairs(&[2.5, 9.0], &[48.5, 9.0], true);
+    let (mut turns, mut is_refused) = (0, true);
+    while is_refused {
+        turns += 1;
+        let (mut zones, before) = (Zones::default(), blocks_taken());
+        refuse(turns);
+        let (first, second) = (zones.add(&square), zones.add(&square));
+        let pairs = ask(&mut zones);
+        is_refused = refuse(0) >= turns;
+        let added = [&first, &second].iter().filter(|number| number.is_ok()).count();
+        let refusals = [first.err(), second.err(), pairs.as_ref().err().cloned()];
+        assert!(refusals.iter().flatten().all(|error| *error == Error::Memory));
+        assert!(pairs.map_or(true, |pairs| pairs.len() == added));
+        assert_eq!(ask(&mut zones).unwrap().len(), added); // those that were added stay
+        drop((zones, refusals));
+        assert_eq!(blocks_taken(), before);
+    }
+    assert!(turns > 10);
 }
