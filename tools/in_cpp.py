@@ -173,10 +173,10 @@ class Cpp(languages.Language):
         comment = self.told("", methods, text, since, self.function_shown_as(method))
         if not has_two:
             return [*comment, "template <class X>",
-                    f"bool {name}(const X& x, internal::CellOf<X> id, int32_t* status = nullptr) {{",
+                    f"inline bool {name}(const X& x, internal::CellOf<X> id, int32_t* status = nullptr) {{",
                     "  return internal::answer(x, status, [id](const uint64_t* xs, size_t n) {",
                     f"    return {call}(xs, n, internal::number_of(id));", "  });", "}"]
-        result = "internal::MadeOf<X>" if method.makes_union else "bool"
+        result = "internal::MadeOf<X>" if method.makes_union else "inline bool"
         head = [*comment, "template <class X, class Y>",
                 f"{result} {name}(const X& x, const Y& y, int32_t* status = nullptr) {{"]
         if not method.makes_union:

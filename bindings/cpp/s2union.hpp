@@ -120,17 +120,24 @@ class CellUnionOf;
 
 namespace internal {
 
+/// Ends a call that failed, and was given no place for its status. It is apart, so that what calls it stays short
+/// enough for a compiler to put it in its place.
+[[noreturn]] inline void end_by(int32_t status) {
+#if S2UNION_THROWS
+  if (status == S2U_MEMORY) throw std::bad_alloc();
+  throw Error(status);
+#else
+  (void)status;
+  std::abort();
+#endif
+}
+
 /// Reports the status of a call: in `outcome`, or if that is null, by an exception. Whether it succeeded.
 inline bool succeeded(int32_t status, int32_t* outcome) {
   if (outcome != nullptr) {
     *outcome = status < 0 ? status : S2U_OK;
   } else if (status < 0) {
-#if S2UNION_THROWS
-    if (status == S2U_MEMORY) throw std::bad_alloc();
-    throw Error(status);
-#else
-    std::abort();
-#endif
+    end_by(status);
   }
   return status >= 0;
 }
@@ -351,7 +358,7 @@ CellsOf<X> made_of(Call call, size_t most(size_t, size_t), const X& x, const Y& 
 
 /// What a call answers about a list or a union.
 template <class X, class Ask>
-bool answer(const X& x, int32_t* status, Ask ask) {
+inline bool answer(const X& x, int32_t* status, Ask ask) {
   const CellsOf<X>& xs = list_of(x);
   int32_t found = checked(x);
   if (found == S2U_OK) found = ask(numbers(xs), xs.size());
@@ -359,11 +366,12 @@ bool answer(const X& x, int32_t* status, Ask ask) {
 }
 /// The same about two.
 template <class X, class Y, class Call>
-bool answer(const X& x, const Y& y, int32_t* status, Call call) {
+inline bool answer(const X& x, const Y& y, int32_t* status, Call call) {
+  const CellsOf<X>& xs = list_of(x);
   const CellsOf<Y>& ys = list_of(y);
-  return answer(x, status, [&](const uint64_t* xs, size_t n) {
-    return checked(y) == S2U_OK ? call(xs, n, numbers(ys), ys.size()) : S2U_NO_UNION;
-  });
+  int32_t found = checked(x) == S2U_OK ? checked(y) : S2U_NO_UNION;
+  if (found == S2U_OK) found = call(numbers(xs), xs.size(), numbers(ys), ys.size());
+  return succeeded(found, status) && found == 1;
 }
 
 template <class Id>
