@@ -108,36 +108,17 @@ static void texts(Table& table) {
                  must(s2u_token(ids[k], &proved.bytes[32 * k], 32, &proved.lens[k]) == S2U_OK, "token");
              },
              [&] { return proved.sum(); }});
-  auto back = [&](Row it, auto from_text, FromText proved_from_text) {
-    table.row(it,
-              {[&] {
-                 for (size_t k = 0; k < N; k++) a[k] = from_text(peer[k]).id();
-               },
-               [&] { return sum_of(a); }},
-              {[&] {
-                 for (size_t k = 0; k < N; k++)
-                   must(proved_from_text(peer[k].data(), peer[k].size(), &b[k]) == S2U_OK, "from_text");
-               },
-               [&] { return sum_of(b); }});
-  };
   for (size_t k = 0; k < N; k++) peer[k] = S2CellId(ids[k]).ToToken();
-  back(
-      {"from_token", N, 0xe714663334a73aec}, [](const std::string& t) { return S2CellId::FromToken(t); },
-      s2u_from_token);
-  table.row({"debug_text", N, 0x13a109391df62c77},
+  table.row({"from_token", N, 0xe714663334a73aec},
             {[&] {
-               for (size_t k = 0; k < N; k++) peer[k] = S2CellId(ids[k]).ToString();
+               for (size_t k = 0; k < N; k++) a[k] = S2CellId::FromToken(peer[k]).id();
              },
-             sum_of_texts},
+             [&] { return sum_of(a); }},
             {[&] {
                for (size_t k = 0; k < N; k++)
-                 must(s2u_debug(ids[k], &proved.bytes[32 * k], 32, &proved.lens[k]) == S2U_OK, "debug_text");
+                 must(s2u_from_token(peer[k].data(), peer[k].size(), &b[k]) == S2U_OK, "from_token");
              },
-             [&] { return proved.sum(); }});
-  for (size_t k = 0; k < N; k++) peer[k] = S2CellId(ids[k]).ToString();
-  back(
-      {"from_debug_text", N, 0xe714663334a73aec}, [](const std::string& t) { return S2CellId::FromDebugString(t); },
-      s2u_from_debug);
+             [&] { return sum_of(b); }});
 }
 
 static void normalising(Table& table) {
@@ -202,36 +183,6 @@ static void sets(Table& table, const Unions& u) {
   row({"difference_disjoint", 0, 0}, u.x, u.far, &S2CellUnion::Difference, s2u_difference);
   row({"difference_inside", 0, 0}, u.x, u.inside, &S2CellUnion::Difference, s2u_difference);
   row({"difference_from_face", 0, 0}, u.face, u.y, &S2CellUnion::Difference, s2u_difference);
-}
-
-static void cell_questions(Table& table, const Unions& u) {
-  using Asked = bool (S2CellUnion::*)(S2CellId) const;
-  S2CellUnion x = peer_union(u.x);
-  std::vector<uint8_t> a(N), b(N);
-  auto row = [&](Row it, std::function<void()> theirs, std::function<void()> ours) {
-    table.row(it, {theirs, [&] { return Sum().add_all(a).value(); }}, {ours, [&] { return Sum().add_all(b).value(); }});
-  };
-  auto each = [&](Row it, const List& questions, Asked peer, CellCall call) {
-    auto theirs = [&] {
-      for (size_t k = 0; k < N; k++) a[k] = (x.*peer)(S2CellId(questions[k]));
-    };
-    row(it, theirs, [&] {
-      for (size_t k = 0; k < N; k++) b[k] = call(u.x.data(), u.x.size(), questions[k]) == 1;
-    });
-  };
-  List questions = Random(9).cells_of(0, N, 8, 30), sorted = questions;
-  std::sort(sorted.begin(), sorted.end());
-  each({"contains_cell", N, 0xc716de7ca9f82722}, questions, &S2CellUnion::Contains, s2u_contains_cell);
-  each({"intersects_cell", N, 0x1c9f361b4a86b9c3}, questions, &S2CellUnion::Intersects, s2u_intersects_cell);
-  each({"contains_cell_sorted", N, 0xb36ffb8917552917}, sorted, &S2CellUnion::Contains, s2u_contains_cell);
-  auto walk = [&] {
-    size_t k = 0;
-    peer_walk(x, sorted, [&](bool held) { a[k++] = held; });
-  };
-  row({"contains_cells_sorted", N, 0xb36ffb8917552917}, walk, [&] {
-    size_t bad = 0;
-    made(s2u_contains_cells(u.x.data(), u.x.size(), sorted.data(), N, b.data(), N, &bad), "contains_cells");
-  });
 }
 
 static void union_questions(Table& table, const Unions& u) {
@@ -391,7 +342,6 @@ int main(int argc, char** argv) {
   texts(table);
   normalising(table);
   sets(table, unions);
-  cell_questions(table, unions);
   union_questions(table, unions);
   Sizes(table).rows();
   denormalising(table, unions);

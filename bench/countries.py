@@ -1,7 +1,6 @@
 """The countries of the earth in PostgreSQL beside PostGIS, and in SQLite: countries.py FOLDER, for bench/databases.sh.
 
-FOLDER has the world of docs/examples/, covered; in now/, both extensions; in before/, if it is there, both over another
-library. A number is the processor time of the session that answers, the least of five rounds, or of two if one takes
+FOLDER has the world of docs/examples/, covered; and in now/ both extensions. A number is the processor time of the session that answers, the least of five rounds, or of two if one takes
 more than a second; those who answer the same question take turns. The answers are in brackets. PostGIS counts points of
 borders where s2union counts cells.
 """
@@ -76,8 +75,6 @@ def table(title, sides, questions):
                 if statement := statements[side]:
                     found[side], took = ask(f"SELECT {statement};")
                     least[side] = min(took, least.get(side, took))
-        if found.get("before", found["now"]) != found["now"]:
-            sys.exit(f"{question}: {found}")
         numbers = (f"{1000 * least[side]:.1f} ms ({found[side]})" if side in least else "" for side in sides)
         print(f"| {question} |", " | ".join(numbers), "|", flush=True)
 
@@ -121,25 +118,16 @@ def in_postgres(folder, rows):
     session.ask("VACUUM FULL ANALYZE;")
     count = "count(*), sum(s2_count(covering)), sum(ST_NPoints(polygon)), (SELECT count(*) FROM pairs)"
     print("countries, cells, points of borders, pairs:", session.ask(f"SELECT {count} FROM countries;")[0].strip())
-    sides = {"now": session}
-    if (folder / "before").exists():
-        session.psql.communicate()
-        Postgres("postgres").ask("CREATE DATABASE before TEMPLATE now;")
-        sides = {"now": Postgres("now"), "before": Postgres("before")}
-        sides["before"].ask(f"""UPDATE pg_proc SET probin = '{folder}/before/s2union' WHERE probin = '$libdir/s2union';
-\\c before""")
-        sides["before"] = Postgres("before")
-    sides["PostGIS"] = Postgres("now")
-    asked = {question: {"now": ours, "before": ours, "PostGIS": theirs}
-             for question, (ours, theirs) in IN_POSTGRES.items()}
+    sides = {"now": session, "PostGIS": Postgres("now")}
+    asked = {question: {"now": ours, "PostGIS": theirs} for question, (ours, theirs) in IN_POSTGRES.items()}
     table("PostgreSQL", {name: side.timed for name, side in sides.items()}, asked)
 
 
-def in_sqlite(folder, rows, side):
-    """A function that asks a database with the extension of this side."""
+def in_sqlite(folder, rows):
+    """A function that asks a database with the extension."""
     database = sqlite3.connect(":memory:")
     database.enable_load_extension(True)
-    database.load_extension(str(folder / side / "sqlite/mod_s2union"))
+    database.load_extension(str(folder / "now/sqlite/mod_s2union"))
     database.execute("CREATE TABLE points(leaf INTEGER)")
     database.execute("CREATE TABLE cities(leaf INTEGER)")
     database.execute("CREATE TABLE countries(id INTEGER PRIMARY KEY, covering BLOB)")
@@ -177,9 +165,8 @@ def main(folder):
         "points.rows": with_leaves(*points_of_the_sphere(POINTS)),
     }
     in_postgres(folder, rows)
-    sides = {side: in_sqlite(folder, rows, side) for side in ("now", "before") if (folder / side).exists()}
-    table(f"SQLite {sqlite3.sqlite_version}", sides,
-          {question: dict.fromkeys(sides, asked) for question, asked in IN_SQLITE.items()})
+    table(f"SQLite {sqlite3.sqlite_version}", {"now": in_sqlite(folder, rows)},
+          {question: {"now": asked} for question, asked in IN_SQLITE.items()})
 
 
 if __name__ == "__main__":

@@ -162,30 +162,12 @@ def with_many(session, many):
         sys.exit(f"of {many} points provinces_at finds {tiles[0]}, ST_Covers {covers[0]}, and of parts {parts[0]}")
     print(f"\n{many} points, {tiles[0]} pairs: provinces_at {tiles[1]:.1f} s; "
           f"ST_Covers {covers[1]:.1f} s, the index of the points {index:.1f} s; of parts {parts[1]:.1f} s")
-    of_one_zone(session)
+    session.ask("CREATE INDEX ON many (s2_leaf_at(ST_X(geom), ST_Y(geom)));")
     for table in "provinces", "provinces_tiles", "many_geom_idx", "many_s2_leaf_at_idx":
         print(f"{table}:", session.ask(f"SELECT pg_size_pretty(pg_total_relation_size('{table}'));")[0].strip())
     took = sorted(session.timed(f"UPDATE provinces SET geom = ST_Translate(geom, 0, 1e-6) WHERE id = {province};\n"
                                 "\\echo 1")[1] for province in range(0, 4500, 45))
     print(f"a province moved, of {len(took)}: {took[len(took) // 2] * 1000:.1f} ms, at most {took[-1] * 1000:.0f} ms")
-
-
-def of_one_zone(session):
-    """Prints what the points of one zone take among many, of a hundred zones, one statement each, in turn."""
-    index = session.timed("CREATE INDEX ON many (s2_leaf_at(ST_X(geom), ST_Y(geom)));\n\\echo 1")[1]
-    session.ask("VACUUM ANALYZE many;")
-    print(f"\nthe points of one zone, by an index of the leaves, made in {index:.1f} s, and by GiST:")
-    for more in "", "AND ST_X(p.geom) < 170":
-        ways = "many AS p, provinces_at(p.geom) AS z", "many AS p JOIN provinces AS z ON ST_Covers(z.geom, p.geom)"
-        found = {way: [] for way in ways}
-        for zone in range(0, 4500, 45):
-            for way in ways:
-                found[way].append(session.timed(f"SELECT count(*) FROM {way} WHERE z.id = {zone} {more};"))
-        ours, theirs = ([count for count, _ in found[way]] for way in ways)
-        if ours != theirs:
-            sys.exit("provinces_at and ST_Covers find other points of a zone")
-        took = [sorted(took for _, took in found[way])[50] * 1000 for way in ways]
-        print(f"{more or 'alone'}: provinces_at {took[0]:.2f} ms, ST_Covers {took[1]:.2f} ms, the middle of 100")
 
 
 def write(path, rows):
@@ -375,9 +357,6 @@ def main(folder, modules, file, *words):
                 beside_others(job, *points_of_the_sphere(1_000_000))
             if are_provinces:
                 in_python(job._replace(predicate="intersects"))
-                for count in 10, 1000:
-                    print(f"\n{count} points")
-                    in_python(job._replace(x=job.x[-count:], y=job.y[-count:]))
         return
     passed = 0
     for layer, every in ("countries", 1), ("states_provinces", 10):

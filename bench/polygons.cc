@@ -2,8 +2,8 @@
 // polygons COUNTRIES.geojson COASTS.polygons [WORD [ROUNDS]].
 //
 // At one level all make the same cells, and a row counts only if they do. S2's index is built before, except in the
-// rows 'fresh', where S2 begins with its points as the library begins with its directions. Of at most N cells each
-// makes its own; there the row counts if outer ones have the leaves of all corners, and S2 has the middles of all cells
+// rows 'fresh', where S2 begins with its points, and the library with S2's polygon, by PolygonOf. Of at most N cells
+// each makes its own; there the row counts if outer ones have the leaves of all corners, and S2 has the middles of all cells
 // of inner ones inside. A line tells the cells and the area.
 #include "rings.h"
 
@@ -20,6 +20,8 @@ static List ids_of(const std::vector<S2CellId>& cells) {
   return ids;
 }
 
+static s2union::Polygon polygon_called(const S2Polygon& of) { return s2union::CellUnionOf<S2CellId>::PolygonOf(of); }
+
 // A polygon in the three forms.
 struct Shape {
   std::vector<Ring> rings;
@@ -31,7 +33,7 @@ struct Shape {
       : rings(of),
         polygon(polygon_of(of)),
         given(of, far_leaf(of).id()),
-        called(s2union::CellUnionOf<S2CellId>::PolygonOf(*polygon)) {}
+        called(polygon_called(*polygon)) {}
 
   bool is_small() const { return !polygon->Contains(S2CellId(given.outside).ToPoint()); }
 };
@@ -68,8 +70,7 @@ static List plain_cells(const Given& given, const Asked& asked) {
 }
 
 // By the call, into room that is there.
-static List called_cells(const Shape& shape, const Asked& asked, List& room) {
-  const s2union::Polygon& of = shape.called;
+static List called_cells(const s2union::Polygon& of, const Asked& asked, List& room) {
   const s2u_direction* corners = of.corners.data();
   size_t n = of.corners.size(), lists = of.ends.size(), len = 0;
   int32_t status;
@@ -146,7 +147,9 @@ class Bench {
     sides[PEER] = side(PEER, [&](const Shape& it) {
       return is_fresh ? peer_cells(*polygon_of(it.rings), asked) : peer_cells(*it.polygon, asked);
     });
-    sides[CALL] = side(CALL, [&](const Shape& it) { return called_cells(it, asked, room_); });
+    sides[CALL] = side(CALL, [&](const Shape& it) {
+      return called_cells(is_fresh ? polygon_called(*it.polygon) : it.called, asked, room_);
+    });
     sides[LIMIT] = side(LIMIT, [&](const Shape& it) { return plain_cells(it.given, asked); });
     lanes_.row({name.c_str(), shapes_.size(), 0}, sides);
     if (asked.most && !made[CALL].empty() && !made[CALL][0].empty()) tell_areas(made);

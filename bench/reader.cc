@@ -27,7 +27,7 @@ int main(int argc, char** argv) {
     memcpy(&count, at, 8);
     uint64_t* list = static_cast<uint64_t*>(malloc(8 * count));
     memcpy(list, at + 8, 8 * count);
-    sum += list[count / 2];
+    sum += count ? list[count / 2] : 0;
     at += 8 + 8 * count;
   }
   free(bytes);

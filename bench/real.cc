@@ -348,7 +348,7 @@ static void cell_questions(Lanes& lanes, const std::string& of, const List& list
   row("contains_cells_" + of, each, all, searched);
   std::sort(asked.begin(), asked.end());
   auto walked = [&] { return limit::count_held_in_order(list.data(), list.size(), asked); };
-  row("contains_cells_in_order_" + of, [&] { return peer_walk(peer, asked, [](bool) {}); }, all, walked);
+  row("contains_cells_in_order_" + of, [&] { return peer_walk(peer, asked); }, all, walked);
 }
 
 // A question to one of many unions.

@@ -47,9 +47,8 @@ inline void peer_decode(const std::vector<uint8_t>& bytes, S2CellUnion* cells) {
 }
 
 // How many of the cells, which are in order, S2's union contains: a walk over it, by steps of one, and by a search from
-// there where the next cell is far. Each answer is handed to `take`.
-template <typename Take>
-u64 peer_walk(const S2CellUnion& peer, const List& asked, Take take) {
+// there where the next cell is far.
+inline u64 peer_walk(const S2CellUnion& peer, const List& asked) {
   const PeerCells& ids = peer.cell_ids();
   auto is_before = [](S2CellId x, S2CellId y) { return x.range_max() < y.range_min(); };
   u64 count = 0;
@@ -58,9 +57,7 @@ u64 peer_walk(const S2CellUnion& peer, const List& asked, Take take) {
     S2CellId cell(id);
     for (int steps = 0; at != ids.end() && is_before(*at, cell); steps++)
       at = steps < 8 ? at + 1 : std::lower_bound(at, ids.end(), cell, is_before);
-    bool held = at != ids.end() && at->contains(cell);
-    take(held);
-    count += held;
+    count += at != ids.end() && at->contains(cell);
   }
   return count;
 }
@@ -81,7 +78,6 @@ using CellCall = int32_t (*)(const u64*, size_t, u64);
 using CellsCall = int32_t (*)(const u64*, size_t, const u64*, size_t, uint8_t*, size_t, size_t*);
 using RectangleCall = int32_t (*)(const s2u_rect*, uint32_t, size_t, u64*, size_t, size_t*);
 using ClippedCall = int32_t (*)(const u64*, size_t, const s2u_rect*, uint32_t, size_t, u64*, size_t, size_t*);
-using FromText = int32_t (*)(const char*, size_t, u64*);
 
 // A list that the proved library fills.
 class Room {

@@ -2,11 +2,12 @@
 // The plain sides share nothing with the package: a binary search over the ends of the cells' ranges in Uint32Arrays,
 // with no BigInt in its loop, and a merge of two lists. A row has the nanoseconds of a question, the least of the
 // rounds, the sides in turn; each round repeats until it takes 20 ms. A row counts only if all answers are the same.
-import {resolve} from "node:path";
+import {dirname, join, resolve} from "node:path";
 import {pathToFileURL} from "node:url";
 
 const [path, word = "", rounds = "5"] = process.argv.slice(2);
-const s2 = await import(pathToFileURL(resolve(path)));
+const [s2, geo] = await Promise.all([path, join(dirname(path), "geo.js")].map((file) =>
+  import(pathToFileURL(resolve(file)))));
 await s2.load();
 
 const LEAST = 20e6;
@@ -98,6 +99,33 @@ function plainIntersection(xs, ys) {
     else out.push(ys[j++]);
   }
   return BigUint64Array.from(out);
+}
+
+/** The place along the curve of a corner, for each of four turns, and how a quarter is turned. */
+const PLACES = [[0, 1, 3, 2], [0, 3, 1, 2], [2, 3, 1, 0], [2, 1, 3, 0]];
+const TURNS = [1, 0, 0, 3];
+
+/** The leaf of a place on the sphere, by S2's own arithmetic. */
+function plainLeaf(longitude, latitude) {
+  const [theta, phi] = [longitude, latitude].map((degrees) => degrees * (Math.PI / 180));
+  const at = [Math.cos(phi) * Math.cos(theta), Math.cos(phi) * Math.sin(theta), Math.sin(phi)];
+  const axis = Math.abs(at[0]) > Math.abs(at[1]) ? (Math.abs(at[0]) > Math.abs(at[2]) ? 0 : 2)
+    : Math.abs(at[1]) > Math.abs(at[2]) ? 1 : 2;
+  const [x, y, z] = at;
+  const face = axis + (at[axis] < 0 ? 3 : 0);
+  const ends = [[y / x, z / x], [-x / y, z / y], [-x / z, -y / z], [z / x, y / x], [z / y, -x / y], [-y / z, -x / z]];
+  const [i, j] = ends[face].map((u) => {
+    const s = u >= 0 ? Math.sqrt(1 + 3 * u) / 2 : 1 - Math.sqrt(1 - 3 * u) / 2;
+    return Math.max(0, Math.min(2 ** 30 - 1, Math.floor(s * 2 ** 30)));
+  });
+  let turn = face & 1;
+  const places = [0, 0];
+  for (let k = 29; k >= 0; k--) {
+    const corner = PLACES[turn][(i >> k & 1) << 1 | j >> k & 1];
+    places[k > 14 ? 0 : 1] = places[k > 14 ? 0 : 1] * 4 + corner;
+    turn ^= TURNS[corner];
+  }
+  return (BigInt(face) << 61n) | (BigInt(places[0]) << 31n) | (BigInt(places[1]) << 1n) | 1n;
 }
 
 // ---- the rows
@@ -202,6 +230,17 @@ function smallWithLarge(count) {
   }
 }
 
+{
+  const drawn = Array.from(cellsOf(2048, 3, 30, 30), (id) => geo.toLngLat(id));
+  const leaves = (leafOf) => BigUint64Array.from(drawn, ([x, y]) => leafOf(x, y));
+  const near = leaves(geo.fromLngLat), far = leaves(plainLeaf);
+  // of few places the sines, which engines round in their own way, lead to another cell of level 24
+  wrong += near.filter((id, k) => s2.parent(id, 24) !== s2.parent(far[k], 24)).length > 20 ? 1 : 0;
+  const all = (leafOf) => () => [drawn.reduce((sum, [x, y]) => sum + Number(leafOf(x, y) & 1n), 0)];
+  row("fromLngLat", drawn.length, {ours: all(geo.fromLngLat), plain: all(plainLeaf)});
+  row("fromLngLats", drawn.length, {ours: () => [geo.fromLngLats(drawn).length],
+    plain: () => [leaves(plainLeaf).length]});
+}
 for (const count of [1_000, 100_000, 1_000_000]) smallWithLarge(count);
 for (const count of [100, 10_000, 100_000, 1_000_000]) {
   const union = new s2.CellUnion(cellsOf(count, 4, 14, 20));
@@ -220,6 +259,9 @@ for (const count of [100, 10_000, 100_000, 1_000_000]) {
   row(`file_has_${of}`, QUESTIONS, {ours: () => each(asked, (id) => file.has(id)),
     plain: () => each(asked, (id) => plain.has(id))});
   row(`hasEach_${of}`, QUESTIONS, {ours: () => union.hasEach(asked), plain: () => each(asked, (id) => plain.has(id))});
+  const few = asked.slice(0, 10);
+  row(`hasEach_of_few_${of}`, few.length, {ours: () => union.hasEach(few),
+    plain: () => each(few, (id) => plain.has(id))});
   row(`hasEach_ascending_${of}`, QUESTIONS, {ours: () => union.hasEach(ascending),
     plain: () => each(ascending, (id) => plain.has(id))});
   row(`isSupersetOf_${of}`, 1, {ours: () => [larger.isSupersetOf(union)],
