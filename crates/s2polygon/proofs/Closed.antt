@@ -6,18 +6,18 @@ use Rattle.std.proofs.lemmas.Int.{ints, by_lt_z}
 use Rattle.std.proofs.lemmas.Bool.{eqb-false}
 use Rattle.std.proofs.lemmas.List.Elements.{All-append, All-cons, All-get_or, All-nil}
 use Rattle.std.proofs.Math.Bool.{xor}
-use Rattle.s2polygon.proofs.Beside.{IsClosed, IsFit}
+use Rattle.s2polygon.proofs.Beside.{IsClosed}
 use Rattle.s2polygon.proofs.Changes.{odd_both, xor_self}
 use Rattle.s2polygon.proofs.Integers.{at, ◌⊖◌, ◌⊗◌, equal, product_at_most}
 use Rattle.s2polygon.proofs.Rays.{above_unlike, below_unlike}
 use Rattle.s2polygon.proofs.Middles.{difference}
 use Rattle.s2polygon.proofs.Quarters.{down_up}
 use Rattle.s2polygon.proofs.Steps.{odd_more}
-use Rattle.s2polygon.proofs.Turned.{drop, proper}
+use Rattle.s2polygon.proofs.Turned.{drop}
 use Rattle.s2polygon.specs.Directions.{IsDirection, Point, origin}
 use Rattle.s2polygon.specs.Frames.{in_frame, normal_u_of, normal_v_of, normal_w_of}
 use Rattle.s2polygon.specs.Parity.{is_odd_by}
-use Rattle.s2polygon.specs.Rings.{AreOpposite, AreRings, IsRing, after, corner, edge_from, edges_from}
+use Rattle.s2polygon.specs.Rings.{AreOpposite, AreRings, after, corner, edge_from, edges_from}
 use Rattle.s2polygon.specs.Rings.{ring_edges}
 use Rattle.s2polygon.specs.Rings.{rings_edges, start_of}
 use Rattle.s2polygon.specs.declared.directions.Edge.{Edge}
@@ -200,17 +200,11 @@ pub record IsSound (e : Edge) : Type 0 where
   pub b : IsDirection e.b
   pub apart : ¬ (AreOpposite e)
 
-fits : (f : ℕ) (e : Edge) → IsSound e → IsFit f e
-fits f e s = record {
-  a = proper f e.a s.a;
-  b = proper f e.b s.b;
-  short = record {
-    w = λ g h w u v. s.apart (opposite f e.a e.b (is_back (in_frame f e.a) (in_frame f e.b) w u v (inr (g, h))));
-    back = λ g h w u v. s.apart (opposite f e.a e.b (is_back (in_frame f e.a) (in_frame f e.b) w u v (inl (g, h))));
-  };
-}
-
 -- ---- rings
+-- each ring has three corners or more
+abbrev pub AreLong : List ℕ → Type 0
+AreLong ends = (r : ℕ) → r < length ends → start_of ends r + 3 ≤ get_or ends r 0
+
 module _ (test : Point → Bool) (corners : List Point) (from end : ℕ) where
   differs : Edge → Bool
   differs e = xor (test e.a) (test e.b)
@@ -260,14 +254,14 @@ module _ (test : Point → Bool) (corners : List Point) (from end : ℕ) where
       let e : end - from ≡ suc n = omega arith in
       ap (λ (m : ℕ). is_odd_by differs (edges_from corners from end m)) e ∙ all_edges n (omega arith)
 
-rings_closed : (corners : List Point) (ends : List ℕ) → ((r : ℕ) → r < length ends → IsRing corners ends r) → (n : ℕ)
-    → n ≤ length ends → IsClosed (rings_edges corners ends n)
+rings_closed : (corners : List Point) (ends : List ℕ) → AreLong ends → (n : ℕ) → n ≤ length ends
+    → IsClosed (rings_edges corners ends n)
 unfolding differs
 rings_closed corners ends h zero l test = refl
 rings_closed corners ends h (suc n) l test =
     odd_both (differs test corners 0 0) (rings_edges corners ends n) (ring_edges corners ends n)
     ∙ ap₂ xor (rings_closed corners ends h n (omega arith) test)
-    (ring_even test corners (start_of ends n) (get_or ends n 0) (h n (omega arith)).begins)
+    (ring_even test corners (start_of ends n) (get_or ends n 0) (h n (omega arith)))
     ∙ xor_self false
 
 -- the fact of each edge of rings
@@ -291,11 +285,46 @@ module _ (P : Edge → Type 0) (corners : List Point) where
       (each_from (start_of ends n) (get_or ends n 0) (get_or ends n 0 - start_of ends n) (omega arith)
       (h n (omega arith)))
 
-pub closed : (corners : List Point) (ends : List ℕ) → AreRings corners ends
-    → IsClosed (rings_edges corners ends (length ends))
-closed corners ends h = rings_closed corners ends h.rings (length ends) (omega arith)
+pub closed : (corners : List Point) (ends : List ℕ) → AreLong ends → IsClosed (rings_edges corners ends (length ends))
+closed corners ends h = rings_closed corners ends h (length ends) (omega arith)
 
-all_of : (P : Edge → Type 0) → ((e : Edge) → IsSound e → P e) → (corners : List Point) (ends : List ℕ)
+pub are_long : (corners : List Point) (ends : List ℕ) → AreRings corners ends → AreLong ends
+are_long corners ends h r l = (h.rings r l).begins
+
+within : (i : ℕ) {m n : ℕ} → i < m → m ≤ n → i < n
+within i k l = omega arith
+
+least : (m n : ℕ) → m + 3 ≤ n → m ≤ n
+least m n l = omega arith
+
+follows : (from end i : ℕ) {n : ℕ} → from ≤ i → i < end → end ≤ n → after from end i < n
+follows from end i {n} g k l = by (i + 1 == end) refl
+  where
+    by : (t : Bool) → (i + 1 == end) ≡ t → cond t from (i + 1) < n
+    by true e = omega arith
+    by false e = let ne = eqb-false (i + 1) end e in cases ne
+      where
+        cases : (i + 1 ≡ end → ⊥) → i + 1 < n
+        cases ne = grind (arith, ne)
+
+-- what is so of all corners is so of both ends of each edge
+pub record HaveBoth (P : Point → Type 0) (e : Edge) : Type 0 where
+  pub a : P e.a
+  pub b : P e.b
+
+pub all_both : (P : Point → Type 0) (corners : List Point) (ends : List ℕ) → AreLong ends
+    → ((r : ℕ) → r < length ends → get_or ends r 0 ≤ length corners) → All P corners
+    → All (HaveBoth P) (rings_edges corners ends (length ends))
+all_both P corners ends long in_corners all =
+    each_of (HaveBoth P) corners ends
+    (λ r l i g k. record {
+      a = All-get_or P corners i origin (within i k (in_corners r l)) all;
+      b = All-get_or P corners (after (start_of ends r) (get_or ends r 0) i) origin
+          (follows (start_of ends r) (get_or ends r 0) i g k (in_corners r l)) all;
+    })
+    (λ r l. least (start_of ends r) (get_or ends r 0) (long r l)) (length ends) (omega arith)
+
+pub all_of : (P : Edge → Type 0) → ((e : Edge) → IsSound e → P e) → (corners : List Point) (ends : List ℕ)
     → AreRings corners ends → All IsDirection corners → All P (rings_edges corners ends (length ends))
 all_of P each corners ends h directions =
     each_of P corners ends
@@ -307,27 +336,3 @@ all_of P each corners ends h directions =
       apart = ring.edges i g k;
     }))
     (λ r l. let ring = h.rings r l in least (start_of ends r) (get_or ends r 0) ring.begins) (length ends) (omega arith)
-  where
-    within : (i : ℕ) {m n : ℕ} → i < m → m ≤ n → i < n
-    within i k l = omega arith
-
-    least : (m n : ℕ) → m + 3 ≤ n → m ≤ n
-    least m n l = omega arith
-
-    follows : (from end i : ℕ) {n : ℕ} → from ≤ i → i < end → end ≤ n → after from end i < n
-    follows from end i {n} g k l = by (i + 1 == end) refl
-      where
-        by : (t : Bool) → (i + 1 == end) ≡ t → cond t from (i + 1) < n
-        by true e = omega arith
-        by false e = let ne = eqb-false (i + 1) end e in cases ne
-          where
-            cases : (i + 1 ≡ end → ⊥) → i + 1 < n
-            cases ne = grind (arith, ne)
-
-pub all_sound : (corners : List Point) (ends : List ℕ) → AreRings corners ends → All IsDirection corners
-    → All IsSound (rings_edges corners ends (length ends))
-all_sound = all_of IsSound (λ e s. s)
-
-pub all_fit : (f : ℕ) (corners : List Point) (ends : List ℕ) → AreRings corners ends → All IsDirection corners
-    → All (IsFit f) (rings_edges corners ends (length ends))
-all_fit f = all_of (IsFit f) (fits f)

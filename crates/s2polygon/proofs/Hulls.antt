@@ -1,22 +1,27 @@
 -- The hull of the ends of an edge and of the same ends, moved: a cone, which has no place that the edge doesn't
 -- touch.
-use Rattle.std.proofs.Common.{◌≡◌, sym, ap, ap₂, ◌∙◌, ℕ, ◌+◌, ◌*◌, ◌^◌, ◌≤◌, ◌<◌, arith, ℤ, pos}
-use Rattle.std.proofs.Common.{negsuc, ◌+ℤ◌, ◌-ℤ◌, ◌*ℤ◌, ◌≤ℤ◌, ◌<ℤ◌, mul-le-mul_left, mul-le-mul_right}
+use Rattle.std.proofs.Common.{◌≡◌, ap, ap₂, ◌∙◌, ℕ, zero, suc, ◌+◌, ◌*◌, ◌^◌, ◌≤◌, ◌<◌, arith, ℤ, pos, sym}
+use Rattle.std.proofs.Common.{negsuc, neg_ℤ, ◌+ℤ◌, ◌-ℤ◌, ◌*ℤ◌, ◌≤ℤ◌, ◌<ℤ◌, mul-le-mul_left, mul-le-mul_right}
 use Rattle.std.proofs.lemmas.Int.{ints}
 use Rattle.s2polygon.proofs.Along.{along_follows}
-use Rattle.s2polygon.proofs.Bundles.{ColumnIsClear, RowIsClear, above_scale, line_mix, most, none_on}
-use Rattle.s2polygon.proofs.Cones.{IsCone}
-use Rattle.s2polygon.proofs.Integers.{at, ◌⊕◌, ◌⊖◌, ◌⊗◌, equal, product_at_least}
+use Rattle.s2polygon.proofs.Cones.{IsCone, IsOutside, IsTimes}
+use Rattle.s2polygon.proofs.Faraway.{squares}
+use Rattle.s2polygon.proofs.Integers.{Expr, at, ◌⊕◌, ◌⊖◌, ◌⊗◌, above_sum, equal, product_at_least, value, weaken}
 use Rattle.s2polygon.proofs.Moving.{Apart, AreNear, IsWithin, Pays, apart_in_frame, high_in_frame, mix_apart}
 use Rattle.s2polygon.proofs.Moving.{near_meets}
+use Rattle.s2polygon.proofs.Turned.{minus_is}
 use Rattle.s2polygon.specs.Cells.{square_of, widened}
+use Rattle.s2polygon.specs.Directions.{Point}
 use Rattle.s2polygon.specs.Frames.{in_frame}
 use Rattle.s2polygon.specs.Meets.{InSquare, MeetsSquare, above, mix, right_of}
 use Rattle.s2polygon.specs.Moves.{PassesNear, StaysClear}
 use Rattle.s2polygon.specs.Places.{along}
+use Rattle.s2polygon.specs.Rings.{AreOpposite}
 use Rattle.s2polygon.specs.Ways.{middle_of}
+use Rattle.s2polygon.specs.Working.Rings.{dot_of}
 use Rattle.s2polygon.specs.declared.directions.Edge.{Edge}
 use Rattle.s2polygon.specs.declared.frames.Framed.{Framed}
+use Rattle.s2polygon.specs.declared.places.Square.{Square}
 
 -- ---- the directions between four
 abbrev sum_of_four : (i j k l : ℕ) (a b c d : ℤ) → ℤ
@@ -170,17 +175,6 @@ some_scaled i j k l s t h m n =
     let r = mul-le-mul_left l q in
     omega (arith, h, o, r)
 
--- the ends of lines
-pub record IsEndOfRow (c : Framed) : Type 0 where
-  pub w : c.w ≡ pos 0
-  pub v : c.v ≡ pos 0
-  pub beyond : pos 0 <ℤ c.u
-
-pub record IsEndOfColumn (c : Framed) : Type 0 where
-  pub w : c.w ≡ pos 0
-  pub u : c.u ≡ pos 0
-  pub beyond : pos 0 <ℤ c.v
-
 -- how far a direction on a line lies from other lines
 beyond_first : (k m : ℕ) (s line p w : ℤ) → line ≤ℤ s → pos 0 ≤ℤ w → pos k *ℤ p -ℤ s *ℤ w ≡ pos 0
     → pos 0 ≤ℤ (pos k *ℤ p -ℤ (line -ℤ pos m) *ℤ w)
@@ -204,7 +198,7 @@ short_of_last k m s line p w l before is =
     minus : (x y : ℤ) → x ≡ pos 0 → pos 0 ≤ℤ y → pos 0 ≤ℤ (y -ℤ x)
     minus x y e h = omega (arith, ints, e, h)
 
-at_middle : (m i j : ℕ) (c : Framed) → pos 0 <ℤ c.w → right_of (along (middle_of 0 i)) c ≡ pos 0
+pub at_middle : (m i j : ℕ) (c : Framed) → pos 0 <ℤ c.w → right_of (along (middle_of 0 i)) c ≡ pos 0
     → above (along (middle_of 0 j)) c ≡ pos 0 → InSquare c (widened m (square_of 0 i j))
 at_middle m i j c before right high =
     let k = 3 * 2 ^ 60 in
@@ -221,13 +215,6 @@ at_middle m i j c before right high =
       last_row = short_of_last k m t (along (2 * (j * 2 ^ 0 + 2 ^ 0))) c.v c.w
           (along_follows (middle_of 0 j) (2 * (j * 2 ^ 0 + 2 ^ 0)) (omega arith)) w high;
     }
-
--- beyond the place on a line's end
-beyond_end : (k : ℕ) (s p w : ℤ) → 0 < k → w ≡ pos 0 → pos 0 <ℤ (pos k *ℤ p -ℤ s *ℤ w) → pos 0 <ℤ p
-beyond_end k s p w some e h =
-    most k p (pos k *ℤ p -ℤ s *ℤ w) some
-    (ap (λ (z : ℤ). pos k *ℤ p -ℤ s *ℤ z) e
-    ∙ equal (at (pos k) ⊗ at p ⊖ at s ⊗ at (pos 0)) (at (pos k) ⊗ at p) (omega arith)) h
 
 module _ (num den f : ℕ) (e g : Edge) (a : PassesNear num den e.a g.a) (b : PassesNear num den e.b g.b) where
   abbrev pub Hull : Framed → Type 0
@@ -301,44 +288,157 @@ module _ (num den f : ℕ) (e g : Edge) (a : PassesNear num den e.a g.a) (b : Pa
 
     module _ (m more i j : ℕ) (pays : Pays num den height m more) (hi : i < 2 ^ 30) (hj : j < 2 ^ 30)
         (missed : ¬ (MeetsSquare (in_frame f e.a) (in_frame f e.b) (widened (m + more) (square_of 0 i j)))) where
-      never_place : (c : Framed) → Hull c → above (along (middle_of 0 j)) c ≡ pos 0
-          → right_of (along (middle_of 0 i)) c ≡ pos 0 → pos 0 <ℤ c.w → ⊥
-      never_place c h o q before =
+      never_in : (c : Framed) → Hull c → InSquare c (widened m (square_of 0 i j)) → ⊥
+      never_in c h is =
           missed (near_meets num den height m more f i j e g a b clear pays hi hj c (first_share c h) (last_share c h)
-          (some_share c h) (near_edge c h) (at_middle m i j c before q o))
+          (some_share c h) (near_edge c h) is)
 
-      pub clear_of_row : ((c : Framed) → Hull c → IsEndOfRow c → ⊥)
-          → RowIsClear Hull (middle_of 0 i) (middle_of 0 j)
-      clear_of_row apart =
-          let k = 3 * 2 ^ 60 in
-          let s = along (middle_of 0 i) in
-          let t = along (middle_of 0 j) in
-          record {
-            across_mix = λ x y c d. line_mix k t x y c.v c.w d.v d.w;
-            along_mix = λ x y c d. line_mix k s x y c.u c.w d.u d.w;
-            place = λ c h o q before. never_place c h o q before;
-            end = λ c h o w beyond. apart c h (record {
-              w = w;
-              v = none_on k t c.v c.w above_scale o w;
-              beyond = beyond_end k s c.u c.w above_scale w beyond;
-            });
-            center = λ c o q w. (none_on k s c.u c.w above_scale q w, none_on k t c.v c.w above_scale o w);
-          }
+-- ---- in the frames of all faces
+minus_four : (i j k l : ℕ) (a b c d e : ℤ) → e ≡ sum_of_four i j k l a b c d
+    → neg_ℤ e ≡ sum_of_four i j k l (neg_ℤ a) (neg_ℤ b) (neg_ℤ c) (neg_ℤ d)
+minus_four i j k l a b c d e h =
+    rw (minus_is e, minus_is a, minus_is b, minus_is c, minus_is d)
+    (ap (λ (z : ℤ). pos 0 -ℤ z) h
+    ∙ equal (at (pos 0) ⊖ (at (pos i) ⊗ at a ⊕ at (pos j) ⊗ at b ⊕ at (pos k) ⊗ at c ⊕ at (pos l) ⊗ at d))
+    (at (pos i) ⊗ (at (pos 0) ⊖ at a) ⊕ at (pos j) ⊗ (at (pos 0) ⊖ at b) ⊕ at (pos k) ⊗ (at (pos 0) ⊖ at c) ⊕
+    at (pos l) ⊗ (at (pos 0) ⊖ at d)) (omega arith))
 
-      pub clear_of_column : ((c : Framed) → Hull c → IsEndOfColumn c → ⊥)
-          → ColumnIsClear Hull (middle_of 0 i) (middle_of 0 j)
-      clear_of_column apart =
-          let k = 3 * 2 ^ 60 in
-          let s = along (middle_of 0 i) in
-          let t = along (middle_of 0 j) in
-          record {
-            across_mix = λ x y c d. line_mix k s x y c.u c.w d.u d.w;
-            along_mix = λ x y c d. line_mix k t x y c.v c.w d.v d.w;
-            place = λ c h q o before. never_place c h o q before;
-            end = λ c h q w beyond. apart c h (record {
-              w = w;
-              u = none_on k s c.u c.w above_scale q w;
-              beyond = beyond_end k t c.v c.w above_scale w beyond;
-            });
-            center = λ c q o w. (none_on k s c.u c.w above_scale q w, none_on k t c.v c.w above_scale o w);
-          }
+minus_times : (k p c : ℤ) → c ≡ k *ℤ p → neg_ℤ c ≡ k *ℤ neg_ℤ p
+minus_times k p c h =
+    rw (minus_is c, minus_is p)
+    (ap (λ (z : ℤ). pos 0 -ℤ z) h ∙ equal (at (pos 0) ⊖ at k ⊗ at p) (at k ⊗ (at (pos 0) ⊖ at p)) (omega arith))
+
+module _ (a b c d e : Point) (h : IsBetween (in_frame 0 a) (in_frame 0 b) (in_frame 0 c) (in_frame 0 d) (in_frame 0 e))
+  where
+    between_by : (f : ℕ) → (in_frame f e).w ≡ sum_of_four h.i h.j h.k h.l (in_frame f a).w (in_frame f b).w
+        (in_frame f c).w (in_frame f d).w
+        → (in_frame f e).u ≡ sum_of_four h.i h.j h.k h.l (in_frame f a).u (in_frame f b).u (in_frame f c).u
+        (in_frame f d).u
+        → (in_frame f e).v ≡ sum_of_four h.i h.j h.k h.l (in_frame f a).v (in_frame f b).v (in_frame f c).v
+        (in_frame f d).v
+        → IsBetween (in_frame f a) (in_frame f b) (in_frame f c) (in_frame f d) (in_frame f e)
+    between_by f w u v =
+        record { i = h.i; j = h.j; k = h.k; l = h.l; some = h.some; w = w; u = u; v = v }
+
+    minus_x : neg_ℤ e.x ≡ sum_of_four h.i h.j h.k h.l (neg_ℤ a.x) (neg_ℤ b.x) (neg_ℤ c.x) (neg_ℤ d.x)
+    minus_x = minus_four h.i h.j h.k h.l a.x b.x c.x d.x e.x h.w
+
+    minus_y : neg_ℤ e.y ≡ sum_of_four h.i h.j h.k h.l (neg_ℤ a.y) (neg_ℤ b.y) (neg_ℤ c.y) (neg_ℤ d.y)
+    minus_y = minus_four h.i h.j h.k h.l a.y b.y c.y d.y e.y h.u
+
+    minus_z : neg_ℤ e.z ≡ sum_of_four h.i h.j h.k h.l (neg_ℤ a.z) (neg_ℤ b.z) (neg_ℤ c.z) (neg_ℤ d.z)
+    minus_z = minus_four h.i h.j h.k h.l a.z b.z c.z d.z e.z h.v
+
+    between_in : (f : ℕ) → IsBetween (in_frame f a) (in_frame f b) (in_frame f c) (in_frame f d) (in_frame f e)
+    between_in zero = h
+    between_in (suc zero) = between_by 1 h.u minus_x h.v
+    between_in (suc (suc zero)) = between_by 2 h.v minus_x minus_y
+    between_in (suc (suc (suc zero))) = between_by 3 minus_x minus_z minus_y
+    between_in (suc (suc (suc (suc zero)))) = between_by 4 minus_y minus_z h.w
+    between_in (suc (suc (suc (suc (suc n))))) = between_by 5 minus_z h.u h.w
+
+times_in : (f : ℕ) (k : ℤ) (p c : Point) → IsTimes k (in_frame 0 p) (in_frame 0 c)
+    → IsTimes k (in_frame f p) (in_frame f c)
+times_in zero k p c h = h
+times_in (suc zero) k p c h = record { w = h.u; u = minus_times k p.x c.x h.w; v = h.v }
+times_in (suc (suc zero)) k p c h =
+    record { w = h.v; u = minus_times k p.x c.x h.w; v = minus_times k p.y c.y h.u }
+times_in (suc (suc (suc zero))) k p c h =
+    record { w = minus_times k p.x c.x h.w; u = minus_times k p.z c.z h.v; v = minus_times k p.y c.y h.u }
+times_in (suc (suc (suc (suc zero)))) k p c h =
+    record { w = minus_times k p.y c.y h.u; u = minus_times k p.z c.z h.v; v = h.w }
+times_in (suc (suc (suc (suc (suc n))))) k p c h = record { w = minus_times k p.z c.z h.v; u = h.u; v = h.w }
+
+-- ---- directions that the hull doesn't have
+beyond_times : (n : ℕ) (s k p w d e : ℤ) → pos 0 ≤ℤ k → d ≡ k *ℤ p → e ≡ k *ℤ w → pos 0 ≤ℤ (pos n *ℤ p -ℤ s *ℤ w)
+    → pos 0 ≤ℤ (pos n *ℤ d -ℤ s *ℤ e)
+beyond_times n s k p w d e l f g h =
+    rw (
+      f,
+      g,
+      equal (at (pos n) ⊗ (at k ⊗ at p) ⊖ at s ⊗ (at k ⊗ at w)) (at k ⊗ (at (pos n) ⊗ at p ⊖ at s ⊗ at w))
+          (omega arith),
+    ) (product_at_least k (pos n *ℤ p -ℤ s *ℤ w) l h)
+
+short_times : (n : ℕ) (s k p w d e : ℤ) → pos 0 ≤ℤ k → d ≡ k *ℤ p → e ≡ k *ℤ w → pos 0 ≤ℤ (s *ℤ w -ℤ pos n *ℤ p)
+    → pos 0 ≤ℤ (s *ℤ e -ℤ pos n *ℤ d)
+short_times n s k p w d e l f g h =
+    rw (
+      f,
+      g,
+      equal (at s ⊗ (at k ⊗ at w) ⊖ at (pos n) ⊗ (at k ⊗ at p)) (at k ⊗ (at s ⊗ at w ⊖ at (pos n) ⊗ at p))
+          (omega arith),
+    ) (product_at_least k (s *ℤ w -ℤ pos n *ℤ p) l h)
+
+in_square_times : (k : ℤ) (q : Square) (c d : Framed) → pos 0 ≤ℤ k → IsTimes k c d → InSquare c q → InSquare d q
+in_square_times k q c d l t h =
+    let n = 3 * 2 ^ 60 in
+    record {
+      first_column = beyond_times n q.u0 k c.u c.w d.u d.w l t.u t.w h.first_column;
+      last_column = short_times n q.u1 k c.u c.w d.u d.w l t.u t.w h.last_column;
+      first_row = beyond_times n q.v0 k c.v c.w d.v d.w l t.v t.w h.first_row;
+      last_row = short_times n q.v1 k c.v c.w d.v d.w l t.v t.w h.last_row;
+    }
+
+point_of : Framed → Point
+point_of c = record { x = c.w; y = c.u; z = c.v }
+
+-- a direction of a square that the edge misses, with a margin that pays
+pub outside : (num den height m more f i j : ℕ) (e g : Edge) (a : PassesNear num den e.a g.a)
+    (b : PassesNear num den e.b g.b) → StaysClear height e → Pays num den height m more → i < 2 ^ 30 → j < 2 ^ 30
+    → num < height * den → ¬ (MeetsSquare (in_frame f e.a) (in_frame f e.b) (widened (m + more) (square_of 0 i j)))
+    → (p : Point) → InSquare (in_frame f p) (widened m (square_of 0 i j))
+    → IsOutside (Hull num den 0 e g a b) (in_frame 0 p)
+unfolding point_of
+outside num den height m more f i j e g a b clear pays hi hj less missed p inside k c more_0 is h =
+    never_in num den f e g a b height clear less m more i j pays hi hj missed (in_frame f (point_of c))
+    (between_in e.a e.b g.a g.b (point_of c) h f)
+    (in_square_times k (widened m (square_of 0 i j)) (in_frame f p) (in_frame f (point_of c)) (weaken (pos 0) k more_0)
+    (times_in f k p (point_of c) is) inside)
+
+-- ---- two directions of a cone aren't opposite
+two_none : (p q x y t : ℤ) → t ≡ p *ℤ x -ℤ q *ℤ y → x ≡ pos 0 → y ≡ pos 0 → t ≡ pos 0
+two_none p q x y t e f g =
+    e ∙ ap₂ (λ (m n : ℤ). p *ℤ m -ℤ q *ℤ n) f g ∙ equal (at p ⊗ at (pos 0) ⊖ at q ⊗ at (pos 0)) (at (pos 0)) (omega arith)
+
+module _ (aw au av bw bu bv : ℤ) where
+  abbrev own : Expr
+  own = at bw ⊗ at bw ⊕ at bu ⊗ at bu ⊕ at bv ⊗ at bv
+
+  abbrev both : Expr
+  both = at aw ⊗ at bw ⊕ at au ⊗ at bu ⊕ at av ⊗ at bv
+
+  abbrev nw : Expr
+  nw = at au ⊗ at bv ⊖ at av ⊗ at bu
+
+  abbrev nu : Expr
+  nu = at av ⊗ at bw ⊖ at aw ⊗ at bv
+
+  abbrev nv : Expr
+  nv = at aw ⊗ at bu ⊖ at au ⊗ at bw
+
+  back_w : value (own ⊗ at aw ⊕ (at (pos 0) ⊖ both) ⊗ at bw) ≡ value (at bu ⊗ nv ⊖ at bv ⊗ nu)
+  back_w = equal (own ⊗ at aw ⊕ (at (pos 0) ⊖ both) ⊗ at bw) (at bu ⊗ nv ⊖ at bv ⊗ nu) (omega arith)
+
+  back_u : value (own ⊗ at au ⊕ (at (pos 0) ⊖ both) ⊗ at bu) ≡ value (at bv ⊗ nw ⊖ at bw ⊗ nv)
+  back_u = equal (own ⊗ at au ⊕ (at (pos 0) ⊖ both) ⊗ at bu) (at bv ⊗ nw ⊖ at bw ⊗ nv) (omega arith)
+
+  back_v : value (own ⊗ at av ⊕ (at (pos 0) ⊖ both) ⊗ at bv) ≡ value (at bw ⊗ nu ⊖ at bu ⊗ nw)
+  back_v = equal (own ⊗ at av ⊕ (at (pos 0) ⊖ both) ⊗ at bv) (at bw ⊗ nu ⊖ at bu ⊗ nw) (omega arith)
+
+pub never_opposite : (K : Framed → Type 0) → IsCone K → (a b : Point) → K (in_frame 0 a) → K (in_frame 0 b)
+    → ¬ (AreOpposite (record { a = a; b = b }))
+never_opposite K cone a b ka kb h =
+    let p = in_frame 0 a in
+    let q = in_frame 0 b in
+    let some = squares q (cone.pointed q kb) in
+    let k = cone.mixed (dot_of q q) (pos 0 -ℤ dot_of p q) p q (weaken (pos 0) (dot_of q q) some)
+    (minus_least (dot_of p q) h.away) (above_sum (dot_of q q) (pos 0 -ℤ dot_of p q) some
+    (minus_least (dot_of p q) h.away)) ka kb in
+    cone.pointed (mix (dot_of q q) (pos 0 -ℤ dot_of p q) p q) k
+    (two_none q.u q.v _ _ _ (back_w p.w p.u p.v q.w q.u q.v) h.z h.y)
+    (two_none q.v q.w _ _ _ (back_u p.w p.u p.v q.w q.u q.v) h.x h.z)
+    (two_none q.w q.u _ _ _ (back_v p.w p.u p.v q.w q.u q.v) h.y h.x)
+  where
+    minus_least : (z : ℤ) → z ≤ℤ pos 0 → pos 0 ≤ℤ (pos 0 -ℤ z)
+    minus_least z l = omega (arith, ints)

@@ -1,5 +1,4 @@
 mod Accepts
-mod Acute
 mod Along
 mod Arcs
 mod Around
@@ -7,7 +6,6 @@ mod Bare
 mod Beside
 mod Between
 mod Borders
-mod Bundles
 mod Cells
 pub mod Changes
 mod Closed
@@ -24,11 +22,9 @@ mod Insides
 pub mod Integers
 mod Larger
 mod Leaves
-mod Lines
 mod Listed
 mod Meetings
 mod Middles
-mod Moved
 mod MovedCorners
 mod Moving
 mod Neighbors

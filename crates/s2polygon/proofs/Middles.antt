@@ -1,5 +1,5 @@
 -- A direction on the line of a middle of leaves lies at the end of the line: its coordinates are too small for another.
-use Rattle.std.proofs.Common.{◌≡◌, refl, sym, ap, ◌∙◌, ℕ, zero, suc, ◌+◌, ◌-◌, ◌*◌, ◌/◌, ◌^◌, ◌<◌, arith, ℤ, pos}
+use Rattle.std.proofs.Common.{◌≡◌, refl, sym, ap, ◌∙◌, ℕ, zero, suc, ◌+◌, ◌-◌, ◌*◌, ◌/◌, ◌%◌, ◌^◌, ◌<◌, arith, ℤ, pos}
 use Rattle.std.proofs.Common.{negsuc, ◌-ℤ◌, ◌*ℤ◌, unsigned_abs, Bool, true, false, nat_lt, ltb-true, ltb-false, pow-suc}
 use Rattle.std.proofs.lemmas.Int.{ints, unsigned_abs-mul}
 use Rattle.s2polygon.proofs.Along.{low, high}
@@ -76,6 +76,18 @@ on_line m p w l e =
     let h = odd_times 60 o.half (unsigned_abs w) (3 * unsigned_abs p) (omega (arith, g)) (omega arith) in
     let k : (2 * o.half + 1) * unsigned_abs w ≡ 0 = ap (λ (t : ℕ). (2 * o.half + 1) * t) h ∙ omega arith in
     record { across = none p (omega (arith, g, k)); before = none w h }
+
+-- nor is an odd number times a middle the other coordinate, times the scale
+pub odd_off_line : (m : ℕ) (p w : ℤ) → unsigned_abs w % 2 ≡ 1 → pos (3 * 2 ^ 60) *ℤ p ≡ along (2 * m + 1) *ℤ w → ⊥
+odd_off_line m p w odd e =
+    let o = odd_along m in
+    let f : 3 * 2 ^ 60 * unsigned_abs p ≡ unsigned_abs (along (2 * m + 1)) * unsigned_abs w =
+    sym (unsigned_abs-mul (pos (3 * 2 ^ 60)) p) ∙ ap unsigned_abs e ∙ unsigned_abs-mul (along (2 * m + 1)) w in
+    let k = unsigned_abs w / 2 in
+    let half : unsigned_abs w ≡ 2 * k + 1 = omega (arith, odd) in
+    let g : 3 * 2 ^ 60 * unsigned_abs p ≡ (2 * o.half + 1) * (2 * k + 1) =
+    f ∙ ap (λ (t : ℕ). t * unsigned_abs w) o.is ∙ ap (λ (t : ℕ). (2 * o.half + 1) * t) half in
+    omega (arith, g)
 
 -- at the line of a row
 pub beyond_middle : (m : ℕ) (p w : ℤ) → unsigned_abs w < 2 ^ 31

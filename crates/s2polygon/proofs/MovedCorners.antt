@@ -1,39 +1,47 @@
 -- Rings whose corners are moved touch what they touched, with a greater margin.
 use Rattle.std.proofs.Common.{◌≡◌, refl, sym, ap, ap₂, ◌∙◌, ℕ, zero, suc, ◌+◌, ◌-◌, ◌*◌, ◌/◌, ◌^◌, ◌≤◌, ◌<◌, arith}
+use Rattle.std.proofs.Common.{ℤ, pos, ◌+ℤ◌, ◌-ℤ◌, ◌*ℤ◌, ◌≤ℤ◌, ◌<ℤ◌, mul-le-mul_left, subst, unsigned_abs}
 use Rattle.std.proofs.Common.{Bool, true, false, ◌&&◌, ◌↔◌, List, [], ◌∷◌, ◌++◌, All, length, get_or, nat_lt}
 use Rattle.std.proofs.Common.{ltb-true}
 use Rattle.std.proofs.Common.{ltb-false}
+use Rattle.std.proofs.lemmas.Int.{ints}
 use Rattle.std.proofs.lemmas.List.{get_or_past}
-use Rattle.std.proofs.lemmas.List.Elements.{All-head, All-tail}
+use Rattle.std.proofs.lemmas.List.Elements.{All-cons, All-head, All-nil, All-tail}
 use Rattle.std.proofs.Math.Bool.{true≢false, xor}
 use Rattle.std.specs.List.{list_any}
 use Rattle.s2cell.specs.Curve.{i_of, j_of}
-use Rattle.s2polygon.proofs.Acute.{never_both_ends}
-use Rattle.s2polygon.proofs.Beside.{IsFit, leaf_over, swap_ends}
+use Rattle.s2cell.specs.declared.TheConstants.{LEAVES}
+use Rattle.s2polygon.proofs.Along.{along_follows, along_rises}
+use Rattle.s2polygon.proofs.Arcs.{IsSteady, arcs, arcs_alike, directions_off, leaf_over}
 use Rattle.s2polygon.proofs.Changes.{or_more, xor_none, xor_self}
-use Rattle.s2polygon.proofs.Closed.{all_fit, closed, last_is, next_is}
-use Rattle.s2polygon.proofs.Hulls.{Hull, clear_of_column, clear_of_row, first_between, fourth_between, hull_cone}
+use Rattle.s2polygon.proofs.Closed.{AreLong, HaveBoth, all_both, are_long, closed, last_is, next_is}
+use Rattle.s2polygon.proofs.Cones.{IsCone, IsOutside, arcs_even}
+use Rattle.s2polygon.proofs.Faraway.{IsEnd, IsFar, at_frame, beside, far_enough, far_from, framed_at}
+use Rattle.s2polygon.proofs.Hulls.{Hull, at_middle, first_between, fourth_between, hull_cone, never_opposite, outside}
 use Rattle.s2polygon.proofs.Hulls.{second_between, third_between}
-use Rattle.s2polygon.proofs.Lines.{row_at}
-use Rattle.s2polygon.proofs.Moved.{rows_alike}
-use Rattle.s2polygon.proofs.Moving.{Pays, meets_moved, pays_of}
+use Rattle.s2polygon.proofs.Integers.{at, ◌⊕◌, ◌⊖◌, ◌⊗◌, equal, product_at_least}
+use Rattle.s2polygon.proofs.Moving.{Pays, from_none, meets_moved, pays_of}
 use Rattle.s2polygon.proofs.Parity.{xor_false}
 use Rattle.s2polygon.proofs.Steps.{xor_moves, xor_pairs, xor_same}
 use Rattle.s2polygon.proofs.Tests.{near_decides}
-use Rattle.s2polygon.proofs.Turned.{below_side, drop, or_false, same_of}
+use Rattle.s2polygon.proofs.Triangles.{arc}
+use Rattle.s2polygon.proofs.Turned.{abs_minus, below_side, drop, or_false, same_of}
 use Rattle.s2polygon.specs.Cells.{square_of, widened}
 use Rattle.s2polygon.specs.Directions.{Point, origin}
-use Rattle.s2polygon.specs.Faces.{edges_on, top_of}
+use Rattle.s2polygon.specs.Faces.{edges_on}
 use Rattle.s2polygon.specs.Frames.{framed, in_frame}
 use Rattle.s2polygon.specs.Leaves.{Region, inner_leaf, inside, is_touched, odd_at, outer_leaf}
-use Rattle.s2polygon.specs.Meets.{MeetsSquare}
-use Rattle.s2polygon.specs.Moves.{AreAcuteRings, AreMoved, AreNearRings, IsAcute, PassesNear, StaysClear}
-use Rattle.s2polygon.specs.Moves.{margin_of_moved, of_rings, paid_for}
-use Rattle.s2polygon.specs.Rings.{IsRing, after, corner, edges_from, ring_edges, rings_edges, start_of}
+use Rattle.s2polygon.specs.Meets.{InSquare}
+use Rattle.s2polygon.specs.Moves.{AreMoved, AreNearRings, AreOffMiddles, IsOffMiddle, IsOffMiddles, PassesNear}
+use Rattle.s2polygon.specs.Moves.{StaysClear, margin_of_moved, of_rings, paid_for, sizes_of}
+use Rattle.s2polygon.specs.Neighbors.{place}
 use Rattle.s2polygon.specs.Parity.{is_odd_by}
+use Rattle.s2polygon.specs.Places.{along}
+use Rattle.s2polygon.specs.Rings.{HasDirections, after, corner, edges_from, ring_edges, rings_edges, start_of}
 use Rattle.s2polygon.specs.Tests.{meets_square}
 use Rattle.s2polygon.specs.Ways.{middle_of}
 use Rattle.s2polygon.specs.declared.directions.Edge.{Edge}
+use Rattle.s2polygon.specs.declared.frames.Framed.{Framed}
 
 -- ---- edges that are moved, one by one
 Pairs : (Edge → Edge → Type 0) → List Edge → List Edge → Type 0
@@ -195,7 +203,7 @@ module _ (num den : ℕ) (corners moved : List Point) (h : AreMoved num den corn
         ap (λ (m : ℕ). odd_pairs differs (edges_from corners from end m) (edges_from moved from end m)) e
         ∙ all_edges n (omega arith)
 
-  rings_even : (ends : List ℕ) → ((r : ℕ) → r < length ends → IsRing corners ends r) → (n : ℕ) → n ≤ length ends
+  rings_even : (ends : List ℕ) → AreLong ends → (n : ℕ) → n ≤ length ends
       → odd_pairs differs (rings_edges corners ends n) (rings_edges moved ends n) ≡ false
   unfolding odd_pairs
   rings_even ends rings zero l = refl
@@ -203,94 +211,214 @@ module _ (num den : ℕ) (corners moved : List Point) (h : AreMoved num den corn
       odd_append (EndsPass num den) differs (rings_edges corners ends n) (rings_edges moved ends n)
       (ring_edges corners ends n) (ring_edges moved ends n) (ring_pairs num den corners moved h ends n)
       ∙ ap₂ xor (rings_even ends rings n (omega arith))
-      (ring_even (start_of ends n) (get_or ends n 0) (rings n (omega arith)).begins)
+      (ring_even (start_of ends n) (get_or ends n 0) (rings n (omega arith)))
       ∙ xor_self false
 
--- the rows of both lists, from one place
-abbrev row_on : ℕ → ℕ → ℕ → Edge → Bool
-row_on f s t e = row_at s t (in_frame f e.a) (in_frame f e.b)
+-- ---- their ends
+sizes_in : (f : ℕ) (p : Point) (most : ℕ) → sizes_of p < most → (unsigned_abs (in_frame f p).w < most)
+    × ((unsigned_abs (in_frame f p).u < most) × (unsigned_abs (in_frame f p).v < most))
+sizes_in zero p most l = (omega (arith, l), (omega (arith, l), omega (arith, l)))
+sizes_in (suc zero) p most l = rw (abs_minus p.x) (omega (arith, l), (omega (arith, l), omega (arith, l)))
+sizes_in (suc (suc zero)) p most l =
+    rw (abs_minus p.x, abs_minus p.y) (omega (arith, l), (omega (arith, l), omega (arith, l)))
+sizes_in (suc (suc (suc zero))) p most l =
+    rw (abs_minus p.x, abs_minus p.y, abs_minus p.z) (omega (arith, l), (omega (arith, l), omega (arith, l)))
+sizes_in (suc (suc (suc (suc zero)))) p most l =
+    rw (abs_minus p.y, abs_minus p.z) (omega (arith, l), (omega (arith, l), omega (arith, l)))
+sizes_in (suc (suc (suc (suc (suc n))))) p most l =
+    rw (abs_minus p.z) (omega (arith, l), (omega (arith, l), omega (arith, l)))
 
-abbrev across_on : ℕ → ℕ → ℕ → Point → Point → Bool
-across_on f s t p q = row_at s t (in_frame f p) (in_frame f q)
+end_in : (most f : ℕ) (p : Point) → sizes_of p < most → IsOffMiddle (in_frame f p)
+    → ((in_frame f p).w ≡ pos 0 → (in_frame f p).u ≡ pos 0 → (in_frame f p).v ≡ pos 0 → ⊥) → IsEnd most (in_frame f p)
+end_in most f p l off some =
+    let small = sizes_in f p most l in
+    record { w = small.0; u = small.1.0; v = small.1.1; some = some; off = off }
 
+-- the sum of the sizes of all coordinates
+room : List Edge → ℕ
+room [] = 0
+room (e ∷ es) = sizes_of e.a + sizes_of e.b + room es
+
+module _ (num den height most : ℕ) (less : num < height * den) where
+  module _ (e g : Edge) (p : EndsPass num den e g) (clear : StaysClear height e) where
+    abbrev hull : ℕ → Framed → Type 0
+    hull f = Hull num den f e g p.a p.b
+
+    cone : (f : ℕ) → IsCone (hull f)
+    cone f = hull_cone num den f e g p.a p.b height clear less
+
+    steady_given : HasDirections e → sizes_of e.a + sizes_of e.b < most → IsSteady most e
+    steady_given d l = record {
+      a = λ f. end_in most f e.a (omega (arith, l)) (directions_off e.a d.a f) ((cone f).pointed (in_frame f e.a)
+          (first_between (in_frame f e.a) (in_frame f e.b) (in_frame f g.a) (in_frame f g.b)));
+      b = λ f. end_in most f e.b (omega (arith, l)) (directions_off e.b d.b f) ((cone f).pointed (in_frame f e.b)
+          (second_between (in_frame f e.a) (in_frame f e.b) (in_frame f g.a) (in_frame f g.b)));
+      apart = never_opposite (hull 0) (cone 0) e.a e.b
+          (first_between (in_frame 0 e.a) (in_frame 0 e.b) (in_frame 0 g.a) (in_frame 0 g.b))
+          (second_between (in_frame 0 e.a) (in_frame 0 e.b) (in_frame 0 g.a) (in_frame 0 g.b));
+    }
+
+    steady_moved : HaveBoth IsOffMiddles g → sizes_of g.a + sizes_of g.b < most → IsSteady most g
+    steady_moved d l = record {
+      a = λ f. end_in most f g.a (omega (arith, l)) (d.a f) ((cone f).pointed (in_frame f g.a)
+          (third_between (in_frame f e.a) (in_frame f e.b) (in_frame f g.a) (in_frame f g.b)));
+      b = λ f. end_in most f g.b (omega (arith, l)) (d.b f) ((cone f).pointed (in_frame f g.b)
+          (fourth_between (in_frame f e.a) (in_frame f e.b) (in_frame f g.a) (in_frame f g.b)));
+      apart = never_opposite (hull 0) (cone 0) g.a g.b
+          (third_between (in_frame 0 e.a) (in_frame 0 e.b) (in_frame 0 g.a) (in_frame 0 g.b))
+          (fourth_between (in_frame 0 e.a) (in_frame 0 e.b) (in_frame 0 g.a) (in_frame 0 g.b));
+    }
+
+  all_given : (es gs : List Edge) → Pairs (EndsPass num den) es gs → All (StaysClear height) es
+      → All HasDirections es → room es < most → All (IsSteady most) es
+  unfolding Pairs room
+  all_given [] gs p c d l = All-nil (IsSteady most)
+  all_given (e ∷ es) [] p c d l = absurd p
+  all_given (e ∷ es) (g ∷ gs) p c d l =
+      All-cons (IsSteady most) e es
+      (steady_given e g p.0 (All-head (StaysClear height) e es c) (All-head HasDirections e es d) (omega (arith, l)))
+      (all_given es gs p.1 (All-tail (StaysClear height) e es c) (All-tail HasDirections e es d) (omega (arith, l)))
+
+  all_moved : (es gs : List Edge) → Pairs (EndsPass num den) es gs → All (StaysClear height) es
+      → All (HaveBoth IsOffMiddles) gs → room gs < most → All (IsSteady most) gs
+  unfolding Pairs room
+  all_moved [] [] p c d l = All-nil (IsSteady most)
+  all_moved [] (g ∷ gs) p c d l = absurd p
+  all_moved (e ∷ es) [] p c d l = All-nil (IsSteady most)
+  all_moved (e ∷ es) (g ∷ gs) p c d l =
+      All-cons (IsSteady most) g gs
+      (steady_moved e g p.0 (All-head (StaysClear height) e es c) (All-head (HaveBoth IsOffMiddles) g gs d)
+      (omega (arith, l)))
+      (all_moved es gs p.1 (All-tail (StaysClear height) e es c) (All-tail (HaveBoth IsOffMiddles) g gs d)
+      (omega (arith, l)))
+
+-- ---- both lists at an arc from leaf to leaf
 regroup : (p q z x y v : Bool) → xor (xor (xor p x) (xor q y)) (xor z v) ≡ xor (xor (xor p q) z) (xor (xor x y) v)
 regroup p q z x y v =
     ap (λ (b : Bool). xor b (xor z v)) (xor_pairs p x q y) ∙ xor_pairs (xor p q) (xor x y) z v
 
-module _ (num den height m more f i j k l : ℕ) (less : num < height * den) (pays : Pays num den height m more)
-    (hi : i < 2 ^ 30) (hj : j < 2 ^ 30) (hk : k < 2 ^ 30) (hl : l < 2 ^ 30) where
-  abbrev misses : ℕ → ℕ → Edge → Type 0
-  misses x y e = ¬ (MeetsSquare (in_frame f e.a) (in_frame f e.b) (widened (m + more) (square_of 0 x y)))
+-- a direction of the square of a leaf that no edge touches with the greater margin
+record IsApartAt (m more : ℕ) (es : List Edge) (p : Point) : Type 0 where
+  f : ℕ
+  i : ℕ
+  j : ℕ
+  i_below : i < 2 ^ 30
+  j_below : j < 2 ^ 30
+  inside : InSquare (in_frame f p) (widened m (square_of 0 i j))
+  missed : list_any (meets_square (widened (m + more) (square_of 0 i j))) (edges_on f es) ≡ false
 
-  one_alike : (e g : Edge) → EndsPass num den e g → StaysClear height e → IsAcute num den e → IsFit f e → IsFit f g
-      → misses i j e → misses k l e
-      → xor (xor (row_on f (middle_of 0 i) (middle_of 0 j) e) (row_on f (middle_of 0 i) (middle_of 0 j) g))
-      (xor (across_on f (middle_of 0 i) (middle_of 0 j) e.a g.a) (across_on f (middle_of 0 i) (middle_of 0 j) e.b g.b))
-      ≡ xor (xor (row_on f (middle_of 0 k) (middle_of 0 l) e) (row_on f (middle_of 0 k) (middle_of 0 l) g))
-      (xor (across_on f (middle_of 0 k) (middle_of 0 l) e.a g.a) (across_on f (middle_of 0 k) (middle_of 0 l) e.b g.b))
-  one_alike e g p clear acute fe fg one two =
-      let a = in_frame f e.a in
-      let b = in_frame f e.b in
-      let c = in_frame f g.a in
-      let d = in_frame f g.b in
-      rows_alike (Hull num den f e g p.a p.b) (hull_cone num den f e g p.a p.b height clear less) a b c d
-      (first_between a b c d) (second_between a b c d) (third_between a b c d) (fourth_between a b c d)
-      fe.a fe.b fg.a fg.b (i * 2 ^ 0 + 2 ^ 0 / 2) (j * 2 ^ 0 + 2 ^ 0 / 2) (k * 2 ^ 0 + 2 ^ 0 / 2)
-      (l * 2 ^ 0 + 2 ^ 0 / 2)
-      (clear_of_row num den f e g p.a p.b height clear less m more i j pays hi hj one)
-      (clear_of_row num den f e g p.a p.b height clear less m more k l pays hk hl two)
-      (clear_of_column num den f e g p.a p.b height clear less m more i j pays hi hj one)
-      (clear_of_column num den f e g p.a p.b height clear less m more k l pays hk hl two)
-      (never_both_ends num den f e g p.a p.b acute fe.a fe.b)
+apart_from : (m more : ℕ) (e : Edge) (es : List Edge) (p : Point) → IsApartAt m more (e ∷ es) p → IsApartAt m more es p
+apart_from m more e es p h = record {
+  f = h.f;
+  i = h.i;
+  j = h.j;
+  i_below = h.i_below;
+  j_below = h.j_below;
+  inside = h.inside;
+  missed = (or_false (meets_square (widened (m + more) (square_of 0 h.i h.j)) (framed h.f e)) _ h.missed).1;
+}
 
-  abbrev near : ℕ → ℕ → List Edge → Bool
-  near x y es = list_any (meets_square (widened (m + more) (square_of 0 x y))) (edges_on f es)
+module _ (num den height m more : ℕ) (less : num < height * den) (pays : Pays num den height m more) (p z : Point)
+  where
+    abbrev over : Point → Point → Bool
+    over a b = arc (in_frame 0 p) (in_frame 0 z) (in_frame 0 a) (in_frame 0 b)
 
-  missed_by : (x y : ℕ) (e : Edge) → meets_square (widened (m + more) (square_of 0 x y)) (framed f e) ≡ false
-      → misses x y e
-  missed_by x y e h meets =
-      true≢false (sym ((near_decides (m + more) 0 x y (framed f e)).1 meets) ∙ h)
+    outside_at : (e g : Edge) (es : List Edge) (h : EndsPass num den e g) → StaysClear height e → (q : Point)
+        → IsApartAt m more (e ∷ es) q → IsOutside (Hull num den 0 e g h.a h.b) (in_frame 0 q)
+    outside_at e g es h clear q here =
+        outside num den height m more here.f here.i here.j e g h.a h.b clear pays here.i_below here.j_below less
+        (λ meets. true≢false (sym ((near_decides (m + more) 0 here.i here.j (framed here.f e)).1 meets)
+        ∙ (or_false (meets_square (widened (m + more) (square_of 0 here.i here.j)) (framed here.f e)) _ here.missed).0))
+        q here.inside
 
-  all_alike : (es gs : List Edge) → Pairs (EndsPass num den) es gs → All (StaysClear height) es
-      → All (IsAcute num den) es → All (IsFit f) es → All (IsFit f) gs → near i j es ≡ false → near k l es ≡ false
-      → xor (xor (is_odd_by (row_on f (middle_of 0 i) (middle_of 0 j)) es)
-      (is_odd_by (row_on f (middle_of 0 i) (middle_of 0 j)) gs))
-      (odd_pairs (λ e g. xor (across_on f (middle_of 0 i) (middle_of 0 j) e.a g.a)
-      (across_on f (middle_of 0 i) (middle_of 0 j) e.b g.b)) es gs)
-      ≡ xor (xor (is_odd_by (row_on f (middle_of 0 k) (middle_of 0 l)) es)
-      (is_odd_by (row_on f (middle_of 0 k) (middle_of 0 l)) gs))
-      (odd_pairs (λ e g. xor (across_on f (middle_of 0 k) (middle_of 0 l) e.a g.a)
-      (across_on f (middle_of 0 k) (middle_of 0 l) e.b g.b)) es gs)
-  unfolding Pairs odd_pairs
-  all_alike [] [] p c a fe fg x y = refl
-  all_alike [] (g ∷ gs) p c a fe fg x y = absurd p
-  all_alike (e ∷ es) [] p c a fe fg x y = absurd p
-  all_alike (e ∷ es) (g ∷ gs) p c a fe fg x y =
-      let s = middle_of 0 i in
-      let t = middle_of 0 j in
-      let u = middle_of 0 k in
-      let v = middle_of 0 l in
-      let nx = or_false (meets_square (widened (m + more) (square_of 0 i j)) (framed f e)) (near i j es) x in
-      let ny = or_false (meets_square (widened (m + more) (square_of 0 k l)) (framed f e)) (near k l es) y in
-      regroup (row_on f s t e) (row_on f s t g) (xor (across_on f s t e.a g.a) (across_on f s t e.b g.b))
-      (is_odd_by (row_on f s t) es) (is_odd_by (row_on f s t) gs) _
-      ∙ ap₂ xor (one_alike e g p.0 (All-head (StaysClear height) e es c) (All-head (IsAcute num den) e es a)
-      (All-head (IsFit f) e es fe) (All-head (IsFit f) g gs fg) (missed_by i j e nx.0) (missed_by k l e ny.0))
-      (all_alike es gs p.1 (All-tail (StaysClear height) e es c) (All-tail (IsAcute num den) e es a)
-      (All-tail (IsFit f) e es fe) (All-tail (IsFit f) g gs fg) nx.1 ny.1)
-      ∙ sym (regroup (row_on f u v e) (row_on f u v g) (xor (across_on f u v e.a g.a) (across_on f u v e.b g.b))
-      (is_odd_by (row_on f u v) es) (is_odd_by (row_on f u v) gs) _)
+    one_even : (e g : Edge) (es : List Edge) → EndsPass num den e g → StaysClear height e → IsApartAt m more (e ∷ es) p
+        → IsApartAt m more (e ∷ es) z
+        → xor (xor (over e.a e.b) (over g.a g.b)) (xor (over e.a g.a) (over e.b g.b)) ≡ false
+    one_even e g es h clear start end =
+        let a = in_frame 0 e.a in
+        let b = in_frame 0 e.b in
+        let c = in_frame 0 g.a in
+        let d = in_frame 0 g.b in
+        arcs_even (Hull num den 0 e g h.a h.b) (in_frame 0 p) (in_frame 0 z)
+        (hull_cone num den 0 e g h.a h.b height clear less) (outside_at e g es h clear p start)
+        (outside_at e g es h clear z end) a b c d
+        (first_between a b c d) (second_between a b c d) (third_between a b c d) (fourth_between a b c d)
 
-cancel : (t c a b : Bool) → xor (xor t (xor c a)) (xor t (xor c b)) ≡ xor a b
-cancel t c a b =
-    xor_pairs t (xor c a) t (xor c b)
-    ∙ ap₂ xor (xor_self t) (xor_pairs c a c b)
-    ∙ xor_false (xor (xor c c) (xor a b))
-    ∙ ap (λ (z : Bool). xor z (xor a b)) (xor_self c)
-    ∙ xor_false (xor a b)
+    all_even : (es gs : List Edge) → Pairs (EndsPass num den) es gs → All (StaysClear height) es → IsApartAt m more es p
+        → IsApartAt m more es z
+        → xor (xor (is_odd_by (λ e. over e.a e.b) es) (is_odd_by (λ e. over e.a e.b) gs))
+        (odd_pairs (λ e g. xor (over e.a g.a) (over e.b g.b)) es gs) ≡ false
+    unfolding Pairs odd_pairs xor
+    all_even [] [] h c start end = refl
+    all_even [] (g ∷ gs) h c start end = absurd h
+    all_even (e ∷ es) [] h c start end = absurd h
+    all_even (e ∷ es) (g ∷ gs) h c start end =
+        regroup (over e.a e.b) (over g.a g.b) (xor (over e.a g.a) (over e.b g.b)) (is_odd_by (λ e. over e.a e.b) es)
+        (is_odd_by (λ e. over e.a e.b) gs) (odd_pairs (λ e g. xor (over e.a g.a) (over e.b g.b)) es gs)
+        ∙ ap₂ xor (one_even e g es h.0 (All-head (StaysClear height) e es c) start end)
+        (all_even es gs h.1 (All-tail (StaysClear height) e es c) (apart_from m more e es p start)
+        (apart_from m more e es z end))
+        ∙ xor_self false
+
+-- the middle of a leaf lies in its square
+line_itself : (k : ℕ) (s : ℤ) → pos k *ℤ s -ℤ s *ℤ pos k ≡ pos 0
+line_itself k s = equal (at (pos k) ⊗ at s ⊖ at s ⊗ at (pos k)) (at (pos 0)) (omega arith)
+
+middle_inside : (m i j : ℕ) → InSquare (place (middle_of 0 i) (middle_of 0 j)) (widened m (square_of 0 i j))
+middle_inside m i j =
+    at_middle m i j (place (middle_of 0 i) (middle_of 0 j)) (omega (arith, ints))
+    (line_itself (3 * 2 ^ 60) (along (middle_of 0 i))) (line_itself (3 * 2 ^ 60) (along (middle_of 0 j)))
+
+-- and so does a direction beside it
+beyond_beside : (k m q d : ℕ) (u line : ℤ) → line ≤ℤ u
+    → pos 0 ≤ℤ (pos k *ℤ (u *ℤ pos q +ℤ pos d) -ℤ (line -ℤ pos m) *ℤ (pos k *ℤ pos q))
+beyond_beside k m q d u line l =
+    rw (equal (at (pos k) ⊗ (at u ⊗ at (pos q) ⊕ at (pos d)) ⊖ (at line ⊖ at (pos m)) ⊗ (at (pos k) ⊗ at (pos q)))
+    (at (pos k) ⊗ ((at u ⊖ at line ⊕ at (pos m)) ⊗ at (pos q) ⊕ at (pos d))) (omega arith))
+    (product_at_least (pos k) ((u -ℤ line +ℤ pos m) *ℤ pos q +ℤ pos d) (from_none k)
+    (plus ((u -ℤ line +ℤ pos m) *ℤ pos q) d
+    (product_at_least (u -ℤ line +ℤ pos m) (pos q) (omega (arith, ints, l)) (from_none q))))
+  where
+    plus : (x : ℤ) (d : ℕ) → pos 0 ≤ℤ x → pos 0 ≤ℤ (x +ℤ pos d)
+    plus x d h = omega (arith, ints, h)
+
+short_of_beside : (k m q d : ℕ) (u line : ℤ) → d ≤ q → u <ℤ line
+    → pos 0 ≤ℤ ((line +ℤ pos m) *ℤ (pos k *ℤ pos q) -ℤ pos k *ℤ (u *ℤ pos q +ℤ pos d))
+short_of_beside k m q d u line few l =
+    rw (equal ((at line ⊕ at (pos m)) ⊗ (at (pos k) ⊗ at (pos q)) ⊖ at (pos k) ⊗ (at u ⊗ at (pos q) ⊕ at (pos d)))
+    (at (pos k) ⊗ ((at line ⊖ at u ⊖ at (pos 1) ⊕ at (pos m)) ⊗ at (pos q) ⊕ (at (pos q) ⊖ at (pos d)))) (omega arith))
+    (product_at_least (pos k) ((line -ℤ u -ℤ pos 1 +ℤ pos m) *ℤ pos q +ℤ (pos q -ℤ pos d)) (from_none k)
+    (plus ((line -ℤ u -ℤ pos 1 +ℤ pos m) *ℤ pos q)
+    (product_at_least (line -ℤ u -ℤ pos 1 +ℤ pos m) (pos q) (omega (arith, ints, l)) (from_none q))))
+  where
+    plus : (x : ℤ) → pos 0 ≤ℤ x → pos 0 ≤ℤ (x +ℤ (pos q -ℤ pos d))
+    plus x h = omega (arith, ints, h, few)
+
+beside_inside : (s m i j : ℕ) → 0 < s
+    → InSquare (beside s (along (middle_of 0 i)) (along (middle_of 0 j))) (widened m (square_of 0 i j))
+beside_inside s m i j some =
+    let k = 3 * 2 ^ 60 in
+    let one : 1 ≤ s = omega arith in
+    let few = mul-le-mul_left s one in
+    record {
+      first_column = beyond_beside k m (s * s) s (along (middle_of 0 i)) (along (2 * (i * 2 ^ 0)))
+          (along_follows (2 * (i * 2 ^ 0)) (middle_of 0 i) (omega arith));
+      last_column = short_of_beside k m (s * s) s (along (middle_of 0 i)) (along (2 * (i * 2 ^ 0 + 2 ^ 0)))
+          (omega (arith, few)) (along_rises (middle_of 0 i) (2 * (i * 2 ^ 0 + 2 ^ 0)) (omega arith));
+      first_row = beyond_beside k m (s * s) 1 (along (middle_of 0 j)) (along (2 * (j * 2 ^ 0)))
+          (along_follows (2 * (j * 2 ^ 0)) (middle_of 0 j) (omega arith));
+      last_row = short_of_beside k m (s * s) 1 (along (middle_of 0 j)) (along (2 * (j * 2 ^ 0 + 2 ^ 0)))
+          (omega (arith, few, one)) (along_rises (middle_of 0 j) (2 * (j * 2 ^ 0 + 2 ^ 0)) (omega arith));
+    }
+
+same_start : (m a b : Bool) → xor (xor m a) (xor m b) ≡ xor a b
+same_start m a b = xor_pairs m a m b ∙ ap (λ (t : Bool). xor t (xor a b)) (xor_self m) ∙ xor_false (xor a b)
+
+same_of_even : (a b v : Bool) → xor (xor a b) v ≡ false → v ≡ false → a ≡ b
+same_of_even a b v e f = same_of a b (sym (xor_none (xor a b)) ∙ ap (xor (xor a b)) (sym f) ∙ e)
 
 module _ (num den height : ℕ) (r : Region) (corners moved : List Point) (ends : List ℕ)
-    (h : AreNearRings num den height r.margin corners moved ends) (g : AreAcuteRings num den corners moved ends) where
+    (h : AreNearRings num den height r.margin corners moved ends) (g : AreOffMiddles corners moved ends) where
   abbrev given : List Edge
   given = rings_edges corners ends (length ends)
 
@@ -300,41 +428,114 @@ module _ (num den height : ℕ) (r : Region) (corners moved : List Point) (ends 
   abbrev wider : Region
   wider = paid_for num den height (of_rings r corners ends)
 
-  -- two leaves of a face differ in both as one
-  odd_alike : (x y : ℕ) → x / 4 ^ 30 ≡ y / 4 ^ 30 → is_touched wider x ≡ false → is_touched wider y ≡ false
-      → xor (odd_at given x) (odd_at given y) ≡ xor (odd_at moved_edges x) (odd_at moved_edges y)
-  unfolding is_touched differs xor
-  odd_alike x y face a b =
-      let f = x / 4 ^ 30 in
-      let px = below_side x in
-      let py = below_side y in
-      let fit = all_fit f corners ends g.rings g.directions in
-      let moved_fit = all_fit f moved ends g.moved_rings g.moved_directions in
-      let even = λ (s t : ℕ). rings_even num den corners moved h.near (across_on f s t) ends g.rings.rings (length ends)
-      (omega arith) in
-      let u = middle_of 0 (i_of x) in
-      let v = middle_of 0 (j_of x) in
-      let o = middle_of 0 (i_of y) in
-      let p = middle_of 0 (j_of y) in
-      let same = all_alike num den height r.margin (28 * 2 ^ 60 * num / (3 * (height * den - num)) + 1) f (i_of x)
-      (j_of x) (i_of y) (j_of y) h.less (pays_of num den height r.margin h.less h.most) px.0 px.1 py.0 py.1
-      given moved_edges (ring_pairs num den corners moved h.near ends (length ends)) h.clear g.acute fit moved_fit a
-      (rw (sym face) at b) in
-      ap₂ xor (leaf_over f given fit (closed corners ends g.rings) x refl)
-      (leaf_over f given fit (closed corners ends g.rings) y (sym face))
-      ∙ cancel (top_of given f) (is_odd_by (row_on f (middle_of 30 0) (middle_of 30 0)) given)
-      (is_odd_by (row_on f u v) given) (is_odd_by (row_on f o p) given)
-      ∙ sym (swap_ends (is_odd_by (row_on f u v) given) (is_odd_by (row_on f u v) moved_edges)
-      (is_odd_by (row_on f o p) given) (is_odd_by (row_on f o p) moved_edges)
-      (sym (ap (xor (xor (is_odd_by (row_on f u v) given) (is_odd_by (row_on f u v) moved_edges))) (even u v)
-      ∙ xor_none (xor (is_odd_by (row_on f u v) given) (is_odd_by (row_on f u v) moved_edges)))
-      ∙ same
-      ∙ ap (xor (xor (is_odd_by (row_on f o p) given) (is_odd_by (row_on f o p) moved_edges))) (even o p)
-      ∙ xor_none (xor (is_odd_by (row_on f o p) given) (is_odd_by (row_on f o p) moved_edges))))
-      ∙ sym (ap₂ xor (leaf_over f moved_edges moved_fit (closed moved ends g.moved_rings) x refl)
-      (leaf_over f moved_edges moved_fit (closed moved ends g.moved_rings) y (sym face))
-      ∙ cancel (top_of moved_edges f) (is_odd_by (row_on f (middle_of 30 0) (middle_of 30 0)) moved_edges)
-      (is_odd_by (row_on f u v) moved_edges) (is_odd_by (row_on f o p) moved_edges))
+  abbrev more : ℕ
+  more = 28 * 2 ^ 60 * num / (3 * (height * den - num)) + 1
+
+  long : AreLong ends
+  long = are_long corners ends g.rings
+
+  pairs : Pairs (EndsPass num den) given moved_edges
+  pairs = ring_pairs num den corners moved h.near ends (length ends)
+
+  both_off : All (HaveBoth IsOffMiddles) moved_edges
+  both_off =
+      all_both IsOffMiddles moved ends long
+      (λ r l. let within = (g.rings.rings r l).ends_within in let many = h.near.as_many in omega (arith, within, many))
+      g.off
+
+  apart_at : (x : ℕ) (p : Point) → is_touched wider x ≡ false
+      → InSquare (in_frame (x / 4 ^ 30) p) (widened r.margin (square_of 0 (i_of x) (j_of x)))
+      → IsApartAt r.margin more given p
+  unfolding is_touched
+  apart_at x p e inside = record {
+    f = x / 4 ^ 30;
+    i = i_of x;
+    j = j_of x;
+    i_below = (below_side x).0;
+    j_below = (below_side x).1;
+    inside = inside;
+    missed = e;
+  }
+
+  abbrev place_of : ℕ → Framed
+  place_of x = place (middle_of 0 (i_of x)) (middle_of 0 (j_of x))
+
+  abbrev middle : ℕ → Point
+  middle x = at_frame (x / 4 ^ 30) (place_of x)
+
+  middle_apart : (x : ℕ) → is_touched wider x ≡ false → IsApartAt r.margin more given (middle x)
+  middle_apart x e =
+      apart_at x (middle x) e
+      (subst (λ (c : Framed). InSquare c (widened r.margin (square_of 0 (i_of x) (j_of x))))
+      (sym (framed_at (x / 4 ^ 30) (place_of x))) (middle_inside r.margin (i_of x) (j_of x)))
+
+  -- arcs to a far direction in the square of a leaf `y` that isn't touched
+  module _ (y : ℕ) (out : is_touched wider y ≡ false) where
+    most : ℕ
+    most = 2 ^ 62 + room given + room moved_edges
+
+    abbrev beside_y : Framed
+    beside_y = beside (far_enough most) (along (middle_of 0 (i_of y))) (along (middle_of 0 (j_of y)))
+
+    abbrev end : Point
+    end = at_frame (y / 4 ^ 30) beside_y
+
+    large : 2 ^ 62 ≤ most
+    unfolding most
+    large = omega arith
+
+    far : (f : ℕ) → IsFar (far_enough most) (in_frame f end)
+    far = far_from (far_enough most) (y / 4 ^ 30) (along (middle_of 0 (i_of y))) (along (middle_of 0 (j_of y)))
+
+    end_apart : IsApartAt r.margin more given end
+    end_apart =
+        apart_at y end out
+        (subst (λ (c : Framed). InSquare c (widened r.margin (square_of 0 (i_of y) (j_of y))))
+        (sym (framed_at (y / 4 ^ 30) beside_y)) (beside_inside (far_enough most) r.margin (i_of y) (j_of y)
+        (omega arith)))
+
+    given_steady : All (IsSteady most) given
+    unfolding most
+    given_steady = all_given num den height most h.less given moved_edges pairs h.clear g.directions (omega arith)
+
+    moved_steady : All (IsSteady most) moved_edges
+    unfolding most
+    moved_steady = all_moved num den height most h.less given moved_edges pairs h.clear both_off (omega arith)
+
+    abbrev given_arcs : ℕ → Framed → Bool
+    given_arcs = arcs most large end far given given_steady (closed corners ends long)
+
+    abbrev moved_arcs : ℕ → Framed → Bool
+    moved_arcs = arcs most large end far moved_edges moved_steady (closed moved ends long)
+
+    -- from a leaf that isn't touched both lists are come over alike
+    arcs_of : (x : ℕ) → is_touched wider x ≡ false → given_arcs (x / 4 ^ 30) (place_of x)
+        ≡ moved_arcs (x / 4 ^ 30) (place_of x)
+    unfolding differs at_corner
+    arcs_of x e =
+        let f = x / 4 ^ 30 in
+        let p = middle x in
+        ap (given_arcs f) (sym (framed_at f (place_of x)))
+        ∙ arcs_alike most large end far given given_steady (closed corners ends long) f p
+        ∙ same_of_even (given_arcs 0 (in_frame 0 p)) (moved_arcs 0 (in_frame 0 p)) _
+        (all_even num den height r.margin more h.less (pays_of num den height r.margin h.less h.most) p end given
+        moved_edges pairs h.clear (middle_apart x e) end_apart)
+        (rings_even num den corners moved h.near
+        (λ a b. arc (in_frame 0 p) (in_frame 0 end) (in_frame 0 a) (in_frame 0 b)) ends long (length ends) (omega arith))
+        ∙ sym (arcs_alike most large end far moved_edges moved_steady (closed moved ends long) f p)
+        ∙ ap (moved_arcs f) (framed_at f (place_of x))
+
+    odd_alike : (x : ℕ) → x < LEAVES → y < LEAVES → is_touched wider x ≡ false
+        → xor (odd_at given x) (odd_at given y) ≡ xor (odd_at moved_edges x) (odd_at moved_edges y)
+    odd_alike x l k e =
+        ap₂ xor (leaf_over most large end far given given_steady (closed corners ends long) x (omega (arith, l)))
+        (leaf_over most large end far given given_steady (closed corners ends long) y (omega (arith, k)))
+        ∙ same_start _ (given_arcs (x / 4 ^ 30) (place_of x)) (given_arcs (y / 4 ^ 30) (place_of y))
+        ∙ ap₂ xor (arcs_of x e) (arcs_of y out)
+        ∙ sym (ap₂ xor (leaf_over most large end far moved_edges moved_steady (closed moved ends long) x
+        (omega (arith, l)))
+        (leaf_over most large end far moved_edges moved_steady (closed moved ends long) y (omega (arith, k)))
+        ∙ same_start _ (moved_arcs (x / 4 ^ 30) (place_of x)) (moved_arcs (y / 4 ^ 30) (place_of y)))
 
   same_sides : (px py po qx qy qo : Bool) → xor px py ≡ xor qx qy → xor px po ≡ xor py po → xor qx qo ≡ xor qy qo
   same_sides px py po qx qy qo e k =
@@ -343,11 +544,11 @@ module _ (num den height : ℕ) (r : Region) (corners moved : List Point) (ends 
       ∙ ap₂ xor k (xor_same po py)
       ∙ xor_self (xor py po)))
 
-  pub sides_moved : (x y : ℕ) → x / 4 ^ 30 ≡ y / 4 ^ 30 → is_touched wider x ≡ false → is_touched wider y ≡ false
+  pub sides_moved : (x y : ℕ) → x < LEAVES → y < LEAVES → is_touched wider x ≡ false → is_touched wider y ≡ false
       → (inside (of_rings r corners ends) x ≡ inside (of_rings r corners ends) y)
       ↔ (inside (of_rings r moved ends) x ≡ inside (of_rings r moved ends) y)
-  sides_moved x y face a b =
-      let e = odd_alike x y face a b in (
+  sides_moved x y l k a b =
+      let e = odd_alike y b x l k a in (
         same_sides (odd_at given x) (odd_at given y) (odd_at given r.outside) (odd_at moved_edges x)
             (odd_at moved_edges y) (odd_at moved_edges r.outside) e,
         same_sides (odd_at moved_edges x) (odd_at moved_edges y) (odd_at moved_edges r.outside) (odd_at given x)
@@ -361,19 +562,19 @@ module _ (num den height : ℕ) (r : Region) (corners moved : List Point) (ends 
       by false p = p
       by true p = absurd (true≢false (sym (touched_moved num den height r corners moved ends z h p) ∙ e))
 
-  pub outer_moved : (x : ℕ) → x / 4 ^ 30 ≡ r.outside / 4 ^ 30 → is_touched wider r.outside ≡ false
+  pub outer_moved : (x : ℕ) → x < LEAVES → r.outside < LEAVES → is_touched wider r.outside ≡ false
       → outer_leaf (of_rings r moved ends) x ≡ true → outer_leaf wider x ≡ true
-  outer_moved x face out is = by (is_touched wider x) refl
+  outer_moved x l k out is = by (is_touched wider x) refl
     where
       by : (t : Bool) → is_touched wider x ≡ t → outer_leaf wider x ≡ true
       by true e = rw e refl
       by false e =
-          rw (e, odd_alike x r.outside face e out)
+          rw (e, odd_alike r.outside out x l k e)
           (rw (away x e) at is)
 
-  pub inner_moved : (x : ℕ) → x / 4 ^ 30 ≡ r.outside / 4 ^ 30 → is_touched wider r.outside ≡ false
+  pub inner_moved : (x : ℕ) → x < LEAVES → r.outside < LEAVES → is_touched wider r.outside ≡ false
       → inner_leaf wider x ≡ true → inner_leaf (of_rings r moved ends) x ≡ true
-  inner_moved x face out is = by (is_touched wider x) refl
+  inner_moved x l k out is = by (is_touched wider x) refl
     where
       none : (a : Bool) → a && false ≡ false
       none true = refl
@@ -381,4 +582,4 @@ module _ (num den height : ℕ) (r : Region) (corners moved : List Point) (ends 
 
       by : (t : Bool) → is_touched wider x ≡ t → inner_leaf (of_rings r moved ends) x ≡ true
       by true e = absurd (true≢false (sym (rw e at is) ∙ none (inside wider x)))
-      by false e = rw (away x e, sym (odd_alike x r.outside face e out)) (rw e at is)
+      by false e = rw (away x e, sym (odd_alike r.outside out x l k e)) (rw e at is)

@@ -8,7 +8,7 @@ use Rattle.s2cell.proofs.Levels.{at_bounds}
 use Rattle.s2cell.proofs.Places.{leaf_exists, place_is}
 use Rattle.s2cell.proofs.Squares.{one_place, place_of_leaf}
 use Rattle.s2polygon.proofs.Along.{high, low}
-use Rattle.s2polygon.proofs.Turned.{below_side, from_0, from_1, from_2, from_3, from_4, minus_twice, right, up}
+use Rattle.s2polygon.proofs.Turned.{below_side, from_0, from_1, from_2, from_3, from_4, from_5, right, up}
 use Rattle.s2polygon.specs.Directions.{Point}
 use Rattle.s2polygon.specs.Frames.{in_frame}
 use Rattle.s2polygon.specs.Neighbors.{IsMiddleAt, IsMiddleOfSide, ShareASide, place}
@@ -89,9 +89,6 @@ left_right c = same_framed (twice c.w) refl refl
 
 down_up : (c : Framed) → down (up c) ≡ c
 down_up c = same_framed (twice c.w) refl refl
-
-from_5 : (p : Point) → in_frame 0 p ≡ up (in_frame 5 p)
-from_5 p = same_framed refl refl (minus_twice p.z)
 
 -- the face after the next
 after_0 : (p : Point) → in_frame 2 p ≡ up (right (in_frame 0 p))

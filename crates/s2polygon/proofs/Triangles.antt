@@ -267,7 +267,7 @@ module _ (p q z a b : Framed) (h : IsApart p q z a b) (scale : pos 0 <ℤ triple
 
 -- ---- the arc from a place to a direction
 -- the edge from `a` to `b` comes over the arc from `p` to `z`
-pub arc : Framed → Framed → Framed → Framed → Bool
+unfoldable pub arc : Framed → Framed → Framed → Framed → Bool
 arc p z a b = over_end (is_at_least_0 (triple a p z)) (is_at_least_0 (triple b p z)) (is_at_least_0 (triple p a b))
     (is_at_least_0 (triple z a b))
 

@@ -42,7 +42,7 @@ use Rattle.s2polygon.specs.declared.frames.FramedEdge.{FramedEdge}
 use Rattle.s2polygon.specs.declared.places.Square.{Square}
 
 -- ---- directions in the frames of the faces
-abs_minus : (z : ℤ) → unsigned_abs (neg_ℤ z) ≡ unsigned_abs z
+pub abs_minus : (z : ℤ) → unsigned_abs (neg_ℤ z) ≡ unsigned_abs z
 abs_minus (pos zero) = refl
 abs_minus (pos (suc n)) = refl
 abs_minus (negsuc n) = refl
@@ -98,6 +98,9 @@ up c = record { w = c.v; u = c.u; v = pos 0 -ℤ c.w }
 pub minus_is : (z : ℤ) → neg_ℤ z ≡ pos 0 -ℤ z
 minus_is z = omega (arith, ints)
 
+pub minus_minus : (z : ℤ) → neg_ℤ (neg_ℤ z) ≡ z
+minus_minus z = omega (arith, ints)
+
 pub minus_twice : (z : ℤ) → z ≡ pos 0 -ℤ neg_ℤ z
 minus_twice z = omega (arith, ints)
 
@@ -123,6 +126,9 @@ from_3 p = at_odd p (neg_ℤ p.y) (neg_ℤ p.z) p.x p.x (pos 0 -ℤ neg_ℤ p.x)
 
 pub from_4 : (p : Point) → in_frame 5 p ≡ right (in_frame 4 p)
 from_4 p = at_even p (neg_ℤ p.z) p.y p.x p.y (pos 0 -ℤ neg_ℤ p.y) (minus_twice p.y)
+
+pub from_5 : (p : Point) → in_frame 0 p ≡ up (in_frame 5 p)
+from_5 p = at_odd p p.x p.y p.x p.z (pos 0 -ℤ neg_ℤ p.z) (minus_twice p.z)
 
 module _ (k : ℕ) (t aw au av bw bu bv : ℤ) where
   abbrev kk : Expr

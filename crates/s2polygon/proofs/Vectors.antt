@@ -12,10 +12,10 @@ use Rattle.s2polygon.specs.declared.frames.Framed.{Framed}
 abbrev pub triple : Framed → Framed → Framed → ℤ
 triple a b c = dot_of a (normal_of b c)
 
-abbrev minor : Expr → Expr → Expr → Expr → Expr
+abbrev pub minor : Expr → Expr → Expr → Expr → Expr
 minor p q r s = p ⊗ s ⊖ q ⊗ r
 
-abbrev sum : Expr → Expr → Expr → Expr → Expr → Expr → Expr
+abbrev pub sum : Expr → Expr → Expr → Expr → Expr → Expr → Expr
 sum aw au av bw bu bv = aw ⊗ bw ⊕ au ⊗ bu ⊕ av ⊗ bv
 
 abbrev all_three : Expr → Expr → Expr → Expr → Expr → Expr → Expr → Expr → Expr → Expr

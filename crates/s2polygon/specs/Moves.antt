@@ -1,10 +1,14 @@
 -- Corners that are moved, and how much greater the margin is that pays for it.
-use Rattle.std.specs.Prelude.{ℕ, ◌+◌, ◌-◌, ◌*◌, ◌/◌, ◌^◌, ◌≤◌, ◌<◌, ◌≡◌, ℤ, pos, ◌+ℤ◌, ◌-ℤ◌, ◌*ℤ◌, ◌≤ℤ◌, ◌<ℤ◌}
+use Rattle.std.specs.Prelude.{ℕ, ◌+◌, ◌-◌, ◌*◌, ◌/◌, ◌%◌, ◌^◌, ◌≤◌, ◌<◌, ◌≡◌, ◌≢◌, ℤ, pos, ◌+ℤ◌, ◌-ℤ◌, ◌*ℤ◌, ◌≤ℤ◌}
 use Rattle.std.specs.Prelude.{All, List, length, unsigned_abs}
-use Rattle.s2polygon.specs.Directions.{IsDirection, Point}
+use Rattle.s2polygon.specs.Directions.{Point}
+use Rattle.s2polygon.specs.Frames.{in_frame}
 use Rattle.s2polygon.specs.Leaves.{Region}
-use Rattle.s2polygon.specs.Rings.{AreRings, corner, rings_edges}
+use Rattle.s2polygon.specs.Meets.{above, left_of}
+use Rattle.s2polygon.specs.Places.{along}
+use Rattle.s2polygon.specs.Rings.{AreRings, HasDirections, corner, rings_edges}
 use Rattle.s2polygon.specs.declared.directions.Edge.{Edge}
+use Rattle.s2polygon.specs.declared.frames.Framed.{Framed}
 
 -- `q / scale` is at most `num / den` away from `p`
 abbrev pub IsNearBy : ℕ → ℕ → ℕ → ℤ → ℤ → Type 0
@@ -47,17 +51,6 @@ pub record StaysClear (height : ℕ) (e : Edge) : Type 0 where
 abbrev pub margin_of_moved : ℕ → ℕ → ℕ → ℕ → ℕ
 margin_of_moved num den height margin = margin + (28 * 2 ^ 60 * num / (3 * (height * den - num)) + 1)
 
--- products of an edge's ends that are above this, times `den * den`, show that the edge is shorter than a right angle,
--- also with its ends moved by at most `num / den`
-abbrev pub slack : ℕ → ℕ → ℕ
-slack num den = num * num + 2 ^ 32 * num * den
-
--- the edge is shorter than a right angle, by more than its ends may be moved
-pub record IsAcute (num den : ℕ) (e : Edge) : Type 0 where
-  pub a : pos (slack num den) <ℤ (pos (den * den) *ℤ product_of e.a e.a)
-  pub between : pos (slack num den) <ℤ (pos (den * den) *ℤ product_of e.a e.b)
-  pub b : pos (slack num den) <ℤ (pos (den * den) *ℤ product_of e.b e.b)
-
 -- the corners are near the moved ones, all edges between them stay clear of that cube, and the greater margin isn't
 -- above the most that a polygon may have
 pub record AreNearRings (num den height margin : ℕ) (corners moved : List Point) (ends : List ℕ) : Type 0 where
@@ -66,13 +59,26 @@ pub record AreNearRings (num den height margin : ℕ) (corners moved : List Poin
   pub less : num < height * den
   pub most : margin_of_moved num den height margin ≤ 2 ^ 60
 
--- both make rings of directions, and each edge is shorter than a right angle
-pub record AreAcuteRings (num den : ℕ) (corners moved : List Point) (ends : List ℕ) : Type 0 where
+-- the direction lies on no line through the middles of a row, or of a column, of the leaves of a face
+pub record IsOffMiddle (c : Framed) : Type 0 where
+  pub rows : (m : ℕ) → m < 2 ^ 30 → c.w ≢ pos 0 → above (along (2 * m + 1)) c ≢ pos 0
+  pub columns : (m : ℕ) → m < 2 ^ 30 → c.w ≢ pos 0 → left_of (along (2 * m + 1)) c ≢ pos 0
+
+-- of no face
+abbrev pub IsOffMiddles : Point → Type 0
+IsOffMiddles p = (f : ℕ) → IsOffMiddle (in_frame f p)
+
+-- all coordinates are odd
+pub record IsOdd (p : Point) : Type 0 where
+  pub x : unsigned_abs p.x % 2 ≡ 1
+  pub y : unsigned_abs p.y % 2 ≡ 1
+  pub z : unsigned_abs p.z % 2 ≡ 1
+
+-- the corners are directions that make rings, and the moved ones lie on no line through middles of leaves
+pub record AreOffMiddles (corners moved : List Point) (ends : List ℕ) : Type 0 where
   pub rings : AreRings corners ends
-  pub moved_rings : AreRings moved ends
-  pub directions : All IsDirection corners
-  pub moved_directions : All IsDirection moved
-  pub acute : All (IsAcute num den) (rings_edges corners ends (length ends))
+  pub directions : All HasDirections (rings_edges corners ends (length ends))
+  pub off : All IsOffMiddles moved
 
 -- the polygon of these rings, with the leaf outside and the margin of the other
 abbrev pub of_rings : Region → List Point → List ℕ → Region

@@ -7,7 +7,7 @@ ghost use Rattle.s2cell.specs.declared.TheConstants.{LEAVES};
 ghost use Rattle.s2polygon.specs.Directions.{IsDirection, Point};
 ghost use Rattle.s2polygon.specs.Leaves.{Region, inner_leaf, inside, is_touched, outer_leaf};
 ghost use Rattle.s2polygon.specs.Meets.{MeetsSquare};
-ghost use Rattle.s2polygon.specs.Moves.{AreAcuteRings, AreNearRings, StaysClear, margin_of_moved, of_rings};
+ghost use Rattle.s2polygon.specs.Moves.{AreNearRings, AreOffMiddles, IsOdd, IsOffMiddles, StaysClear, margin_of_moved, of_rings};
 ghost use Rattle.s2polygon.specs.Moves.{paid_for};
 ghost use Rattle.s2polygon.specs.Neighbors.{IsMiddleOfSide, ShareASide};
 ghost use Rattle.s2polygon.specs.Rings.{AreRings, HasDirections, rings_edges, turned_round};
@@ -87,16 +87,17 @@ pub fn law_of_neighbors()
         × ShareASide 768614336404564650 2305843009213693952 × ShareASide 2305843009213693951 2305843009213693952 }
 {}
 
-/// How much is lost by rounding corners, and the margin that pays for it. `moved` are the true corners and `corners`
-/// those that the library is given: each coordinate of these is at most `num / den` away from the true one, for
-/// corners from degrees 501 / 1000. With the greater margin, the given edges touch each leaf that the true ones
-/// touch.
+/// How much is lost by rounding corners, and the margin that pays for it. `moved` are the true corners, on a grid as
+/// fine as you like, and `corners` those that the library is given: each coordinate of these is at most `num / den`
+/// away from the true one, for corners from degrees 501 / 1000. With the greater margin, the given edges touch each
+/// leaf that the true ones touch.
 ///
-/// The inside is the same too, on a face: two leaves that the given edges don't touch with the greater margin lie on
-/// one side of the given polygon if, and only if, they lie on one side of the true one. So where the leaf outside is
-/// such a leaf, each outer leaf of its face is an outer leaf of the given polygon, and each inner leaf of the given
-/// polygon is an inner leaf of the true one. This is proved if each edge is shorter than a right angle, and if the
-/// true corners have 32 bits too. Of leaves of two faces it isn't proved.
+/// The inside is the same too: two leaves that the given edges don't touch with the greater margin, on whatever faces,
+/// lie on one side of the given polygon if, and only if, they lie on one side of the true one. So where the leaf
+/// outside is such a leaf, each outer leaf of the true polygon is an outer leaf of the given one, and each inner leaf
+/// of the given polygon is an inner leaf of the true one. True corners have to lie off the lines through the middles
+/// of rows and columns of leaves, where crossings are counted. Directions do (`directions`), and so does each point
+/// whose coordinates are odd numbers (`odd`), of which there is one as near as you like to any place.
 ///
 /// The margin grows with the longest edge, by how near it comes to the center (`height`). For 501 / 1000 it has 1.02
 /// leaves of a face's middle where edges are short, 1.5 for a right angle, 2.1 for 120 degrees, and 117 for 179.
@@ -105,24 +106,26 @@ pub fn law_of_moved_corners()
         → AreNearRings num den height r.margin corners moved ends → is_touched (of_rings r moved ends) x ≡ true
         → is_touched (paid_for num den height (of_rings r corners ends)) x ≡ true }
     ensures sides { (num den height : ℕ) (r : Region) (corners moved : List Point) (ends : List ℕ) (x y : ℕ)
-        → AreNearRings num den height r.margin corners moved ends → AreAcuteRings num den corners moved ends
-        → x / 4 ^ 30 ≡ y / 4 ^ 30
+        → AreNearRings num den height r.margin corners moved ends → AreOffMiddles corners moved ends
+        → x < LEAVES → y < LEAVES
         → is_touched (paid_for num den height (of_rings r corners ends)) x ≡ false
         → is_touched (paid_for num den height (of_rings r corners ends)) y ≡ false
         → (inside (of_rings r corners ends) x ≡ inside (of_rings r corners ends) y)
         ↔ (inside (of_rings r moved ends) x ≡ inside (of_rings r moved ends) y) }
     ensures outer { (num den height : ℕ) (r : Region) (corners moved : List Point) (ends : List ℕ) (x : ℕ)
-        → AreNearRings num den height r.margin corners moved ends → AreAcuteRings num den corners moved ends
-        → x / 4 ^ 30 ≡ r.outside / 4 ^ 30
+        → AreNearRings num den height r.margin corners moved ends → AreOffMiddles corners moved ends
+        → x < LEAVES → r.outside < LEAVES
         → is_touched (paid_for num den height (of_rings r corners ends)) r.outside ≡ false
         → outer_leaf (of_rings r moved ends) x ≡ true
         → outer_leaf (paid_for num den height (of_rings r corners ends)) x ≡ true }
     ensures inner { (num den height : ℕ) (r : Region) (corners moved : List Point) (ends : List ℕ) (x : ℕ)
-        → AreNearRings num den height r.margin corners moved ends → AreAcuteRings num den corners moved ends
-        → x / 4 ^ 30 ≡ r.outside / 4 ^ 30
+        → AreNearRings num den height r.margin corners moved ends → AreOffMiddles corners moved ends
+        → x < LEAVES → r.outside < LEAVES
         → is_touched (paid_for num den height (of_rings r corners ends)) r.outside ≡ false
         → inner_leaf (paid_for num den height (of_rings r corners ends)) x ≡ true
         → inner_leaf (of_rings r moved ends) x ≡ true }
+    ensures directions { (p : Point) → IsDirection p → IsOffMiddles p }
+    ensures odd { (p : Point) → IsOdd p → IsOffMiddles p }
     ensures known { StaysClear 1073741823 (record {
       a = record { x = pos 2147483647; y = pos 0; z = pos 0 };
       b = record { x = pos 0; y = pos 2147483647; z = pos 0 };
