@@ -1,5 +1,5 @@
 -- How far the straight line between two directions reaches, as code computes it.
-use Rattle.std.proofs.Common.{◌≡◌, refl, sym, ap, subst, ◌∙◌, ℕ, ◌+◌, ◌*◌, ◌^◌, ◌≤◌, ◌<◌, arith, ℤ, pos, ◌+ℤ◌}
+use Rattle.std.proofs.Common.{◌≡◌, refl, sym, ap, subst, ◌∙◌, ℕ, ◌*◌, ◌^◌, ◌≤◌, ◌<◌, arith, ℤ, pos, ◌+ℤ◌}
 use Rattle.std.proofs.Common.{◌≤ℤ◌, Bool, IsTrue, ◌↔◌, FitsSigned, to_z, of_z, w64, unsigned_abs, ◌⊎◌, inl, inr}
 use Rattle.std.proofs.lemmas.Int.{ints, to_z-of_z}
 use Rattle.s2geodesic.proofs.Opposite.{kept}

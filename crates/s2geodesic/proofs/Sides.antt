@@ -1,5 +1,5 @@
 -- How wide leaves are.
-use Rattle.std.proofs.Common.{◌≡◌, refl, ℕ, ◌+◌, ◌*◌, ◌-◌, ◌^◌, ◌<◌, arith, ℤ, pos, neg_ℤ, inl, inr, ◌*ℤ◌, ◌+ℤ◌, ◌-ℤ◌}
+use Rattle.std.proofs.Common.{◌≡◌, refl, ℕ, ◌+◌, ◌*◌, ◌-◌, ◌^◌, arith, ℤ, pos, neg_ℤ, inl, inr, ◌*ℤ◌, ◌+ℤ◌, ◌-ℤ◌}
 use Rattle.std.proofs.Common.{◌≤ℤ◌, ◌<ℤ◌, nat_lt}
 use Rattle.std.proofs.Common.{ltb-true, ltb-false, Bool, true, false, cond}
 use Rattle.std.proofs.lemmas.Int.{ints}

@@ -1,5 +1,5 @@
 -- Corners on one side of a plane through the center, and leaves on the other.
-use Rattle.std.specs.Prelude.{ℕ, ◌/◌, ◌^◌, ◌≤◌, ℤ, pos, ◌≤ℤ◌, ◌<ℤ◌, All, List, unsigned_abs}
+use Rattle.std.specs.Prelude.{ℕ, ◌/◌, ◌^◌, ◌≤◌, pos, ◌≤ℤ◌, ◌<ℤ◌, All, List, unsigned_abs}
 use Rattle.s2cell.specs.Curve.{i_of, j_of}
 use Rattle.s2polygon.specs.Cells.{square_of, widened}
 use Rattle.s2polygon.specs.Directions.{Point}

@@ -1,6 +1,7 @@
 -- Polygons whose corners were rounded: their edges, and why there is none.
 use Rattle.std.specs.Prelude.{◌≡◌, ℕ, ◌<◌, ◌≤◌, Bool, All, List, get_or, length}
 use Rattle.s2cell.specs.Cell.{level_of}
+use Rattle.s2cell.specs.declared.TheConstants.{LEAVES}
 use Rattle.s2geodesic.specs.Halves.{AreSpread, LiesOpposite}
 use Rattle.s2geodesic.specs.declared.edges.TheConstants.{HEIGHT}
 use Rattle.s2geodesic.specs.declared.fault.GeodesicFault.{GeodesicFault}
@@ -8,7 +9,7 @@ use Rattle.s2geodesic.specs.declared.fault.GeodesicFault.TheVariants.{LongEdge, 
 use Rattle.s2geodesic.specs.declared.polygon.TheConstants.{MARGIN}
 use Rattle.s2polygon.specs.Directions.{Point}
 use Rattle.s2polygon.specs.Leaves.{Region, is_touched}
-use Rattle.s2polygon.specs.Moves.{StaysClear}
+use Rattle.s2polygon.specs.Moves.{AreMoved, IsOffMiddles, StaysClear}
 use Rattle.s2polygon.specs.Rings.{AreRings, HasDirections, edge_from, rings_edges, start_of}
 use Rattle.s2polygon.specs.Rings as rings
 use Rattle.s2polygon.specs.declared.directions.Edge.{Edge}
@@ -21,6 +22,7 @@ IsShort e = HasDirections e × StaysClear HEIGHT e
 -- a polygon of these rings, with a leaf opposite all corners for the leaf outside, short edges, and the margin that
 -- pays for corners that were rounded
 pub record IsPolygonOf (corners : List Point) (ends : List ℕ) (r : Region) : Type 0 where
+  pub leaf : r.outside < LEAVES
   pub rings : AreRings corners ends
   pub edges : r.edges ≡ rings_edges corners ends (length ends)
   pub short : All IsShort r.edges
@@ -31,6 +33,18 @@ pub record IsPolygonOf (corners : List Point) (ends : List ℕ) (r : Region) : T
 abbrev pub touch : List Point → List ℕ → ℕ → Bool
 touch corners ends x =
     is_touched (record { edges = rings_edges corners ends (length ends); outside = 0; margin = 0 }) x
+
+-- the polygon of the true corners: of the same rings and with the same leaf outside as the polygon `r` of rounded ones,
+-- without a margin
+abbrev pub true_polygon : Region → List Point → List ℕ → Region
+true_polygon r moved ends =
+    record { edges = rings_edges moved ends (length ends); outside = r.outside; margin = 0 }
+
+-- true corners: each is at most 0.502 away from the same one of `corners`, in each coordinate, and lies on no line
+-- through the middles of leaves
+pub record AreTrue (corners moved : List Point) : Type 0 where
+  pub near : AreMoved 502 1000 corners moved
+  pub off : All IsOffMiddles moved
 
 -- corner `i` is one of ring `r`, and the edge from it is not short
 pub record IsLong (corners : List Point) (ends : List ℕ) (r i : ℕ) : Type 0 where

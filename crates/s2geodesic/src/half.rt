@@ -5,7 +5,7 @@ ghost use Rattle.s2geodesic.specs.Halves.{AreSpread, IsBehind, LieBefore, LiesOp
 ghost use Rattle.s2geodesic.specs.Working.Places.{IsFarLeaf, IsFarthest, sign_at};
 ghost use Rattle.s2polygon.specs.Moves.{product_of};
 
-use s2cell::{CellId, GREATEST_LEVEL, SIDE};
+use s2cell::{CellId, GREATEST_LEVEL, LEAVES, SIDE};
 use s2polygon::Direction;
 
 /// How many planes are tried: those whose normals have -1, 0 or 1 as coordinates.
@@ -64,6 +64,7 @@ fn leaf_behind(face: u8, u: i64, v: i64) -> CellId
     requires u { unsigned_abs u ≤ 1 }
     requires v { unsigned_abs v ≤ 1 }
     ensures leaf { level_of result ≡ GREATEST_LEVEL }
+    ensures below { first_leaf result < LEAVES }
     ensures far { IsFarLeaf face u v (first_leaf result) }
 {
     CellId::from_face_ij(face, farthest(u), farthest(v))
@@ -75,6 +76,7 @@ fn leaf_opposite(x: i64, y: i64, z: i64) -> CellId
     requires y { unsigned_abs y ≤ 1 }
     requires z { unsigned_abs z ≤ 1 }
     ensures leaf { level_of result ≡ GREATEST_LEVEL }
+    ensures below { first_leaf result < LEAVES }
     ensures behind { IsBehind (record { x = x; y = y; z = z }) (2 ^ 60) (first_leaf result) }
 {
     if x < 0 {
@@ -112,6 +114,7 @@ fn sign(t: u8) -> i64
 /// Each corner is looked at 27 times at most. S2: a loop has its inside on the left, and this asks for no direction.
 pub fn outside_of(corners: &[Direction]) -> Option<CellId>
     ensures leaf { IfSome result (λ leaf. level_of leaf ≡ GREATEST_LEVEL) }
+    ensures below { IfSome result (λ leaf. first_leaf leaf < LEAVES) }
     ensures opposite { IfSome result (λ leaf. LiesOpposite corners.now (first_leaf leaf)) }
     ensures spread { IfNone result (AreSpread corners.now) }
 {

@@ -13,12 +13,13 @@ use s2polygon::laws::law_of_moved_corners;
 use s2polygon::{Direction, Polygon};
 use std::alloc::Global;
 
-/// The margin of a polygon whose corners are at most 0.501 away from the true ones: 2.34 leaves of a face's middle.
-pub const MARGIN: u64 = 10_041_633_548;
+/// The margin of a polygon whose corners are at most 0.502 away from the true ones: 2.34 leaves of a face's middle.
+pub const MARGIN: u64 = 10_061_676_729;
 
-/// The polygon of rings of corners that are at most 0.501 away from the true ones, as those of `s2degrees` are. Rings
-/// are as for `Polygon::new`. Nobody says what lies outside: a leaf opposite all corners does (`outside_of`), which no
-/// edge touches. The margin is such that each leaf that the edges between the true corners touch is touched.
+/// The polygon of rings of corners that are at most 0.502 away from the true ones. Those of `s2degrees` are at most
+/// 0.501 away from what sines and cosines say. Rings are as for `Polygon::new`. Nobody says what lies outside: a leaf
+/// opposite all corners does (`outside_of`), which no edge touches. The margin is such that each leaf that the edges
+/// between the true corners touch is touched, and what lies inside follows (`law_of_true_corners`).
 ///
 /// `Spread` if no half of the sphere that is tried has all corners: give `Polygon::new` a leaf that lies outside.
 /// `LongEdge` if it is too far from a corner to the next; a corner between them is a remedy. An edge shorter than 128
@@ -32,7 +33,7 @@ pub fn polygon_of(
 ) -> Result<Polygon, GeodesicFault>
     ensures made { IfOk result (IsPolygonOf corners.now ends.now) }
     ensures outside { IfOk result (λ r. is_touched r r.outside ≡ false) }
-    ensures touched { IfOk result (λ r. (moved : List Point) (x : ℕ) → AreMoved 501 1000 corners.now moved
+    ensures touched { IfOk result (λ r. (moved : List Point) (x : ℕ) → AreMoved 502 1000 corners.now moved
         → touch moved ends.now x ≡ true → is_touched r x ≡ true) }
     ensures fault { IfErr result (FaultMeans corners.now ends.now) }
 {
