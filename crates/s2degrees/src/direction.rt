@@ -2,6 +2,7 @@
 ghost use Rattle.std.specs.Prelude.{◌≡◌, IfErr, IfOk};
 ghost use Rattle.s2degrees.specs.Directions.{IsBeyondPole, IsDirectionAt, IsDirectionOf, IsOnMap, PlaceFaultIs};
 ghost use Rattle.s2degrees.specs.declared.fault.DegreesFault.TheVariants.{Latitude};
+ghost use Rattle.s2polygon.specs.Directions.{IsDirection};
 
 use crate::angle::{QUARTER, sides_of};
 use crate::double::femtodegrees_within;
@@ -20,6 +21,7 @@ const MOST_LONGITUDE: u64 = 540_000_000_000_000_000;
 /// point.
 pub fn direction_of(longitude: i64, latitude: i64) -> Result<Direction, DegreesFault>
     ensures near { IfOk result (λ d. IsDirectionOf longitude latitude d) }
+    ensures direction { IfOk result (λ d. IsDirection d) }
     ensures within { IfOk result (λ _. ¬ (IsBeyondPole latitude)) }
     ensures fault { IfErr result (λ fault. (fault ≡ Latitude) × IsBeyondPole latitude) }
 {
@@ -42,6 +44,7 @@ pub fn direction_of(longitude: i64, latitude: i64) -> Result<Direction, DegreesF
 /// 540, `Latitude` if it is and the latitude is not from -90 to 90; NaN is not.
 pub fn direction_at(longitude: f64, latitude: f64) -> Result<Direction, DegreesFault>
     ensures near { IfOk result (λ d. IsDirectionAt longitude latitude d) }
+    ensures direction { IfOk result (λ d. IsDirection d) }
     ensures within { IfOk result (λ _. IsOnMap longitude latitude) }
     ensures fault { IfErr result (λ fault. PlaceFaultIs longitude latitude fault) }
     ensures outside { IfErr result (λ _. ¬ (IsOnMap longitude latitude)) }
