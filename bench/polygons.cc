@@ -1,5 +1,5 @@
 // Coverings of polygons by S2RegionCoverer, by the library for C and by hand-written C++, of the same corners:
-// polygons COUNTRIES.geojson COASTS.polygons [WORD [ROUNDS]].
+// polygons COUNTRIES.geojson PROVINCES.geojson COASTS.polygons [WORD [ROUNDS]].
 //
 // At one level all make the same cells, and a row counts only if they do. S2's index is built before, except in the
 // rows 'fresh', where S2 begins with its points, and the library with S2's polygon, by PolygonOf. Of at most N cells
@@ -183,7 +183,8 @@ class Bench {
   List room_;
 };
 
-static Shapes countries(const char* file) {
+// The polygons of a file, a shape of each feature.
+static Shapes shapes_of(const char* file) {
   nlohmann::json document;
   std::ifstream(file) >> document;
   Shapes shapes;
@@ -228,14 +229,15 @@ static Shapes noisy_ring(size_t edges) {
 }
 
 int main(int argc, char** argv) {
-  if (argc < 3) return 2;
-  Lanes lanes(argc > 3 ? argv[3] : "", argc > 4 ? atoi(argv[4]) : 5);
-  for (bool is_coast : {false, true}) {
-    Bench bench(lanes, is_coast ? "coasts" : "countries", is_coast ? coasts(argv[2], 200) : countries(argv[1]));
+  if (argc < 4) return 2;
+  Lanes lanes(argc > 4 ? argv[4] : "", argc > 5 ? atoi(argv[5]) : 5);
+  for (const std::string name : {"countries", "provinces", "coasts"}) {
+    const bool are_countries = name == "countries", are_coasts = name == "coasts";
+    Bench bench(lanes, name, are_coasts ? coasts(argv[3], 200) : shapes_of(argv[are_countries ? 1 : 2]));
     for (bool is_outer : {true, false})
       for (bool is_fresh : {false, true}) {
         for (int level : {4, 6, 8, 10, 12})
-          if (!is_coast || level < 12) bench.at_level(level, is_outer, is_fresh);
+          if (are_countries || (are_coasts && level < 12)) bench.at_level(level, is_outer, is_fresh);
         for (size_t most : {8, 20, 50, 200, 1000}) bench.at_most(most, is_outer, is_fresh);
       }
   }
