@@ -127,6 +127,12 @@ need_library() {
   [ "$failed" -eq 0 ] || finish
 }
 
+python_made() { # FOLDER: the modules for Python as in a package of sources, with what is made of them
+  local own=$top/bindings/python
+  cp -r "$own" "$1" && /usr/bin/python3 -B "$top/tools/methods.py" "$1/s2union" \
+    "$own"/s2union/{__init__.py,_library.pyi,_rooms.py,calls.h}
+}
+
 places() { # $work/places: places in degrees, with the leaves that S2 has there
   (cd "$top/tests" && /usr/bin/python3 -Bc 'from model.places import POINTS
 for place in POINTS: print(*place)') >"$work/places"

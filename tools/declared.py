@@ -91,6 +91,11 @@ class Said(NamedTuple):
     since: str
 
 
+def snake(name):
+    """The name in C of a structure."""
+    return re.sub(r"(?<!^)(?=[A-Z])", "_", name).lower()
+
+
 def text_of(path):
     return path.read_text(encoding="utf-8")
 

@@ -13,7 +13,8 @@ It writes each SOURCE to FOLDER with what is made in the place of these lines, w
   // numbers: of the calls       those of Calls.java; in s2union.hpp the room that what each makes is first given
 
 SOURCE may also be a file that is made whole: bindings/java/calls.h, the same numbers for s2union.c and what makes each
-call, or bindings/rust/src/calls.rs, each call as a safe function over slices, with the statuses and the limits.
+call; bindings/rust/src/calls.rs, each call as a safe function over slices, with the statuses and the limits; and of
+bindings/python/s2union calls.h, each call as a function of Python in C, _library.pyi, their types, and _rooms.py.
 
 It takes a call from the exports and s2union.h (declared.py) and from its row of methods.toml. The form of a language is
 that of in_LANGUAGE.py.
@@ -33,6 +34,7 @@ import in_python
 import in_rust
 import in_types
 import java_calls
+import python_calls
 import rust_calls
 import usage
 
@@ -191,7 +193,8 @@ def methods(top=TOP):
     return {call.name: Method(call, said[call.name], rows[call.name], general) for call in calls}
 
 
-MADE_WHOLE = {"calls.h": java_calls.in_c, "calls.rs": rust_calls.whole}
+MADE_WHOLE = {"java/calls.h": java_calls.in_c, "src/calls.rs": rust_calls.whole, "s2union/calls.h": python_calls.in_c,
+              "s2union/_library.pyi": python_calls.types, "s2union/_rooms.py": python_calls.rooms}
 NUMBERS = {".java": java_calls.in_java, ".hpp": in_cpp.rooms}
 FORMS = {"methods": "whole", "functions": "function", "comment": "comment", "examples": "examples",
          "questions": "question"}
@@ -215,10 +218,17 @@ def lost(path, top=TOP):
     return [name for name in names if name not in found]
 
 
+def whole(path, top=TOP):
+    """The text of a file that is made whole, and of which git has none."""
+    maker = MADE_WHOLE.get("/".join(path.absolute().parts[-2:]))
+    return maker(top) if maker and not path.exists() else None
+
+
 def filled(path, top=TOP):
     """The text of a source with what is made in it."""
-    if path.name in MADE_WHOLE and not path.exists():
-        return MADE_WHOLE[path.name](top)
+    made_whole = whole(path, top)
+    if made_whole:
+        return made_whole
     language, text = LANGUAGES.get(path.suffix), in_rust.joined(path, declared.text_of(path))
     found = methods(top) if language and MARK.search(text) else {}
 
@@ -261,6 +271,12 @@ def of_rust(top=TOP):
     """The sources of the crate, with those that are made whole."""
     own = top / "bindings" / "rust" / "src"
     return [*sorted(own.glob("*.rs")), own / "calls.rs"]
+
+
+def of_python(top=TOP):
+    """The sources of the module for Python that have something made in them, or are made whole."""
+    own = top / "bindings" / "python" / "s2union"
+    return [own / name for name in ("__init__.py", "_library.pyi", "_rooms.py", "calls.h")]
 
 
 def write(folder, sources):

@@ -5,9 +5,10 @@ libs2union is, as in what tools/portable makes, the library is compiled into the
 Else s2union.h is looked for in the folder $S2UNION_INCLUDE, by pkg-config, and in the compiler's own places, and the
 library is needed at run time.
 
-The land of the world, which maps in a notebook have below unions, lies in page/ of a checkout, and tools/methods.py
-makes docstrings there, by Python 3.11 or later. Where these aren't, as in what the packagers make, the land is beside
-the module already, or maps have none, and the module has its docstrings already.
+The land of the world, which maps in a notebook have below unions, lies in page/ of a checkout. There tools/methods.py
+makes calls.h, which is compiled, and _library.pyi, _rooms.py and docstrings, which are packed: by Python 3.11 or later,
+this one or Debian's. Where these aren't, as in what the packagers make, all of it is beside the module already, or maps
+have no land.
 """
 import os
 import shutil
@@ -27,27 +28,38 @@ class Compiled(Distribution):
         return True
 
 
+TOP = Path(__file__).resolve().parent / "../.."
+MAKER = TOP / "tools/methods.py"
+
+
+def make(folder, *names):
+    """Makes files of the module in a folder, if this is a checkout."""
+    if MAKER.exists():
+        python = sys.executable if sys.version_info >= (3, 11) else "/usr/bin/python3"
+        sources = [Path("s2union", name).resolve() for name in names]
+        subprocess.run([python, "-B", MAKER, folder, *sources], check=True)
+
+
 class Assembling(build_ext):
-    """Builds a module of assembler too, which the C compiler's driver takes."""
+    """Builds a module of assembler too, which the C compiler's driver takes, with the calls that are made."""
 
     def build_extensions(self):
+        make(self.build_temp, "calls.h")
+        self.compiler.add_include_dir(self.build_temp)
         self.compiler.src_extensions.append(".S")
         super().build_extensions()
 
 
 class OfCheckout(build_py):
-    """Takes from a checkout the land of the world, and docstrings that are made."""
+    """Takes from a checkout the land of the world, and what is made of the module."""
 
     def run(self):
         super().run()
-        top = Path(__file__).resolve().parent / "../.."
-        land, maker = top / "page/land.cells", top / "tools/methods.py"
-        folder = Path(self.build_lib, "s2union_geo")
+        land, folder = TOP / "page/land.cells", Path(self.build_lib, "s2union_geo")
         if land.exists() and folder.is_dir():  # which isn't there if the module is used where it lies
             shutil.copyfile(land, folder / land.name)
-        if maker.exists() and folder.is_dir() and sys.version_info >= (3, 11):
-            module = Path(self.build_lib, "s2union")
-            subprocess.run([sys.executable, "-B", maker, module, Path("s2union", "__init__.py").resolve()], check=True)
+        if folder.is_dir():
+            make(Path(self.build_lib, "s2union"), "__init__.py", "_library.pyi", "_rooms.py")
 
 
 def include():

@@ -17,6 +17,9 @@ import re
 import sys
 from pathlib import Path
 
+sys.path.append(str(Path(__file__).resolve().parents[2] / "tools"))
+import methods  # noqa: E402
+
 BEGIN = re.compile(r"^## (.*)\n", re.M)
 WORD = re.compile(r"^(\w+):", re.M)
 WORDS = {"file", "old", "new", "function", "gate", "test", "crate"}
@@ -76,9 +79,10 @@ def changed_texts(mutant, folder):
     texts = {}
     for file, olds, news in changes(mutant):
         path = Path(folder) / (file or "")
-        if not path.is_file() or not olds or not news:
+        text = path.read_text() if path.is_file() else methods.whole(path)
+        if text is None or not olds or not news:
             raise ValueError("it changes no file or no text")
-        text = texts.get(path, path.read_text())
+        text = texts.get(path, text)
         old = "\n".join(olds)
         if text.count(old) != 1:
             raise ValueError(f"a text is in {file} {text.count(old)} times")

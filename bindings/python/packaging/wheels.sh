@@ -13,14 +13,18 @@ headers=$(/usr/bin/python3 -c 'import sysconfig; print(sysconfig.get_path("inclu
 cp -rs "$headers" "$work/include" && rm "$work/include/pyconfig.h" && cp "$here/pyconfig.h" "$work/include/"
 x86_64-w64-mingw32-dlltool --temp-prefix python3 -d "$here/python3.def" -l "$work/libpython3.a"
 
+/usr/bin/python3 -B "$here/../../../tools/methods.py" "$work/made" \
+  "$python"/s2union/{__init__.py,_library.pyi,_rooms.py,calls.h}
+
 while read -r system platform oldest name library; do
   module=$work/$system/s2union
   mkdir -p "$module" "$work/$system/s2union_geo"
-  cp "$python"/s2union/{*.py,*.pyi,py.typed} "$module/"
-  /usr/bin/python3 -B "$here/../../../tools/methods.py" "$module" "$python/s2union/__init__.py"
+  cp "$python"/s2union/{*.py,py.typed} "$module/"
+  cp "$work"/made/*.py* "$module/"
   cp "$python"/s2union_geo/{*.py,py.typed} "$here/../../../page/land.cells" "$work/$system/s2union_geo/"
   bash "$here/../../../tools/packaging/shared_for.sh" "$system" "$source" "$module/$name" PyInit__library \
-    -DS2UNION_WITHIN -Wall -Wextra -I"$work/include" "$python/s2union/_library.c" ${library:+"$work/$library"}
+    -DS2UNION_WITHIN -Wall -Wextra -I"$work/include" -I"$work/made" "$python/s2union/_library.c" \
+    ${library:+"$work/$library"}
   bash "$here/wheel.sh" "$module" "$platform" "$folder" "$oldest"
 done <<'TABLE'
 x86_64-musl musllinux_1_2_x86_64 cp38 _library.abi3.so

@@ -1,7 +1,7 @@
 /* The calls of s2union.h as functions of Python, by the limited API: one module for each CPython from 3.8 on.
  *
- * It has Python's side of a call alone: numbers, lists, texts and refusals. `tools/calls` makes calls.h, which has the
- * calls whose arguments say all that there is to say; the others are below. What a function takes:
+ * It has Python's side of a call alone: numbers, lists, texts and refusals. calls.h, which tools/methods.py makes, has
+ * the calls whose arguments say all that there is to say; the others are below. What a function takes:
  *   a cell    an int, or what has an __index__, of 64 bits without or with a sign; a number of its own range likewise;
  *   a list    bytes or a memoryview without gaps, which nobody may write during the call, and nobody can release; a
  *             text: bytes or a str.

@@ -17,12 +17,14 @@ need_headers
 . "$top/tests/library.sh"
 page=bindings/python/README.md
 
+step "what is made of it" python_made "$work/source"
+own=$work/source/s2union
 for compiler in gcc clang; do
   step "its module in C, by $compiler" "$compiler" -std=gnu11 -O2 -Wall -Wextra -Werror -fPIC -shared \
-    -I"$(python_headers)" -I"$include" "$top/bindings/python/s2union/_library.c" -o "$work/module-$compiler.so"
+    -I"$(python_headers)" -I"$include" "$own/_library.c" -o "$work/module-$compiler.so"
 done
 for file in _library.c calls.h places.h; do
-  step "no arithmetic on cells: $file" no_arithmetic "$top/bindings/python/s2union/$file"
+  step "no arithmetic on cells: $file" no_arithmetic "$own/$file"
 done
 of_module() { # what the module wants and offers: what each Python from 3.8 on has
   local module=$work/usr/lib/python/s2union/_library.abi3.so
@@ -55,7 +57,7 @@ step "each allocation refused in turn" without_memory
 sanitized() ( # the module in C with the sanitizers, and what C itself gives for memory
   mkdir "$work/sanitized" && cp -r "$work/usr/lib/python/s2union" "$work/sanitized" &&
     gcc -std=gnu11 -O1 -g -fsanitize=address,undefined -fno-sanitize-recover -fPIC -shared -I"$(python_headers)" \
-      -I"$include" "$top/bindings/python/s2union/_library.c" -o "$work/sanitized/s2union/_library.abi3.so" || return
+      -I"$include" "$own/_library.c" -o "$work/sanitized/s2union/_library.abi3.so" || return
   cd "$top/bindings/python/tests" && export PYTHONPATH=$work/sanitized:$top/tests PYTHONDONTWRITEBYTECODE=1
   export PYTHONMALLOC=malloc ASAN_OPTIONS=detect_leaks=0
   LD_PRELOAD="$(gcc -print-file-name=libasan.so) $(gcc -print-file-name=libubsan.so)" \
@@ -66,7 +68,7 @@ step "the same, and the edges, under the sanitizers" sanitized
 step "laws of sets, by hypothesis" python -m pytest test_laws.py
 /usr/bin/python3 -c 'import pandas' 2>/dev/null || echo "       pandas is not there: columns of it are not tested"
 typed() (
-  mkdir "$work/typed" && cp -r "$top/bindings/python/s2union" "$work/typed" && cd "$work/typed" &&
+  mkdir "$work/typed" && cp -r "$own" "$work/typed" && cd "$work/typed" &&
     mypy --strict -p s2union
 )
 if command -v mypy >/dev/null; then
@@ -99,10 +101,12 @@ sys.modules["numpy"] = None
 sys.exit(pytest.main(["test_library.py::TheModule"]))'
 }
 step "without numpy" without_numpy
-by_pip() { # the module where pip puts it, with the library elsewhere
-  cp -r "$top/bindings/python" "$work/source" && /usr/bin/python3 -m pip install -q --no-index --no-build-isolation \
-    --no-deps --disable-pip-version-check --root-user-action=ignore --target "$work/site" "$work/source" \
-    && (cd "$work" && env -u LD_LIBRARY_PATH PYTHONPATH="$work/site" S2UNION_LIBRARY="$work/usr/lib/libs2union.so.1" \
+by_pip() { # the module of a checkout where pip puts it, with the library elsewhere
+  local made=(page/land.cells tools crates/s2union_c/{include,src} bindings/python)
+  mkdir "$work/checkout" && (cd "$top" && cp -r --parents "${made[@]}" "$work/checkout") &&
+    /usr/bin/python3 -m pip install -q --no-index --no-build-isolation --no-deps --disable-pip-version-check \
+      --root-user-action=ignore --target "$work/site" "$work/checkout/bindings/python" &&
+    (cd "$work" && env -u LD_LIBRARY_PATH PYTHONPATH="$work/site" S2UNION_LIBRARY="$work/usr/lib/libs2union.so.1" \
       /usr/bin/python3 -m doctest "$top/$page") && [ -e "$work/site/s2union/py.typed" ]
 }
 step "installed by pip" by_pip
@@ -111,7 +115,7 @@ without_pkg_config() { # where no folder for s2union.h is said, the compiler's o
 }
 step "its setup.py without pkg-config" without_pkg_config
 by_sdist() ( # the archive of its sources builds where nothing else is
-  cp -r "$top/bindings/python" "$work/described" &&
+  python_made "$work/described" &&
     python3 "$top/tools/packaging/described.py" "$work/described" $page &&
     cd "$work/described" && /usr/bin/python3 -c 'from setuptools import build_meta
 build_meta.build_sdist("'"$work"'")' >sdist 2>&1 && ! grep -i '^warning' sdist && mkdir "$work/from-sdist" &&

@@ -10,6 +10,8 @@ need_modules setuptools python3-setuptools
 need_packages
 need_library
 
+python_made "$work/whole"
+
 tests() (
   cd "$top/bindings/python/tests" && export PYTHONPATH=$work/mutant:$top/tests PYTHONDONTWRITEBYTECODE=1
   S2UNION_LIBRARY=$work/usr/lib/libs2union.so timeout 600 /usr/bin/python3 -m pytest -x test_library.py \
@@ -21,7 +23,7 @@ compiled() (
     /usr/bin/python3 -m compileall -q s2union
 )
 survives() { # NAME
-  mutant "$1" "$top"/bindings/python/{s2union,s2union_geo,setup.py,pyproject.toml} && compiled || return 2
+  mutant "$1" "$work"/whole/{s2union,s2union_geo,setup.py,pyproject.toml} && compiled || return 2
   refuse
 }
 
