@@ -13,6 +13,7 @@ pub mod OwnCells
 mod Searches
 mod Times
 mod Splittings
+mod Exactness
 mod Squares
 mod Rounded
 mod Faces

@@ -1,4 +1,5 @@
 pub mod Coverings
 pub mod Cut
 pub mod Near
+pub mod Rough
 pub mod Working

@@ -3,7 +3,7 @@ ghost use Rattle.std.specs.Prelude.{◌≡◌, ◌+◌, ◌<◌, ◌≤◌, ◌�
 ghost use Rattle.std.specs.List.{sum_by};
 ghost use Rattle.s2cover.specs.Near.{work_allowed};
 
-use crate::quadrant::Quadrant;
+use crate::rough::RoughRegion;
 
 /// How many pairs of a cell that is split and an edge a covering of few cells may have, whatever it covers.
 const PAIRS: u128 = 1 << 20;
@@ -23,14 +23,14 @@ pub(crate) fn budget(edges: usize, most: usize) -> u128
 }
 
 /// How many quadrants of a list, from the first on, can be split for the pairs that are left. Takes theirs away.
-pub(crate) fn spend<Q: Quadrant>(left: &mut u128, ahead: &[Q]) -> usize
-    requires { All Q.sound ahead.now }
+pub(crate) fn spend<R: RoughRegion>(region: &R, left: &mut u128, ahead: &[R::At]) -> usize
+    requires { All (R.sound region.now) ahead.now }
     ensures within { result ≤ length ahead.now }
-    ensures spent { left.new + sum_by (λ q. Q.work q (Q.id q)) (take result ahead.now) ≡ left.old }
-    ensures stop { (q : Q) (more : List Q) → drop result ahead.now ≡ q ∷ more → left.new < Q.work q (Q.id q) }
+    ensures spent { left.new + sum_by R.work (take result ahead.now) ≡ left.old }
+    ensures stop { (q : R.At) (more : List R.At) → drop result ahead.now ≡ q ∷ more → left.new < R.work q }
 {
     for n in 0..ahead.len() {
-        let size = ahead[n].size() as u128;
+        let size = region.size_at(&ahead[n]) as u128;
         if *left < size {
             return n;
         }

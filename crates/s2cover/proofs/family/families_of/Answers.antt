@@ -7,18 +7,21 @@ use Rattle.s2cover.proofs.Splittings.{taken_none, taken_next, popped, ended}
 use Rattle.s2cover.proofs.family.families_of.Goals as goal
 
 pub loop-quadrant-init : goal.loop-quadrant-init
-loop-quadrant-init g c = taken_none g.Q.Quadrant.id g.Q.Quadrant.sound g.Q.Quadrant.work g.Q.Quadrant.outer
-    g.Q.Quadrant.inner
+loop-quadrant-init g c =
+    let r = c.args.region.now in
+    taken_none g.R.RoughRegion.id (g.R.RoughRegion.sound r) g.R.RoughRegion.work
+    (g.R.RoughRegion.outside r) (g.R.RoughRegion.inside r) (g.R.RoughRegion.crosses r)
     (λ f. f.cell) (λ f. length f.inside.items + length f.across.items ≤ 4)
-    (λ w o i k f. IsFamily g.Q.Quadrant.id g.Q.Quadrant.sound g.Q.Quadrant.work g.Q.Quadrant.outer g.Q.Quadrant.inner w
-    o i k f.cell
+    (λ k f. IsFamily g.R.RoughRegion.id (g.R.RoughRegion.sound r) g.R.RoughRegion.work
+    (g.R.RoughRegion.outside r) (g.R.RoughRegion.inside r) (g.R.RoughRegion.crosses r) k f.cell
     f.inside.items f.across.items)
     c.new-families.ensures.items c.requires
 
 pub family_of-requires : goal.family_of-requires
 family_of-requires g c =
-    let w = (All-pop (λ q. g.Q.Quadrant.sound q × (level_of (g.Q.Quadrant.id q) < 30)) c.loop-quadrant.ahead.items
-    c.pop.new.self.items (Some c.in-Some.quadrant) c.in-Some.ensures.items c.loop-quadrant.invariant.right).1 in
+    let w = (All-pop (λ q. g.R.RoughRegion.sound c.args.region.now q × (level_of (g.R.RoughRegion.id q) < 30))
+    c.loop-quadrant.ahead.items c.pop.new.self.items (Some c.in-Some.quadrant) c.in-Some.ensures.items
+    c.loop-quadrant.invariant.right).1 in
     record { sound = w.0; deep = w.1 }
 
 pub loop-quadrant-smaller : goal.loop-quadrant-smaller
@@ -26,11 +29,13 @@ loop-quadrant-smaller g c = popped c.loop-quadrant.ahead.items c.pop.new.self.it
     c.in-Some.ensures.items
 
 pub loop-quadrant-preserved : goal.loop-quadrant-preserved
-loop-quadrant-preserved g c = taken_next g.Q.Quadrant.id g.Q.Quadrant.sound g.Q.Quadrant.work g.Q.Quadrant.outer
-    g.Q.Quadrant.inner
+loop-quadrant-preserved g c =
+    let r = c.args.region.now in
+    taken_next g.R.RoughRegion.id (g.R.RoughRegion.sound r) g.R.RoughRegion.work
+    (g.R.RoughRegion.outside r) (g.R.RoughRegion.inside r) (g.R.RoughRegion.crosses r)
     (λ f. f.cell) (λ f. length f.inside.items + length f.across.items ≤ 4)
-    (λ w o i k f. IsFamily g.Q.Quadrant.id g.Q.Quadrant.sound g.Q.Quadrant.work g.Q.Quadrant.outer g.Q.Quadrant.inner w
-    o i k f.cell
+    (λ k f. IsFamily g.R.RoughRegion.id (g.R.RoughRegion.sound r) g.R.RoughRegion.work
+    (g.R.RoughRegion.outside r) (g.R.RoughRegion.inside r) (g.R.RoughRegion.crosses r) k f.cell
     f.inside.items f.across.items)
     c.pop.new.self.items c.add.new.list.items c.in-Some.quadrant c.in_ok-family.family c.in-Some.ensures.items
     c.in_ok-add.ensures c.in_ok-family.ensures.cell c.in_ok-family.ensures.few c.in_ok-family.ensures.family
@@ -52,9 +57,10 @@ pub returns-clause-times : goal.returns-clause-times
 returns-clause-times g c x =
     let none = ended c.loop-quadrant.ahead.items
     (omega (arith, c.in_default.ensures.cases.0, c.loop-quadrant.ahead.ok)) in
-    let z : times_by g.Q.Quadrant.id c.loop-quadrant.ahead.items x ≡ 0 = ap (λ u. times_by g.Q.Quadrant.id u x) none in
+    let z : times_by g.R.RoughRegion.id c.loop-quadrant.ahead.items x ≡ 0 =
+    ap (λ u. times_by g.R.RoughRegion.id u x) none in
     let s = c.loop-quadrant.invariant.same x in
     omega arith
 
 pub returns-clause-families : goal.returns-clause-families
-returns-clause-families g c w o i k a = (c.loop-quadrant.invariant.families_are w o i k a).1
+returns-clause-families g c k a = (c.loop-quadrant.invariant.families_are k a).1

@@ -3,9 +3,7 @@ use Rattle.s2cover.proofs.Splittings.{closing_none, closing_next, closed, ended,
 use Rattle.s2cover.proofs.splitting.keep_whole.Goals as goal
 
 pub loop-quadrant-init : goal.loop-quadrant-init
-loop-quadrant-init g c = closing_none g.Q.Quadrant.id g.Q.Quadrant.sound g.Q.Quadrant.work g.Q.Quadrant.outer
-    g.Q.Quadrant.inner
-    c.args.kept.now.items c.args.ahead.now.items
+loop-quadrant-init g c = closing_none g.R.RoughRegion.id c.args.kept.now.items c.args.ahead.now.items
 
 pub returns-in_err-add-clause-times : goal.returns-in_err-add-clause-times
 returns-in_err-add-clause-times g c = search rules
@@ -21,17 +19,15 @@ loop-quadrant-smaller g c = popped c.loop-quadrant.ahead.items c.pop.new.self.it
     c.in-Some.ensures.items
 
 pub loop-quadrant-preserved : goal.loop-quadrant-preserved
-loop-quadrant-preserved g c = closing_next g.Q.Quadrant.id g.Q.Quadrant.sound g.Q.Quadrant.work g.Q.Quadrant.outer
-    g.Q.Quadrant.inner
-    c.add.new.list.items c.pop.new.self.items c.in-Some.quadrant c.cell.result c.in-Some.ensures.items
-    c.in_ok-add.ensures c.cell.ensures c.loop-quadrant.invariant
+loop-quadrant-preserved g c = closing_next g.R.RoughRegion.id c.add.new.list.items c.pop.new.self.items
+    c.in-Some.quadrant c.cell_at.result c.in-Some.ensures.items c.in_ok-add.ensures c.cell_at.ensures
+    c.loop-quadrant.invariant
 
 pub returns-clause-times : goal.returns-clause-times
 returns-clause-times g c =
     let none = ended c.loop-quadrant.ahead.items
     (omega (arith, c.in_default.ensures.cases.0, c.loop-quadrant.ahead.ok)) in
-    closed g.Q.Quadrant.id g.Q.Quadrant.sound g.Q.Quadrant.work g.Q.Quadrant.outer g.Q.Quadrant.inner none
-    c.loop-quadrant.invariant
+    closed g.R.RoughRegion.id none c.loop-quadrant.invariant
 
 pub returns-clause-len : goal.returns-clause-len
 returns-clause-len g c =

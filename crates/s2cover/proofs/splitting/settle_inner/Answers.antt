@@ -4,14 +4,16 @@ use Rattle.s2cover.proofs.Splittings.{front_inner}
 use Rattle.s2cover.proofs.splitting.settle_inner.Goals as goal
 
 pub returns-then-len-max-clause-front : goal.returns-then-len-max-clause-front
-returns-then-len-max-clause-front g c = IfOk-weaker c.join-then-len-max.result _ _ (λ y e w o i al d k sp rest n fam fr.
-    front_inner g.Q.Quadrant.id g.Q.Quadrant.sound g.Q.Quadrant.work g.Q.Quadrant.outer g.Q.Quadrant.inner
+returns-then-len-max-clause-front g c = IfOk-weaker c.join-then-len-max.result _ _ (λ y e r al d k sp rest n fam fr.
+    front_inner g.R.RoughRegion.id (g.R.RoughRegion.sound r) g.R.RoughRegion.work
+    (g.R.RoughRegion.outside r) (g.R.RoughRegion.inside r) (g.R.RoughRegion.crosses r)
     c.truncate.new.self.items c.args.family.inside.items c.join-then-len-max.new.list.items c.args.family.across.items
     (c.truncate.ensures.items ∙ ap (take c.args.most) c.in_ok-join.ensures) (inl e) fam fr) c.join-then-len-max.ensures
 
 pub returns-clause-front : goal.returns-clause-front
-returns-clause-front g c w o i al d k sp rest n fam fr =
-    front_inner g.Q.Quadrant.id g.Q.Quadrant.sound g.Q.Quadrant.work g.Q.Quadrant.outer g.Q.Quadrant.inner
+returns-clause-front g c r al d k sp rest n fam fr =
+    front_inner g.R.RoughRegion.id (g.R.RoughRegion.sound r) g.R.RoughRegion.work
+    (g.R.RoughRegion.outside r) (g.R.RoughRegion.inside r) (g.R.RoughRegion.crosses r)
     c.truncate.new.self.items c.args.family.inside.items c.args.ahead.now.items c.args.family.across.items
     (c.truncate.ensures.items ∙ ap (take c.args.most) c.in_ok-join.ensures) (inr (
       refl,

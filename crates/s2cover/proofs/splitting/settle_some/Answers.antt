@@ -3,21 +3,26 @@ use Rattle.std.specs.Prelude.{Some}
 use Rattle.std.proofs.lemmas.List.Elements.{All-pop}
 use Rattle.s2cover.specs.Working.Descent.{is_outer}
 use Rattle.s2cover.specs.Working.Splitting.{Front, IsFamily, Sizes}
-use Rattle.s2cover.proofs.Splittings.{settled_none, settled_sizes, settled_next, settled_other, popped, ended}
+use Rattle.s2cover.proofs.Splittings.{moved_next, moved_none, moved_other, settled_next, settled_none, settled_other}
+use Rattle.s2cover.proofs.Splittings.{settled_sizes, popped, ended}
 use Rattle.s2cover.proofs.splitting.settle_some.Goals as goal
 
 pub loop-family-init : goal.loop-family-init
-loop-family-init g c = settled_none g.Q.Quadrant.id g.Q.Quadrant.sound g.Q.Quadrant.work g.Q.Quadrant.outer
-    g.Q.Quadrant.inner
-    (λ f. f.cell) (λ f. length f.inside.items + length f.across.items ≤ 4)
-    (λ w o i k f. IsFamily g.Q.Quadrant.id g.Q.Quadrant.sound g.Q.Quadrant.work g.Q.Quadrant.outer g.Q.Quadrant.inner w
-    o i k f.cell
-    f.inside.items f.across.items)
-    c.new-others.ensures.items c.requires.few c.requires.sizes
+loop-family-init g c = (
+  settled_none (λ f. length f.inside.items + length f.across.items ≤ 4) c.new-others.ensures.items c.requires.few
+      c.requires.sizes,
+  λ r. moved_none g.R.RoughRegion.id (g.R.RoughRegion.sound r) g.R.RoughRegion.work
+      (g.R.RoughRegion.outside r) (g.R.RoughRegion.inside r) (g.R.RoughRegion.crosses r)
+      (λ f. f.cell) (λ f. length f.inside.items + length f.across.items ≤ 4)
+      (λ k f. IsFamily g.R.RoughRegion.id (g.R.RoughRegion.sound r) g.R.RoughRegion.work
+      (g.R.RoughRegion.outside r) (g.R.RoughRegion.inside r) (g.R.RoughRegion.crosses r) k f.cell
+      f.inside.items f.across.items)
+      c.new-others.ensures.items,
+)
 
 pub turn_of-requires : goal.turn_of-requires
 turn_of-requires g c = (All-pop (λ f. length f.inside.items + length f.across.items ≤ 4) c.loop-family.families.items
-    c.pop.new.self.items (Some c.in-Some.family) c.in-Some.ensures.items c.loop-family.invariant.few).1
+    c.pop.new.self.items (Some c.in-Some.family) c.in-Some.ensures.items c.loop-family.invariant.0.few).1
 
 pub settle-requires : goal.settle-requires
 settle-requires g c =
@@ -31,14 +36,10 @@ settle-requires g c =
     ) in
     record {
       few = (All-pop (λ f. length f.inside.items + length f.across.items ≤ 4) c.loop-family.families.items
-          c.pop.new.self.items (Some c.in-Some.family) c.in-Some.ensures.items c.loop-family.invariant.few).1;
+          c.pop.new.self.items (Some c.in-Some.family) c.in-Some.ensures.items c.loop-family.invariant.0.few).1;
       most = c.requires.most;
-      sizes = settled_sizes g.Q.Quadrant.id g.Q.Quadrant.sound g.Q.Quadrant.work g.Q.Quadrant.outer g.Q.Quadrant.inner
-          (λ f. f.cell) (λ f. length f.inside.items + length f.across.items ≤ 4)
-          (λ w o i k f. IsFamily g.Q.Quadrant.id g.Q.Quadrant.sound g.Q.Quadrant.work g.Q.Quadrant.outer
-          g.Q.Quadrant.inner w o i k f.cell
-          f.inside.items f.across.items)
-          c.pop.new.self.items c.in-Some.family c.in-Some.ensures.items waiting c.loop-family.invariant;
+      sizes = settled_sizes (λ f. length f.inside.items + length f.across.items ≤ 4)
+          c.pop.new.self.items c.in-Some.family c.in-Some.ensures.items waiting c.loop-family.invariant.0;
     }
 
 pub loop-family-smaller : goal.loop-family-smaller
@@ -50,14 +51,19 @@ loop-family-smaller-in-Continue-1 g c = popped c.loop-family.families.items c.po
     c.in-Some.ensures.items
 
 pub loop-family-preserved : goal.loop-family-preserved
-loop-family-preserved g c = settled_other g.Q.Quadrant.id g.Q.Quadrant.sound g.Q.Quadrant.work g.Q.Quadrant.outer
-    g.Q.Quadrant.inner
-    (λ f. f.cell) (λ f. length f.inside.items + length f.across.items ≤ 4)
-    (λ w o i k f. IsFamily g.Q.Quadrant.id g.Q.Quadrant.sound g.Q.Quadrant.work g.Q.Quadrant.outer g.Q.Quadrant.inner w
-    o i k f.cell
-    f.inside.items f.across.items)
-    c.pop.new.self.items c.add.new.list.items c.in-Some.family c.in-Some.ensures.items c.in_ok-add.ensures
-    (λ h. let t = c.turn_of.ensures in let f = c.if-turn_of-limit.false in omega arith) c.loop-family.invariant
+loop-family-preserved g c = (
+  settled_other (λ f. length f.inside.items + length f.across.items ≤ 4)
+      c.pop.new.self.items c.add.new.list.items c.in-Some.family c.in-Some.ensures.items c.in_ok-add.ensures
+      (λ h. let t = c.turn_of.ensures in let f = c.if-turn_of-limit.false in omega arith) c.loop-family.invariant.0,
+  λ r. moved_other g.R.RoughRegion.id (g.R.RoughRegion.sound r) g.R.RoughRegion.work
+      (g.R.RoughRegion.outside r) (g.R.RoughRegion.inside r) (g.R.RoughRegion.crosses r)
+      (λ f. f.cell) (λ f. length f.inside.items + length f.across.items ≤ 4)
+      (λ k f. IsFamily g.R.RoughRegion.id (g.R.RoughRegion.sound r) g.R.RoughRegion.work
+      (g.R.RoughRegion.outside r) (g.R.RoughRegion.inside r) (g.R.RoughRegion.crosses r) k f.cell
+      f.inside.items f.across.items)
+      c.pop.new.self.items c.add.new.list.items c.in-Some.family c.in-Some.ensures.items c.in_ok-add.ensures
+      (c.loop-family.invariant.1 r),
+)
 
 pub loop-family-preserved-in-Continue-1 : goal.loop-family-preserved-in-Continue-1
 loop-family-preserved-in-Continue-1 g c =
@@ -68,20 +74,25 @@ loop-family-preserved-in-Continue-1 g c =
       c.len-then-turn_of-limit.ensures,
       c.pop.new.self.ok.0,
       c.loop-family.others.ok.0,
-    ) in
-    settled_next g.Q.Quadrant.id g.Q.Quadrant.sound g.Q.Quadrant.work g.Q.Quadrant.outer g.Q.Quadrant.inner
-    (λ f. f.cell) (λ f. length f.inside.items + length f.across.items ≤ 4)
-    (λ w o i k f. IsFamily g.Q.Quadrant.id g.Q.Quadrant.sound g.Q.Quadrant.work g.Q.Quadrant.outer g.Q.Quadrant.inner w
-    o i k f.cell
-    f.inside.items f.across.items)
-    c.pop.new.self.items c.settle.new.kept.items c.settle.new.ahead.items c.in-Some.family c.in-Some.ensures.items
-    waiting c.in_ok-settle.ensures.sizes c.in_ok-settle.ensures.front c.loop-family.invariant
+    ) in (
+      settled_next (λ f. length f.inside.items + length f.across.items ≤ 4)
+          c.pop.new.self.items c.settle.new.kept.items c.settle.new.ahead.items c.in-Some.family c.in-Some.ensures.items
+          waiting c.in_ok-settle.ensures.sizes c.loop-family.invariant.0,
+      λ r. moved_next g.R.RoughRegion.id (g.R.RoughRegion.sound r) g.R.RoughRegion.work
+          (g.R.RoughRegion.outside r) (g.R.RoughRegion.inside r) (g.R.RoughRegion.crosses r)
+          (λ f. f.cell) (λ f. length f.inside.items + length f.across.items ≤ 4)
+          (λ k f. IsFamily g.R.RoughRegion.id (g.R.RoughRegion.sound r) g.R.RoughRegion.work
+          (g.R.RoughRegion.outside r) (g.R.RoughRegion.inside r) (g.R.RoughRegion.crosses r) k f.cell
+          f.inside.items f.across.items)
+          c.pop.new.self.items c.settle.new.kept.items c.settle.new.ahead.items c.in-Some.family c.in-Some.ensures.items
+          waiting (c.in_ok-settle.ensures.front r) (c.loop-family.invariant.1 r),
+    )
 
 pub returns-clause-none : goal.returns-clause-none
-returns-clause-none g c = c.loop-family.invariant.none
+returns-clause-none g c = c.loop-family.invariant.0.none
 
 pub returns-clause-few : goal.returns-clause-few
-returns-clause-few g c = c.loop-family.invariant.few_others
+returns-clause-few g c = c.loop-family.invariant.0.few_others
 
 pub returns-clause-sizes : goal.returns-clause-sizes
 returns-clause-sizes g c =
@@ -89,16 +100,17 @@ returns-clause-sizes g c =
     ≡ length c.loop-family.others.items =
     omega (arith, c.in_default.ensures.cases.0, c.loop-family.families.ok) in
     subst (λ n. Sizes (is_outer c.args.kind) c.args.most n (length c.loop-family.kept.items)
-    (length c.loop-family.ahead.items)) none c.loop-family.invariant.sizes
+    (length c.loop-family.ahead.items)) none c.loop-family.invariant.0.sizes
 
 pub returns-clause-families : goal.returns-clause-families
-returns-clause-families g c w o i k a = (c.loop-family.invariant.families_are w o i k a).1
+returns-clause-families g c r k a = ((c.loop-family.invariant.1 r).families_are k a).1
 
 pub returns-clause-front : goal.returns-clause-front
-returns-clause-front g c w o i al d k sp a fr =
+returns-clause-front g c r al d k sp a fr =
     let none = ended c.loop-family.families.items
     (omega (arith, c.in_default.ensures.cases.0, c.loop-family.families.ok)) in
-    subst (λ u. Front g.Q.Quadrant.id g.Q.Quadrant.sound g.Q.Quadrant.work g.Q.Quadrant.outer g.Q.Quadrant.inner
-    (is_outer c.args.kind) w o i al c.args.most d k k sp (map (λ f. f.cell) u ++ map (λ f. f.cell)
+    subst (λ u. Front g.R.RoughRegion.id (g.R.RoughRegion.sound r) g.R.RoughRegion.work
+    (g.R.RoughRegion.outside r) (g.R.RoughRegion.inside r) (g.R.RoughRegion.crosses r)
+    (is_outer c.args.kind) al c.args.most d k k sp (map (λ f. f.cell) u ++ map (λ f. f.cell)
     c.loop-family.others.items) c.loop-family.kept.items c.loop-family.ahead.items) none
-    (c.loop-family.invariant.front w o i al d k sp a fr)
+    ((c.loop-family.invariant.1 r).front al d k sp a fr)

@@ -6,11 +6,13 @@ use Rattle.s2cover.proofs.splitting.split.Goals as goal
 
 pub loop-limit-init : goal.loop-limit-init
 loop-limit-init g c =
+    let r = c.args.region.now in
     let f = c.in_ok-families.ensures in
-    splits_none g.Q.Quadrant.id g.Q.Quadrant.sound g.Q.Quadrant.work g.Q.Quadrant.outer g.Q.Quadrant.inner
+    splits_none g.R.RoughRegion.id (g.R.RoughRegion.sound r) g.R.RoughRegion.work
+    (g.R.RoughRegion.outside r) (g.R.RoughRegion.inside r) (g.R.RoughRegion.crosses r)
     (λ f. f.cell) (λ f. length f.inside.items + length f.across.items ≤ 4)
-    (λ w o i k f. IsFamily g.Q.Quadrant.id g.Q.Quadrant.sound g.Q.Quadrant.work g.Q.Quadrant.outer g.Q.Quadrant.inner w
-    o i k f.cell
+    (λ k f. IsFamily g.R.RoughRegion.id (g.R.RoughRegion.sound r) g.R.RoughRegion.work
+    (g.R.RoughRegion.outside r) (g.R.RoughRegion.inside r) (g.R.RoughRegion.crosses r) k f.cell
     f.inside.items f.across.items)
     refl f.empty f.len f.few f.times f.families c.requires.sizes
 
@@ -23,14 +25,16 @@ settle_some-requires g c = record {
 
 pub loop-limit-preserved : goal.loop-limit-preserved
 loop-limit-preserved g c =
+    let r = c.args.region.now in
     let s = c.in_ok-families-2.ensures in
-    splits_next g.Q.Quadrant.id g.Q.Quadrant.sound g.Q.Quadrant.work g.Q.Quadrant.outer g.Q.Quadrant.inner
+    splits_next g.R.RoughRegion.id (g.R.RoughRegion.sound r) g.R.RoughRegion.work
+    (g.R.RoughRegion.outside r) (g.R.RoughRegion.inside r) (g.R.RoughRegion.crosses r)
     (λ f. f.cell) (λ f. length f.inside.items + length f.across.items ≤ 4)
-    (λ w o i k f. IsFamily g.Q.Quadrant.id g.Q.Quadrant.sound g.Q.Quadrant.work g.Q.Quadrant.outer g.Q.Quadrant.inner w
-    o i k f.cell
+    (λ k f. IsFamily g.R.RoughRegion.id (g.R.RoughRegion.sound r) g.R.RoughRegion.work
+    (g.R.RoughRegion.outside r) (g.R.RoughRegion.inside r) (g.R.RoughRegion.crosses r) k f.cell
     f.inside.items f.across.items)
     c.in_ok-families-2.families.items c.settle_some.new.kept.items c.settle_some.new.ahead.items s.none s.few s.sizes
-    s.families s.front c.loop-limit.invariant
+    (s.families r) (s.front r) c.loop-limit.invariant
 
 pub returns-clause-sizes : goal.returns-clause-sizes
 returns-clause-sizes g c =
@@ -41,11 +45,13 @@ returns-clause-sizes g c =
 
 pub returns-clause-front : goal.returns-clause-front
 returns-clause-front g c =
+    let r = c.args.region.now in
     let five : c.loop-limit.limit ≡ 5 = (let t = c.loop-limit-test.false in let e = c.loop-limit.auto.limit-end in
     omega arith) in
-    splits_done g.Q.Quadrant.id g.Q.Quadrant.sound g.Q.Quadrant.work g.Q.Quadrant.outer g.Q.Quadrant.inner
+    splits_done g.R.RoughRegion.id (g.R.RoughRegion.sound r) g.R.RoughRegion.work
+    (g.R.RoughRegion.outside r) (g.R.RoughRegion.inside r) (g.R.RoughRegion.crosses r)
     (λ f. f.cell) (λ f. length f.inside.items + length f.across.items ≤ 4)
-    (λ w o i k f. IsFamily g.Q.Quadrant.id g.Q.Quadrant.sound g.Q.Quadrant.work g.Q.Quadrant.outer g.Q.Quadrant.inner w
-    o i k f.cell
+    (λ k f. IsFamily g.R.RoughRegion.id (g.R.RoughRegion.sound r) g.R.RoughRegion.work
+    (g.R.RoughRegion.outside r) (g.R.RoughRegion.inside r) (g.R.RoughRegion.crosses r) k f.cell
     f.inside.items f.across.items)
     five c.loop-limit.invariant
