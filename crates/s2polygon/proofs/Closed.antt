@@ -1,17 +1,15 @@
 -- Edges of rings: closed, and the short way, in the frame of each face.
 use Rattle.std.proofs.Common.{◌≡◌, refl, sym, ap, ap₂, ◌∙◌, ℕ, zero, suc, ◌+◌, ◌-◌, ◌≤◌, ◌<◌, arith, ℤ, pos}
-use Rattle.std.proofs.Common.{neg_ℤ, ◌+ℤ◌, ◌-ℤ◌, ◌*ℤ◌, ◌≤ℤ◌, ◌<ℤ◌, ◌⊎◌, inl, inr, Bool, true, false, List, [], ◌∷◌}
+use Rattle.std.proofs.Common.{neg_ℤ, ◌+ℤ◌, ◌-ℤ◌, ◌*ℤ◌, ◌≤ℤ◌, Bool, true, false, List, [], ◌∷◌}
 use Rattle.std.proofs.Common.{All, length, cond, get_or, ◌==◌, eqb-true}
-use Rattle.std.proofs.lemmas.Int.{ints, by_lt_z}
+use Rattle.std.proofs.lemmas.Int.{ints}
 use Rattle.std.proofs.lemmas.Bool.{eqb-false}
 use Rattle.std.proofs.lemmas.List.Elements.{All-append, All-cons, All-get_or, All-nil}
 use Rattle.std.proofs.Math.Bool.{xor}
 use Rattle.s2polygon.proofs.Beside.{IsClosed}
 use Rattle.s2polygon.proofs.Changes.{odd_both, xor_self}
-use Rattle.s2polygon.proofs.Integers.{at, ◌⊖◌, ◌⊗◌, equal, product_at_most}
-use Rattle.s2polygon.proofs.Rays.{above_unlike, below_unlike}
+use Rattle.s2polygon.proofs.Integers.{at, ◌⊖◌, ◌⊗◌, equal}
 use Rattle.s2polygon.proofs.Middles.{difference}
-use Rattle.s2polygon.proofs.Quarters.{down_up}
 use Rattle.s2polygon.proofs.Steps.{odd_more}
 use Rattle.s2polygon.proofs.Turned.{drop}
 use Rattle.s2polygon.specs.Directions.{IsDirection, Point, origin}
@@ -145,54 +143,6 @@ opposite (suc (suc (suc (suc (suc n))))) a b h = record {
   away = sum_zyx (a.x *ℤ b.x) (a.y *ℤ b.y) (a.z *ℤ b.z) (neg_ℤ a.z *ℤ neg_ℤ b.z) (a.y *ℤ b.y) (a.x *ℤ b.x)
       (both_minus a.z b.z) refl refl h.away;
 }
-
--- the products of the other coordinates have the sign of the first, where all of the edge's turns are 0
-product_back : (n c m a : ℤ) → n *ℤ c ≡ m *ℤ a → ((n <ℤ pos 0) × (pos 0 <ℤ m)) ⊎ ((pos 0 <ℤ n) × (m <ℤ pos 0))
-    → (a *ℤ c) ≤ℤ pos 0
-product_back n c m a e h = by_lt_z a (pos 0)
-    (λ (l : a <ℤ pos 0). down_up a c (low a l) (low2 (above_unlike n c m a e h l)))
-    (λ (l : pos 0 ≤ℤ a). by_lt_z (pos 0) a
-    (λ (o : pos 0 <ℤ a). product_at_most a c l (low c (below_unlike n c m a e h o)))
-    (λ (o : a ≤ℤ pos 0). none a c (omega (arith, ints))))
-  where
-    low : (z : ℤ) → z <ℤ pos 0 → z ≤ℤ pos 0
-    low z g = omega (arith, ints)
-
-    low2 : {z : ℤ} → pos 0 <ℤ z → pos 0 ≤ℤ z
-    low2 {z} g = omega (arith, ints)
-
-    most : (z : ℤ) → z ≡ pos 0 → z ≤ℤ pos 0
-    most z g = omega (arith, ints)
-
-    none : (a c : ℤ) → a ≡ pos 0 → (a *ℤ c) ≤ℤ pos 0
-    none a c g = most (a *ℤ c) (ap (λ (z : ℤ). z *ℤ c) g ∙ equal (at (pos 0) ⊗ at c) (at (pos 0)) (omega arith))
-
-commuted : (x y : ℤ) → x *ℤ y ≡ y *ℤ x
-commuted x y = equal (at x ⊗ at y) (at y ⊗ at x) (omega arith)
-
-module _ (a b : Framed) (w : normal_w_of a b ≡ pos 0) (u : normal_u_of a b ≡ pos 0) (v : normal_v_of a b ≡ pos 0) where
-  is_back : ((a.w <ℤ pos 0) × (pos 0 <ℤ b.w)) ⊎ ((pos 0 <ℤ a.w) × (b.w <ℤ pos 0)) → IsBack a b
-  is_back h = record {
-    w = w;
-    u = u;
-    v = v;
-    away = most (a.w *ℤ b.w) (a.u *ℤ b.u) (a.v *ℤ b.v) (first h)
-        (product_back a.w b.u b.w a.u (difference (a.w *ℤ b.u) (a.u *ℤ b.w) v ∙ commuted a.u b.w) h)
-        (product_back a.w b.v b.w a.v (sym (difference (a.v *ℤ b.w) (a.w *ℤ b.v) u) ∙ commuted a.v b.w) h);
-  }
-    where
-      most : (x y z : ℤ) → x ≤ℤ pos 0 → y ≤ℤ pos 0 → z ≤ℤ pos 0 → (x +ℤ y +ℤ z) ≤ℤ pos 0
-      most x y z e f g = omega (arith, ints)
-
-      weak : (z : ℤ) → z <ℤ pos 0 → z ≤ℤ pos 0
-      weak z g = omega (arith, ints)
-
-      up : (z : ℤ) → pos 0 <ℤ z → pos 0 ≤ℤ z
-      up z g = omega (arith, ints)
-
-      first : ((a.w <ℤ pos 0) × (pos 0 <ℤ b.w)) ⊎ ((pos 0 <ℤ a.w) × (b.w <ℤ pos 0)) → (a.w *ℤ b.w) ≤ℤ pos 0
-      first (inl c) = down_up a.w b.w (weak a.w c.0) (up b.w c.1)
-      first (inr c) = product_at_most a.w b.w (up a.w c.0) (weak b.w c.1)
 
 -- the edge has directions as its ends, which don't lie opposite each other
 pub record IsSound (e : Edge) : Type 0 where
