@@ -1,8 +1,8 @@
 """The countries of the earth in PostgreSQL beside PostGIS, and in SQLite: countries.py FOLDER, for bench/databases.sh.
 
-FOLDER has the world of docs/examples/, covered; and in now/ both extensions. A number is the processor time of the session that answers, the least of five rounds, or of two if one takes
-more than a second; those who answer the same question take turns. The answers are in brackets. PostGIS counts points of
-borders where s2union counts cells.
+FOLDER has the world of docs/examples/, covered; and in now/ both extensions. A number is the processor time of the
+session that answers, the least of five rounds, or of two if one takes more than a second; those who answer the same
+question take turns. The answers are in brackets. PostGIS counts points of borders where s2union counts cells.
 """
 import json
 import os

@@ -3,8 +3,8 @@
 //
 // At one level all make the same cells, and a row counts only if they do. S2's index is built before, except in the
 // rows 'fresh', where S2 begins with its points, and the library with S2's polygon, by PolygonOf. Of at most N cells
-// each makes its own; there the row counts if outer ones have the leaves of all corners, and S2 has the middles of all cells
-// of inner ones inside. A line tells the cells and the area.
+// each makes its own; there the row counts if outer ones have the leaves of all corners, and S2 has the middles of all
+// cells of inner ones inside. A line tells the cells and the area.
 #include "rings.h"
 
 #include <s2/s2region_coverer.h>
