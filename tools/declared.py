@@ -15,7 +15,8 @@ EXPORT = re.compile(r'^pub extern "C" fn s2u_(\w+)\((.*?)\) -> (\w+)$', re.S | r
 C_TYPES = {"i64": "int64_t", "u8": "uint8_t", "u32": "uint32_t", "u64": "uint64_t", "i32": "int32_t", "usize": "size_t",
            "f64": "double"}
 # The name of a list's length in C; of one that is written, `room`; of any other, `n`.
-LENGTHS = {"xs": "nx", "ys": "ny", "cells": "m", "ends": "lists", "work": "work_room"}
+LENGTHS = {"xs": "nx", "ys": "ny", "cells": "m", "ends": "lists", "work": "work_room", "outer": "outer_room",
+           "inner": "inner_room"}
 IN_PLACE = "ids"  # a list that is written under this name is read too
 SAID = re.compile(r"/\*\*((?:(?!\*/)[\s\S])*?)\*/\n(?:u?int\d+_t) s2u_(\w+)\([^()]*\);")
 STEPS = re.compile(r" ((?:N|Log n|N log n) steps\b[^.]*)\.")
@@ -158,9 +159,9 @@ def constants(header, *names):
 
 
 def is_of_polygon(call):
-    return call.name.startswith("polygon_") or is_of_degrees(call)
+    return call.name.startswith("polygon_") or is_of_cover(call)
 
 
-def is_of_degrees(call):
-    """Whether a call takes degrees: s2union_cover.h makes it, with which each language covers polygons."""
-    return any(it.kind == "f64" for it in call.arguments)
+def is_of_cover(call):
+    """Whether s2union_cover.h makes a call for all languages: it takes degrees, or makes two coverings."""
+    return any(it.kind == "f64" or it.name == "inner_len" for it in call.arguments)

@@ -69,6 +69,9 @@ int32_t s2u_outer_of(const uint64_t* ids, size_t n, uint32_t level, size_t most,
   len);
 uint64_t s2u_parent(uint64_t id, uint32_t level);
 int32_t s2u_parents(const uint64_t* ids, size_t n, uint32_t level, uint64_t* out, size_t room, size_t* bad);
+int32_t s2u_polygon_coverings_up_to(const s2u_direction* corners, size_t n, const size_t* ends, size_t lists, uint64_t
+  outside, uint64_t margin, uint32_t least, uint32_t deepest, size_t cells, uint64_t* outer, size_t outer_room, size_t*
+  outer_len, uint64_t* inner, size_t inner_room, size_t* inner_len);
 int32_t s2u_polygon_inner(const s2u_direction* corners, size_t n, const size_t* ends, size_t lists, uint64_t outside,
   uint64_t margin, uint32_t level, size_t most, uint64_t* out, size_t room, size_t* len);
 int32_t s2u_polygon_inner_up_to(const s2u_direction* corners, size_t n, const size_t* ends, size_t lists, uint64_t

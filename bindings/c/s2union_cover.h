@@ -1372,6 +1372,19 @@ static inline int32_t s2u_cover_add_up_to(const s2u_cover_question* it, uint32_t
   return status;
 }
 
+/* Adds the cells of both coverings of few cells. */
+static inline int32_t s2u_cover_add_both(const s2u_cover_question* it, uint32_t deepest, uint64_t most,
+                                         s2u_cover_cells* outer, s2u_cover_cells* inner) {
+  size_t room = most < 6 ? 6 : (size_t)most, outer_len = 0, inner_len = 0;
+  if (!s2u_cover_resize(outer, outer->count + room) || !s2u_cover_resize(inner, inner->count + room))
+    return S2U_MEMORY;
+  int32_t status = s2u_polygon_coverings_up_to(
+      it->corners, it->corners_count, it->ends, it->ends_count, it->outside, it->margin, 0, deepest, (size_t)most,
+      outer->ids + outer->count, room, &outer_len, inner->ids + inner->count, room, &inner_len);
+  if (status == S2U_OK) outer->count += outer_len, inner->count += inner_len;
+  return status;
+}
+
 /* For how many cells of a level to take memory first: for more than the edges mostly touch. */
 static inline size_t s2u_cover_room(double length, uint32_t level) {
   double cells = 256 + 2 * length * ldexp(1, (int)level);
@@ -1923,6 +1936,8 @@ static inline int32_t s2u_cover_add_build(const s2u_cover_build* build, const s2
   const s2u_cover_question inner = s2u_cover_question_of(build, outside, wanted->options, 0);
   if (wanted->options->margin > 0)
     return s2u_cover_add_with_margin(build, outside, wanted->options, is_area, share, wanted->outer, wanted->inner);
+  if (wanted->outer && wanted->inner && is_area && wanted->options->min_level == 0)
+    return s2u_cover_add_both(&outer, wanted->options->max_level, share, wanted->outer, wanted->inner);
   if (wanted->outer) status = s2u_cover_add_question(&outer, wanted->options, share, wanted->outer);
   if (wanted->inner && is_area && status == S2U_OK)
     status = s2u_cover_add_question(&inner, wanted->options, share, wanted->inner);

@@ -67,6 +67,8 @@
   ASK(outer_of, (xs, nx, level, most, out, out_room, &len), SEE(out) SEE(len)) \
   ASK(parent, (id, level), ) \
   ASK(parents, (xs, nx, level, out, out_room, &len), SEE(out) SEE(len)) \
+  ASK(polygon_coverings_up_to, (corners, corners_count, corner_ends, rings, outside, margin, least, deepest, most, \
+    out, out_room, &len, more, more_room, &count), SEE(out) SEE(len) SEE(more) SEE(count)) \
   ASK(polygon_inner, (corners, corners_count, corner_ends, rings, outside, margin, coarse, most, out, out_room, \
     &len), SEE(out) SEE(len)) \
   ASK(polygon_inner_up_to, (corners, corners_count, corner_ends, rings, outside, margin, least, deepest, most, out, \

@@ -434,6 +434,16 @@ int main(void) {
     /* [s2u_polygon_inner_up_to] */
   }
   {
+    /* [s2u_polygon_coverings_up_to] */
+    s2u_direction corners[] = {{10, 1, 1}, {10, 9, 1}, {10, 1, 9}};
+    size_t ends[] = {3}, outer_len, inner_len;
+    uint64_t outside = s2u_from_face_ij(3, 0, 0), outer[8], inner[8];
+    check(s2u_polygon_coverings_up_to(corners, 3, ends, 1, outside, 0, 0, 30, 8, outer, 8, &outer_len, inner, 8,
+                                      &inner_len) == S2U_OK && outer_len <= 8 && inner_len <= 8);
+    check(s2u_contains(outer, outer_len, inner, inner_len) == 1);
+    /* [s2u_polygon_coverings_up_to] */
+  }
+  {
     /* [s2u_encode] */
     uint64_t ids[] = {UINT64_C(0x0400000000000000)};
     uint8_t bytes[S2U_FILE_SIZE(1)];

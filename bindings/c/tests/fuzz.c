@@ -383,6 +383,24 @@ static int is_of_polygon(int32_t status, size_t len, size_t n, size_t rings) {
   return status == S2U_OK || status == S2U_ROOM || (status == S2U_MANY && len == 0);
 }
 
+/* That a call for two coverings leaves what the calls for each leave, and has the first of their statuses that is a
+ * refusal. */
+static void both_coverings(const s2u_direction* corners, size_t n, const size_t* ends, size_t rings, uint64_t outside,
+                           uint64_t margin, uint32_t least, uint32_t deepest, size_t most) {
+  uint64_t *outer = fresh(), apart[2][MOST], inner[MOST];
+  size_t lens[] = {77, 77}, outer_len = 77, inner_len = 77, inner_room = byte() % (MOST + 1);
+  for (size_t k = 0; k < MOST; k++) apart[0][k] = apart[1][k] = inner[k] = OLD;
+  int32_t first = s2u_polygon_outer_up_to(corners, n, ends, rings, outside, margin, least, deepest, most, apart[0], room,
+                                          &lens[0]);
+  int32_t second = s2u_polygon_inner_up_to(corners, n, ends, rings, outside, margin, least, deepest, most, apart[1],
+                                           inner_room, &lens[1]);
+  int32_t status = s2u_polygon_coverings_up_to(corners, n, ends, rings, outside, margin, least, deepest, most, outer,
+                                               room, &outer_len, inner, inner_room, &inner_len);
+  seen(40, status, outer_len);
+  MUST(status == (first == S2U_OK ? second : first) && outer_len == lens[0] && inner_len == lens[1]);
+  MUST(memcmp(out_end - room, apart[0], 8 * room) == 0 && memcmp(inner, apart[1], sizeof inner) == 0);
+}
+
 /* Coverings of a polygon of any corners and ends; the levels are such as few cells are looked into. */
 static void polygons(void) {
   size_t n = byte() % (MOST / 3 + 1), rings = byte() % 4, len = 77, most = byte() % 70;
@@ -414,6 +432,7 @@ static void polygons(void) {
     MUST(status != S2U_OK || (len <= room && (call >= 2 || (len <= most && s2u_is_union(out, len) == 1))));
     MUST(status != S2U_ROOM || len > room);
   }
+  both_coverings(n ? corners : NULL, n, rings ? ends : NULL, rings, outside, margin, least, deepest, most);
 }
 
 /* Any two doubles: their direction, if they are a place. */

@@ -51,6 +51,11 @@ static int32_t polygon_outer_up_to(void) {
 static int32_t polygon_inner_up_to(void) {
   return s2u_polygon_inner_up_to(corners, 6, corner_ends, 2, 1, 0, 3, 12, 20, out, ROOM, &len);
 }
+static int32_t polygon_coverings_up_to(void) {
+  size_t half = ROOM / 2, inner_len = 77;
+  return s2u_polygon_coverings_up_to(corners, 6, corner_ends, 2, 1, 0, 3, 12, 20, out, half, &len, out + half, half,
+                                     &inner_len);
+}
 static int32_t encode(void) { return s2u_encode(xs, nx, bytes, sizeof bytes, &len); }
 static int32_t decode(void) { return s2u_decode(file, nfile, out, ROOM, &len); }
 static int32_t decode_mixed(void) { return s2u_decode(mixed, sizeof mixed, out, N, &len); }
@@ -113,6 +118,7 @@ int main(void) {
                {"outer_in", outer_in, 0}, {"inner_in", inner_in, 0},
                {"polygon_outer", polygon_outer, 0}, {"polygon_inner", polygon_inner, 0},
                {"polygon_outer_up_to", polygon_outer_up_to, 0}, {"polygon_inner_up_to", polygon_inner_up_to, 0},
+               {"polygon_coverings_up_to", polygon_coverings_up_to, 0},
                {"encode", encode, 1}, {"decode of a union", decode, 1}, {"decode in any order", decode_mixed, 1},
                {"decode in little room", decode_in_little_room, 0}};
   nx = random_union(xs, N, 6, 12);

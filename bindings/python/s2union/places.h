@@ -20,6 +20,7 @@ static Calls there;
 #define s2u_polygon_inner there.s2u_polygon_inner
 #define s2u_polygon_outer_up_to there.s2u_polygon_outer_up_to
 #define s2u_polygon_inner_up_to there.s2u_polygon_inner_up_to
+#define s2u_polygon_coverings_up_to there.s2u_polygon_coverings_up_to
 #include <s2union_join.h>
 #include <s2union_outline.h>
 #undef s2u_from_face_ij
@@ -38,6 +39,7 @@ static Calls there;
 #undef s2u_polygon_inner
 #undef s2u_polygon_outer_up_to
 #undef s2u_polygon_inner_up_to
+#undef s2u_polygon_coverings_up_to
 
 static void use_places(const Calls* calls) { there = *calls; }
 

@@ -1035,6 +1035,35 @@ int32_t s2u_polygon_inner_up_to(const s2u_direction* corners, size_t n, const si
                                 uint64_t outside, uint64_t margin, uint32_t least, uint32_t deepest, size_t cells,
                                 uint64_t* out, size_t room, size_t* len);
 
+/** Few cells that have all outer leaves of a polygon, and few that have inner ones alone: what s2u_polygon_outer_up_to
+ * and s2u_polygon_inner_up_to make of the same arguments, in two lists that share no place. Edges are prepared once, so
+ * it takes less time than the two calls: a sixth to a third less for a country by at most 8 cells.
+ * @param corners,n the corners, ring after ring, and how many they are; the first of a ring follows its last
+ * @param ends,lists how many corners there are up to the end of each ring, and how many rings
+ * @param outside a leaf that lies outside the polygon
+ * @param margin how near an edge has to come to a leaf to touch it: 0 to 2^60, of which a face has 6 * 2^60 a side
+ * @param least 0 to deepest: a cell of a lesser level is cut into its descendants of this one, as by s2u_denormalised
+ * @param deepest the greatest level of a cell, 0 (a face) to 30 (a leaf)
+ * @param cells the most cells of each before they are cut, of which S2U_MOST_COVERING are the most that count
+ * @param outer,outer_room,outer_len the first result, how many cells it has room for, and how many it has; of
+ *   S2U_CORNER and S2U_RING outer_len is the number of the corner or of the ring, from 0 on
+ * @param inner,inner_room,inner_len the same of the second
+ * @return S2U_OK
+ * @retval S2U_ROOM a room is too small; each length says what is needed, and the list that fits is made
+ * @retval S2U_MEMORY out of memory; nothing has changed
+ * @retval S2U_ARGUMENT least above deepest, deepest above 30, the margin above 2^60, or outside is not a leaf
+ * @retval S2U_CORNER a corner is no direction, or lies opposite the next corner of its ring
+ * @retval S2U_RING a ring ends in a wrong place or has fewer than three corners, or there is none
+ * @retval S2U_MANY one would have more than S2U_MOST_COVERING cells after some were cut; its length is 0, and the
+ *   other is made
+ * @since 1.5
+ * @snippet examples.c s2u_polygon_coverings_up_to
+ */
+int32_t s2u_polygon_coverings_up_to(const s2u_direction* corners, size_t n, const size_t* ends, size_t lists,
+                                    uint64_t outside, uint64_t margin, uint32_t least, uint32_t deepest, size_t cells,
+                                    uint64_t* outer, size_t outer_room, size_t* outer_len, uint64_t* inner,
+                                    size_t inner_room, size_t* inner_len);
+
 /** @} */
 
 /* ---- files ------------------------------------------------------------------------------------------------------- */

@@ -14,3 +14,4 @@ mod Rings
 mod Naming
 mod Fields
 mod Firsts
+mod Both

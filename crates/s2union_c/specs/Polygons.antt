@@ -1,5 +1,5 @@
 -- The polygon that a caller passes by its corners, what the calls for its coverings answer, and when they refuse it.
-use Rattle.std.specs.Prelude.{◌≡◌, ◌<◌, ◌≤◌, ◌+◌, ◌^◌, ◌⊎◌, ℕ, ℤ, Bool, List, [], All, length, map, max, get_or}
+use Rattle.std.specs.Prelude.{◌≡◌, ◌≢◌, ◌<◌, ◌≤◌, ◌+◌, ◌^◌, ◌⊎◌, ℕ, ℤ, Bool, List, [], All, length, map, max, get_or}
 use Rattle.s2cell.specs.Cell.{IsCell, first_leaf, level_of}
 use Rattle.s2list.specs.Denorm.{denormalised}
 use Rattle.s2list.specs.Union.{IsLocal, IsWithin, has_leaf}
@@ -12,7 +12,7 @@ use Rattle.s2polygon.specs.Leaves.{Region, inner_leaf, outer_leaf}
 use Rattle.s2polygon.specs.Rings.{AreRings, EndsWrong, IsAntipodal, corner, rings_edges, start_of}
 use Rattle.s2union_c.specs.Coverings.{Covers}
 use Rattle.s2union_c.specs.Results.{Made, Refused}
-use Rattle.s2union_c.specs.Status.{bad_corner, bad_ring, no_memory, too_many}
+use Rattle.s2union_c.specs.Status.{bad_corner, bad_ring, made, no_memory, too_many}
 use Rattle.s2union_c.specs.declared.polygons.Direction.{Direction}
 
 -- the point with the coordinates of a corner
@@ -93,9 +93,21 @@ pub record IsInnerUpTo (r : Region) (deepest most : ℕ) (u : List ℕ) : Type 0
   pub local : IsLocal u
 
 -- of a union with the property, the cells larger than those of the level `least` were cut to that level, and the result
--- written or longer than the room; or it has too many cells, or there was no memory, and the call was refused
-abbrev pub AnswersCut : ℕ → (List ℕ → Type 0) → ℤ → List ℕ → List ℕ → ℕ → Type 0
-AnswersCut least P status old new len =
+-- written or longer than the room; or it has too many cells, and the call was refused
+abbrev pub CutsOne : ℕ → (List ℕ → Type 0) → ℤ → List ℕ → List ℕ → ℕ → Type 0
+CutsOne least P status old new len =
     ((u : List ℕ) × P u × Made status (denormalised least 1 u) old new len)
     ⊎ ((u : List ℕ) × P u × (MOST_COVERING < length (denormalised least 1 u)) × Refused status too_many old new len)
-    ⊎ Refused status no_memory old new len
+
+-- the same, or there was no memory, and the call was refused
+abbrev pub AnswersCut : ℕ → (List ℕ → Type 0) → ℤ → List ℕ → List ℕ → ℕ → Type 0
+AnswersCut least P status old new len = CutsOne least P status old new len ⊎ Refused status no_memory old new len
+
+-- two answers, each with a status of its own: that of the call is the first's, or the second's if the first is `made`
+pub record AnswersBoth (First Second : ℤ → Type 0) (status : ℤ) : Type 0 where
+  pub first : ℤ
+  pub second : ℤ
+  pub of_first : First first
+  pub of_second : Second second
+  pub refused : first ≢ made → status ≡ first
+  pub passed : first ≡ made → status ≡ second

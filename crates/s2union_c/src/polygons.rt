@@ -8,10 +8,10 @@ ghost use Rattle.s2polygon.specs.Counts.{IsTooFine};
 ghost use Rattle.s2polygon.specs.Directions.{IsDirection};
 ghost use Rattle.s2polygon.specs.Leaves.{inner_leaf, outer_leaf};
 ghost use Rattle.s2polygon.specs.Rings.{FaultMeans};
-ghost use Rattle.s2union_c.specs.Polygons.{AnswersCut, AreGiven, CoversUnless, IsAsked, IsInnerUpTo, IsOuterUpTo};
-ghost use Rattle.s2union_c.specs.Polygons.{IsTooFineOuter, RefusesRings, point_of, points_of, region_of};
+ghost use Rattle.s2union_c.specs.Polygons.{AnswersBoth, AnswersCut, AreGiven, CoversUnless, CutsOne, IsAsked};
+ghost use Rattle.s2union_c.specs.Polygons.{IsInnerUpTo, IsOuterUpTo, IsTooFineOuter, RefusesRings, point_of, points_of, region_of};
 ghost use Rattle.s2union_c.specs.Results.{Made, Refused};
-ghost use Rattle.s2union_c.specs.Status.{bad_argument, too_many};
+ghost use Rattle.s2union_c.specs.Status.{bad_argument, no_memory, too_many};
 ghost use Rattle.s2union_c.specs.Working.Polygons.{FaultIs, IsTooFineFor, IsUpTo, polygon_covering_of};
 
 use crate::coverings::Side;
@@ -189,6 +189,67 @@ pub extern "C" fn s2u_polygon_inner_up_to(
         out,
         len,
     )
+}
+
+/// Both coverings of a polygon by few cells, whose edges are prepared once: what `s2u_polygon_outer_up_to` and
+/// `s2u_polygon_inner_up_to` answer, each in its list. The status is the first call's, or the second's if the first made
+/// its list.
+#[unsafe(no_mangle)]
+pub extern "C" fn s2u_polygon_coverings_up_to(
+    alloc: Global,
+    corners: &[Direction],
+    ends: &[usize],
+    outside: u64,
+    margin: u64,
+    least: u32,
+    deepest: u32,
+    cells: usize,
+    outer: &mut [u64],
+    outer_len: &mut usize,
+    inner: &mut [u64],
+    inner_len: &mut usize,
+) -> i32
+    ensures made { IsAsked outside margin least deepest → AreGiven corners.now ends.now → AnswersBoth
+        (λ status. CutsOne least
+        (IsOuterUpTo (region_of corners.now ends.now outside margin) deepest (min cells MOST_COVERING))
+        status outer.old outer.new outer_len.new)
+        (λ status. CutsOne least
+        (IsInnerUpTo (region_of corners.now ends.now outside margin) deepest (min cells MOST_COVERING))
+        status inner.old inner.new inner_len.new) result
+        ⊎ (Refused result no_memory outer.old outer.new outer_len.new
+        × Refused result no_memory inner.old inner.new inner_len.new) }
+    ensures most { AreGiven corners.now ends.now
+        → (outer_len.new ≤ MOST_COVERING) × (inner_len.new ≤ MOST_COVERING) }
+    ensures argument { (IsAsked outside margin least deepest → ⊥)
+        → Refused result bad_argument outer.old outer.new outer_len.new
+        × Refused result bad_argument inner.old inner.new inner_len.new }
+    ensures rings { IsAsked outside margin least deepest → (AreGiven corners.now ends.now → ⊥)
+        → RefusesRings corners.now ends.now result outer.old outer.new outer_len.new
+        × RefusesRings corners.now ends.now result inner.old inner.new inner_len.new }
+{
+    *outer_len = 0;
+    *inner_len = 0;
+    let Some(leaf) = leaf_asked(outside, margin, least, deepest) else {
+        return BAD_ARGUMENT;
+    };
+    match polygon_of(alloc, corners, ends, leaf, margin) {
+        Ok(polygon) => put_both(
+            alloc,
+            &polygon,
+            least as u8,
+            deepest as u8,
+            cells.min(MOST_COVERING),
+            outer,
+            outer_len,
+            inner,
+            inner_len,
+        ),
+        Err(fault) => {
+            let status = refuse(fault, outer_len);
+            *inner_len = *outer_len;
+            status
+        }
+    }
 }
 
 /// Why corners and ends are no polygon.
@@ -470,6 +531,42 @@ fn put_up_to(
         Ok(union) => put_cut(&union, least, out, len),
         Err(_) => NO_MEMORY,
     }
+}
+
+/// Writes both coverings of a polygon by few cells, cut to a level; nothing if there is no memory for both.
+fn put_both(
+    alloc: Global,
+    polygon: &Polygon,
+    least: u8,
+    deepest: u8,
+    most: usize,
+    outer: &mut [u64],
+    outer_len: &mut usize,
+    inner: &mut [u64],
+    inner_len: &mut usize,
+) -> i32
+    requires least { least ≤ 30 }
+    requires deepest { deepest ≤ 30 }
+    requires most { most ≤ MOST_COVERING }
+    requires outer_len { outer_len.old ≡ 0 }
+    requires inner_len { inner_len.old ≡ 0 }
+    ensures made { AnswersBoth
+        (λ status. CutsOne least (IsOuterUpTo polygon.now deepest most) status outer.old outer.new outer_len.new)
+        (λ status. CutsOne least (IsInnerUpTo polygon.now deepest most) status inner.old inner.new inner_len.new)
+        result
+        ⊎ (Refused result no_memory outer.old outer.new outer_len.new
+        × Refused result no_memory inner.old inner.new inner_len.new) }
+    ensures most { (outer_len.new ≤ MOST_COVERING) × (inner_len.new ≤ MOST_COVERING) }
+{
+    let Ok(outside) = covering_up_to(alloc, Side::Outer, polygon, deepest, most) else {
+        return NO_MEMORY;
+    };
+    let Ok(inside) = covering_up_to(alloc, Side::Inner, polygon, deepest, most) else {
+        return NO_MEMORY;
+    };
+    let first = put_cut(&outside, least, outer, outer_len);
+    let second = put_cut(&inside, least, inner, inner_len);
+    if first == MADE { second } else { first }
 }
 
 /// Writes the cells of a union, with those of the level `least` in place of larger ones, unless they are too many.

@@ -16,8 +16,8 @@ returns-in-Ok-clause-made c asked given =
 pub returns-in-Err-clause-made : goal.returns-in-Err-clause-made
 returns-in-Err-clause-made c asked given =
     let fits : SFits w32 c.refuse.result = search rules in
-    rw (to_z-of_z w32 c.refuse.result fits) (inr (inr (given_memory c.args.corners.now c.args.ends.now c.args.out.now
-    (c.refuse.ensures c.args.corners.now c.args.ends.now c.args.out.now c.in-Err.ensures.fault) given)))
+    rw (to_z-of_z w32 c.refuse.result fits) (inr (given_memory c.args.corners.now c.args.ends.now c.args.out.now
+    (c.refuse.ensures c.args.corners.now c.args.ends.now c.args.out.now c.in-Err.ensures.fault) given))
 
 pub returns-in-Err-clause-most : goal.returns-in-Err-clause-most
 returns-in-Err-clause-most c given =
