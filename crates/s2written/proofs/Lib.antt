@@ -1,4 +1,6 @@
+mod Corners
 mod Degrees
 mod Leaves
 mod Maps
+mod Polygons
 mod Walks

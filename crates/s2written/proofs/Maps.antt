@@ -5,6 +5,7 @@ use Rattle.std.proofs.Common.{take}
 use Rattle.std.proofs.lemmas.Bool.{eqb-false}
 use Rattle.std.proofs.lemmas.List.{get_or_read_under, take_more}
 use Rattle.std.proofs.lemmas.List.Elements.{All-cons, All-get_or, All-nil}
+use Rattle.std.specs.List.{AllZip}
 use Rattle.s2map.specs.Map.{IsMapPlace}
 use Rattle.s2map.specs.Rings.{AreRings, FaultMeans}
 use Rattle.s2map.specs.declared.fault.MapFault.{MapFault}
@@ -19,12 +20,12 @@ use Rattle.s2shape.specs.declared.shape.Position.{Position}
 use Rattle.s2written.specs.Maps.{ArePlacesOf, IsPlaceOf, edges_of, first_ring, parts_edges}
 
 -- ---- places
-zip_push : (qs : List Position) (ps : List Place) (q : Position) (p : Place) → ArePlacesOf qs ps → IsPlaceOf q p
-    → ArePlacesOf (qs ++ (q ∷ [])) (ps ++ (p ∷ []))
-zip_push [] [] q p h is = (is, tt)
-zip_push [] (x ∷ ps) q p h is = absurd h
-zip_push (y ∷ qs) [] q p h is = absurd h
-zip_push (y ∷ qs) (x ∷ ps) q p h is = (h.0, zip_push qs ps q p h.1 is)
+pub zip_push : {A B : Type 0} (R : A → B → Type 0) (xs : List A) (ys : List B) (x : A) (y : B) → AllZip R xs ys → R x y
+    → AllZip R (xs ++ (x ∷ [])) (ys ++ (y ∷ []))
+zip_push R [] [] x y h is = (is, tt)
+zip_push R [] (z ∷ ys) x y h is = absurd h
+zip_push R (w ∷ xs) [] x y h is = absurd h
+zip_push R (w ∷ xs) (z ∷ ys) x y h is = (h.0, zip_push R xs ys x y h.1 is)
 
 -- one more position, as code reads it
 pub places_next : (positions : List Position) (i : ℕ) (corners : List Place) (q : Position) (p : Place)
@@ -34,7 +35,7 @@ places_next positions i corners q p l read h is =
     let more : take (i + 1) positions ≡ take i positions ++ (q ∷ []) = take_more positions i q l
     ∙ ap (λ (x : Position). take i positions ++ (x ∷ [])) (sym read) in
     subst (λ (qs : List Position). ArePlacesOf qs (corners ++ (p ∷ []))) (sym more)
-    (zip_push (take i positions) corners q p h is)
+    (zip_push IsPlaceOf (take i positions) corners q p h is)
 
 pub on_map : (positions : List Position) (corners : List Place) → ArePlacesOf positions corners
     → All IsMapPlace corners

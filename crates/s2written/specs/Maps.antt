@@ -29,7 +29,7 @@ abbrev pub between : {A : Type 0} → ℕ → ℕ → List A → List A
 between first end xs = take (end - first) (drop first xs)
 
 -- the corners of the rings from number `first` up to number `end`
-abbrev pub corners_of : List Place → List ℕ → ℕ → ℕ → List Place
+abbrev pub corners_of : {A : Type 0} → List A → List ℕ → ℕ → ℕ → List A
 corners_of corners rings first end = between (start_of rings first) (start_of rings end) corners
 
 -- where these rings end, counted from the first of their corners

@@ -3,17 +3,22 @@
 //! The positions of a shape are places of the map, each coordinate to the nearest femtodegree, and its edges are
 //! straight in longitude and latitude. No place inside the shape, as it is written, is missing from its outer covering,
 //! and no place outside is in its inner one.
+//!
+//! With geodesic edges, the short ways on the sphere, no leaf that a polygon touches or has inside is missing from its
+//! outer covering, and each leaf of its inner one lies inside and isn't touched.
 #![tactic(auto)]
 
 mod covering;
 mod fault;
+mod geodesic;
 mod map;
 mod read;
 mod walk;
 
 pub use covering::{Coverings, cover};
-pub use fault::CoverError;
-pub use read::{cover_geojson, cover_wkb};
+pub use fault::{CoverError, GeodesicError};
+pub use geodesic::cover_geodesic;
+pub use read::{cover_geodesic_geojson, cover_geodesic_wkb, cover_geojson, cover_wkb};
 
 /// The work for the box of a cell: it takes about the time of this many comparisons of a cell with an edge.
 pub const BOX_WORK: u64 = 100;

@@ -71,7 +71,7 @@ fn femtodegrees_in(bits: u64, most: u64) -> Option<i64>
 }
 
 /// The place of a position, if it is one of the map.
-fn place_of(position: Position) -> Option<Place>
+pub(crate) fn place_of(position: Position) -> Option<Place>
     ensures some { IfSome result (λ p. IsPlaceOf position p) }
     ensures none { IfNone result ((p : Place) → IsPlaceOf position p → ⊥) }
 {
@@ -99,7 +99,7 @@ fn places_of(alloc: Global, shape: &Shape) -> Result<Vec<Place>, CoverError>
 }
 
 /// How many positions there are before a ring.
-fn start(rings: &[usize], ring: usize) -> usize
+pub(crate) fn start(rings: &[usize], ring: usize) -> usize
     ensures { result ≡ start_of rings.now ring }
 {
     if ring == 0 || ring > rings.len() {
@@ -109,7 +109,7 @@ fn start(rings: &[usize], ring: usize) -> usize
 }
 
 /// The items from one number up to another, if they are there.
-fn between<T>(items: &[T], first: usize, end: usize) -> &[T]
+pub(crate) fn between<T>(items: &[T], first: usize, end: usize) -> &[T]
     ensures { result.now ≡ items_between first end items.now }
 {
     let end = end.min(items.len());
@@ -118,7 +118,7 @@ fn between<T>(items: &[T], first: usize, end: usize) -> &[T]
 }
 
 /// Where rings end, counted from the first of their corners.
-fn ends_between(
+pub(crate) fn ends_between(
     alloc: Global,
     rings: &[usize],
     first: usize,

@@ -1,10 +1,14 @@
 //! Coverings of bytes of WKB and of texts of GeoJSON.
 ghost use Rattle.std.specs.Prelude.{◌≤◌, IfErr, IfOk};
+ghost use Rattle.s2written.specs.Geodesics.{CoversGeodesicGeoJson, CoversGeodesicWkb, GeodesicGeoJsonErrorIs};
+ghost use Rattle.s2written.specs.Geodesics.{GeodesicWkbErrorIs};
 ghost use Rattle.s2written.specs.Faults.{CoversGeoJson, CoversWkb, GeoJsonErrorIs, WkbErrorIs};
 
 use crate::covering::{Coverings, cover};
-use crate::fault::CoverError;
+use crate::fault::{CoverError, GeodesicError};
+use crate::geodesic::cover_geodesic;
 use s2cell::GREATEST_LEVEL;
+use s2cover::MOST_COVERING;
 use s2shape::{ShapeError, read_geojson, read_wkb};
 use std::alloc::Global;
 
@@ -37,5 +41,44 @@ pub fn cover_geojson(
         Ok(shape) => cover(alloc, &shape, level, work),
         Err(ShapeError::Memory) => Err(CoverError::Memory),
         Err(ShapeError::Fault(fault)) => Err(CoverError::Fault(fault)),
+    }
+}
+
+/// The coverings with geodesic edges of the shape that bytes of WKB or EWKB stand for, as those of `cover_geodesic`,
+/// whose errors it has. Before these comes `Fault` with the first fault of the bytes, as `s2shape::read_wkb` finds it.
+pub fn cover_geodesic_wkb(
+    alloc: Global,
+    bytes: &[u8],
+    level: u8,
+    max: usize,
+) -> Result<Coverings, GeodesicError>
+    requires level { level ≤ GREATEST_LEVEL }
+    requires max { max ≤ MOST_COVERING }
+    ensures covers { IfOk result (λ c. CoversGeodesicWkb bytes.now level c.outer.cells c.inner.cells) }
+    ensures fault { IfErr result (GeodesicWkbErrorIs bytes.now level max) }
+{
+    match read_wkb(alloc, bytes) {
+        Ok(shape) => cover_geodesic(alloc, &shape, level, max),
+        Err(ShapeError::Memory) => Err(GeodesicError::Memory),
+        Err(ShapeError::Fault(fault)) => Err(GeodesicError::Fault(fault)),
+    }
+}
+
+/// The same of a text of GeoJSON, as `s2shape::read_geojson` reads it.
+pub fn cover_geodesic_geojson(
+    alloc: Global,
+    text: &[u8],
+    level: u8,
+    max: usize,
+) -> Result<Coverings, GeodesicError>
+    requires level { level ≤ GREATEST_LEVEL }
+    requires max { max ≤ MOST_COVERING }
+    ensures covers { IfOk result (λ c. CoversGeodesicGeoJson text.now level c.outer.cells c.inner.cells) }
+    ensures fault { IfErr result (GeodesicGeoJsonErrorIs text.now level max) }
+{
+    match read_geojson(alloc, text) {
+        Ok(shape) => cover_geodesic(alloc, &shape, level, max),
+        Err(ShapeError::Memory) => Err(GeodesicError::Memory),
+        Err(ShapeError::Fault(fault)) => Err(GeodesicError::Fault(fault)),
     }
 }

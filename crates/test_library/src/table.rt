@@ -149,5 +149,8 @@ fn answer_on_values(
     if written::answer(alloc, name, words, found)? {
         return Ok(true);
     }
+    if written::answer_geodesic(alloc, name, words, found)? {
+        return Ok(true);
+    }
     files::answer(alloc, name, words, found)
 }

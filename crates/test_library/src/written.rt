@@ -2,7 +2,11 @@
 use crate::shapes::add_fault;
 use crate::texts::{cut, numbers_of, small};
 use s2cell::{CellId, GREATEST_LEVEL};
-use s2written::{CoverError, Coverings, cover_geojson, cover_wkb};
+use s2cover::MOST_COVERING;
+use s2written::{
+    CoverError, Coverings, GeodesicError, cover_geodesic_geojson, cover_geodesic_wkb,
+    cover_geojson, cover_wkb,
+};
 use std::alloc::{AllocError, Global};
 use test_table::{add_line, bytes_of};
 
@@ -50,6 +54,59 @@ fn add_covered(
         Err(CoverError::Memory) => add_line(found, "memory"),
         Err(CoverError::NoMap) => add_line(found, "NoMap"),
         Err(CoverError::TooManyCells) => add_line(found, "TooManyCells"),
+    }
+}
+
+/// Makes a call `cover_geodesic_wkb LEVEL MAX LEAF / BYTES` or `cover_geodesic_geojson LEVEL MAX LEAF / TEXT`, and adds
+/// the same. False for the name of another call.
+pub fn answer_geodesic(
+    alloc: Global,
+    name: &str,
+    words: &str,
+    found: &mut Vec<u8>,
+) -> Result<bool, AllocError> {
+    let (question, bytes) = cut(words);
+    let [level, max, ..] = numbers_of(question);
+    let level = small(level);
+    if name != "cover_geodesic_wkb" && name != "cover_geodesic_geojson" {
+        return Ok(false);
+    }
+    if level > GREATEST_LEVEL || max > MOST_COVERING as u64 {
+        add_line(found, "out of range")?;
+        return Ok(true);
+    }
+    let leaf = question.split_whitespace().last().unwrap_or("");
+    let covered = if name == "cover_geodesic_wkb" {
+        cover_geodesic_wkb(alloc, &bytes_of(alloc, bytes)?, level, max as usize)
+    } else {
+        cover_geodesic_geojson(alloc, bytes.as_bytes(), level, max as usize)
+    };
+    add_geodesic(alloc, found, covered, CellId::from_token(leaf.as_bytes()))?;
+    Ok(true)
+}
+
+/// Adds which coverings with geodesic edges have a leaf, or why there are none.
+fn add_geodesic(
+    alloc: Global,
+    found: &mut Vec<u8>,
+    covered: Result<Coverings, GeodesicError>,
+    leaf: Option<CellId>,
+) -> Result<(), AllocError> {
+    match covered {
+        Ok(coverings) => add_line(found, place_in(&coverings, leaf)),
+        Err(GeodesicError::Fault(fault)) => add_fault(alloc, found, fault),
+        Err(GeodesicError::NoInside(part)) => {
+            add_line(found, &format!(in alloc; "NoInside part {part}")?)
+        }
+        Err(GeodesicError::LongEdge(part)) => {
+            add_line(found, &format!(in alloc; "LongEdge part {part}")?)
+        }
+        Err(GeodesicError::Spread(part)) => {
+            add_line(found, &format!(in alloc; "Spread part {part}")?)
+        }
+        Err(GeodesicError::Memory) => add_line(found, "memory"),
+        Err(GeodesicError::NoMap) => add_line(found, "NoMap"),
+        Err(GeodesicError::TooManyCells) => add_line(found, "TooManyCells"),
     }
 }
 
