@@ -390,8 +390,8 @@ static void both_coverings(const s2u_direction* corners, size_t n, const size_t*
   uint64_t *outer = fresh(), apart[2][MOST], inner[MOST];
   size_t lens[] = {77, 77}, outer_len = 77, inner_len = 77, inner_room = byte() % (MOST + 1);
   for (size_t k = 0; k < MOST; k++) apart[0][k] = apart[1][k] = inner[k] = OLD;
-  int32_t first = s2u_polygon_outer_up_to(corners, n, ends, rings, outside, margin, least, deepest, most, apart[0], room,
-                                          &lens[0]);
+  int32_t first = s2u_polygon_outer_up_to(corners, n, ends, rings, outside, margin, least, deepest, most, apart[0],
+                                          room, &lens[0]);
   int32_t second = s2u_polygon_inner_up_to(corners, n, ends, rings, outside, margin, least, deepest, most, apart[1],
                                            inner_room, &lens[1]);
   int32_t status = s2u_polygon_coverings_up_to(corners, n, ends, rings, outside, margin, least, deepest, most, outer,

@@ -9,7 +9,8 @@ ghost use Rattle.s2polygon.specs.Directions.{IsDirection};
 ghost use Rattle.s2polygon.specs.Leaves.{inner_leaf, outer_leaf};
 ghost use Rattle.s2polygon.specs.Rings.{FaultMeans};
 ghost use Rattle.s2union_c.specs.Polygons.{AnswersBoth, AnswersCut, AreGiven, CoversUnless, CutsOne, IsAsked};
-ghost use Rattle.s2union_c.specs.Polygons.{IsInnerUpTo, IsOuterUpTo, IsTooFineOuter, RefusesRings, point_of, points_of, region_of};
+ghost use Rattle.s2union_c.specs.Polygons.{IsInnerUpTo, IsOuterUpTo, IsTooFineOuter, RefusesRings};
+ghost use Rattle.s2union_c.specs.Polygons.{point_of, points_of, region_of};
 ghost use Rattle.s2union_c.specs.Results.{Made, Refused};
 ghost use Rattle.s2union_c.specs.Status.{bad_argument, no_memory, too_many};
 ghost use Rattle.s2union_c.specs.Working.Polygons.{FaultIs, IsTooFineFor, IsUpTo, polygon_covering_of};
@@ -192,8 +193,8 @@ pub extern "C" fn s2u_polygon_inner_up_to(
 }
 
 /// Both coverings of a polygon by few cells, whose edges are prepared once: what `s2u_polygon_outer_up_to` and
-/// `s2u_polygon_inner_up_to` answer, each in its list. The status is the first call's, or the second's if the first made
-/// its list.
+/// `s2u_polygon_inner_up_to` answer, each in its list. The status is that of the first, or if that made its list, of
+/// the second. Without memory nothing is written.
 #[unsafe(no_mangle)]
 pub extern "C" fn s2u_polygon_coverings_up_to(
     alloc: Global,
