@@ -73,7 +73,6 @@ static void squares(Table& table) {
   List ids(N);
   for (u64& id : ids) id = leaves.leaf();
   row({"square_of_leaf", N, 0x4d6129f6e9f8d588}, ids);
-  row({"square_of_any_cell", N, 0x23dd0e8822e18c5d}, Random(20).cells(N, 0, 30));
 }
 
 // Texts side by side, each with room for 32 bytes.

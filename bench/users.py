@@ -1,11 +1,10 @@
 """What users ask for, each beside what they would use instead, in one table: users.py FOLDER MAP [--small], for
 bench/databases.sh.
 
-A row has the nanoseconds that ours and the other take, and how many times as fast ours is. The two take turns, each
-repeats its work until that takes 20 ms, and the least of three rounds counts, or the first if it takes seconds. Both
-have to answer the same, except in rows that say so. Python and a session of PostgreSQL are measured by their processor
-time, and a command by that of its process. Rows of C++, JavaScript and the calculator are those of their own programs.
-With --small there are fewer points and rounds, to see that each row works.
+A row has the nanoseconds that both take, and how many times as fast ours is. They take turns and repeat their work
+until that takes 20 ms. The least of three rounds counts, or the first if it takes seconds. Both have to answer the
+same, except in rows that say so. Times are processor time, of a command that of its process. Rows of C++, JavaScript
+and the calculator are those of their own programs. With --small there are fewer points, and one round.
 """
 import os
 import re
