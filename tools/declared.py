@@ -145,6 +145,27 @@ def statuses(header):
     return [Status(name, int(number), texts.get(name, "")) for name, number in re.findall(r"S2U_(\w+) = (-?\d+)", enum)]
 
 
+class Fault(NamedTuple):
+    """A fault of a shape: its name without S2U_FAULT_, its number, its text, and what the header says of it."""
+
+    name: str
+    number: int
+    text: str
+    says: str
+
+
+def faults(header):
+    """The faults of a shape, in the order of their numbers."""
+    texts = dict(re.findall(r'case S2U_FAULT_(\w+):\s+return "(.*?)";', header))
+    return [Fault(name, int(number), texts.get(name, ""), says)
+            for name, number, says in re.findall(r"S2U_FAULT_(\w+) = (\d+),? +/\*\*< (.*?) \*/", header)]
+
+
+def work_of_maps(header):
+    """The work that coverings on the map may take if nothing else is asked for."""
+    return 1 << int(re.search(r"#define S2U_MAP_WORK \(UINT64_C\(1\) << (\d+)\)", header)[1])
+
+
 def limits(header):
     """The limits that are numbers, by their names without S2U_, and the names of those that are computed."""
     numbers = {name: int(number) for name, number in re.findall(r"#define S2U_(MOST_\w+) (\d+)\b", header)}
@@ -160,6 +181,11 @@ def constants(header, *names):
 
 def is_of_polygon(call):
     return call.name.startswith("polygon_") or is_of_cover(call)
+
+
+def is_of_shape(call):
+    """Whether a call reads a shape as users write it, and tells its fault."""
+    return any(it.kind == "ShapeFault" for it in call.arguments)
 
 
 def is_of_cover(call):

@@ -12,11 +12,11 @@ import re
 PYTHON = {"NO_CELL": "NotACellError", "ARGUMENT": "OutOfRangeError", "MANY": "TooManyCellsError",
           "MEMORY": "OutOfMemoryError", "FILE_SHORT": "UnionFileError", "FILE_VERSION": "UnionFileError",
           "FILE_TRAILING": "UnionFileError", "FILE_CELL": "UnionFileError", "CORNER": "CornerError",
-          "RING": "RingError"}
+          "RING": "RingError", "SHAPE": "ShapeError"}
 KINDS = {name: name for name in PYTHON if name != "MEMORY"}
 RUST = {"NO_CELL": "NoCell", "ARGUMENT": "Argument", "MANY": "Many", "MEMORY": "Memory", "FILE_SHORT": "FileShort",
         "FILE_VERSION": "FileVersion", "FILE_TRAILING": "FileTrailing", "FILE_CELL": "FileCell", "CORNER": "Corner",
-        "RING": "Ring"}
+        "RING": "Ring", "SHAPE": "NoShape"}
 # The calls of the members of s2union.d.ts that have another name than a call.
 CALLED = {
     "fromFaceIJ": "from_face_ij", "square": "square_of", "CellUnion.constructor": "normalise",

@@ -3,13 +3,14 @@ import ast
 import re
 
 import languages
-from declared import text_of
+from declared import is_of_shape, text_of
 
 INDENT = " " * 4
 OF = {"CellId": "self.id()", "CellUnion": "self.as_ref()", "UnionFile": "self.bytes", "Rect": "self"}
 UNION = "a new union"
 CORNERS = ("face", "i0", "i1", "j0", "j1")
 MOST = "10"  # cells of a covering in an example
+NAMED = {"SHAPE": "NoShape"}  # errors that aren't called as their statuses
 INCLUDED = re.compile(r'^include!\(concat!\(env!\("OUT_DIR"\), "/(\w+\.rs)"\)\);\n', re.M)
 
 
@@ -55,12 +56,15 @@ class Rust(languages.Language):
             elif it.is_list:
                 yield (name, "&[u8]", name) if it.kind == "u8" else (name, "&[CellId]", f"numbers({name})")
             elif it.kind == "u64":
-                yield (name, "usize", f"{name} as u64") if it.name == "k" else (name, "CellId", f"{name}.id()")
+                yield (name, "usize", f"{name} as u64") if it.name == "k" else \
+                    (name, "u64", name) if it.name == "work" else (name, "CellId", f"{name}.id()")
             else:
                 yield name, it.kind, name
         yield from ((name, "usize", name) for name in method.row.get("more", []))
 
     def result(self, method):
+        if is_of_shape(method.call):
+            return "Result<(CellUnion, CellUnion), Error>"
         return method.own(self.NAME).get("result") or self.answered(method)[0]
 
     def answered(self, method):
@@ -106,10 +110,12 @@ class Rust(languages.Language):
             names["MEMORY"] = ""
         names |= {name: "" for name in own if name.isupper()}
         said = {name: own.get(name) or method.row.get(name) or general.get(name) or why for name, why in names.items()}
-        return {"".join(word.capitalize() for word in name.split("_")): why for name, why in said.items()}
+        return {NAMED.get(name, "".join(word.capitalize() for word in name.split("_"))): why
+                for name, why in said.items()}
 
     def comment(self, methods, method, *_):
-        begin, empty = f"{INDENT}/// ", f"{INDENT}///"
+        indent = "" if method.row.get("by_hand") else INDENT  # a function of the crate
+        begin, empty = f"{indent}/// ", f"{indent}///"
         said = self.lines(f"{self.sentence(methods, method)} Since {self.since(method)}.", begin)
         more = " ".join([*self.told(methods, method), *([f"S2: {method.s2}."] if method.s2 else [])])
         said += [empty, *self.lines(more, begin)] if more else []

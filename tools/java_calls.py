@@ -2,7 +2,7 @@
 import re
 from pathlib import Path
 
-from declared import C_TYPES, HEADER, calls, constants, is_of_polygon, text_of
+from declared import C_TYPES, HEADER, calls, constants, faults, is_of_polygon, is_of_shape, text_of, work_of_maps
 from layout import filled
 from rooms import FIRST_ROOMS, room_in
 
@@ -17,7 +17,8 @@ READS_ALL = {"is_union", "leaf_count", "denormalised_len", "file_check", "file_l
 
 def of_java(table):
     """The calls that Java makes by one native, of which it has no polygons in whole numbers."""
-    return [call for call in table if call.name not in BY_JAVA_ITSELF | NATIVES and not is_of_polygon(call)]
+    return [call for call in table if call.name not in BY_JAVA_ITSELF | NATIVES and not is_of_polygon(call)
+            and not is_of_shape(call)]
 
 
 def java_numbers(table, source):
@@ -68,7 +69,7 @@ def java_form(call):
 
 def java_rooms(table):
     """The cases of the room that what a call makes is first given, by the lengths of its lists."""
-    known = {call.name for call in of_java(table)}
+    known = {call.name for call in table if call in of_java(table) or is_of_shape(call)}
     for name, room in FIRST_ROOMS.items():
         if name in known:
             own = room_in("Java", room).replace("nx", "n").replace("ny", "m")
@@ -84,13 +85,20 @@ def in_java(top):
     """The numbers of the calls for Java: those of the table, and of each switch of the source, begin a line."""
     table, source, header = read(top)
     words = ", ".join(constants(header, "ROOM", "MEMORY", "MOST_TOKEN", "MOST_DEBUG"))
-    lines = [f"  static final int {words};"]
+    lines = [f"  static final int {words};", f"  static final long MAP_WORK = {work_of_maps(header)}L;"]
     for numbers in java_numbers(table, source):
         lines += filled("  static final int ", numbers, ", ", ";", "      ")
     lines += ["  /** The room that what a call makes is first given, by the lengths of its lists. */",
               "  private static long roomOf(int call, long n, long m) {", "    switch (call) {", *java_rooms(table),
               "      default: throw new Refusal(Refusal.ARGUMENT, 0);", "    }", "  }"]
     return lines
+
+
+def faults_in_java(top):
+    """The faults of a shape, in the order of their numbers, each with its text."""
+    for fault in faults(text_of(Path(top, HEADER))):
+        yield f"    /** {fault.says[0].upper()}{fault.says[1:]}. */"
+        yield f'    {fault.name}("{fault.text}"),'
 
 
 def in_c(top):

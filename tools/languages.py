@@ -21,7 +21,7 @@ class Language:
 
     def has(self, method):
         """Whether it is made in the language."""
-        return self.NAME not in method.lacked_by
+        return self.NAME not in method.lacked_by and not method.row.get("by_hand")
 
     def owner(self, method):
         """The class that has a method, or nothing if the module has it."""

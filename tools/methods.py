@@ -10,7 +10,8 @@ It writes each SOURCE to FOLDER with what is made in the place of these lines, w
   // comment: NAME               the comment of the call, whose method stands below it by hand; in Python
                                  `# comment: NAME`, for a docstring
   // questions: all but NAME, .. what the tests ask of each method, for which a question is in tests/model/vectors.py
-  // numbers: of the calls       those of Calls.java; in s2union.hpp the room that what each makes is first given
+  // numbers: of the calls       those of Calls.java; in s2union.hpp the room that what each makes is first given; of
+                                 the faults, the names of Refusal.java
 
 SOURCE may also be a file that is made whole: bindings/java/calls.h, the same numbers for s2union.c and what makes each
 call; bindings/rust/src/calls.rs, each call as a safe function over slices, with the statuses and the limits; and of
@@ -245,7 +246,8 @@ def filled(path, top=TOP):
 
     def made(mark):
         if mark[1] == "numbers":
-            return "\n".join([*NUMBERS[path.suffix](top), ""])
+            own = java_calls.faults_in_java if mark[2] == "of the faults" else NUMBERS[path.suffix]
+            return "\n".join([*own(top), ""])
         form = getattr(language, FORMS[mark[1]])
         between = language.BETWEEN if mark[1] == "methods" else "\n"
         texts = ("\n".join(form(found, it, text[:mark.start()])) for it in of(mark))

@@ -4,7 +4,7 @@ each makes is first given (_rooms.py). Functions that _library.c has by hand sta
 import re
 from pathlib import Path
 
-from declared import C_TYPES, HEADER, IN_PLACE, calls, is_of_cover, limits, snake, statuses, text_of
+from declared import C_TYPES, HEADER, IN_PLACE, calls, is_of_cover, is_of_shape, limits, snake, statuses, text_of
 from layout import filled, folded
 from rooms import FIRST_ROOMS, room_in, room_lengths
 
@@ -252,7 +252,7 @@ OPTIONAL = {"parent", "child", "next_cell", "previous_cell", "common_ancestor"}
 def types(top):
     """_library.pyi."""
     table, header = calls(top), text_of(Path(top, HEADER))
-    functions = [each for each in map(Function, table) if not is_of_cover(each.call)]
+    functions = [each for each in map(Function, table) if not is_of_cover(each.call) and not is_of_shape(each.call)]
     found = {each.name: types_of(each) for each in functions} | TYPES_BY_HAND
     lines = ["# The types of _library.c.", "from __future__ import annotations", "",
              "from typing import Iterable, NoReturn, SupportsIndex, Tuple, Union", "",

@@ -2,7 +2,7 @@
 import textwrap
 from pathlib import Path
 
-from declared import C_TYPES, HEADER, IN_PLACE, calls, limits, statuses, text_of
+from declared import C_TYPES, HEADER, IN_PLACE, calls, faults, is_of_shape, limits, statuses, text_of, work_of_maps
 from layout import WIDTH
 from rooms import FIRST_ROOMS, room_in, room_lengths
 
@@ -42,7 +42,7 @@ def makers(table):
     """The calls that make a list, as a macro has them that defines each."""
     lines = ["", "/// The calls that make a list, with the room that it is first given: `$define!` takes them.",
              "macro_rules! makers {", "    ($define:ident) => {", "        $define! {"]
-    for call in (call for call in table if call.name in FIRST_ROOMS):
+    for call in (call for call in table if call.name in FIRST_ROOMS and not is_of_shape(call)):
         given = [it for it in call.arguments if not it.is_written]
         lengths = {it.length: f"{it.name}.len()" for it in given if it.is_list}
         room = ", ".join(lengths[length] for length in room_lengths(FIRST_ROOMS[call.name]))
@@ -50,6 +50,23 @@ def makers(table):
         line = f"{call.name}({', '.join(map(argument_of, given))}) -> [{made}] in rooms::{call.name}({room});"
         lines += textwrap.wrap(line, WIDTH, initial_indent=" " * 12, subsequent_indent=" " * 16)
     return [*lines, "        }", "    };", "}", "pub(crate) use makers;"]
+
+
+def fault_names(header):
+    """The faults of a shape, as an enumeration with their texts."""
+    own = [("".join(word.capitalize() for word in fault.name.split("_")), fault) for fault in faults(header)]
+    lines = ["", "/// Why a text of GeoJSON, or bytes of WKB, are no shape of polygons. Since 1.5.",
+             "#[derive(Clone, Copy, Debug, PartialEq, Eq, Hash)]", "#[non_exhaustive]", "pub enum FaultName {"]
+    for name, fault in own:
+        lines += [f"    /// {fault.says[0].upper()}{fault.says[1:]}.", f"    {name} = {fault.number},"]
+    lines += ["    /// A fault of a later version of the library.", "    Other,", "}", "", "impl FaultName {",
+              "    pub(crate) fn of(name: usize) -> FaultName {", "        match name {"]
+    lines += [f"            {fault.number} => FaultName::{name}," for name, fault in own]
+    lines += ["            _ => FaultName::Other,", "        }", "    }", "}", "",
+              "impl std::fmt::Display for FaultName {",
+              "    fn fmt(&self, f: &mut std::fmt::Formatter<'_>) -> std::fmt::Result {", "        f.write_str(match self {"]
+    lines += [f'            FaultName::{name} => "{fault.text}",' for name, fault in own]
+    return [*lines, '            FaultName::Other => "unknown fault",', "        })", "    }", "}"]
 
 
 def whole(top):
@@ -60,10 +77,13 @@ def whole(top):
              "//! with the length of what it points to, and nothing else is asked of it. Lists that a call writes need",
              "//! hold nothing before.",
              "#![allow(dead_code)]", "", "use std::mem::MaybeUninit;", "",
-             f"use crate::{{{', '.join(kinds)}}};", ""]
+             "use crate::maps::ShapeFault;", f"use crate::{{{', '.join(kind for kind in kinds if kind != 'ShapeFault')}}};",
+             ""]
     for status in statuses(header):
         lines.append(f"pub const {status.name}: i32 = {status.number};")
     lines += [f"pub const {name}: usize = {number:_};" for name, number in numbers.items()]
+    lines.append(f"pub const MAP_WORK: u64 = {work_of_maps(header)};")
+    lines += fault_names(header)
     lines += ["", "/// The room that what a call makes is first given.", "pub mod rooms {"]
     for name, room in FIRST_ROOMS.items():
         given = ", ".join(f"{length}: usize" for length in room_lengths(room))

@@ -1,11 +1,17 @@
 /* made by tools/calls */
 enum { S2U_OK = 0, S2U_ROOM = -1, S2U_MEMORY = -2, S2U_NO_CELL = -3, S2U_NO_UNION = -4, S2U_ARGUMENT = -5, S2U_MANY =
 -6, S2U_FILE_SHORT = -10, S2U_FILE_VERSION = -11, S2U_FILE_TRAILING = -12, S2U_FILE_CELL = -13, S2U_CORNER = -14,
-S2U_RING = -15 };
+S2U_RING = -15, S2U_SHAPE = -16 };
+enum { S2U_FAULT_TRUNCATED = 1, S2U_FAULT_TRAILING = 2, S2U_FAULT_ORDER = 3, S2U_FAULT_TYPE = 4, S2U_FAULT_UNCOVERED =
+5, S2U_FAULT_SRID = 6, S2U_FAULT_MEMBER = 7, S2U_FAULT_DEEP = 8, S2U_FAULT_COUNT = 9, S2U_FAULT_FEW = 10, S2U_FAULT_OPEN
+= 11, S2U_FAULT_NOT_FINITE = 12, S2U_FAULT_UTF8 = 13, S2U_FAULT_JSON = 14, S2U_FAULT_TWICE = 15, S2U_FAULT_NO_TYPE = 16,
+S2U_FAULT_MISSING = 17, S2U_FAULT_POSITION = 18, S2U_FAULT_RANGE = 19, S2U_FAULT_NO_INSIDE = 20, S2U_FAULT_NO_MAP = 21
+};
 typedef struct { uint32_t face; uint32_t i; uint32_t j; uint32_t size; } s2u_square;
 typedef struct { uint32_t face; uint32_t i0; uint32_t i1; uint32_t j0; uint32_t j1; } s2u_rect;
 typedef struct { uint32_t face; uint32_t i; uint32_t j; } s2u_point;
 typedef struct { int64_t x; int64_t y; int64_t z; } s2u_direction;
+typedef struct { size_t name; size_t byte; size_t part; size_t ring; size_t position; } s2u_shape_fault;
 int32_t s2u_ancestors(const uint64_t* ids, size_t n, uint64_t* out, size_t room, size_t* len);
 int32_t s2u_cell_contains(uint64_t whole, uint64_t part);
 int32_t s2u_cell_intersects(uint64_t a, uint64_t b);
@@ -60,6 +66,10 @@ int32_t s2u_is_union(const uint64_t* ids, size_t n);
 uint64_t s2u_leaf_count(const uint64_t* ids, size_t n);
 int32_t s2u_level(uint64_t id);
 int32_t s2u_levels(const uint64_t* ids, size_t n, uint8_t* out, size_t room, size_t* bad);
+int32_t s2u_map_geojson(const char* text, size_t n, uint32_t level, uint64_t work, uint64_t* out, size_t room, size_t*
+  len, size_t* outer, s2u_shape_fault* fault);
+int32_t s2u_map_wkb(const uint8_t* wkb, size_t n, uint32_t level, uint64_t work, uint64_t* out, size_t room, size_t*
+  len, size_t* outer, s2u_shape_fault* fault);
 uint64_t s2u_next(uint64_t id);
 int32_t s2u_normalise(uint64_t* ids, size_t n, size_t* len);
 int32_t s2u_outer(const s2u_rect* bounds, uint32_t level, size_t most, uint64_t* out, size_t room, size_t* len);

@@ -3,6 +3,31 @@ package s2union // made by tools/calls
 // #include <s2union.h>
 import "C"
 
+// The faults of texts and bytes that are no shape of polygons.
+const (
+	FaultTruncated FaultName = C.S2U_FAULT_TRUNCATED  // the bytes end too early
+	FaultTrailing  FaultName = C.S2U_FAULT_TRAILING   // bytes follow the geometry
+	FaultOrder     FaultName = C.S2U_FAULT_ORDER      // the byte that says the order of bytes is neither 0 nor 1
+	FaultType      FaultName = C.S2U_FAULT_TYPE       // there is no geometry of this type
+	FaultUncovered FaultName = C.S2U_FAULT_UNCOVERED  // a curve, a surface or a triangle, which have no covering
+	FaultSRID      FaultName = C.S2U_FAULT_SRID       // the coordinates are no degrees: the SRID is neither 0 nor 4326
+	FaultMember    FaultName = C.S2U_FAULT_MEMBER     // a geometry in a list of points, lines or polygons is none of them
+	FaultDeep      FaultName = C.S2U_FAULT_DEEP       // a collection lies in more than 32 collections
+	FaultCount     FaultName = C.S2U_FAULT_COUNT      // a count is greater than the bytes that follow it allow
+	FaultFew       FaultName = C.S2U_FAULT_FEW        // a ring has one to three positions
+	FaultOpen      FaultName = C.S2U_FAULT_OPEN       // the last position of a ring is not its first
+	FaultNotFinite FaultName = C.S2U_FAULT_NOT_FINITE // a coordinate is infinite or not a number
+	FaultUTF8      FaultName = C.S2U_FAULT_UTF8       // the text is no UTF-8
+	FaultJSON      FaultName = C.S2U_FAULT_JSON       // the text is no JSON
+	FaultTwice     FaultName = C.S2U_FAULT_TWICE      // an object of the text has a member twice
+	FaultNoType    FaultName = C.S2U_FAULT_NO_TYPE    // a value that has to be an object with a type is none
+	FaultMissing   FaultName = C.S2U_FAULT_MISSING    // a list of coordinates, geometries or features is missing
+	FaultPosition  FaultName = C.S2U_FAULT_POSITION   // a position is not a list that begins with two numbers
+	FaultRange     FaultName = C.S2U_FAULT_RANGE      // a longitude is beyond 540 degrees, or a latitude beyond 90
+	FaultNoInside  FaultName = C.S2U_FAULT_NO_INSIDE  // a part is a point or a line, which has no inside
+	FaultNoMap     FaultName = C.S2U_FAULT_NO_MAP     // a position or a ring is none on the map; no shape that was read is so
+)
+
 // LeafCellsCovered is how many leaves the union has. It takes n steps. It is 0 to 6 * 4^30. Since 0.2.
 func (cu CellUnion) LeafCellsCovered() int64 {
 	at, n := pointerTo(cu.ids)

@@ -466,3 +466,26 @@ func ExamplePolygon_InteriorCoveringUpTo() {
 	fmt.Println(cells, errors.Is(err, s2union.ErrRing))
 	// Output: [] true
 }
+
+func ExampleCoverGeoJSON() {
+	square := `{"type": "Polygon", "coordinates": [[[0,0], [20,0], [20,20], [0,20], [0,0]]]}`
+	outer, inner, err := s2union.CoverGeoJSON([]byte(square), 6, s2union.MapWork)
+	middle, _ := s2union.CellIDFromPosition(s2union.Position{10, 10})
+	fmt.Println(outer.ContainsCellID(middle), inner.ContainsCellID(middle), outer.Contains(inner), err)
+	// Output: true true true <nil>
+}
+
+func ExampleCoverWKB() {
+	_, _, err := s2union.CoverWKB([]byte{0, 0, 0, 0, 6, 0, 0}, 6, s2union.MapWork)
+	var shape *s2union.ShapeError
+	fmt.Println(errors.As(err, &shape) && shape.Fault == s2union.FaultTruncated, shape.Byte, errors.Is(err, s2union.ErrShape))
+	fmt.Println(err)
+	// Output:
+	// true 5 true
+	// s2union: bytes are missing: byte 5, part 0, ring 0, position 0
+}
+
+func ExampleFaultName_String() {
+	fmt.Println(s2union.FaultOpen)
+	// Output: a ring is open: its last position is not its first
+}

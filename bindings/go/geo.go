@@ -68,15 +68,22 @@ const (
 	ErrShapeDeep     Error = C.S2U_COVER_DEEP     // the WKB has collections in more than 32 collections
 )
 
-// ShapeError is a refusal with a place in a shape: the ring or line, counted over all polygons, then lines, then
-// points, and the position in it. Of WKB that can't be read, Position is a byte, and Ring is 0.
+// ShapeError is an error with a place in a shape: the ring or line, counted over all polygons, then lines, then
+// points, and the position in it. Of WKB that can't be read, Position is a byte, and Ring is 0. Of ErrShape it has a
+// fault and how many bytes of WKB, points, lines and polygons (parts), rings and positions of its ring come before it.
 type ShapeError struct {
 	Ring, Position int
-	Refusal        Error // one of ErrShapeNumber, ErrShapeFew, ErrShapeOpen, ErrShapeOpposite, or of those of WKB
+	Refusal        Error // ErrShapeNumber, ErrShapeFew, ErrShapeOpen, ErrShapeOpposite, one of those of WKB, or ErrShape
+	Fault          FaultName
+	Byte, Part     int
 }
 
 // Error says in a few words what was refused, and where. Since 1.4.
 func (refusal *ShapeError) Error() string {
+	if refusal.Refusal == ErrShape {
+		return fmt.Sprintf("s2union: %v: byte %d, part %d, ring %d, position %d", refusal.Fault, refusal.Byte,
+			refusal.Part, refusal.Ring, refusal.Position)
+	}
 	if refusal.Refusal.isOfBytes() {
 		return fmt.Sprintf("%v: at byte %d", refusal.Refusal, refusal.Position)
 	}
@@ -298,7 +305,7 @@ func refusedShape(status Error, fault *C.s2u_cover_fault) error {
 		return nil
 	case status == ErrShapeNumber, status == ErrShapeFew, status == ErrShapeOpen, status == ErrShapeOpposite,
 		status.isOfBytes():
-		return &ShapeError{int(fault.ring), int(fault.position), status}
+		return &ShapeError{Ring: int(fault.ring), Position: int(fault.position), Refusal: status}
 	default:
 		return status
 	}

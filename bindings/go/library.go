@@ -49,6 +49,7 @@ const (
 	ErrFileCell      Error = C.S2U_FILE_CELL     // an identifier in a file is that of no cell
 	ErrCorner        Error = C.S2U_CORNER        // a corner of a polygon is no direction, or opposite the next one
 	ErrRing          Error = C.S2U_RING          // a ring of a polygon has a wrong end or fewer than three corners
+	ErrShape         Error = C.S2U_SHAPE         // a text or bytes are no shape of polygons
 )
 
 // Error says in a few words what was refused. Since 0.2.

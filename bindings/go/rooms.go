@@ -37,6 +37,10 @@ func roomOfDecode(n int) int { return n / 8 }
 
 func roomOfFileAncestors(n int) int { return n/4 + 30 }
 
+func roomOfMapGeojson() int { return 4096 }
+
+func roomOfMapWkb() int { return 4096 }
+
 func roomOfPolygonOuter() int { return 4096 }
 
 func roomOfPolygonInner() int { return 4096 }

@@ -286,6 +286,58 @@ CALL(jint, cover)(JNIEnv* env, jclass of, jint call, jint wanted, jarray given, 
   return status;
 }
 
+/* ---- shapes as they are written */
+
+typedef struct {
+  const void* given;
+  size_t size;
+  uint32_t level;
+  uint64_t work;
+  uint64_t* out;
+  size_t room, len, outer;
+  s2u_shape_fault fault;
+} mapping;
+
+static int32_t map_of(jint call, mapping* it) {
+  switch (call) {
+    case MAP_GEOJSON:
+      return s2u_map_geojson(it->given, it->size, it->level, it->work, it->out, it->room, &it->len, &it->outer,
+                             &it->fault);
+    case MAP_WKB:
+      return s2u_map_wkb(it->given, it->size, it->level, it->work, it->out, it->room, &it->len, &it->outer, &it->fault);
+    default: return S2U_ARGUMENT;
+  }
+}
+
+/* Both coverings of a text or of bytes, whose cells are put to `made`. A fault is put to `at`. */
+CALL(jint, map)(JNIEnv* env, jclass of, jint call, jlong room, jbyteArray given, jint level, jlong work,
+                jobjectArray made, jlongArray at) {
+  (void)of;
+  jbyte* bytes = (*env)->GetByteArrayElements(env, given, NULL);
+  if (bytes == NULL) return S2U_MEMORY;
+  mapping it = {.given = bytes, .size = (size_t)(*env)->GetArrayLength(env, given), .level = (uint32_t)level,
+                .work = (uint64_t)work, .len = (size_t)room};
+  int32_t status = S2U_ROOM;
+  while (status == S2U_ROOM) {
+    it.room = it.len;
+    free(it.out);
+    it.out = malloc(it.room * sizeof *it.out);
+    status = it.out != NULL ? map_of(call, &it) : S2U_MEMORY;
+  }
+  (*env)->ReleaseByteArrayElements(env, given, bytes, JNI_ABORT);
+  const s2u_cover_cells cells[] = {{it.out, it.outer}, {it.out != NULL ? it.out + it.outer : NULL, it.len - it.outer}};
+  for (int k = 0; k < 2 && status == S2U_OK; k++) {
+    jlongArray array = array_of(env, &cells[k]);
+    if (array != NULL) (*env)->SetObjectArrayElement(env, made, k, array);
+    else status = S2U_MEMORY;
+  }
+  const jlong fault[] = {(jlong)it.fault.name, (jlong)it.fault.byte, (jlong)it.fault.part, (jlong)it.fault.ring,
+                         (jlong)it.fault.position};
+  if (status == S2U_SHAPE) (*env)->SetLongArrayRegion(env, at, 0, 5, fault);
+  free(it.out);
+  return status;
+}
+
 /* ---- which zones have which places */
 
 /* Zones, or 0 without memory. */

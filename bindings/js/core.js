@@ -6,7 +6,7 @@ const LAST_LEVEL = 30;
 
 // made by tools/calls
 const ROOM = -1, MEMORY = -2, NO_CELL = -3, NO_UNION = -4, ARGUMENT = -5, MANY = -6, FILE_SHORT = -10,
-  FILE_VERSION = -11, FILE_TRAILING = -12, FILE_CELL = -13, CORNER = -14, RING = -15;
+  FILE_VERSION = -11, FILE_TRAILING = -12, FILE_CELL = -13, CORNER = -14, RING = -15, SHAPE = -16;
 const MOST_TOKEN = 16, MOST_DEBUG = 32;
 const FAULTS = {
   [-1]: "too little room",
@@ -21,10 +21,11 @@ const FAULTS = {
   [-13]: "union file: a number that is not a cell",
   [-14]: "a corner of a polygon is no direction, or lies opposite the next one",
   [-15]: "a ring of a polygon has a wrong end or fewer than three corners",
+  [-16]: "a text or bytes are no shape of polygons",
 };
 const KINDS = {[-1]: "ROOM", [-2]: "MEMORY", [-3]: "NO_CELL", [-4]: "NO_UNION", [-5]: "ARGUMENT",
   [-6]: "MANY", [-10]: "FILE_SHORT", [-11]: "FILE_VERSION", [-12]: "FILE_TRAILING", [-13]: "FILE_CELL",
-  [-14]: "CORNER", [-15]: "RING"};
+  [-14]: "CORNER", [-15]: "RING", [-16]: "SHAPE"};
 /** The room that what a call makes is first given. */
 const ROOMS = {
   s2u_from_tokens: (n) => Math.floor(n / 2) + 1,

@@ -24,12 +24,12 @@ export function version(): string;
  * The kind of an error: MEMORY, there is none; NO_CELL, a number is no cell, or a text names none; NO_UNION, a list is
  * not normalized; ARGUMENT, a level, coordinate, modulus or place is out of range; MANY, there would be more cells than
  * are allowed; FILE_SHORT, FILE_VERSION, FILE_TRAILING, FILE_CELL, bytes are no union file, since they end too early,
- * begin with another version, go on after the last cell, or have a number that is no cell. ROOM is not thrown, nor are
- * CORNER and RING, which are of polygons, and OTHER is of a later version.
+ * begin with another version, go on after the last cell, or have a number that is no cell; SHAPE, a text or bytes are no
+ * shape of polygons. ROOM is not thrown, nor are CORNER and RING, which are of polygons, and OTHER is of a later version.
  * @since 1.2
  */
 export type RefusalKind = "ROOM" | "MEMORY" | "NO_CELL" | "NO_UNION" | "ARGUMENT" | "MANY" | "FILE_SHORT"
-  | "FILE_VERSION" | "FILE_TRAILING" | "FILE_CELL" | "CORNER" | "RING" | "OTHER";
+  | "FILE_VERSION" | "FILE_TRAILING" | "FILE_CELL" | "CORNER" | "RING" | "SHAPE" | "OTHER";
 
 /**
  * Calls throw it for a value that is wrong. For a value of a wrong type they throw a TypeError: a cell that isn't a
@@ -53,7 +53,7 @@ export class Refusal extends Error {
   readonly kind: RefusalKind;
   /**
    * The same as a number: -1 ROOM, -2 MEMORY, -3 NO_CELL, -4 NO_UNION, -5 ARGUMENT, -6 MANY, -10 FILE_SHORT,
-   * -11 FILE_VERSION, -12 FILE_TRAILING, -13 FILE_CELL, -14 CORNER, -15 RING.
+   * -11 FILE_VERSION, -12 FILE_TRAILING, -13 FILE_CELL, -14 CORNER, -15 RING, -16 SHAPE.
    * @since 1.1
    */
   readonly status: number;

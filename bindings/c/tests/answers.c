@@ -77,6 +77,10 @@ static double longitude, latitude;
 static size_t corners_count, corner_ends[2], rings;
 static uint64_t outside, margin;
 static uint32_t coarse, least, deepest;
+static uint8_t wkb[256];
+static char geojson[400];
+static size_t wkb_size, geojson_size;
+static uint64_t shape_work;
 
 /* Mostly a cell, often one near others; sometimes any number. */
 static uint64_t drawn(void) {
@@ -128,6 +132,38 @@ static void draw_polygon(void) {
   if (coarse > 5) coarse |= 32; /* no level: at a deep one an edge meets very many cells */
 }
 
+/* A ring as WKB and as GeoJSON, sometimes with a byte changed, or some cut off. Its numbers have few digits. */
+static void draw_shape(void) {
+  static const uint8_t head[] = {1, 3, 0, 0, 0, 1, 0, 0, 0};
+  uint32_t n = below(6) + 3;
+  uint8_t* to = wkb + sizeof head;
+  char* at = geojson + sprintf(geojson, "{\"type\":\"Polygon\",\"coordinates\":[[");
+  memcpy(wkb, head, sizeof head);
+  *to++ = (uint8_t)(n + 1), *to++ = 0, *to++ = 0, *to++ = 0;
+  double first[2] = {0, 0};
+  for (uint32_t k = 0; k <= n; k++) {
+    double place[2];
+    place[0] = (double)below(2880) / 8 - 180;
+    place[1] = (double)below(1440) / 8 - 90;
+    if (k == 0) memcpy(first, place, sizeof place);
+    if (k == n && below(16)) memcpy(place, first, sizeof place);
+    for (size_t part = 0; part < 2; part++) {
+      uint64_t bits;
+      memcpy(&bits, &place[part], sizeof bits);
+      for (size_t byte = 0; byte < 8; byte++) *to++ = (uint8_t)(bits >> 8 * byte);
+    }
+    at += sprintf(at, "%s[%.3f,%.3f]", k == 0 ? "" : ",", place[0], place[1]);
+  }
+  at += sprintf(at, "]]}");
+  wkb_size = (size_t)(to - wkb), geojson_size = (size_t)(at - geojson);
+  size_t wrong = below((uint32_t)wkb_size), other_wrong = below((uint32_t)geojson_size);
+  if (below(4) == 0) wkb[wrong] ^= (uint8_t)draw();
+  if (below(4) == 0) geojson[other_wrong] = "0129.,-+eE[]{}\":typeP x\377"[below(26)];
+  if (below(8) == 0) wkb_size = below((uint32_t)wkb_size + 1);
+  if (below(8) == 0) geojson_size = below((uint32_t)geojson_size + 1);
+  shape_work = below(8) ? S2U_MAP_WORK : below(1 << 20);
+}
+
 static void draw_all(void) {
   id = drawn(), other = below(4) ? drawn() : s2u_range_max(id);
   level = below(34), modulus = below(5), most = below(8) ? below(60) : draw();
@@ -150,6 +186,7 @@ static void draw_all(void) {
   longitude = (double)below(1100) - 550 + (double)below(1 << 20) / (1 << 20);
   latitude = (double)below(190) - 95 + (double)below(1 << 20) / (1 << 20);
   draw_polygon();
+  draw_shape();
 }
 
 /* ---- what a call writes */
@@ -161,6 +198,7 @@ static size_t out_room, more_room, work_room, bytes_room, text_room, len, count;
 static uint32_t small;
 static s2u_square square;
 static s2u_direction direction;
+static s2u_shape_fault shape_fault;
 
 static size_t drawn_room(size_t whole) {
   return below(8) ? whole : below(40);

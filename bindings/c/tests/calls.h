@@ -60,6 +60,10 @@
   ASK(leaf_count, (xs, nx), ) \
   ASK(level, (id), ) \
   ASK(levels, (xs, nx, bytes, bytes_room, &len), SEE(bytes) SEE(len)) \
+  ASK(map_geojson, (geojson, geojson_size, coarse, shape_work, out, out_room, &len, &count, &shape_fault), SEE(out) \
+    SEE(len) SEE(count) SEE(shape_fault)) \
+  ASK(map_wkb, (wkb, wkb_size, coarse, shape_work, out, out_room, &len, &count, &shape_fault), SEE(out) SEE(len) \
+    SEE(count) SEE(shape_fault)) \
   ASK(next, (id), ) \
   ASK(normalise, (ids, ids_room, &len), SEE(ids) SEE(len)) \
   ASK(outer, (&rect, level, most, out, out_room, &len), SEE(out) SEE(len)) \

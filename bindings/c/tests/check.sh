@@ -69,6 +69,12 @@ covered() { # shapes in degrees
     program shapes "$static" -fsanitize=address,undefined -fno-sanitize-recover "$work/refuse.o"
 }
 step "coverings of shapes in degrees, and under the sanitizers" covered
+step "texts and bytes of shapes, beside a plain reader and plain places" maps
+mapped() { # each in every room, and under the sanitizers
+  program maps "$static" <"$work/maps" &&
+    program maps "$static" -fsanitize=address,undefined -fno-sanitize-recover <"$work/maps"
+}
+step "coverings of texts and bytes, and under the sanitizers" mapped
 step "coverings of parts that touch, beside whole numbers, under the sanitizers" program parts "$static" \
   -fsanitize=address,undefined -fno-sanitize-recover
 step "coverings with geodesic edges, beside long doubles" program geodesics "$static"

@@ -444,6 +444,34 @@ int main(void) {
     /* [s2u_polygon_coverings_up_to] */
   }
   {
+    /* [s2u_map_wkb] */
+    const uint8_t point[] = {1, 1, 0, 0, 0, 0, 0, 0, 0, 0, 0, 0x24, 0x40, 0, 0, 0, 0, 0, 0, 0x24, 0x40}; /* 10 10 */
+    uint64_t out[8];
+    size_t len, outer;
+    s2u_shape_fault fault;
+    check(s2u_map_wkb(point, 20, 5, S2U_MAP_WORK, out, 8, &len, &outer, &fault) == S2U_SHAPE && len == 0 &&
+          fault.name == S2U_FAULT_TRUNCATED && fault.byte == 5);
+    check(s2u_map_wkb(point, 21, 5, S2U_MAP_WORK, out, 8, &len, &outer, &fault) == S2U_SHAPE &&
+          fault.name == S2U_FAULT_NO_INSIDE && fault.part == 0);
+    /* [s2u_map_wkb] */
+  }
+  {
+    /* [s2u_map_geojson] */
+    const char square[] = "{\"type\":\"Polygon\",\"coordinates\":[[[0,0],[20,0],[20,20],[0,20],[0,0]]]}";
+    uint64_t out[64];
+    size_t len, outer;
+    s2u_shape_fault fault;
+    check(s2u_map_geojson(square, sizeof square - 1, 4, S2U_MAP_WORK, out, 64, &len, &outer, &fault) == S2U_OK);
+    uint64_t leaf = UINT64_C(0x103f6a1c3e5d9d8b); /* at 10 degrees east and 10 degrees north */
+    check(s2u_contains_cell(out, outer, leaf) == 1 && s2u_contains_cell(out + outer, len - outer, leaf) == 1);
+    /* [s2u_map_geojson] */
+  }
+  {
+    /* [s2u_fault_text] */
+    check(strcmp(s2u_fault_text(S2U_FAULT_OPEN), "a ring is open: its last position is not its first") == 0);
+    /* [s2u_fault_text] */
+  }
+  {
     /* [s2u_encode] */
     uint64_t ids[] = {UINT64_C(0x0400000000000000)};
     uint8_t bytes[S2U_FILE_SIZE(1)];

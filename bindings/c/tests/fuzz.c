@@ -435,6 +435,42 @@ static void polygons(void) {
   both_coverings(n ? corners : NULL, n, rings ? ends : NULL, rings, outside, margin, least, deepest, most);
 }
 
+/* Coverings of the shape in any bytes; some begin as a ring does, and texts have few characters that GeoJSON lacks. */
+static void shapes(void) {
+  static const char ring[] = "{\"type\":\"Polygon\",\"coordinates\":[[";
+  static const char some[] = "0123456789.,-[]{}\"e:";
+  static const uint8_t head[] = {1, 3, 0, 0, 0, 1, 0, 0, 0};
+  size_t n = left > BYTES ? BYTES : left, begun = 0;
+  char* text = text_end - n;
+  uint8_t *bytes = bytes_end - n, kind = byte();
+  uint32_t level = byte() % 8 ? byte() % 8 : byte() % 40;
+  uint64_t work = level > 7 ? byte() : UINT64_C(1) << byte() % 24;
+  for (size_t k = 0; k < n; k++) {
+    bytes[k] = byte();
+    text[k] = kind % 4 ? some[bytes[k] % (sizeof some - 1)] : (char)bytes[k];
+  }
+  for (; kind % 2 && begun < n && begun < sizeof ring - 1; begun++) text[begun] = ring[begun];
+  for (begun = 0; kind % 2 && begun < n && begun < sizeof head; begun++) bytes[begun] = head[begun];
+  for (int call = 0; call < 2; call++) {
+    size_t len = 77, outer = 77;
+    s2u_shape_fault fault = {99, 99, 99, 99, 99};
+    uint64_t* out = fresh();
+    int32_t status = call ? s2u_map_wkb(n ? bytes : NULL, n, level, work, out, room, &len, &outer, &fault)
+                          : s2u_map_geojson(n ? text : NULL, n, level, work, out, room, &len, &outer, &fault);
+    MUST(level > 30 ? status == S2U_ARGUMENT
+                    : status == S2U_OK || status == S2U_ROOM || status == S2U_MANY || status == S2U_SHAPE);
+    seen(35 + call, status, status == S2U_SHAPE ? fault.name : len);
+    left_alone(status, len);
+    MUST(outer <= len && (status != S2U_ROOM || len > room) && (status >= S2U_ROOM || len == 0));
+    MUST(status != S2U_SHAPE ? fault.name == 99 && fault.position == 99
+                             : fault.name - 1 < S2U_FAULT_NO_INSIDE && fault.byte <= n && fault.part <= n &&
+                                   fault.ring <= n && fault.position <= n && strlen(s2u_fault_text(fault.name)) > 9);
+    if (status != S2U_OK) continue;
+    MUST(len <= room && s2u_is_union(out, outer) == 1 && s2u_is_union(out + outer, len - outer) == 1);
+    MUST(s2u_contains(out, outer, out + outer, len - outer) == 1);
+  }
+}
+
 /* Any two doubles: their direction, if they are a place. */
 static void degrees(void) {
   uint64_t bits[2] = {number(), number()};
@@ -516,7 +552,7 @@ static void start(void) {
 
 int LLVMFuzzerTestOneInput(const uint8_t* data, size_t size) {
   static void (*const groups[])(void) = {cells, texts, questions, sets, making, many, each, coverings, polygons, files,
-                                         degrees};
+                                         shapes, degrees};
   if (!xs_end) start();
   input = data;
   left = size;

@@ -56,6 +56,21 @@ static int32_t polygon_coverings_up_to(void) {
   return s2u_polygon_coverings_up_to(corners, 6, corner_ends, 2, 1, 0, 3, 12, 20, out, half, &len, out + half, half,
                                      &inner_len);
 }
+static const char triangle[] = "{\"type\":\"Polygon\",\"coordinates\":[[[0,0],[9,0],[0,9],[0,0]],[]]}";
+static s2u_shape_fault fault;
+static int32_t map_geojson(void) {
+  size_t outer;
+  return s2u_map_geojson(triangle, sizeof triangle - 1, 7, S2U_MAP_WORK, out, ROOM, &len, &outer, &fault);
+}
+static int32_t map_wkb(void) {
+  static const uint8_t head[] = {1, 3, 0, 0, 0, 1, 0, 0, 0, 4, 0, 0, 0};
+  static const double at[] = {0, 0, 9, 0, 0, 9, 0, 0};
+  uint8_t wkb[sizeof head + sizeof at];
+  size_t outer;
+  memcpy(wkb, head, sizeof head);
+  memcpy(wkb + sizeof head, at, sizeof at);
+  return s2u_map_wkb(wkb, sizeof wkb, 7, S2U_MAP_WORK, out, ROOM, &len, &outer, &fault);
+}
 static int32_t encode(void) { return s2u_encode(xs, nx, bytes, sizeof bytes, &len); }
 static int32_t decode(void) { return s2u_decode(file, nfile, out, ROOM, &len); }
 static int32_t decode_mixed(void) { return s2u_decode(mixed, sizeof mixed, out, N, &len); }
@@ -119,6 +134,7 @@ int main(void) {
                {"polygon_outer", polygon_outer, 0}, {"polygon_inner", polygon_inner, 0},
                {"polygon_outer_up_to", polygon_outer_up_to, 0}, {"polygon_inner_up_to", polygon_inner_up_to, 0},
                {"polygon_coverings_up_to", polygon_coverings_up_to, 0},
+               {"map_geojson", map_geojson, 0}, {"map_wkb", map_wkb, 0},
                {"encode", encode, 1}, {"decode of a union", decode, 1}, {"decode in any order", decode_mixed, 1},
                {"decode in little room", decode_in_little_room, 0}};
   nx = random_union(xs, N, 6, 12);

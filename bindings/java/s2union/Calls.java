@@ -103,6 +103,12 @@ final class Calls {
   static native int cover(int call, int wanted, Object given, long[] rings, long[] options, double[] meters,
       long[][] made, long[] at);
 
+  /**
+   * Makes both coverings of a text or of bytes on the map, in some room at first. Of a fault of the shape its numbers
+   * are put to {@code fault}.
+   */
+  private static native int map(int call, long room, byte[] given, int level, long work, long[][] made, long[] fault);
+
   static native long zones();
 
   static native void freeZones(long zones);
@@ -242,6 +248,16 @@ final class Calls {
       }
     }
     return polygons;
+  }
+
+  /** Both coverings that a call makes of a text or of bytes. */
+  static RegionCoverer.Coverings mapped(int call, byte[] given, int level, long work) {
+    long[][] made = new long[2][];
+    long[] fault = new long[5];
+    int status = map(call, roomOf(call, 0, 0), given, level, work, made, fault);
+    if (status == Refusal.SHAPE) throw new Refusal(fault);
+    checked(status, 0);
+    return new RegionCoverer.Coverings(CellUnion.holding(made[0]), CellUnion.holding(made[1]));
   }
 
   /** The cells of a level that a call finds around others. */

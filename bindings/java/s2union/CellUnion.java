@@ -92,6 +92,29 @@ public final class CellUnion implements Comparable<CellUnion> {
   // methods: decode, outer, inner
 
   /**
+   * Work for {@code coverGeoJson} and {@code coverWkb} if you have no better bound: a second for a shape of a country, and
+   * some seconds for any text. Of texts of strangers 2^24 is enough for a country at level 10.
+   *
+   * @since 1.5
+   */
+  public static final long MAP_WORK = Calls.MAP_WORK;
+
+  // comment: map_geojson
+  public static RegionCoverer.Coverings coverGeoJson(String text, int level, long work) {
+    return coverGeoJson(text.getBytes(StandardCharsets.UTF_8), level, work);
+  }
+
+  // comment: map_geojson
+  public static RegionCoverer.Coverings coverGeoJson(byte[] text, int level, long work) {
+    return Calls.mapped(Calls.MAP_GEOJSON, text, level, work);
+  }
+
+  // comment: map_wkb
+  public static RegionCoverer.Coverings coverWkb(byte[] wkb, int level, long work) {
+    return Calls.mapped(Calls.MAP_WKB, wkb, level, work);
+  }
+
+  /**
    * How many cells it has.
    * S2: {@code S2CellUnion::num_cells}.
    *

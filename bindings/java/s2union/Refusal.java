@@ -42,6 +42,8 @@ public final class Refusal extends IllegalArgumentException {
     CORNER(-14),
     /** A ring of a polygon ends in a wrong place or has fewer than three corners, or there is none. */
     RING(-15),
+    /** A text or bytes are no shape of polygons, whose {@link Refusal#fault} says why. */
+    SHAPE(-16),
     /** A longitude or a latitude is out of range, or not a number. */
     SHAPE_NUMBER(-101),
     /** A ring has fewer than four positions, or a line none. */
@@ -81,6 +83,27 @@ public final class Refusal extends IllegalArgumentException {
     }
   }
 
+  /**
+   * Why a text of GeoJSON, or bytes of WKB, are no shape of polygons.
+   *
+   * @since 1.5
+   */
+  public enum Fault {
+    // numbers: of the faults
+    /** A fault of a later version of the library. */
+    OTHER("unknown fault");
+
+    private final String text;
+
+    Fault(String text) {
+      this.text = text;
+    }
+
+    private static Fault of(long number) {
+      return number > 0 && number < values().length ? values()[(int) number - 1] : OTHER;
+    }
+  }
+
   /** A number is not a cell, or a text names none. */
   public static final int NO_CELL = -3;
   /** A list is not normalized. */
@@ -101,6 +124,8 @@ public final class Refusal extends IllegalArgumentException {
   public static final int CORNER = -14;
   /** A ring of a polygon ends in a wrong place or has fewer than three corners, or there is none. */
   public static final int RING = -15;
+  /** A text or bytes are no shape of polygons. */
+  public static final int SHAPE = -16;
   /** A longitude or a latitude is out of range, or not a number. */
   public static final int SHAPE_NUMBER = -101;
   /** A ring has fewer than four positions, or a line none. */
@@ -131,12 +156,31 @@ public final class Refusal extends IllegalArgumentException {
   private final long place;
   /** The ring of a shape, or 0. */
   private final long ring;
+  /** The fault of a text or of bytes, or null, and its byte and part. */
+  private final Fault fault;
+  private final long offset;
+  private final long part;
 
   Refusal(int status, long place) {
     super(words(status));
     this.status = status;
     this.place = place;
     this.ring = 0;
+    this.fault = null;
+    this.offset = 0;
+    this.part = 0;
+  }
+
+  /** Of a text or of bytes, whose fault has these numbers: its name, byte, part, ring and position. */
+  Refusal(long[] numbers) {
+    super(Fault.of(numbers[0]).text + ": byte " + numbers[1] + ", part " + numbers[2] + ", ring " + numbers[3]
+        + ", position " + numbers[4]);
+    this.status = SHAPE;
+    this.fault = Fault.of(numbers[0]);
+    this.offset = numbers[1];
+    this.part = numbers[2];
+    this.ring = numbers[3];
+    this.place = numbers[4];
   }
 
   /** Of a shape in degrees, at a ring and a position, or at a byte of WKB. */
@@ -145,6 +189,9 @@ public final class Refusal extends IllegalArgumentException {
     this.status = status;
     this.place = position;
     this.ring = ring;
+    this.fault = null;
+    this.offset = 0;
+    this.part = 0;
   }
 
   private static String whereOf(int status, long ring, long position) {
@@ -166,6 +213,7 @@ public final class Refusal extends IllegalArgumentException {
       case -13: return "union file: a number that is not a cell";
       case -14: return "a corner of a polygon is no direction, or lies opposite the next one";
       case -15: return "a ring of a polygon has a wrong end or fewer than three corners";
+      case -16: return "a text or bytes are no shape of polygons";
       default: return status <= SHAPE_NUMBER ? Calls.shapeText(status) : "unknown refusal " + status;
     }
   }
@@ -209,5 +257,35 @@ public final class Refusal extends IllegalArgumentException {
    */
   public long ring() {
     return ring;
+  }
+
+  /**
+   * Why a text of GeoJSON, or bytes of WKB, are no shape of polygons.
+   *
+   * @return null of another kind than {@code SHAPE}
+   * @since 1.5
+   */
+  public Fault fault() {
+    return fault;
+  }
+
+  /**
+   * How many bytes of WKB come before its fault.
+   *
+   * @return 0 of a text, and of another kind than {@code SHAPE}
+   * @since 1.5
+   */
+  public long offset() {
+    return offset;
+  }
+
+  /**
+   * How many points, lines and polygons come before its fault.
+   *
+   * @return 0 of another kind than {@code SHAPE}
+   * @since 1.5
+   */
+  public long part() {
+    return part;
   }
 }

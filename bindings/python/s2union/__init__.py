@@ -36,7 +36,8 @@ from typing import TYPE_CHECKING, Any, Iterable, Iterator, NoReturn, overload
 from . import _library, _rooms
 from ._errors import (
     CornerError, FileCellError, FileShortError, FileTrailingError, FileVersionError, NotACellError, NotNormalizedError,
-    OutOfMemoryError, OutOfRangeError, RingError, S2UnionError, TooManyCellsError, UnionFileError, UnknownStatusError,
+    OutOfMemoryError, OutOfRangeError, RingError, S2UnionError, ShapeError, TooManyCellsError, UnionFileError,
+    UnknownStatusError,
 )
 
 if TYPE_CHECKING:
@@ -63,7 +64,7 @@ __all__ = ["CellUnion", "Union", "UnionFile", "version", "is_cell", "level", "fa
            "levels", "parents", "range_mins", "range_maxes", "token_fields", "from_points", "is_union",
            "S2UnionError", "NotACellError", "NotNormalizedError", "OutOfRangeError", "TooManyCellsError",
            "OutOfMemoryError", "UnionFileError", "FileShortError", "FileVersionError", "FileTrailingError",
-           "FileCellError", "CornerError", "RingError", "UnknownStatusError"]
+           "FileCellError", "CornerError", "RingError", "ShapeError", "UnknownStatusError"]
 
 __version__ = "1.4.1"
 

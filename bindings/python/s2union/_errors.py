@@ -8,7 +8,7 @@ from __future__ import annotations
 
 __all__ = ["S2UnionError", "NotACellError", "NotNormalizedError", "OutOfRangeError", "TooManyCellsError",
            "OutOfMemoryError", "UnionFileError", "FileShortError", "FileVersionError", "FileTrailingError",
-           "FileCellError", "CornerError", "RingError", "UnknownStatusError"]
+           "FileCellError", "CornerError", "RingError", "ShapeError", "UnknownStatusError"]
 
 
 class S2UnionError(Exception):
@@ -127,6 +127,15 @@ class RingError(S2UnionError, ValueError):
     status = -15  # RING
 
 
+class ShapeError(S2UnionError, ValueError):
+    """A text of GeoJSON, or bytes of WKB, are no shape of polygons.
+
+    .. versionadded:: 1.5
+    """
+
+    status = -16  # SHAPE
+
+
 class UnknownStatusError(S2UnionError, ValueError):
     """A status of a later version of the library.
 
@@ -136,7 +145,7 @@ class UnknownStatusError(S2UnionError, ValueError):
 
 _KINDS = {kind.status: kind for kind in (
     NotACellError, NotNormalizedError, OutOfRangeError, TooManyCellsError, OutOfMemoryError, FileShortError,
-    FileVersionError, FileTrailingError, FileCellError, CornerError, RingError)}
+    FileVersionError, FileTrailingError, FileCellError, CornerError, RingError, ShapeError)}
 
 for _kind in (S2UnionError, UnionFileError, UnknownStatusError, *_KINDS.values()):
     _kind.__module__ = "s2union"  # where they are found

@@ -1,6 +1,7 @@
 use std::fmt;
 
-use crate::{calls, geo};
+use crate::calls::{self, FaultName};
+use crate::geo;
 
 /// A refusal.
 #[derive(Clone, Copy, Debug, PartialEq, Eq, Hash)]
@@ -44,6 +45,19 @@ pub enum Error {
         /// At which ring or line, from 0 on; 0 if no place is wrong.
         ring: usize,
         /// At which position of the ring, or at which byte of WKB; 0 if no place is wrong.
+        position: usize,
+    },
+    /// A text of GeoJSON, or bytes of WKB, are no shape of polygons on the map. Since 1.5.
+    NoShape {
+        /// Why.
+        fault: FaultName,
+        /// How many bytes of WKB come before the fault; 0 of a text.
+        byte: usize,
+        /// How many points, lines and polygons come before it.
+        part: usize,
+        /// How many rings and lines have ended before it, of all parts.
+        ring: usize,
+        /// How many positions of its ring or line come before it.
         position: usize,
     },
     /// Another status below 0, of a later version of the library.
@@ -125,6 +139,7 @@ impl Error {
             Error::Corner { .. } => calls::CORNER,
             Error::Ring { .. } => calls::RING,
             Error::Shape { fault, .. } => fault.status(),
+            Error::NoShape { .. } => calls::SHAPE,
             Error::Other(status) => status,
         }
     }
@@ -144,6 +159,9 @@ impl fmt::Display for Error {
                     Pieces | Outside | Option => Ok(()),
                     Wkb | Type | Srid | Deep => write!(f, ": at byte {position}"),
                 }
+            }
+            Error::NoShape { fault, byte, part, ring, position } => {
+                write!(f, "{fault}: byte {byte}, part {part}, ring {ring}, position {position}")
             }
             Error::Other(status) => write!(f, "{} {status}", calls::text(*status)),
             known => f.write_str(calls::text(known.status())),

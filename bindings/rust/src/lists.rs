@@ -38,7 +38,11 @@ pub fn union_of_many(ids: &[u64], ends: &[usize]) -> Result<Vec<u64>, Error> {
     Ok(made)
 }
 
-fn listed<T: Copy>(room: usize, call: impl Fn(&mut [MaybeUninit<T>], &mut usize) -> i32) -> Result<Vec<T>, Error> {
+/// The list that a call makes in this room, or in what it needs.
+pub fn listed<T: Copy>(
+    room: usize,
+    mut call: impl FnMut(&mut [MaybeUninit<T>], &mut usize) -> i32,
+) -> Result<Vec<T>, Error> {
     let (mut made, mut len) = (roomy(room)?, 0);
     let mut status = call(made.spare_capacity_mut(), &mut len);
     if status == calls::ROOM {
@@ -53,7 +57,7 @@ fn listed<T: Copy>(room: usize, call: impl Fn(&mut [MaybeUninit<T>], &mut usize)
 }
 
 /// Leaves a list memory of its own size, and at most half as much again; if there is none for a copy, what it has.
-fn trim<T: Copy>(list: &mut Vec<T>) {
+pub fn trim<T: Copy>(list: &mut Vec<T>) {
     if list.capacity() > list.len() + list.len() / 2 {
         if let Ok(mut copy) = roomy(list.len()) {
             copy.extend_from_slice(list);

@@ -15,6 +15,7 @@ page=bindings/rust/README.md
 
 step "questions and edges" questions
 step "shapes in degrees" shapes
+step "texts and bytes of shapes" maps
 made() { /usr/bin/python3 -B "$top/tools/methods.py" "$@"; }
 for_rust() ( # as a package has it
   cp -r "$top/bindings/rust" "$work/for-rust" && cd "$work/for-rust" && rm crate.rs &&

@@ -90,7 +90,33 @@ enum {
   S2U_FILE_TRAILING = -12, /**< bytes follow the last identifier */
   S2U_FILE_CELL = -13,     /**< an identifier in the file is that of no cell */
   S2U_CORNER = -14,        /**< a corner is no direction, or lies opposite the next corner of its ring */
-  S2U_RING = -15           /**< a ring ends in a wrong place or has fewer than three corners, or there is none */
+  S2U_RING = -15,          /**< a ring ends in a wrong place or has fewer than three corners, or there is none */
+  S2U_SHAPE = -16          /**< a text or bytes are no shape of polygons; the fault says why and where */
+};
+
+/** The faults of a shape: what the field `name` of s2u_shape_fault says. @since 1.5 */
+enum {
+  S2U_FAULT_TRUNCATED = 1,   /**< the bytes end too early */
+  S2U_FAULT_TRAILING = 2,    /**< bytes follow the geometry */
+  S2U_FAULT_ORDER = 3,       /**< the byte that says the order of bytes is neither 0 nor 1 */
+  S2U_FAULT_TYPE = 4,        /**< there is no geometry of this type */
+  S2U_FAULT_UNCOVERED = 5,   /**< a curve, a surface or a triangle, which have no covering */
+  S2U_FAULT_SRID = 6,        /**< the coordinates are no degrees: the SRID is neither 0 nor 4326 */
+  S2U_FAULT_MEMBER = 7,      /**< a geometry in a list of points, lines or polygons is none of them */
+  S2U_FAULT_DEEP = 8,        /**< a collection lies in more than 32 collections */
+  S2U_FAULT_COUNT = 9,       /**< a count is greater than the bytes that follow it allow */
+  S2U_FAULT_FEW = 10,        /**< a ring has one to three positions */
+  S2U_FAULT_OPEN = 11,       /**< the last position of a ring is not its first */
+  S2U_FAULT_NOT_FINITE = 12, /**< a coordinate is infinite or not a number */
+  S2U_FAULT_UTF8 = 13,       /**< the text is no UTF-8 */
+  S2U_FAULT_JSON = 14,       /**< the text is no JSON */
+  S2U_FAULT_TWICE = 15,      /**< an object of the text has a member twice */
+  S2U_FAULT_NO_TYPE = 16,    /**< a value that has to be an object with a type is none */
+  S2U_FAULT_MISSING = 17,    /**< a list of coordinates, geometries or features is missing */
+  S2U_FAULT_POSITION = 18,   /**< a position is not a list that begins with two numbers */
+  S2U_FAULT_RANGE = 19,      /**< a longitude is beyond 540 degrees, or a latitude beyond 90 */
+  S2U_FAULT_NO_INSIDE = 20,  /**< a part is a point or a line, which has no inside */
+  S2U_FAULT_NO_MAP = 21      /**< a position or a ring is none on the map; no shape that was read is so */
 };
 
 /** The least coordinates and the side, in leaves, of a cell's square on its face. @since 0.1 */
@@ -124,6 +150,15 @@ typedef struct s2u_direction {
   int64_t y; /**< along the axis through latitude 0 and longitude 90 */
   int64_t z; /**< along the axis through latitude 90 */
 } s2u_direction;
+
+/** The first fault of a shape in a text or in bytes, and where it is. @since 1.5 */
+typedef struct s2u_shape_fault {
+  size_t name;     /**< which fault: one of S2U_FAULT_.. */
+  size_t byte;     /**< how many bytes of WKB come before it; 0 of a text, and of S2U_FAULT_NO_INSIDE */
+  size_t part;     /**< how many points, lines and polygons come before it */
+  size_t ring;     /**< how many rings and lines have ended before it, of all parts */
+  size_t position; /**< how many positions of its ring or line come before it */
+} s2u_shape_fault;
 
 /* ---- the library ------------------------------------------------------------------------------------------------- */
 
@@ -1066,6 +1101,82 @@ int32_t s2u_polygon_coverings_up_to(const s2u_direction* corners, size_t n, cons
 
 /** @} */
 
+/* ---- shapes ------------------------------------------------------------------------------------------------------ */
+
+/** @name Shapes
+ *
+ * Coverings of polygons as users write them: in a text of GeoJSON, or in bytes of WKB or EWKB, as PostGIS, GDAL and
+ * shapely write them. No place inside a shape, as it is written, is missing from its outer covering, and no place
+ * outside is in its inner one: proved, from the first byte on.
+ *
+ * Positions are degrees, the longitude first, -540 to 540, and then the latitude, -90 to 90. Each number is taken as
+ * the nearest double, and that to the nearest 10^-15 of a degree: 0.1 nanometers on the earth. Further coordinates are
+ * passed over. Edges are straight in longitude and latitude, as GeoJSON means them. A place is inside a polygon if an
+ * odd number of its edges pass north of it, counted on every turn of 360 degrees; so rings may run in either direction,
+ * cross and nest, and a ring that goes over the date line has longitudes beyond 180. A place is inside a shape if it is
+ * inside one of its polygons, which may overlap. The two poles themselves are left out of all this.
+ *
+ * Both coverings are normalized, and no cell is deeper than the level. Each leaf that only the outer one has lies in a
+ * cell of the level whose box on the map meets an edge. Geometries are polygons and collections of them; an empty one
+ * has empty coverings. A shape with a point or a line has no inside to speak of: S2U_FAULT_NO_INSIDE.
+ *
+ * `work` bounds the time that any bytes can take. The search goes over the cells that meet edges, level by level, and a
+ * cell takes 100 and 1 more for each position of the shape. If all cells of the levels together take more, the answer
+ * is S2U_MANY, before memory for the cells of the next level is taken. Memory is some hundred bytes for each position
+ * and for each cell.
+ * @{ */
+
+/** A `work` for callers that have no better one: a second for a shape of a country, and some seconds for any text. Of
+ * texts of strangers 2^24 is enough for a country at level 10, and takes a fifth of a second. @since 1.5 */
+#define S2U_MAP_WORK (UINT64_C(1) << 28)
+
+/** The outer and the inner covering of the polygons in bytes of WKB: of those as they are written, edges straight on
+ * the map.
+ * @param wkb,n WKB or EWKB at any address, in either order of bytes, and how many bytes it has
+ * @param level 0 (a face) to 30 (a leaf): the deepest level of a cell
+ * @param work how much work the search over cells may take; S2U_MAP_WORK if you don't know
+ * @param out,room,len the cells of the outer covering and then those of the inner one, how many cells there is room
+ *   for, and how many both have
+ * @param outer how many of them are the outer covering's
+ * @param fault of S2U_SHAPE the fault and its place; no other answer touches it
+ * @return S2U_OK
+ * @retval S2U_ROOM room is too small; len says what is needed, and outer how many of those are outer's
+ * @retval S2U_MEMORY out of memory; nothing has changed
+ * @retval S2U_ARGUMENT the level is above 30
+ * @retval S2U_SHAPE the bytes have a fault, or a part of the shape is a point or a line
+ * @retval S2U_MANY the search would take more than work
+ * @s2{S2RegionCoverer::GetCovering} and `GetInteriorCovering`, with max_level alone
+ * @since 1.5
+ * @snippet examples.c s2u_map_wkb
+ */
+int32_t s2u_map_wkb(const uint8_t* wkb, size_t n, uint32_t level, uint64_t work, uint64_t* out, size_t room,
+                    size_t* len, size_t* outer, s2u_shape_fault* fault);
+
+/** The outer and the inner covering of the polygons in a text of GeoJSON: of those as they are written, edges straight
+ * on the map.
+ * The text is a geometry, a feature, or a collection of either. Members that say nothing of the shape are passed over.
+ * @param text,n the text in UTF-8, and how many bytes it has
+ * @param level 0 (a face) to 30 (a leaf): the deepest level of a cell
+ * @param work how much work the search over cells may take; S2U_MAP_WORK if you don't know
+ * @param out,room,len the cells of the outer covering and then those of the inner one, how many cells there is room
+ *   for, and how many both have
+ * @param outer how many of them are the outer covering's
+ * @param fault of S2U_SHAPE the fault and its place; no other answer touches it
+ * @return S2U_OK
+ * @retval S2U_ROOM room is too small; len says what is needed, and outer how many of those are outer's
+ * @retval S2U_MEMORY out of memory; nothing has changed
+ * @retval S2U_ARGUMENT the level is above 30
+ * @retval S2U_SHAPE the text has a fault, or a part of the shape is a point or a line
+ * @retval S2U_MANY the search would take more than work
+ * @s2{S2RegionCoverer::GetCovering} and `GetInteriorCovering`, with max_level alone
+ * @since 1.5
+ * @snippet examples.c s2u_map_geojson
+ */
+int32_t s2u_map_geojson(const char* text, size_t n, uint32_t level, uint64_t work, uint64_t* out, size_t room,
+                        size_t* len, size_t* outer, s2u_shape_fault* fault);
+
+/** @} */
+
 /* ---- files ------------------------------------------------------------------------------------------------------- */
 
 /** @name Files
@@ -1312,7 +1423,42 @@ static inline const char* s2u_status_text(int32_t status) {
     case S2U_FILE_CELL: return "union file: a number that is not a cell";
     case S2U_CORNER: return "a corner of a polygon is no direction, or lies opposite the next one";
     case S2U_RING: return "a ring of a polygon has a wrong end or fewer than three corners";
+    case S2U_SHAPE: return "a text or bytes are no shape of polygons";
     default: return status >= 0 ? "ok" : "unknown refusal";
+  }
+}
+
+/** A text for a fault of a shape, for messages.
+ * @param name any number: the field `name` of s2u_shape_fault
+ * @return a text that lasts
+ * @since 1.5
+ * @snippet examples.c s2u_fault_text
+ */
+static inline const char* s2u_fault_text(size_t name) {
+  switch (name) {
+    case S2U_FAULT_TRUNCATED: return "bytes are missing";
+    case S2U_FAULT_TRAILING: return "bytes after the geometry";
+    case S2U_FAULT_ORDER: return "a geometry begins with the byte 0 or 1";
+    case S2U_FAULT_TYPE: return "no type of geometry";
+    case S2U_FAULT_UNCOVERED: return "a geometry that is no point, line, polygon or collection of them";
+    case S2U_FAULT_SRID: return "an SRID that is not 4326";
+    case S2U_FAULT_MEMBER: return "a geometry of another type than the list that it is in";
+    case S2U_FAULT_DEEP: return "too many collections in each other";
+    case S2U_FAULT_COUNT: return "a count beyond the end of the bytes";
+    case S2U_FAULT_FEW: return "a ring has fewer than four positions";
+    case S2U_FAULT_OPEN: return "a ring is open: its last position is not its first";
+    case S2U_FAULT_NOT_FINITE: return "a coordinate is infinite or not a number";
+    case S2U_FAULT_UTF8: return "the text is not UTF-8";
+    case S2U_FAULT_JSON: return "the text is not JSON";
+    case S2U_FAULT_TWICE: return "an object has a member twice";
+    case S2U_FAULT_NO_TYPE: return "an object without a type";
+    case S2U_FAULT_MISSING: return "a list of coordinates, geometries or features is missing";
+    case S2U_FAULT_POSITION: return "a position is a longitude and a latitude";
+    case S2U_FAULT_RANGE:
+      return "a longitude is from -540 to 540 and a latitude from -90 to 90 (the longitude first)";
+    case S2U_FAULT_NO_INSIDE: return "a point or a line has no inside";
+    case S2U_FAULT_NO_MAP: return "a position is no place, or a ring no ring";
+    default: return "unknown fault";
   }
 }
 

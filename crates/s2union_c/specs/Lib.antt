@@ -9,5 +9,6 @@ pub mod Order
 pub mod Polygons
 pub mod Rectangles
 pub mod Results
+pub mod Shapes
 pub mod Texts
 pub mod Working

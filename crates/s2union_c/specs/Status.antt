@@ -49,6 +49,10 @@ bad_corner = negsuc 13
 abbrev pub bad_ring : ℤ
 bad_ring = negsuc 14
 
+-- a text or bytes are no shape, or the shape has no inside
+abbrev pub bad_shape : ℤ
+bad_shape = negsuc 15
+
 -- the answer yes to a question
 abbrev pub yes : ℤ
 yes = pos 1

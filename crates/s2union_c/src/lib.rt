@@ -18,6 +18,7 @@ mod polygons;
 mod questions;
 mod results;
 mod sets;
+mod shapes;
 mod status;
 mod texts;
 mod token_lists;

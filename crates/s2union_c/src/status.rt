@@ -38,6 +38,9 @@ pub(crate) const BAD_CORNER: i32 = -14;
 /// A ring of a polygon ends in a wrong place or has fewer than three corners, or there is none.
 pub(crate) const BAD_RING: i32 = -15;
 
+/// A text or bytes are no shape, or the shape has no inside.
+pub(crate) const BAD_SHAPE: i32 = -16;
+
 /// The answer to a question.
 pub(crate) fn answer(holds: bool) -> i32
     ensures yes { IsTrue holds → result ≡ yes }

@@ -1,0 +1,68 @@
+package s2union_test
+
+import (
+	"bufio"
+	"encoding/hex"
+	"errors"
+	"fmt"
+	"os"
+	"strconv"
+	"strings"
+	"testing"
+
+	s2union "not-published.invalid/s2union/bindings/go"
+)
+
+// The names of faults as the questions have them, in the order of their numbers.
+var faultNames = strings.Fields("truncated trailing order type uncovered srid member deep count few open not_finite " +
+	"utf8 json twice no_type missing position range no_inside no_map")
+
+// TestMaps asks the texts and bytes of tests/model/maps.py, in the file that S2UNION_MAPS names.
+func TestMaps(t *testing.T) {
+	file, err := os.Open(os.Getenv("S2UNION_MAPS"))
+	if err != nil {
+		t.Skip("S2UNION_MAPS names no file")
+	}
+	defer file.Close()
+	lines := bufio.NewScanner(file)
+	lines.Buffer(nil, 1<<20)
+	asked := 0
+	for ; lines.Scan(); asked++ {
+		fields := strings.Split(lines.Text(), "\t")
+		data, _ := hex.DecodeString(fields[1])
+		level, _ := strconv.Atoi(fields[2])
+		work, _ := strconv.ParseUint(fields[3], 10, 64)
+		cover := s2union.CoverGeoJSON
+		if fields[0] == "wkb" {
+			cover = s2union.CoverWKB
+		}
+		outer, inner, err := cover(data, level, work)
+		check(t, answerOf(outer, inner, err) == strings.Join(fields[4:], "\t"), lines.Text())
+	}
+	check(t, asked > 500, fmt.Sprint(asked, lines.Err()))
+}
+
+func answerOf(outer, inner s2union.CellUnion, err error) string {
+	var shape *s2union.ShapeError
+	switch {
+	case err == nil:
+		return inHex(outer) + "\t" + inHex(inner)
+	case errors.As(err, &shape) && shape.Refusal == s2union.ErrShape:
+		place := fmt.Sprintf("byte %d, part %d, ring %d, position %d", shape.Byte, shape.Part, shape.Ring, shape.Position)
+		if err.Error() != fmt.Sprintf("s2union: %v: %s", shape.Fault, place) {
+			return err.Error()
+		}
+		return fmt.Sprint("!", faultNames[shape.Fault-1], " ", shape.Byte, " ", shape.Part, " ", shape.Ring, " ",
+			shape.Position)
+	default:
+		return map[error]string{s2union.ErrMany: "!many", s2union.ErrArgument: "!argument"}[err]
+	}
+}
+
+func inHex(union s2union.CellUnion) string {
+	words := []string{}
+	for _, id := range union.CellIDs() {
+		words = append(words, strconv.FormatUint(uint64(id), 16))
+	}
+	return strings.Join(words, " ")
+}
