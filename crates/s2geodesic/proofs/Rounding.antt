@@ -63,7 +63,8 @@ module _ (corners : List Point) (ends : List ℕ) (r : Region) (h : IsPolygonOf 
     most = omega arith;
   }
 
-  pub rounded : PaysForMoved → (moved : List Point) (x : ℕ) → AreMoved 502 1000 corners moved → touch moved ends x ≡ true
+  pub rounded : PaysForMoved → (moved : List Point) (x : ℕ) → AreMoved 502 1000 corners moved
+      → touch moved ends x ≡ true
       → is_touched r x ≡ true
   unfolding is_touched
   rounded law moved x m is =

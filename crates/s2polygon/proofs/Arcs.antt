@@ -275,7 +275,8 @@ module _ (most : ℕ) (large : 2 ^ 62 ≤ most) (z : Point)
         (closed (λ p_point. within p q (far_in f) (in_frame f p_point)))
         ∙ xor_none (xor (arcs f p) (arcs f q))
 
-    line_over : (f : ℕ) (line : ℕ → ℕ → Piece) (at : ℕ → Framed) → IsLine f line at → (s u : ℕ) → s ≤ 2 ^ 31 → u ≤ 2 ^ 31
+    line_over : (f : ℕ) (line : ℕ → ℕ → Piece) (at : ℕ → Framed) → IsLine f line at → (s u : ℕ) → s ≤ 2 ^ 31
+        → u ≤ 2 ^ 31
         → is_odd_over (line s u) (edges_on f es) ≡ xor (arcs f (at s)) (arcs f (at u))
     line_over f line at is s u h k = odd_mapped f (line s u) es ∙ by (nat_lt s u) refl
       where
@@ -341,14 +342,16 @@ module _ (most : ℕ) (large : 2 ^ 62 ≤ most) (z : Point)
         ∙ join (middles f) (arcs f (place (2 ^ 31) (middle_of 30 0))) (arcs (suc f) (place 0 (middle_of 30 0)))
         (middles (suc f))
         (odd_same (λ e. arc (place (2 ^ 31) (middle_of 30 0)) (far_in f) (in_frame f e.a) (in_frame f e.b))
-        (λ e. arc (place 0 (middle_of 30 0)) (far_in (suc f)) (in_frame (suc f) e.a) (in_frame (suc f) e.b)) (IsSteady most)
+        (λ e. arc (place 0 (middle_of 30 0)) (far_in (suc f)) (in_frame (suc f) e.a) (in_frame (suc f) e.b))
+        (IsSteady most)
         (λ e h. sym (next_right (place (2 ^ 31) (middle_of 30 0)) (far_in f) (in_frame f e.a) (in_frame f e.b) refl
         (next z) (next e.a) (next e.b))) es
         sound)
 
     column_border : (f : ℕ) → ((p : Point) → in_frame (suc f) p ≡ up (in_frame f p))
         → is_odd_by (λ e. xor (crosses (column (middle_of 30 0) (middle_of 30 0) (2 ^ 31)) (framed f e))
-        (crosses (column (middle_of 30 0) 0 (middle_of 30 0)) (framed (suc f) e))) es ≡ xor (middles f) (middles (suc f))
+        (crosses (column (middle_of 30 0) 0 (middle_of 30 0)) (framed (suc f) e))) es
+        ≡ xor (middles f) (middles (suc f))
     column_border f next =
         odd_xor (λ e. crosses (column (middle_of 30 0) (middle_of 30 0) (2 ^ 31)) (framed f e))
         (λ e. crosses (column (middle_of 30 0) 0 (middle_of 30 0)) (framed (suc f) e)) es
@@ -359,7 +362,8 @@ module _ (most : ℕ) (large : 2 ^ 62 ≤ most) (z : Point)
         ∙ join (middles f) (arcs f (place (middle_of 30 0) (2 ^ 31))) (arcs (suc f) (place (middle_of 30 0) 0))
         (middles (suc f))
         (odd_same (λ e. arc (place (middle_of 30 0) (2 ^ 31)) (far_in f) (in_frame f e.a) (in_frame f e.b))
-        (λ e. arc (place (middle_of 30 0) 0) (far_in (suc f)) (in_frame (suc f) e.a) (in_frame (suc f) e.b)) (IsSteady most)
+        (λ e. arc (place (middle_of 30 0) 0) (far_in (suc f)) (in_frame (suc f) e.a) (in_frame (suc f) e.b))
+        (IsSteady most)
         (λ e h. sym (next_up (place (middle_of 30 0) (2 ^ 31)) (far_in f) (in_frame f e.a) (in_frame f e.b) refl
         (next z) (next e.a) (next e.b))) es
         sound)

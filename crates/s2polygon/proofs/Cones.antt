@@ -1,5 +1,5 @@
--- Edges within a cone: what lies between any two of its directions lies in it, and the center doesn't. Of two such edges
--- and the two between their ends, an even number come over an arc whose ends don't lie in the cone.
+-- Edges within a cone: what lies between any two of its directions lies in it, and the center doesn't. Of two such
+-- edges and the two between their ends, an even number come over an arc whose ends don't lie in the cone.
 use Rattle.std.proofs.Common.{◌≡◌, refl, sym, ap, ap₂, ◌∙◌, arith, ℤ, pos, ◌+ℤ◌, ◌-ℤ◌}
 use Rattle.std.proofs.Common.{◌*ℤ◌, ◌≤ℤ◌, ◌<ℤ◌, Bool, true, false, not, ◌&&◌}
 use Rattle.std.proofs.lemmas.Int.{ints, by_lt_z}
@@ -380,9 +380,12 @@ module _ (K : Framed → Type 0) (p z : Framed) (cone : IsCone K) (a b : Framed)
               in_cone = cone.mixed (triple b p z) (pos 0 -ℤ triple a p z) a b hb (minus_below (triple a p z) ha)
                   (sum_up (triple a p z) (triple b p z) ha hb) ka kb;
               is = record {
-                w = turned (triple a p z) (triple b p z) (triple z a b) (triple p a b) a.w b.w p.w z.w (meets a b p z).w;
-                u = turned (triple a p z) (triple b p z) (triple z a b) (triple p a b) a.u b.u p.u z.u (meets a b p z).u;
-                v = turned (triple a p z) (triple b p z) (triple z a b) (triple p a b) a.v b.v p.v z.v (meets a b p z).v;
+                w = turned (triple a p z) (triple b p z) (triple z a b) (triple p a b) a.w b.w p.w z.w
+                    (meets a b p z).w;
+                u = turned (triple a p z) (triple b p z) (triple z a b) (triple p a b) a.u b.u p.u z.u
+                    (meets a b p z).u;
+                v = turned (triple a p z) (triple b p z) (triple z a b) (triple p a b) a.v b.v p.v z.v
+                    (meets a b p z).v;
               };
               ahead = rising_signs (triple p a b) (triple z a b) (is_at_least_0 (triple p a b))
                   (is_at_least_0 (triple z a b)) refl refl;

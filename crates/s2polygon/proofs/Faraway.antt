@@ -337,13 +337,21 @@ module _ (most : ℕ) (large : 2 ^ 62 ≤ most) (z : Framed) (far : IsFar (far_e
   off_row : (t : ℤ) → unsigned_abs t ≤ 2 ^ 62 → above t z ≢ pos 0
   off_row t h e =
       whole_some (far (record { w = pos 0 -ℤ t; u = pos 0; v = whole })
-      (record { w = minus_small (far_enough most) t (place_small t h); u = none_small; v = place_small whole whole_small })
+      (record {
+        w = minus_small (far_enough most) t (place_small t h);
+        u = none_small;
+        v = place_small whole whole_small;
+      })
       (row_sum (3 * 2 ^ 60) t z.w z.u z.v ∙ e)).v
 
   off_column : (s : ℤ) → unsigned_abs s ≤ 2 ^ 62 → left_of s z ≢ pos 0
   off_column s h e =
       whole_some (back whole (far (record { w = s; u = pos 0 -ℤ whole; v = pos 0 })
-      (record { w = place_small s h; u = minus_small (far_enough most) whole (place_small whole whole_small); v = none_small })
+      (record {
+        w = place_small s h;
+        u = minus_small (far_enough most) whole (place_small whole whole_small);
+        v = none_small;
+      })
       (column_sum (3 * 2 ^ 60) s z.w z.u z.v ∙ e)).u)
 
 -- ---- one edge and one piece of a way
@@ -443,7 +451,8 @@ squares a some =
     third x y z e f g l = omega (arith, ints)
 
 -- the edge isn't between ends on one line with the center, or both lie in one direction
-pub some_or_along : (a b : Framed) → (a.w ≡ pos 0 → a.u ≡ pos 0 → a.v ≡ pos 0 → ⊥) → (IsNone (normal_of a b) → pos 0 <ℤ dot_of a b)
+pub some_or_along : (a b : Framed) → (a.w ≡ pos 0 → a.u ≡ pos 0 → a.v ≡ pos 0 → ⊥) →
+    (IsNone (normal_of a b) → pos 0 <ℤ dot_of a b)
     → (¬ (IsNone (normal_of a b))) ⊎ IsAlong a b
 some_or_along a b h short = by (is_0 (normal_of a b).w) (is_0 (normal_of a b).u) (is_0 (normal_of a b).v)
   where

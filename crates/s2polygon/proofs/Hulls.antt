@@ -399,7 +399,8 @@ outside num den height m more f i j e g a b clear pays hi hj less missed p insid
 -- ---- two directions of a cone aren't opposite
 two_none : (p q x y t : ℤ) → t ≡ p *ℤ x -ℤ q *ℤ y → x ≡ pos 0 → y ≡ pos 0 → t ≡ pos 0
 two_none p q x y t e f g =
-    e ∙ ap₂ (λ (m n : ℤ). p *ℤ m -ℤ q *ℤ n) f g ∙ equal (at p ⊗ at (pos 0) ⊖ at q ⊗ at (pos 0)) (at (pos 0)) (omega arith)
+    e ∙ ap₂ (λ (m n : ℤ). p *ℤ m -ℤ q *ℤ n) f g ∙ equal (at p ⊗ at (pos 0) ⊖ at q ⊗ at (pos 0)) (at (pos 0))
+    (omega arith)
 
 module _ (aw au av bw bu bv : ℤ) where
   abbrev own : Expr

@@ -521,7 +521,8 @@ module _ (num den height : ℕ) (r : Region) (corners moved : List Point) (ends 
         (all_even num den height r.margin more h.less (pays_of num den height r.margin h.less h.most) p end given
         moved_edges pairs h.clear (middle_apart x e) end_apart)
         (rings_even num den corners moved h.near
-        (λ a b. arc (in_frame 0 p) (in_frame 0 end) (in_frame 0 a) (in_frame 0 b)) ends long (length ends) (omega arith))
+        (λ a b. arc (in_frame 0 p) (in_frame 0 end) (in_frame 0 a) (in_frame 0 b)) ends long (length ends)
+        (omega arith))
         ∙ sym (arcs_alike most large end far moved_edges moved_steady (closed moved ends long) f p)
         ∙ ap (moved_arcs f) (framed_at f (place_of x))
 

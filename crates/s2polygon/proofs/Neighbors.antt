@@ -35,7 +35,8 @@ module _ (most : ℕ) (large : 2 ^ 62 ≤ most) (z : Point) (far : (f : ℕ) →
         → middle_arcs ≡ arcs most large z far es sound closed f (place u (middle_of 0 j))
     row_stays u h =
         same_of middle_arcs (arcs most large z far es sound closed f (place u (middle_of 0 j)))
-        (sym (row_over most large z far es sound closed f (j * 2 ^ 0 + 2 ^ 0 / 2) (middle_of 0 i) u (omega arith) (omega arith)
+        (sym (row_over most large z far es sound closed f (j * 2 ^ 0 + 2 ^ 0 / 2) (middle_of 0 i) u (omega arith)
+        (omega arith)
         (omega (arith, h.to)))
         ∙ even_over (square_of 0 i j) (row (middle_of 0 j) (middle_of 0 i) u) (edges_on f es)
         (row_held (i * 2 ^ 0) (j * 2 ^ 0) (2 ^ 0) (middle_of 0 j) (middle_of 0 i) u
@@ -45,7 +46,8 @@ module _ (most : ℕ) (large : 2 ^ 62 ≤ most) (z : Point) (far : (f : ℕ) →
         → middle_arcs ≡ arcs most large z far es sound closed f (place (middle_of 0 i) u)
     column_stays u h =
         same_of middle_arcs (arcs most large z far es sound closed f (place (middle_of 0 i) u))
-        (sym (column_over most large z far es sound closed f (i * 2 ^ 0 + 2 ^ 0 / 2) (middle_of 0 j) u (omega arith) (omega arith)
+        (sym (column_over most large z far es sound closed f (i * 2 ^ 0 + 2 ^ 0 / 2) (middle_of 0 j) u (omega arith)
+        (omega arith)
         (omega (arith, h.to)))
         ∙ even_over (square_of 0 i j) (column (middle_of 0 i) (middle_of 0 j) u) (edges_on f es)
         (column_held (i * 2 ^ 0) (j * 2 ^ 0) (2 ^ 0) (middle_of 0 i) (middle_of 0 j) u
@@ -55,7 +57,8 @@ module _ (most : ℕ) (large : 2 ^ 62 ≤ most) (z : Point) (far : (f : ℕ) →
         → middle_arcs ≡ arcs most large z far es sound closed f c
     on_row u c h e =
         let own : middle_of 0 j ≡ 2 * j + 1 = omega arith in
-        row_stays u h ∙ ap (λ (t : ℕ). arcs most large z far es sound closed f (place u t)) own ∙ ap (arcs most large z far es sound closed f) (sym e)
+        row_stays u h ∙ ap (λ (t : ℕ). arcs most large z far es sound closed f (place u t)) own
+        ∙ ap (arcs most large z far es sound closed f) (sym e)
 
     on_column : (u : ℕ) (c : Framed) → In (j * 2 ^ 0) (2 ^ 0) u → c ≡ place (2 * i + 1) u
         → middle_arcs ≡ arcs most large z far es sound closed f c
@@ -70,7 +73,8 @@ module _ (most : ℕ) (large : 2 ^ 62 ≤ most) (z : Point) (far : (f : ℕ) →
       ≡ arcs most large z far es sound closed 0 (in_frame 0 p)
   to_side x p missed h = by h ∙ arcs_alike most large z far es sound closed (x / 4 ^ 30) p
     where
-      by : IsMiddleOfSide x p → arcs most large z far es sound closed (x / 4 ^ 30) (place (middle_of 0 (i_of x)) (middle_of 0 (j_of x)))
+      by : IsMiddleOfSide x p → arcs most large z far es sound closed (x / 4 ^ 30)
+          (place (middle_of 0 (i_of x)) (middle_of 0 (j_of x)))
           ≡ arcs most large z far es sound closed (x / 4 ^ 30) (in_frame (x / 4 ^ 30) p)
       by (inl e) = on_row (x / 4 ^ 30) (i_of x) (j_of x) (below_side x).0 (below_side x).1 missed (2 * i_of x)
           (in_frame (x / 4 ^ 30) p) (record { from = omega arith; to = omega arith }) e

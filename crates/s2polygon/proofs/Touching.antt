@@ -75,10 +75,10 @@ pub record Kept (far : FramedEdge → Bool) (es : List FramedEdge) : Type 0 wher
   pub far_is : far edge ≡ true
   pub any : (near : FramedEdge → Bool) → near edge ≡ true → list_any near es ≡ true
 
-or_left : (a b : Bool) → a ≡ true → a || b ≡ true
+pub or_left : (a b : Bool) → a ≡ true → a || b ≡ true
 or_left a b h = rw h refl
 
-or_right : (a b : Bool) → b ≡ true → a || b ≡ true
+pub or_right : (a b : Bool) → b ≡ true → a || b ≡ true
 or_right true b h = refl
 or_right false b h = h
 

@@ -94,19 +94,28 @@ fn add_geodesic(
 ) -> Result<(), AllocError> {
     match covered {
         Ok(coverings) => add_line(found, place_in(&coverings, leaf)),
-        Err(GeodesicError::Fault(fault)) => add_fault(alloc, found, fault),
-        Err(GeodesicError::NoInside(part)) => {
+        Err(error) => add_geodesic_error(alloc, found, error),
+    }
+}
+
+/// Adds the error of such coverings.
+fn add_geodesic_error(
+    alloc: Global,
+    found: &mut Vec<u8>,
+    error: GeodesicError,
+) -> Result<(), AllocError> {
+    match error {
+        GeodesicError::Fault(fault) => add_fault(alloc, found, fault),
+        GeodesicError::NoInside(part) => {
             add_line(found, &format!(in alloc; "NoInside part {part}")?)
         }
-        Err(GeodesicError::LongEdge(part)) => {
+        GeodesicError::LongEdge(part) => {
             add_line(found, &format!(in alloc; "LongEdge part {part}")?)
         }
-        Err(GeodesicError::Spread(part)) => {
-            add_line(found, &format!(in alloc; "Spread part {part}")?)
-        }
-        Err(GeodesicError::Memory) => add_line(found, "memory"),
-        Err(GeodesicError::NoMap) => add_line(found, "NoMap"),
-        Err(GeodesicError::TooManyCells) => add_line(found, "TooManyCells"),
+        GeodesicError::Spread(part) => add_line(found, &format!(in alloc; "Spread part {part}")?),
+        GeodesicError::Memory => add_line(found, "memory"),
+        GeodesicError::NoMap => add_line(found, "NoMap"),
+        GeodesicError::TooManyCells => add_line(found, "TooManyCells"),
     }
 }
 

@@ -48,7 +48,8 @@ returns-clause-covers c =
       outer_is = λ x. c.normalise.ensures.leaves x ∙ leaves x;
       inner_is = λ x. c.normalise-2.ensures.leaves x ∙ filled x;
       misses_none = λ moved x t l is. c.normalise.ensures.leaves x ∙ missed x l
-          (true_outer h.0 corners moved s.rings h.1.rounded t x l c.law_of_true_corners.ensures.outer ss polygons are is);
+          (true_outer h.0 corners moved s.rings h.1.rounded t x l c.law_of_true_corners.ensures.outer ss polygons are
+          is);
       none_outside = λ moved x t l is.
           true_inner h.0 corners moved s.rings h.1.rounded t x l c.law_of_true_corners.ensures.inner ss polygons are
           (proper x (sym (c.normalise-2.ensures.leaves x) ∙ is));
