@@ -65,11 +65,14 @@ CALLS = {
     "SQL": (r"s2_\w+", ["bindings/sqlite/*.c", "bindings/postgres/*.sql"], r"\b{}\b"),
     "Script": (r"[a-z]{2,}", ["docs/SCRIPT.md"], r"`{}\b"),
     "JavaScript": (r"\w+", ["bindings/js/*.d.ts"], r"(?:\bfunction |^  (?:static |readonly )?|\bclass ){}\b"),
-    "Java": (r"\w+", ["bindings/java/s2union/*.java"], r"\bpublic (?:static |final )*[\w\[\]]+ {}\b"),
+    "Java": (r"\w+", ["bindings/java/s2union/*.java"], r"\bpublic (?:static |final )*[\w.\[\]]+ {}\b"),
 }
 # The sections of docs/TROUBLESHOOTING.md: the sources that make its errors, and what an error's name is there.
 ERRORS = {
-    "The library": (["crates/s2union_c/include/s2union.h"], r"^  (S2U_\w+) = -|^    case S2U_\w+: return \"(.*)\";"),
+    "The library": (["crates/s2union_c/include/s2union.h"],
+                    r"^  (S2U_\w+) = -|^    case S2U_(?!FAULT_)\w+: return \"(.*)\";"),
+    "Texts and bytes of shapes": (["crates/s2union_c/include/s2union.h"],
+                                  r"^  (S2U_FAULT_\w+) = \d|^    case S2U_FAULT_\w+:\s+return \"(.*)\";"),
     "Shapes in degrees": (["bindings/c/s2union_cover.h"],
                           r"^  (S2U_COVER_\w+) = -|^    case S2U_COVER_\w+: return \"(.*)\";"),
     "C++": (["bindings/cpp/s2union.hpp"], r"throw ([\w:]+)\("),
@@ -221,7 +224,7 @@ def unexplained():
         made = {name.lower() for name in made} if section == "PostgreSQL" else made
         table = page.partition(f"\n## {section}\n")[2].partition("\n|")[2].partition("\n\n")[0]
         heads = re.findall(r"^\| `([^`]*)`", table, re.M)
-        texts = re.findall(r"^\|[^|]*\| -\d+ \| `(.*?)`", table, re.M)
+        texts = re.findall(r"^\|[^|]*\| -?\d+ \| `(.*?)`", table, re.M)
         count += len(made)
         wrong += [f"{section}: {name}" for name in sorted(made ^ {*heads, *texts})]
     return count, wrong

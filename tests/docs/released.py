@@ -38,7 +38,7 @@ PACKAGES = {
     "Rust": (["bindings/rust/src/*.rs"], r"\bpub (?:fn|struct|enum) (\w+)", "librust-s2union-dev_*.deb"),
     "Python": (["bindings/python/s2union/__init__.py", "bindings/python/s2union_geo/*.py"],
                r"^(?:    )?(?:def|class) ([A-Za-z]\w+)", "s2union-*manylinux*.whl"),
-    "Java": (["bindings/java/s2union/*.java"], r"\bpublic (?:static |final )*[\w\[\]<>]+ (\w+)\(", "s2union-*.jar"),
+    "Java": (["bindings/java/s2union/*.java"], r"\bpublic (?:static |final )*[\w.\[\]<>]+ (\w+)\(", "s2union-*.jar"),
     "JavaScript": (["bindings/js/*.d.ts"], r"^(?:export (?:declare )?function|  (?:static )?)(\w+)\(", "s2union-*.tgz"),
     "PostgreSQL": (["bindings/postgres/s2union*.sql"], r"CREATE (?:OR REPLACE )?FUNCTION (?:@extschema@\.)?(\w+)",
                    "postgresql-15-s2union_*.deb"),

@@ -42,7 +42,7 @@ public final class Refusal extends IllegalArgumentException {
     CORNER(-14),
     /** A ring of a polygon ends in a wrong place or has fewer than three corners, or there is none. */
     RING(-15),
-    /** A text or bytes are no shape of polygons, whose {@link Refusal#fault} says why. */
+    /** A text or bytes are no shape of polygons, whose {@link Refusal#shapeFault} says why. */
     SHAPE(-16),
     /** A longitude or a latitude is out of range, or not a number. */
     SHAPE_NUMBER(-101),
@@ -265,7 +265,7 @@ public final class Refusal extends IllegalArgumentException {
    * @return null of another kind than {@code SHAPE}
    * @since 1.5
    */
-  public Fault fault() {
+  public Fault shapeFault() {
     return fault;
   }
 

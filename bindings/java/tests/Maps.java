@@ -36,13 +36,13 @@ final class Maps extends Checks {
       return shown(found.outer()) + "\t" + shown(found.inner());
     } catch (Refusal refusal) {
       if (refusal.kind() != Refusal.Kind.SHAPE) {
-        check(refusal.fault() == null && refusal.offset() == 0 && refusal.part() == 0, "no fault");
+        check(refusal.shapeFault() == null && refusal.offset() == 0 && refusal.part() == 0, "no fault");
         return "!" + refusal.kind().name().toLowerCase(Locale.ROOT);
       }
       String place = String.format("byte %d, part %d, ring %d, position %d", refusal.offset(), refusal.part(),
           refusal.ring(), refusal.place());
       check(refusal.getMessage().endsWith(": " + place) && refusal.status() == Refusal.SHAPE, refusal.getMessage());
-      return "!" + refusal.fault().name().toLowerCase(Locale.ROOT) + " " + refusal.offset() + " " + refusal.part() + " "
+      return "!" + refusal.shapeFault().name().toLowerCase(Locale.ROOT) + " " + refusal.offset() + " " + refusal.part() + " "
           + refusal.ring() + " " + refusal.place();
     }
   }
