@@ -64,7 +64,8 @@ def fault_names(header):
     lines += [f"            {fault.number} => FaultName::{name}," for name, fault in own]
     lines += ["            _ => FaultName::Other,", "        }", "    }", "}", "",
               "impl std::fmt::Display for FaultName {",
-              "    fn fmt(&self, f: &mut std::fmt::Formatter<'_>) -> std::fmt::Result {", "        f.write_str(match self {"]
+              "    fn fmt(&self, f: &mut std::fmt::Formatter<'_>) -> std::fmt::Result {",
+              "        f.write_str(match self {"]
     lines += [f'            FaultName::{name} => "{fault.text}",' for name, fault in own]
     return [*lines, '            FaultName::Other => "unknown fault",', "        })", "    }", "}"]
 
@@ -72,13 +73,12 @@ def fault_names(header):
 def whole(top):
     table, header = calls(top), text_of(Path(top, HEADER))
     numbers = limits(header)[0]
-    kinds = sorted({it.kind for call in table for it in call.arguments if it.kind not in C_TYPES})
+    kinds = sorted({it.kind for call in table for it in call.arguments} - {*C_TYPES, "ShapeFault"})
     lines = ["//! The calls of s2union.h over slices, made of its exports. Every call is total: a pointer goes",
              "//! with the length of what it points to, and nothing else is asked of it. Lists that a call writes need",
              "//! hold nothing before.",
              "#![allow(dead_code)]", "", "use std::mem::MaybeUninit;", "",
-             "use crate::maps::ShapeFault;", f"use crate::{{{', '.join(kind for kind in kinds if kind != 'ShapeFault')}}};",
-             ""]
+             "use crate::maps::ShapeFault;", f"use crate::{{{', '.join(kinds)}}};", ""]
     for status in statuses(header):
         lines.append(f"pub const {status.name}: i32 = {status.number};")
     lines += [f"pub const {name}: usize = {number:_};" for name, number in numbers.items()]

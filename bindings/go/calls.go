@@ -25,7 +25,7 @@ const (
 	FaultPosition  FaultName = C.S2U_FAULT_POSITION   // a position is not a list that begins with two numbers
 	FaultRange     FaultName = C.S2U_FAULT_RANGE      // a longitude is beyond 540 degrees, or a latitude beyond 90
 	FaultNoInside  FaultName = C.S2U_FAULT_NO_INSIDE  // a part is a point or a line, which has no inside
-	FaultNoMap     FaultName = C.S2U_FAULT_NO_MAP     // a position or a ring is none on the map; no shape that was read is so
+	FaultNoMap     FaultName = C.S2U_FAULT_NO_MAP     // a position or a ring is none on the map; no shape read is so
 )
 
 // LeafCellsCovered is how many leaves the union has. It takes n steps. It is 0 to 6 * 4^30. Since 0.2.

@@ -478,10 +478,11 @@ func ExampleCoverGeoJSON() {
 func ExampleCoverWKB() {
 	_, _, err := s2union.CoverWKB([]byte{0, 0, 0, 0, 6, 0, 0}, 6, s2union.MapWork)
 	var shape *s2union.ShapeError
-	fmt.Println(errors.As(err, &shape) && shape.Fault == s2union.FaultTruncated, shape.Byte, errors.Is(err, s2union.ErrShape))
+	isFound := errors.As(err, &shape) && errors.Is(err, s2union.ErrShape)
+	fmt.Println(isFound && shape.Fault == s2union.FaultTruncated, shape.Byte)
 	fmt.Println(err)
 	// Output:
-	// true 5 true
+	// true 5
 	// s2union: bytes are missing: byte 5, part 0, ring 0, position 0
 }
 

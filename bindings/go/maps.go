@@ -3,9 +3,12 @@ package s2union
 // #include <s2union.h>
 import "C"
 
-// MapWork is work for CoverGeoJSON and CoverWKB if you have no better bound: a second for a shape of a country, and some
-// seconds for any text. Of texts of strangers 1<<24 is enough for a country at level 10.
+// MapWork is work for CoverGeoJSON and CoverWKB if you have no better bound: a second for a shape of a country, and
+// some seconds for any text. Of texts of strangers 1<<24 is enough for a country at level 10.
 const MapWork uint64 = C.S2U_MAP_WORK
+
+// mapping is a call that makes both coverings.
+type mapping func(out *C.uint64_t, room C.size_t, length, first *C.size_t, fault *C.s2u_shape_fault) C.int32_t
 
 // CoverGeoJSON is the outer and the inner covering of the polygons in a text of GeoJSON, of those as they are written,
 // edges straight on the map: a geometry, a feature, or a collection of either. Proved: no place inside is missing from
@@ -13,24 +16,24 @@ const MapWork uint64 = C.S2U_MAP_WORK
 // the level is out of range. ErrShape, in a ShapeError: the text has a fault, or a part of the shape is a point or a
 // line. ErrMany: the search over cells would take more than `work`. ErrMemory. Since 1.5.
 func CoverGeoJSON(text []byte, level int, work uint64) (outer, inner CellUnion, err error) {
-	return mapped(roomOfMapGeojson(), func(out *C.uint64_t, room C.size_t, n, first *C.size_t, fault *C.s2u_shape_fault) C.int32_t {
+	call := func(out *C.uint64_t, room C.size_t, n, first *C.size_t, fault *C.s2u_shape_fault) C.int32_t {
 		at, size := pointerToText(text)
 		return C.s2u_map_geojson(at, size, narrowed(level), C.uint64_t(work), out, room, n, first, fault)
-	})
+	}
+	return mapped(roomOfMapGeojson(), call)
 }
 
 // CoverWKB is the same of bytes of WKB or EWKB, in either order of bytes. Since 1.5.
 func CoverWKB(wkb []byte, level int, work uint64) (outer, inner CellUnion, err error) {
-	return mapped(roomOfMapWkb(), func(out *C.uint64_t, room C.size_t, n, first *C.size_t, fault *C.s2u_shape_fault) C.int32_t {
+	call := func(out *C.uint64_t, room C.size_t, n, first *C.size_t, fault *C.s2u_shape_fault) C.int32_t {
 		at, size := pointerToBytes(wkb)
 		return C.s2u_map_wkb(at, size, narrowed(level), C.uint64_t(work), out, room, n, first, fault)
-	})
+	}
+	return mapped(roomOfMapWkb(), call)
 }
 
 // mapped is the two unions that a call makes, one after the other.
-func mapped(
-	room int, call func(out *C.uint64_t, room C.size_t, length, first *C.size_t, fault *C.s2u_shape_fault) C.int32_t,
-) (outer, inner CellUnion, err error) {
+func mapped(room int, call mapping) (outer, inner CellUnion, err error) {
 	var first C.size_t
 	var fault C.s2u_shape_fault
 	ids, err := listed(room, func(out *C.uint64_t, room C.size_t, length *C.size_t) C.int32_t {

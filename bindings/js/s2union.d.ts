@@ -24,8 +24,8 @@ export function version(): string;
  * The kind of an error: MEMORY, there is none; NO_CELL, a number is no cell, or a text names none; NO_UNION, a list is
  * not normalized; ARGUMENT, a level, coordinate, modulus or place is out of range; MANY, there would be more cells than
  * are allowed; FILE_SHORT, FILE_VERSION, FILE_TRAILING, FILE_CELL, bytes are no union file, since they end too early,
- * begin with another version, go on after the last cell, or have a number that is no cell; SHAPE, a text or bytes are no
- * shape of polygons. ROOM is not thrown, nor are CORNER and RING, which are of polygons, and OTHER is of a later version.
+ * begin with another version, go on after the last cell, or have a number that is no cell. ROOM is not thrown, nor are
+ * CORNER and RING, which are of polygons, and SHAPE, which is of texts. OTHER is of a later version.
  * @since 1.2
  */
 export type RefusalKind = "ROOM" | "MEMORY" | "NO_CELL" | "NO_UNION" | "ARGUMENT" | "MANY" | "FILE_SHORT"

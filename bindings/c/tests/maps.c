@@ -4,7 +4,8 @@
 
 enum { WORDS = 13 };
 
-typedef int32_t map_call(const void*, size_t, uint32_t, uint64_t, uint64_t*, size_t, size_t*, size_t*, s2u_shape_fault*);
+typedef int32_t map_call(const void*, size_t, uint32_t, uint64_t, uint64_t*, size_t, size_t*, size_t*,
+                         s2u_shape_fault*);
 
 static int32_t wkb(const void* at, size_t n, uint32_t level, uint64_t work, uint64_t* out, size_t room, size_t* len,
                    size_t* outer, s2u_shape_fault* fault) {
@@ -106,7 +107,8 @@ static void much(void) {
   CHECK(s2u_map_geojson(text, SIZE, 30, UINT64_MAX, NULL, 0, &len, &outer, &fault) == S2U_SHAPE);
   CHECK(is_fault(&fault, S2U_FAULT_JSON, 0, 0, 0, 0));
   n = (size_t)sprintf(text, "{\"type\":\"Polygon\",\"coordinates\":[[[0,0]");
-  for (int side = 0; n < SIZE - 20; side = 1 - side) n += (size_t)sprintf(text + n, ",[%d,%d]", side ? 99 : 9, 80 * side);
+  for (int side = 0; n < SIZE - 20; side = 1 - side)
+    n += (size_t)sprintf(text + n, ",[%d,%d]", side ? 99 : 9, 80 * side);
   n += (size_t)sprintf(text + n, ",[0,0]]]}");
   CHECK(s2u_map_geojson(text, n, 30, UINT64_C(1) << 24, NULL, 0, &len, &outer, &fault) == S2U_MANY && len == 0);
   CHECK(s2u_map_geojson(text, n, 30, 0, NULL, 0, &len, &outer, &fault) == S2U_MANY && len == 0);

@@ -92,8 +92,8 @@ public final class CellUnion implements Comparable<CellUnion> {
   // methods: decode, outer, inner
 
   /**
-   * Work for {@code coverGeoJson} and {@code coverWkb} if you have no better bound: a second for a shape of a country, and
-   * some seconds for any text. Of texts of strangers 2^24 is enough for a country at level 10.
+   * Work for {@code coverGeoJson} and {@code coverWkb} if you have no better bound: a second for a shape of a country,
+   * and some seconds for any text. Of texts of strangers 2^24 is enough for a country at level 10.
    *
    * @since 1.5
    */

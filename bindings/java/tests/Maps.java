@@ -42,8 +42,8 @@ final class Maps extends Checks {
       String place = String.format("byte %d, part %d, ring %d, position %d", refusal.offset(), refusal.part(),
           refusal.ring(), refusal.place());
       check(refusal.getMessage().endsWith(": " + place) && refusal.status() == Refusal.SHAPE, refusal.getMessage());
-      return "!" + refusal.shapeFault().name().toLowerCase(Locale.ROOT) + " " + refusal.offset() + " " + refusal.part() + " "
-          + refusal.ring() + " " + refusal.place();
+      String name = refusal.shapeFault().name().toLowerCase(Locale.ROOT);
+      return String.format("!%s %d %d %d %d", name, refusal.offset(), refusal.part(), refusal.ring(), refusal.place());
     }
   }
 

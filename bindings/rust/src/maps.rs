@@ -6,8 +6,8 @@ use crate::error::Error;
 use crate::lists::{listed, roomy, trim};
 use crate::union::CellUnion;
 
-/// Work that [`cover_geojson`] and [`cover_wkb`] may take if you have no better bound: a second for a shape of a country,
-/// and some seconds for any text. Of texts of strangers 2^24 is enough for a country at level 10. Since 1.5.
+/// Work that [`cover_geojson`] and [`cover_wkb`] may take if you have no better bound: a second for a shape of a
+/// country, and some seconds for any text. Of texts of strangers 2^24 is enough for a country at level 10. Since 1.5.
 pub const MAP_WORK: u64 = calls::MAP_WORK;
 
 /// Why a shape has no coverings, as the library says it.

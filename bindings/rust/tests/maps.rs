@@ -13,7 +13,8 @@ fn maps() {
     for line in lines.lines() {
         let fields: Vec<&str> = line.split('\t').collect();
         let (bytes, level, work) = (bytes(fields[1]), fields[2].parse().unwrap(), fields[3].parse().unwrap());
-        let found = if fields[0] == "wkb" { cover_wkb(&bytes, level, work) } else { cover_geojson(&bytes, level, work) };
+        let is_wkb = fields[0] == "wkb";
+        let found = if is_wkb { cover_wkb(&bytes, level, work) } else { cover_geojson(&bytes, level, work) };
         assert_eq!(answer(found), fields[4..].join("\t"), "{line:.200}");
     }
     assert!(lines.lines().count() > 500);

@@ -116,7 +116,7 @@ enum {
   S2U_FAULT_POSITION = 18,   /**< a position is not a list that begins with two numbers */
   S2U_FAULT_RANGE = 19,      /**< a longitude is beyond 540 degrees, or a latitude beyond 90 */
   S2U_FAULT_NO_INSIDE = 20,  /**< a part is a point or a line, which has no inside */
-  S2U_FAULT_NO_MAP = 21      /**< a position or a ring is none on the map; no shape that was read is so */
+  S2U_FAULT_NO_MAP = 21      /**< a position or a ring is none on the map; no shape read is so */
 };
 
 /** The least coordinates and the side, in leaves, of a cell's square on its face. @since 0.1 */
