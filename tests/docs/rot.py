@@ -30,7 +30,7 @@ BOUND = re.compile(r"\blet ([^\s(){}:=]+)|λ ([^.]*)\.|[({]([^\s(){}:]+(?: [^\s(
 HOSTS = re.compile(r"\b(?:(?:static\.)?crates[.]io|pypi[.]org|pythonhosted[.]org|npmjs[.](?:com|org)|"
                    r"proxy[.]golang[.]org|rubygems[.]org|docker[.]io|repo1?[.]maven)\b")
 UNCITED = 0
-DOUBLES = 19
+DOUBLES = 22
 ARMS = 7
 # The functions that have more arms. Split a function in place of adding it here.
 MANY_ARMS = {"s2calc/src/command_line.rt: arg_of", "s2calc/src/edits.rt: edit_register", "s2calc/src/execute.rt: act",

@@ -11,8 +11,6 @@ use Rattle.s2geodesic.specs.Halves.{AreSpread}
 use Rattle.s2geodesic.specs.Rounded.{AreTrue, IsPolygonOf, true_polygon}
 use Rattle.s2list.specs.Union.{has_leaf}
 use Rattle.s2map.specs.declared.place.Place.{Place}
-use Rattle.s2polygon.proofs.Changes.{or_more}
-use Rattle.s2polygon.proofs.Touching.{or_left, or_right}
 use Rattle.s2polygon.specs.Directions.{Point}
 use Rattle.s2polygon.specs.Leaves.{Region, inner_leaf, outer_leaf}
 use Rattle.s2shape.specs.Reading.{Shape}
@@ -62,6 +60,20 @@ module _ (corners : List Point) (s : Shape) where
           is)
 
 -- ---- leaves of coverings, polygon by polygon
+or_first : (a b : Bool) → a ≡ true → a || b ≡ true
+or_first true b e = refl
+or_first false b e = absurd (cc)
+
+or_last : (a b : Bool) → b ≡ true → a || b ≡ true
+or_last true b e = refl
+or_last false true e = refl
+or_last false false e = absurd (cc)
+
+or_both : (a b c d : Bool) → (a ≡ true → c ≡ true) → (b ≡ true → d ≡ true) → a || b ≡ true → c || d ≡ true
+or_both true b c d h k e = or_first c d (h refl)
+or_both false true c d h k e = or_last c d (k refl)
+or_both false false c d h k e = absurd (cc)
+
 or_none : (b : Bool) → b || false ≡ b
 or_none true = refl
 or_none false = refl
@@ -91,9 +103,9 @@ module _ (f : Region → ℕ → Bool) (rs : List Region) (i : ℕ) (r : Region)
         by : (a b : Bool) → list_any (λ r. f r x) (take i rs) ≡ a → f r x ≡ b → (a || b) ≡ true
             → has_leaf (cells ++ own) x ≡ true
         by true b e g t =
-            list_any-append (λ c. covers c x) cells own ∙ or_left (has_leaf cells x) (has_leaf own x) (h x l e)
+            list_any-append (λ c. covers c x) cells own ∙ or_first (has_leaf cells x) (has_leaf own x) (h x l e)
         by false true e g t =
-            list_any-append (λ c. covers c x) cells own ∙ or_right (has_leaf cells x) (has_leaf own x) (k x l g)
+            list_any-append (λ c. covers c x) cells own ∙ or_last (has_leaf cells x) (has_leaf own x) (k x l g)
         by false false e g t = cc
 
     pub proper_more : (cells own : List ℕ)
@@ -105,8 +117,8 @@ module _ (f : Region → ℕ → Bool) (rs : List Region) (i : ℕ) (r : Region)
       where
         by : (a b : Bool) → has_leaf cells x ≡ a → has_leaf own x ≡ b → (a || b) ≡ true
             → list_any (λ r. f r x) (take (i + 1) rs) ≡ true
-        by true b e g t = any_more x ∙ or_left (list_any (λ r. f r x) (take i rs)) (f r x) (h x e)
-        by false true e g t = any_more x ∙ or_right (list_any (λ r. f r x) (take i rs)) (f r x) (k x g)
+        by true b e g t = any_more x ∙ or_first (list_any (λ r. f r x) (take i rs)) (f r x) (h x e)
+        by false true e g t = any_more x ∙ or_last (list_any (λ r. f r x) (take i rs)) (f r x) (k x g)
         by false false e g t = cc
 
 -- ---- true polygons
@@ -128,7 +140,7 @@ module _ (places : List Place) (corners moved : List Point) (rings : List ℕ)
   true_outer law [] (r ∷ rs) h is = absurd h
   true_outer law (s ∷ ss) [] h is = absurd h
   true_outer law (s ∷ ss) (r ∷ rs) h is =
-      or_more (outer_leaf (true_polygon r (corners_of moved rings s.first s.end) (ends_of rings s.first s.end)) x)
+      or_both (outer_leaf (true_polygon r (corners_of moved rings s.first s.end) (ends_of rings s.first s.end)) x)
       (any_outer (true_polygons moved rings ss rs) x) (outer_leaf r x) (any_outer rs x)
       (law (corners_of corners rings s.first s.end) (corners_of moved rings s.first s.end)
       (ends_of rings s.first s.end) r x h.0 (true_part places corners moved rings s.first s.end rounded t) l)
@@ -140,7 +152,7 @@ module _ (places : List Place) (corners moved : List Point) (rings : List ℕ)
   true_inner law [] (r ∷ rs) h is = absurd h
   true_inner law (s ∷ ss) [] h is = absurd h
   true_inner law (s ∷ ss) (r ∷ rs) h is =
-      or_more (inner_leaf r x) (any_inner rs x)
+      or_both (inner_leaf r x) (any_inner rs x)
       (inner_leaf (true_polygon r (corners_of moved rings s.first s.end) (ends_of rings s.first s.end)) x)
       (any_inner (true_polygons moved rings ss rs) x)
       (law (corners_of corners rings s.first s.end) (corners_of moved rings s.first s.end)
