@@ -143,9 +143,9 @@ shapes() { # $work/shapes: shapes in degrees, with the coverings that the module
     /usr/bin/python3 -m model.shapes >"$work/shapes"
 }
 
-maps() { # $work/maps: texts of GeoJSON and bytes of WKB, with their coverings on the map, compared with plain places
+maps() { # $work/map-texts: texts of GeoJSON and bytes of WKB with their coverings, compared with plain places
   LD_LIBRARY_PATH=$work/usr/lib PYTHONDONTWRITEBYTECODE=1 PYTHONPATH=$top/tests \
-    /usr/bin/python3 -m model.maps >"$work/maps"
+    /usr/bin/python3 -m model.maps >"$work/map-texts"
 }
 
 need_compiler() { # what tools/page makes a module with

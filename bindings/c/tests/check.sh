@@ -71,8 +71,8 @@ covered() { # shapes in degrees
 step "coverings of shapes in degrees, and under the sanitizers" covered
 step "texts and bytes of shapes, beside a plain reader and plain places" maps
 mapped() { # each in every room, and under the sanitizers
-  program maps "$static" <"$work/maps" &&
-    program maps "$static" -fsanitize=address,undefined -fno-sanitize-recover <"$work/maps"
+  program maps "$static" <"$work/map-texts" &&
+    program maps "$static" -fsanitize=address,undefined -fno-sanitize-recover <"$work/map-texts"
 }
 step "coverings of texts and bytes, and under the sanitizers" mapped
 step "coverings of parts that touch, beside whole numbers, under the sanitizers" program parts "$static" \

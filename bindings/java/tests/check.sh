@@ -65,7 +65,7 @@ step "shapes in degrees" shapes
 step "texts and bytes of shapes" maps
 step "against the model" asked Vectors "$work/vectors"
 step "coverings of shapes, and places" asked Shapes "$work/shapes"
-step "coverings of texts and bytes" asked Maps "$work/maps"
+step "coverings of texts and bytes" asked Maps "$work/map-texts"
 step "one cell, beside the library" asked Cells
 step "what is refused, what stays, and long lists" asked Refusals "$(cat "$top/VERSION")"
 copying() { # a library that copies lists of more than three elements, and refuse.c with what Java asks of it
