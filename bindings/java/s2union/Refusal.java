@@ -156,9 +156,11 @@ public final class Refusal extends IllegalArgumentException {
   private final long place;
   /** The ring of a shape, or 0. */
   private final long ring;
-  /** The fault of a text or of bytes, or null, and its byte and part. */
+  /** The fault of a text or of bytes, or null. */
   private final Fault fault;
+  /** How many bytes come before it, or 0. */
   private final long offset;
+  /** How many points, lines and polygons come before it, or 0. */
   private final long part;
 
   Refusal(int status, long place) {
