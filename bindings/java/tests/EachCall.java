@@ -1,6 +1,8 @@
 import java.lang.reflect.InvocationTargetException;
 import java.lang.reflect.Method;
 import java.lang.reflect.Modifier;
+import java.nio.ByteBuffer;
+import java.nio.charset.StandardCharsets;
 import java.util.Arrays;
 import java.util.List;
 import java.util.Map;
@@ -15,6 +17,31 @@ record EachCall(Method method, Object of, Object[] given) {
   private static final Map<String, Object[]> OWN = Map.of("denormalized", new Object[] {1, 1, Integer.MAX_VALUE},
       "fromToken", new Object[] {"1"}, "fromDebugString", new Object[] {"0/2"}, "vertexNeighbors",
       new Object[] {1L, 1});
+  private static final String SQUARE =
+      "{\"type\": \"Polygon\", \"coordinates\": [[[0, 0], [9, 0], [9, 9], [0, 9], [0, 0]]]}";
+
+  /** Whether a call is about a shape as it is written: its last number is no cell. */
+  boolean isOfShape() {
+    return isOfShape(method);
+  }
+
+  private static boolean isOfShape(Method method) {
+    return method.getName().equals("coverGeoJson") || method.getName().equals("coverWkb");
+  }
+
+  private static byte[] bytesOf(double... positions) {
+    ByteBuffer data = ByteBuffer.allocate(13 + 8 * positions.length);
+    data.put((byte) 0).putInt(3).putInt(1).putInt(positions.length / 2);
+    for (double number : positions) data.putDouble(number);
+    return data.array();
+  }
+
+  /** A shape, in the form that the call takes, and few levels. */
+  private static Object[] ofShape(Method method) {
+    Object text = method.getParameterTypes()[0] == String.class ? SQUARE : SQUARE.getBytes(StandardCharsets.UTF_8);
+    boolean isWkb = method.getName().equals("coverWkb");
+    return new Object[] {isWkb ? bytesOf(0, 0, 9, 0, 9, 9, 0, 9, 0, 0) : text, 2, CellUnion.MAP_WORK};
+  }
 
   /** All of them, about a union of leaves: what an argument is follows from its type. */
   static List<EachCall> about(CellUnion union) {
@@ -34,7 +61,7 @@ record EachCall(Method method, Object of, Object[] given) {
         .flatMap(Arrays::stream).filter(method -> Modifier.isPublic(method.getModifiers()) && !method.isBridge())
         .filter(method -> method.getReturnType() != RegionCoverer.class)
         .map(method -> new EachCall(method, owners.get(method.getDeclaringClass()),
-            OWN.getOrDefault(method.getName(),
+            isOfShape(method) ? ofShape(method) : OWN.getOrDefault(method.getName(),
                 Arrays.stream(method.getParameterTypes()).map(words::get).toArray())))
         .toList();
   }

@@ -46,7 +46,7 @@ final class Refusals extends Checks {
     try {
       var refusal = Refusal.class.getDeclaredConstructor(int.class, long.class);
       refusal.setAccessible(true);
-      for (int status : new int[] {-99, -1, -7, -16}) {
+      for (int status : new int[] {-99, -1, -7, -17}) {
         check(refusal.newInstance(status, 0L).kind() == Refusal.Kind.OTHER, "the kind of " + status);
       }
       var length = Class.forName("s2union.Calls").getDeclaredMethod("lengthOf", long.class);
@@ -78,7 +78,7 @@ final class Refusals extends Checks {
     for (EachCall call : EachCall.about(CellUnion.of(1, 5))) {
       Class<?>[] types = call.method().getParameterTypes();
       for (int place = 0; place < types.length; place++) {
-        if (types[place] != long.class && types[place] != long[].class) continue;
+        if (call.isOfShape() || types[place] != long.class && types[place] != long[].class) continue;
         asked++;
         int before = failed();
         for (long wrong : new long[] {0, 2, -1, 12 * FACE}) {
