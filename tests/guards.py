@@ -86,7 +86,7 @@ OTHER_NUMBERS = [
     ("docs/HEADLINE.md", "may have a plus", "may have 12,345 pluses", "nothing is known of 12,345"),
     ("docs/PROOF.md", "at most 64 KiB, waited", "at most 32 KiB, waited", "at most 32 KiB, waited"),
     ("docs/PROOF.md", "axioms=39", "axioms=38", "that 39 functions of the C library"),
-    ("README.md", "[specs](crates/s2polygon/specs), 500", "[specs](crates/s2polygon/specs), 300",
+    ("README.md", "[specs](crates/s2polygon/specs), 530", "[specs](crates/s2polygon/specs), 300",
      "[specs](crates/s2polygon/specs), 300"),
 ]
 MISTAKES = [
@@ -116,7 +116,7 @@ MISTAKES = [
     Mistake("a link that a package lacks", pages.lost_in_packages, "docs/HEADLINE.md",
             ended_by("\n[`settled`](../crates/s2union_c/src/polygons.rt)\n")),
     Mistake("a crate on the layer of one that it uses", pages.wrong_layers, "docs/ARCHITECTURE.md",
-            swapped("| 7 | [`s2union_c`]", "| 6 | [`s2union_c`]")),
+            swapped("| 9 | [`s2union_c`]", "| 8 | [`s2union_c`]")),
     Mistake("another kit on a page", pages.other_kits, "docs/PROOF.md", ended_by(f"\n`{'rattle-kit-'}0`\n")),
     Mistake("another logic on a page", pages.other_kits, "docs/INSTALL.md", ended_by("\nThe logic `0`.\n")),
     Mistake("a contract that no source has", pages.changed_contracts, "docs/HEADLINE.md",

@@ -153,7 +153,7 @@ typedef struct s2u_direction {
 
 /** The first fault of a shape in a text or in bytes, and where it is. @since 1.5 */
 typedef struct s2u_shape_fault {
-  size_t name;     /**< which fault: one of S2U_FAULT_.. */
+  size_t name;     /**< which fault, such as S2U_FAULT_OPEN */
   size_t byte;     /**< how many bytes of WKB come before it; 0 of a text, and of S2U_FAULT_NO_INSIDE */
   size_t part;     /**< how many points, lines and polygons come before it */
   size_t ring;     /**< how many rings and lines have ended before it, of all parts */
