@@ -37,6 +37,8 @@ define internal void @rattle_dealloc(ptr %at) nounwind {
 }
 """
 OF_HEAP = {"rattle_alloc", "rattle_realloc", "rattle_dealloc"}
+# An instruction of x86-64 by which simdutf8 looks up sixteen bytes at once, and what does the same on each processor.
+SHUFFLE, SHUFFLED = "llvm.x86.ssse3.pshuf.b.128", "s2u_shuffled"
 OF_A_PROCESSOR = re.compile(r"@llvm\.(?:x86|aarch64|arm|riscv|ppc|s390|wasm)\.")
 
 
@@ -75,6 +77,22 @@ def plain_names(text):
     return re.sub(r'@"([^"]+)"', plain, text)
 
 
+def shuffled():
+    """A function of the bytes at the sixteen places that the other bytes name, from 0 on; one above 127 names none, and
+    is answered by 0."""
+    lines = [f"define internal <16 x i8> @{SHUFFLED}(<16 x i8> %bytes, <16 x i8> %places) nounwind {{",
+             "  %made0 = insertelement <16 x i8> %bytes, i8 0, i32 0"]
+    for at in range(16):
+        lines += [f"  %place{at} = extractelement <16 x i8> %places, i32 {at}",
+                  f"  %low{at} = and i8 %place{at}, 15",
+                  f"  %index{at} = zext i8 %low{at} to i32",
+                  f"  %byte{at} = extractelement <16 x i8> %bytes, i32 %index{at}",
+                  f"  %none{at} = icmp slt i8 %place{at}, 0",
+                  f"  %found{at} = select i1 %none{at}, i8 0, i8 %byte{at}",
+                  f"  %made{at + 1} = insertelement <16 x i8> %made{at}, i8 %found{at}, i32 {at}"]
+    return "\n".join([*lines, "  ret <16 x i8> %made16", "}", ""])
+
+
 def without_attributes(text):
     """The text without what names a processor, and without what older versions of LLVM can't read and newer ones know
     by themselves of the functions that LLVM has."""
@@ -99,6 +117,8 @@ def portable(text):
         text, found = re.subn(rf"^declare .*@{name}\(.*\n", "", text, flags=re.M)
         if found > 1:
             raise NotPortable(f"{name} is declared {found} times")
+    text, shuffles = re.subn(rf"^declare .*@{re.escape(SHUFFLE)}\(.*\n", "", text, flags=re.M)
+    text = text.replace(f"@{SHUFFLE}(", f"@{SHUFFLED}(") + (shuffled() if shuffles else "")
     # A result of 32 bits fills a register by its sign, as some processors expect it, which others don't look at.
     text = re.sub(r"^define (?:noundef )?i32 (@s2u_\w+\()", r"define signext i32 \1", text, flags=re.M)
     others = set(re.findall(r"^declare .*@([\w.]+)\(", text, re.M))
