@@ -28,7 +28,8 @@ FORMS = [(name, re.compile(form)) for name, form in (
 )]
 CASE = re.compile(r"i\d+ (-?\d+), label %([\w.]+)")
 FUNCTION = re.compile(r"define (.*?)@([\w.$]+)\((.*)\) (?:#\d+|nounwind) \{")
-CONSTANT = re.compile(r'@([\w.]+) = private unnamed_addr constant \[(\d+) x i8\] c"(.*)", align (\d+)')
+CONSTANT = re.compile(r'@([\w.]+) = private unnamed_addr constant \[(\d+) x i8\] (?:c"(.*)"|zeroinitializer), '
+                      r"align (\d+)")
 RANGE = re.compile(r"(!\d+) = !\{i(\d+) (-?\d+), i\d+ (-?\d+)\}")
 # Lines outside functions that say nothing about what a function answers.
 SILENT = re.compile(r"|;.*|declare .*|attributes .*|source_filename = .*|target .*|!\d+ = !\{(?:!\".*\")?\}|!llvm\..*")
@@ -86,7 +87,7 @@ class Text:
             self.heads[found[2]] = (found[1], found[3], at, end)
             return end + 1
         if found := CONSTANT.fullmatch(line):
-            content = bytes_of(found[3])
+            content = bytes(int(found[2])) if found[3] is None else bytes_of(found[3])
             if len(content) != int(found[2]):
                 raise self.unknown(at)
             self.constants[found[1]] = Constant(content, int(found[4]))
