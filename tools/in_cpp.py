@@ -297,7 +297,9 @@ class Shown(languages.Expression):
 
 
 def rooms(_):
-    """The room of each call that makes a list, as a function of the lengths."""
+    """The room of each call that makes a list, as a function of the lengths. C++ has none that reads a shape."""
     for name, room in CPP_ROOMS.items():
+        if name.startswith("map_"):
+            continue
         given = ", ".join(f"size_t {length}" for length in room_lengths(room))
         yield f"inline size_t of_{name}({given}) {{ return {room_in('C++', room)}; }}"
