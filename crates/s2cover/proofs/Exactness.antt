@@ -1,6 +1,6 @@
 -- Regions that know of each cell how it lies, and how near coverings of them come.
 use Rattle.std.proofs.Common.{◌≡◌, ℕ, ◌+◌, ◌*◌, ◌^◌, ◌<◌, ◌≤◌, ◌⊎◌, inl, inr, ⊎_elim, Bool, true, false, List, []}
-use Rattle.std.proofs.Common.{◌∷◌, ◌++◌, All, AllPairs, Contains, map, max, length, refl, sym, ◌∙◌, ap, arith, subst}
+use Rattle.std.proofs.Common.{◌∷◌, ◌++◌, All, AllPairs, Contains, map, length, refl, sym, ◌∙◌, ap, arith, subst}
 use Rattle.std.proofs.Common.{append-nil}
 use Rattle.std.specs.List.{sum_by}
 use Rattle.std.proofs.lemmas.Bool.{both_ways, true_from_ne_false}
@@ -19,7 +19,7 @@ use Rattle.s2cover.proofs.Splittings.{cells_of_form}
 use Rattle.s2cover.proofs.Visits.{covers_at, leaf_at}
 use Rattle.s2cover.specs.Coverings.{EachShares, LiesOutside, inner_set, touched}
 use Rattle.s2cover.specs.Near.{Crosses, IsLargest, IsMuchAbove, IsNearInner, IsNearOuter, IsOver, TakeMore}
-use Rattle.s2cover.specs.Near.{work_allowed}
+use Rattle.s2cover.specs.Near.{looked_into, work_allowed}
 use Rattle.s2cover.specs.Rough.{AreCrossing, ComesNearInner, ComesNearOuter, EachLeaf, IsCrossing, IsLeft}
 use Rattle.s2cover.specs.Rough.{IsMuchCrossing, IsSplit, TakeMoreWork, Worked}
 use Rattle.s2cover.specs.Working.Descent.{depth_of}
@@ -193,8 +193,8 @@ module _ (o i : ℕ → Bool) (w : ℕ → ℕ) where
     near = ⊎_elim inl
         (λ (h : (k : ℕ) → k ≤ deepest →
         ((x : ℕ) → x < LEAVES → (has_leaf u x ≡ true) ⊎ IsLeft Out Cross k x)
-        ⊎ IsMuchCrossing Cross (max most 6) (work_allowed size most) k). inr (λ k l. ⊎_elim
+        ⊎ IsMuchCrossing Cross (looked_into most) (work_allowed size most) k). inr (λ k l. ⊎_elim
         (λ (y : (x : ℕ) → x < LEAVES → (has_leaf u x ≡ true) ⊎ IsLeft Out Cross k x). inl (λ x b t. ⊎_elim
         (λ (z : has_leaf u x ≡ true). z) (λ (z : IsLeft Out Cross k x). absurd (not_left k x t z)) (y x b)))
-        (λ (y : IsMuchCrossing Cross (max most 6) (work_allowed size most) k). inr (much_of y)) (h k l))) f.near;
+        (λ (y : IsMuchCrossing Cross (looked_into most) (work_allowed size most) k). inr (much_of y)) (h k l))) f.near;
   }

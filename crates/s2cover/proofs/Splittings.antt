@@ -2,7 +2,7 @@
 use Rattle.std.proofs.Common.{◌≡◌, ◌≢◌, ℕ, ◌+◌, ◌-◌, ◌*◌, ◌/◌, ◌^◌, ◌<◌, ◌≤◌, Bool, true, false, ◌||◌, cond}
 use Rattle.std.proofs.Common.{List, [], ◌∷◌, ◌++◌, length, map, take, drop, All, AllPairs, Contains, refl, sym}
 use Rattle.std.proofs.Common.{◌∙◌, ap, arith, subst, ◌⊎◌, inl, inr, ⊎_elim, length-append}
-use Rattle.std.proofs.Common.{append_assoc, append-nil, max}
+use Rattle.std.proofs.Common.{append_assoc, append-nil}
 use Rattle.std.specs.List.{sum_by}
 use Rattle.std.proofs.lemmas.Bool.{both_ways, or_left, or_right, or_cases, cases_lt}
 use Rattle.std.proofs.lemmas.List.{length-map, map-append}
@@ -17,7 +17,7 @@ use Rattle.s2cell.proofs.Calls.{IsCellAt-child_of}
 use Rattle.s2cell.proofs.CellLemmas.{cell_leaves, level_of_cell}
 use Rattle.s2list.specs.Union.{has_leaf}
 use Rattle.s2list.proofs.Normal.{child_of_leaf}
-use Rattle.s2cover.specs.Near.{TakeMore, work_allowed}
+use Rattle.s2cover.specs.Near.{TakeMore, looked_into, work_allowed}
 use Rattle.s2cover.specs.Rough.{AreCrossing, ComesNearInner, ComesNearOuter, EachLeaf, IsCrossing, IsLeft}
 use Rattle.s2cover.specs.Rough.{IsMuchCrossing, IsSplit, TakeMoreWork, Worked}
 use Rattle.s2cover.specs.Working.Splitting.{any_covers, listed, times, times_by, IsAbove, IsAcross, IsCellOf, IsInside}
@@ -941,7 +941,7 @@ module _ {A : Type 0} (id : A → ℕ) (sound : A → Type 0) (work : A → ℕ)
 
   pub front_inner : {allowed most deepest k cell : ℕ} {spent : List A} {rest kept : List ℕ}
       (kept2 inside : List ℕ) {ahead : List A} (ahead2 across : List A) → kept2 ≡ take most (kept ++ inside) →
-      (ahead2 ≡ ahead ++ across) ⊎ ((ahead2 ≡ ahead) × (max most 6 < length ahead + length across)) →
+      (ahead2 ≡ ahead ++ across) ⊎ ((ahead2 ≡ ahead) × (looked_into most < length ahead + length across)) →
       Family k cell inside across → Fronts false allowed most deepest k k spent (cell ∷ rest) kept ahead →
       Fronts false allowed most deepest k k spent rest kept2 ahead2
   front_inner {allowed} {most} {deepest} {k} {cell} {spent} {rest} {kept} kept2 inside {ahead} ahead2 across
@@ -959,7 +959,7 @@ module _ {A : Type 0} (id : A → ℕ) (sound : A → Type 0) (work : A → ℕ)
       let once_ahead : (x : ℕ) → times_by id ahead2 x ≤ times_by id ahead x + times_by id across x = λ x. ⊎_elim
       (λ (y : ahead2 ≡ ahead ++ across). let d = ap (λ u. times_by id u x) y ∙ times-append id ahead across x in
       omega arith)
-      (λ (y : (ahead2 ≡ ahead) × (max most 6 < length ahead + length across)).
+      (λ (y : (ahead2 ≡ ahead) × (looked_into most < length ahead + length across)).
       let d = ap (λ u. times_by id u x) y.0 in omega arith) e2 in
       let both : (x : ℕ) → times_by id (ahead ++ across) x ≤ 1 = λ x.
       let a = f.once x in
@@ -974,7 +974,7 @@ module _ {A : Type 0} (id : A → ℕ) (sound : A → Type 0) (work : A → ℕ)
             (All-take (IsKept false i cr deepest) most (kept ++ inside) all);
         ahead_are = ⊎_elim
             (λ (y : ahead2 ≡ ahead ++ across). subst (All (Across k)) (sym y) all2)
-            (λ (y : (ahead2 ≡ ahead) × (max most 6 < length ahead + length across)).
+            (λ (y : (ahead2 ≡ ahead) × (looked_into most < length ahead + length across)).
             subst (All (Across k)) (sym y.0) f.ahead_are) e2;
         gone_are = f.gone_are;
         once = λ x.
@@ -1005,7 +1005,7 @@ module _ {A : Type 0} (id : A → ℕ) (sound : A → Type 0) (work : A → ℕ)
             ∙ or_right (has_leaf (kept ++ inside) x) (has_leaf rest x) g))
             (first_or cell rest x h))
             (or_cases (has_leaf kept x) (has_leaf (cell ∷ rest) x) v)) inr (z x b)))
-            (λ (z : (most ≤ length kept) ⊎ IsMuchCrossing cr (max most 6) allowed j). inr (⊎_elim
+            (λ (z : (most ≤ length kept) ⊎ IsMuchCrossing cr (looked_into most) allowed j). inr (⊎_elim
             (λ (h : most ≤ length kept). inl (still_full most kept2 kept inside e h)) inr z))
             (f.filled t j l))
             (λ (y : most ≤ length kept2). inr (inl y)) (cut_or_full most kept2 kept inside e);
@@ -1020,11 +1020,11 @@ module _ {A : Type 0} (id : A → ℕ) (sound : A → Type 0) (work : A → ℕ)
             inl (ap (λ u. (has_leaf u x || any_covers id ahead2 x) || has_leaf rest x) y
             ∙ ap (λ u. (has_leaf (kept ++ inside) x || any_covers id u x) || has_leaf rest x) g ∙ m)) inr
             (split_leaf rest kept inside ahead across x fam v)) inr (z x b)))
-            (λ (z : (most ≤ length kept) ⊎ IsMuchCrossing cr (max most 6) allowed (k + 1)). inr (⊎_elim
+            (λ (z : (most ≤ length kept) ⊎ IsMuchCrossing cr (looked_into most) allowed (k + 1)). inr (⊎_elim
             (λ (h : most ≤ length kept). inl (still_full most kept2 kept inside e h)) inr z))
             (f.looked t))
             (λ (y : most ≤ length kept2). inr (inl y)) (cut_or_full most kept2 kept inside e))
-            (λ (g : (ahead2 ≡ ahead) × (max most 6 < length ahead + length across)). inr (inr (inl (
+            (λ (g : (ahead2 ≡ ahead) × (looked_into most < length ahead + length across)). inr (inr (inl (
               k,
               (omega arith),
               many_cross (ahead ++ across) all2 both (let n = length-append ahead across in let h = g.1 in omega
@@ -1113,8 +1113,8 @@ module _ {A : Type 0} (id : A → ℕ) (sound : A → Type 0) (work : A → ℕ)
               inl (λ x b. ⊎_elim
               (λ (v : ((has_leaf kept x || any_covers id old_ahead x) || has_leaf [] x) ≡ true). inl (there x v))
               (λ (v : o x). inr (inl v)) (z x b)))
-              (λ (z : (most ≤ length kept) ⊎ IsMuchCrossing cr (max most 6) allowed (k + 1)).
-              inr (subst (λ n. (most ≤ length kept) ⊎ IsMuchCrossing cr (max most 6) allowed n) at z)) (f.looked t))
+              (λ (z : (most ≤ length kept) ⊎ IsMuchCrossing cr (looked_into most) allowed (k + 1)).
+              inr (subst (λ n. (most ≤ length kept) ⊎ IsMuchCrossing cr (looked_into most) allowed n) at z)) (f.looked t))
               (cases_lt j (k + 1));
           looked = λ t. ⊎_elim
               (λ (z : (x : ℕ) → x < LEAVES →
@@ -1122,8 +1122,8 @@ module _ {A : Type 0} (id : A → ℕ) (sound : A → Type 0) (work : A → ℕ)
               inl (λ x b. ⊎_elim
               (λ (v : ((has_leaf kept x || any_covers id old_ahead x) || has_leaf [] x) ≡ true).
               inl (also x (there x v))) inr (z x b)))
-              (λ (z : (most ≤ length kept) ⊎ IsMuchCrossing cr (max most 6) allowed (k + 1)).
-              inr (⊎_elim inl (λ (g : IsMuchCrossing cr (max most 6) allowed (k + 1)).
+              (λ (z : (most ≤ length kept) ⊎ IsMuchCrossing cr (looked_into most) allowed (k + 1)).
+              inr (⊎_elim inl (λ (g : IsMuchCrossing cr (looked_into most) allowed (k + 1)).
               inr (much_later (omega arith) g)) z)) (f.looked t);
         }
 
@@ -1287,12 +1287,12 @@ module _ {A : Type 0} (id : A → ℕ) (sound : A → Type 0) (work : A → ℕ)
           filled = λ t j g. ⊎_elim
               (λ (y : kept2 ≡ kept). subst (λ u. ((x : ℕ) → x < LEAVES →
               ((has_leaf u x || has_leaf [] x) ≡ true) ⊎ IsLeft o cr j x) ⊎ (most ≤ length u)
-              ⊎ IsMuchCrossing cr (max most 6) allowed j) (sym y) (f.filled t j g))
+              ⊎ IsMuchCrossing cr (looked_into most) allowed j) (sym y) (f.filled t j g))
               (λ (y : most ≤ length kept2). inr (inl y)) whole_or_full;
           looked = λ t. ⊎_elim
               (λ (y : kept2 ≡ kept). subst (λ u. ((x : ℕ) → x < LEAVES →
               (((has_leaf u x || any_covers id ahead x) || has_leaf [] x) ≡ true) ⊎ o x) ⊎ (most ≤ length u)
-              ⊎ IsMuchCrossing cr (max most 6) allowed 1) (sym y) (f.looked t))
+              ⊎ IsMuchCrossing cr (looked_into most) allowed 1) (sym y) (f.looked t))
               (λ (y : most ≤ length kept2). inr (inl y)) whole_or_full;
         },
       )
@@ -1421,7 +1421,7 @@ module _ {A : Type 0} (id : A → ℕ) (sound : A → Type 0) (work : A → ℕ)
       ⊎ (most ≤ (((length kept2 + length ahead2) + 0) + length f.gone) + 2) ⊎ (allowed < sum_by work (spent ++ u))) →
       (whole ≡ false → ((x : ℕ) → x < LEAVES →
       (((has_leaf kept2 x || any_covers id ahead2 x) || has_leaf [] x) ≡ true) ⊎ o x) ⊎ (most ≤ length kept2)
-      ⊎ IsMuchCrossing cr (max most 6) allowed (k + 1)) →
+      ⊎ IsMuchCrossing cr (looked_into most) allowed (k + 1)) →
       Fronts whole allowed most deepest k (k + 1) (spent ++ u) [] kept2 ahead2
   left_with {whole} {allowed} {most} {deepest} {k} {spent} {kept} kept2 {ahead} ahead2 rest u e same each
       inn
@@ -1459,7 +1459,7 @@ module _ {A : Type 0} (id : A → ℕ) (sound : A → Type 0) (work : A → ℕ)
         near = near;
         filled = λ t j l. subst (λ z. ((x : ℕ) → x < LEAVES →
             ((has_leaf z x || has_leaf [] x) ≡ true) ⊎ IsLeft o cr j x) ⊎ (most ≤ length z)
-            ⊎ IsMuchCrossing cr (max most 6) allowed j) (sym (inn t)) (f.filled t j l);
+            ⊎ IsMuchCrossing cr (looked_into most) allowed j) (sym (inn t)) (f.filled t j l);
         looked = looked;
       }
 
@@ -1521,10 +1521,10 @@ module _ {A : Type 0} (id : A → ℕ) (sound : A → Type 0) (work : A → ℕ)
                 (λ (z : allowed < sum_by work spent). inr (omega arith)) y)) (f.near t))
                 (λ t. subst (λ z. ((x : ℕ) → x < LEAVES →
                 (((has_leaf z x || any_covers id ahead2 x) || has_leaf [] x) ≡ true) ⊎ o x) ⊎ (most ≤ length z)
-                ⊎ IsMuchCrossing cr (max most 6) allowed (k + 1)) (sym (inn t))
+                ⊎ IsMuchCrossing cr (looked_into most) allowed (k + 1)) (sym (inn t))
                 (subst (λ z. ((x : ℕ) → x < LEAVES →
                 (((has_leaf kept x || any_covers id z x) || has_leaf [] x) ≡ true) ⊎ o x) ⊎ (most ≤ length kept)
-                ⊎ IsMuchCrossing cr (max most 6) allowed (k + 1)) same_ahead (f.looked t))),
+                ⊎ IsMuchCrossing cr (looked_into most) allowed (k + 1)) same_ahead (f.looked t))),
           )
       by_rest (q ∷ others) er total stop =
           let u = ahead2 ++ q ∷ [] in
@@ -1627,7 +1627,7 @@ module _ {A : Type 0} (id : A → ℕ) (sound : A → Type 0) (work : A → ℕ)
             inl (leaves x ∙ ap (λ z. has_leaf z x) same ∙ ⊎_elim (λ (g : has_leaf kept x ≡ true). g)
             (λ (g : has_leaf [] x ≡ true). absurd (both_ways false refl g))
             (or_cases (has_leaf kept x) (has_leaf [] x) h))) inr (y x b)))
-            (λ (y : (most ≤ length kept) ⊎ IsMuchCrossing cr (max most 6) allowed j). ⊎_elim
+            (λ (y : (most ≤ length kept) ⊎ IsMuchCrossing cr (looked_into most) allowed j). ⊎_elim
             (λ (g : most ≤ length kept). absurd (omega arith)) inr y) (f.filled t j (omega arith))))
             inl (cases_lt (length v) most);
       }

@@ -1,6 +1,6 @@
 -- How near a covering of few cells comes to its region.
 use Rattle.std.specs.Prelude.{◌≡◌, ◌≢◌, ℕ, ◌+◌, ◌*◌, ◌^◌, ◌<◌, ◌≤◌, ◌⊎◌, Bool, List, All, AllPairs, Contains}
-use Rattle.std.specs.Prelude.{length, max}
+use Rattle.std.specs.Prelude.{length}
 use Rattle.std.specs.List.{sum_by}
 use Rattle.s2cell.specs.Cell.{IsCell, IsInside, covers, level_of}
 use Rattle.s2list.specs.Union.{LiesIn, ShareNone, ShareSome, has_leaf}
@@ -59,10 +59,14 @@ abbrev pub IsMuchAbove : (ℕ → Bool) → (ℕ → Bool) → (ℕ → ℕ) →
 IsMuchAbove outer inner work many allowed k = ((j : ℕ) × (j < k) × CrossMore outer inner j many)
     ⊎ TakeMore (λ c. Crosses outer inner c × (level_of c < k)) work allowed
 
+-- how many cells that cross an inner covering of at most `most` cells looks into at each level
+abbrev pub looked_into : ℕ → ℕ
+looked_into most = most + 32
+
 -- the inner covering `u` of at most `most` cells comes near: it is made of `most`, or has each cell of each level down
 -- to `deepest` that lies inside, unless too much crosses the region above that level
 pub record IsNearInner (outer inner : ℕ → Bool) (work : ℕ → ℕ) (size deepest most : ℕ) (u : List ℕ) : Type 0 where
   pub cells : List ℕ
   pub made : IsMadeOf inner cells u
   pub near : (most ≤ length cells) ⊎ ((k : ℕ) → k ≤ deepest → HasAllOf (inner_set inner k) u
-      ⊎ IsMuchAbove outer inner work (max most 6) (work_allowed size most) k)
+      ⊎ IsMuchAbove outer inner work (looked_into most) (work_allowed size most) k)

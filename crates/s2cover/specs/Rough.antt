@@ -1,13 +1,13 @@
 -- Regions that may say of a cell that it crosses though it lies outside or inside, and how near a covering of few cells
 -- comes to one.
 use Rattle.std.specs.Prelude.{◌≡◌, ◌≢◌, ℕ, ◌+◌, ◌<◌, ◌≤◌, ◌⊎◌, List, All, AllPairs, Contains, true, ◌++◌}
-use Rattle.std.specs.Prelude.{length, map, max}
+use Rattle.std.specs.Prelude.{length, map}
 use Rattle.std.specs.List.{sum_by}
 use Rattle.s2cell.specs.Cell.{IsCell, IsInside, covers, level_of}
 use Rattle.s2cell.specs.declared.TheConstants.{LEAVES}
 use Rattle.s2list.specs.Union.{IsNormalForm, ShareNone, has_leaf}
 use Rattle.s2cover.specs.Coverings.{HasLeavesOf}
-use Rattle.s2cover.specs.Near.{TakeMore, work_allowed}
+use Rattle.s2cover.specs.Near.{TakeMore, looked_into, work_allowed}
 
 -- each leaf of the cell `c` is one of `P`
 abbrev pub EachLeaf : (ℕ → Type 0) → ℕ → Type 0
@@ -79,4 +79,4 @@ pub record ComesNearInner (outside : ℕ → Type 0) (crosses : ℕ → ℕ → 
   pub around : All (AreCrossing crosses) cells
   pub near : (most ≤ length cells) ⊎ ((k : ℕ) → k ≤ deepest →
       ((x : ℕ) → x < LEAVES → (has_leaf u x ≡ true) ⊎ IsLeft outside crosses k x)
-      ⊎ IsMuchCrossing crosses (max most 6) (work_allowed size most) k)
+      ⊎ IsMuchCrossing crosses (looked_into most) (work_allowed size most) k)

@@ -101,13 +101,13 @@ pub fn outer_up_to<R: Quartered>(
 /// down from the faces: its leaves are all in `inner`.
 ///
 /// Goes down level by level, and keeps the cells inside until they are as many as it may have, the largest first. Of
-/// the cells that cross the region it looks into no more than that at each level, or 6, those first with the fewest
+/// the cells that cross the region it looks into no more than that and 32 at each level, those first with the fewest
 /// children outside; into none once it has as many cells as it may have, or once their sizes would add up to more than
 /// those of `outer_up_to` may. Fails only if there is no memory. S2: `GetInteriorCovering` with `max_cells` and
 /// `max_level`.
 ///
 /// It comes near: it is made of `most` cells, or has each cell of a level down to `deepest` that lies inside, if no
-/// level above has more cells that cross the region than `most`, or 6, and these meet the bound of the sizes.
+/// level above has more cells that cross the region than `most + 32`, and these meet the bound of the sizes.
 pub fn inner_up_to<R: Quartered>(
     alloc: Global,
     region: &R,

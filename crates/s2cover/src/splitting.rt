@@ -20,8 +20,8 @@ use s2cell::{CellId, GREATEST_LEVEL};
 use s2union::CellUnion;
 use std::alloc::{AllocError, Global};
 
-/// How many cells an outer covering may have whatever it is allowed: one for each face.
-const FACES: usize = 6;
+/// How many cells that cross the region an inner covering looks into at each level besides as many as it may have.
+const LOOKED: usize = 32;
 
 /// An outer covering of at most `most` cells, or 6 if that is more, none of them deeper than the level `deepest`, of a
 /// region that is walked down from the faces: it has each leaf but those that lie outside.
@@ -58,13 +58,13 @@ pub fn rough_outer_up_to<R: RoughRegion>(
 /// down from the faces: all its leaves lie inside.
 ///
 /// Goes down level by level, and keeps the cells inside until they are as many as it may have, the largest first. Of
-/// the cells that cross the region it looks into no more than that at each level, or 6, those first with the fewest
+/// the cells that cross the region it looks into no more than that and 32 at each level, those first with the fewest
 /// children outside; into none once it has as many cells as it may have, or once their sizes would add up to more than
 /// those of `rough_outer_up_to` may. Fails only if there is no memory. S2: `GetInteriorCovering` with `max_cells` and
 /// `max_level`.
 ///
 /// It comes near: it is made of `most` cells, or has each leaf but those that lie outside or in a cell that crosses, of
-/// a level down to `deepest`, if no level above has more cells that cross the region than `most`, or 6, and these meet
+/// a level down to `deepest`, if no level above has more cells that cross the region than `most + 32`, and these meet
 /// the bound of the sizes.
 pub fn rough_inner_up_to<R: RoughRegion>(
     alloc: Global,
@@ -437,7 +437,7 @@ fn settle_inner<R: RoughRegion>(
     } = family;
     join(kept, &mut inside)?;
     kept.truncate(most);
-    if ahead.len() + across.len() <= most.max(FACES) {
+    if ahead.len() + across.len() <= most + LOOKED {
         join(ahead, &mut across)
     } else {
         Ok(())

@@ -51,7 +51,7 @@ impl Polygon {
     /// cells, which no error tells.
     ///
     /// It comes near: it is made of `most` cells, or has each cell of a level down to `deepest` that has inner leaves
-    /// alone, if above that level edges touch no more cells of one level than `most`, or 6, and have no more pairs with
+    /// alone, if above that level edges touch no more cells of one level than `most + 32`, and have no more pairs with
     /// these than that. It is then normalized, so it may have fewer cells.
     ///
     /// S2: `GetInteriorCovering` of an `S2Polygon` with `max_cells` and `max_level`.

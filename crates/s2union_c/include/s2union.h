@@ -950,7 +950,7 @@ int32_t s2u_inner_in(const uint64_t* ids, size_t n, const s2u_rect* bounds, uint
  * follows the edges and the cells that they touch, down to the level, and few edges take some seconds at most: an outer
  * covering of one level ends soon after `most` cells. Edges may touch at most 4,000,000 cells of the level where cells
  * that are touched merge, with a margin wider than a cell, and for an inner covering, which has none of them. Coverings
- * of few cells look into no more than `cells`, or 6, at each level.
+ * of few cells look into no more than `cells` + 32 at each level.
  * @{ */
 
 /** [pure] The direction of a place in degrees, which is the same on each machine. Each coordinate is at most 0.501
@@ -1046,7 +1046,7 @@ int32_t s2u_polygon_outer_up_to(const s2u_direction* corners, size_t n, const si
  * There are at most `cells` cells, none deeper than `deepest`. Then those of levels below `least` are cut; as
  * s2u_polygon_outer_up_to, whose bound of work holds here too: cells that aren't split then are left out. Up to there
  * either `cells` were found, before four of one parent are made one, or each cell of a level that has inner leaves
- * alone is there, if at no level above edges touch more than `cells` cells, or 6.
+ * alone is there, if at no level above edges touch more than `cells` + 32 cells.
  * @param corners,n the corners, ring after ring, and how many they are; the first of a ring follows its last
  * @param ends,lists how many corners there are up to the end of each ring, and how many rings
  * @param outside a leaf that lies outside the polygon

@@ -6,6 +6,7 @@ use Rattle.std.specs.List.{list_any, sum_by}
 use Rattle.s2cell.specs.Cell.{IsCell, level_of, covers}
 use Rattle.s2cell.specs.declared.TheConstants.{LEAVES}
 use Rattle.s2list.specs.Union.{ShareNone, has_leaf}
+use Rattle.s2cover.specs.Near.{looked_into}
 use Rattle.s2cover.specs.Rough.{AreCrossing, EachLeaf, IsCrossing, IsLeft, IsMuchCrossing}
 
 -- whether the cell of some item of `items` covers the leaf `x`
@@ -68,7 +69,7 @@ pub record IsKept (whole : Bool) (i : ℕ → Type 0) (cr : ℕ → ℕ → Type
 pub record Sizes (whole : Bool) (most waiting kept ahead : ℕ) : Type 0 where
   pub few : whole ≡ true → (kept + ahead) + waiting ≤ max most 6
   pub less : whole ≡ false → kept ≤ most
-  pub small : (kept ≤ max most 6) × (ahead ≤ max most 6) × (waiting ≤ max most 6)
+  pub small : (kept ≤ max most 6) × (ahead ≤ looked_into most) × (waiting ≤ looked_into most)
 
 -- the cell `c` is of the level `deepest` or lies inside
 abbrev pub IsFine : (ℕ → Type 0) → ℕ → ℕ → Type 0
@@ -103,7 +104,7 @@ pub record Front {A : Type 0} (id : A → ℕ) (sound : A → Type 0) (work : A 
       ⊎ (most ≤ (((length kept + length ahead) + length rest) + length gone) + 2) ⊎ (allowed < sum_by work spent)
   pub filled : whole ≡ false → (j : ℕ) → j ≤ k →
       ((x : ℕ) → x < LEAVES → ((has_leaf kept x || has_leaf rest x) ≡ true) ⊎ IsLeft o cr j x)
-      ⊎ (most ≤ length kept) ⊎ IsMuchCrossing cr (max most 6) allowed j
+      ⊎ (most ≤ length kept) ⊎ IsMuchCrossing cr (looked_into most) allowed j
   pub looked : whole ≡ false →
       ((x : ℕ) → x < LEAVES → (((has_leaf kept x || any_covers id ahead x) || has_leaf rest x) ≡ true) ⊎ o x)
-      ⊎ (most ≤ length kept) ⊎ IsMuchCrossing cr (max most 6) allowed (k + 1)
+      ⊎ (most ≤ length kept) ⊎ IsMuchCrossing cr (looked_into most) allowed (k + 1)
