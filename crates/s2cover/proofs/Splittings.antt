@@ -255,7 +255,7 @@ module _ {F A : Type 0} (Few : F → Type 0) where
       : Type 0 where
     pub few : All Few families
     pub few_others : All Few others
-    pub none : 4 ≤ limit → others ≡ []
+    pub none : 20 ≤ limit → others ≡ []
     pub sizes : Sizes whole most (length families + length others) (length kept) (length ahead)
 
   pub settled_none : {whole : Bool} {most limit : ℕ} {old others : List F} {kept : List ℕ} {ahead : List A} →
@@ -293,7 +293,7 @@ module _ {F A : Type 0} (Few : F → Type 0) where
 
   pub settled_other : {whole : Bool} {most limit : ℕ} {families : List F} (families2 : List F) {others : List F}
       (others2 : List F) {kept : List ℕ} {ahead : List A} (f : F) → families ≡ families2 ++ f ∷ [] →
-      others2 ≡ others ++ f ∷ [] → (4 ≤ limit → ⊥) → Settled whole most limit families others kept ahead →
+      others2 ≡ others ++ f ∷ [] → (20 ≤ limit → ⊥) → Settled whole most limit families others kept ahead →
       Settled whole most limit families2 others2 kept ahead
   settled_other {whole} {most} {families = families} families2 {others} others2 {kept} {ahead} f e e2 turn s =
       let len = ap length e ∙ length-append families2 (f ∷ []) in
@@ -1041,7 +1041,7 @@ module _ {A : Type 0} (id : A → ℕ) (sound : A → Type 0) (work : A → ℕ)
     pub record Splits (whole : Bool) (most limit : ℕ) (old_kept : List ℕ) (old_ahead : List A) (families : List F)
         (kept : List ℕ) (ahead : List A) : Type 0 where
       pub few : All Few families
-      pub none : 4 < limit → families ≡ []
+      pub none : 20 < limit → families ≡ []
       pub sizes : Sizes whole most (length families) (length kept) (length ahead)
       pub families_are : (k : ℕ) →
           All (Across k) old_ahead → All (Fam (k + 1)) families
@@ -1149,7 +1149,7 @@ module _ {A : Type 0} (id : A → ℕ) (sound : A → Type 0) (work : A → ℕ)
 
     pub splits_next : {whole : Bool} {most limit : ℕ} {old_kept : List ℕ} {old_ahead : List A} {families : List F}
         (families2 : List F) {kept : List ℕ} (kept2 : List ℕ) {ahead : List A} (ahead2 : List A) →
-        (4 ≤ limit → families2 ≡ []) → All Few families2 →
+        (20 ≤ limit → families2 ≡ []) → All Few families2 →
         Sizes whole most (length families2) (length kept2) (length ahead2) →
         ((k : ℕ) → All (Fam k) families → All (Fam k) families2) →
         ((allowed deepest k : ℕ) (spent : List A) → All (Fam k) families →
@@ -1167,7 +1167,7 @@ module _ {A : Type 0} (id : A → ℕ) (sound : A → Type 0) (work : A → ℕ)
     }
 
     pub splits_done : {whole : Bool} {most limit : ℕ} {old_kept : List ℕ} {old_ahead : List A} {families : List F}
-        {kept : List ℕ} {ahead : List A} → limit ≡ 5 →
+        {kept : List ℕ} {ahead : List A} → limit ≡ 21 →
         Splits whole most limit old_kept old_ahead families kept ahead →
         (allowed deepest k : ℕ) (spent : List A) → k + 1 ≤ deepest →
         Fronts whole allowed most deepest k (k + 1) spent [] old_kept old_ahead →

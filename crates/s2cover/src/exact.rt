@@ -71,10 +71,10 @@ impl<'a, R: Quartered> RoughRegion for Exact<'a, R> {
 /// region that is walked down from the faces: it has each leaf of `outer`, and each of its cells has one.
 ///
 /// Goes down level by level. A cell that crosses the region is split if its children that don't lie outside fit, those
-/// first that have the fewest; else it is kept whole. Each level looks at no more than four cells for each that the
-/// covering may have. The sizes of the quadrants that are split add up to 2^20 + 32 (`size` of the region + `most`) or
-/// less; the others are kept whole then, which no error tells. Fails only if there is no memory. S2: `GetCovering` with
-/// `max_cells` and `max_level`.
+/// first that have the fewest, and of these those first that have the fewest inside; else it is kept whole. Each level
+/// looks at no more than four cells for each that the covering may have. The sizes of the quadrants that are split add
+/// up to 2^20 + 32 (`size` of the region + `most`) or less; the others are kept whole then, which no error tells. Fails
+/// only if there is no memory. S2: `GetCovering` with `max_cells` and `max_level`.
 ///
 /// It comes near: each cell that it is made of is of the level `deepest` or lies inside, unless there are `most - 2` of
 /// them or the bound of the sizes is met. The result is normalized, so it may have fewer cells.

@@ -1,5 +1,6 @@
 //! Coverings of few cells, for any region that is walked down from the faces: level by level, each cell
-//! that crosses the region is split if its children fit, those first that have the fewest.
+//! that crosses the region is split if its children fit, those first that have the fewest, and of these those first that
+//! have the fewest inside.
 ghost use Rattle.std.specs.Prelude.{◌≡◌, ◌+◌, ◌*◌, ◌<◌, ◌≤◌, ◌∷◌, ◌⊎◌, [], ℕ, Bool, List, true, false, All, IfOk};
 ghost use Rattle.std.specs.Prelude.{Contains, IsTrue, drop, length, map, max, take};
 ghost use Rattle.std.specs.List.{sum_by};
@@ -23,14 +24,17 @@ use std::alloc::{AllocError, Global};
 /// How many cells that cross the region an inner covering looks into at each level besides as many as it may have.
 const LOOKED: usize = 32;
 
+/// The last turn of a family: of four children inside.
+const LAST_TURN: usize = 20;
+
 /// An outer covering of at most `most` cells, or 6 if that is more, none of them deeper than the level `deepest`, of a
 /// region that is walked down from the faces: it has each leaf but those that lie outside.
 ///
 /// Goes down level by level. A cell that crosses the region is split if its children that don't lie outside fit, those
-/// first that have the fewest; else it is kept whole. Each level looks at no more than four cells for each that the
-/// covering may have. The sizes of the cells that are split (`size_at`) add up to 2^20 + 32 (`size` of the region +
-/// `most`) or less; the others are kept whole then, which no error tells. Fails only if there is no memory. S2:
-/// `GetCovering` with `max_cells` and `max_level`.
+/// first that have the fewest, and of these those first that have the fewest inside; else it is kept whole. Each level
+/// looks at no more than four cells for each that the covering may have. The sizes of the cells that are split
+/// (`size_at`) add up to 2^20 + 32 (`size` of the region + `most`) or less; the others are kept whole then, which no
+/// error tells. Fails only if there is no memory. S2: `GetCovering` with `max_cells` and `max_level`.
 ///
 /// It comes near: each cell that it is made of is of the level `deepest` or lies inside, unless there are `most - 2` of
 /// them or the bound of the sizes is met. Cells that cross but whose leaves lie outside count too. The result is
@@ -233,7 +237,7 @@ fn split<R: RoughRegion>(
         (is_outer kind) allowed most deepest (k + 1) (k + 1) spent [] kept.new.items ahead.new.items) }
 {
     let mut families = families_of(alloc, region, ahead)?;
-    for limit in 1..5usize {
+    for limit in 1..LAST_TURN + 1 {
         families = settle_some::<R>(alloc, families, kind, limit, most, kept, ahead)?;
     }
     Ok(())
@@ -278,7 +282,7 @@ fn keep_whole<R: RoughRegion>(
     Ok(())
 }
 
-/// Settles the families whose turn is at most `limit`, and answers the others.
+/// Settles the families whose turn is at most `limit`, and answers the others: if none is settled, all as they are.
 fn settle_some<R: RoughRegion>(
     alloc: Global,
     mut families: Vec<Family<R::At>>,
@@ -292,7 +296,7 @@ fn settle_some<R: RoughRegion>(
     requires most { most ≤ MOST_COVERING }
     requires sizes { Sizes (is_outer kind) most (length families.items) (length kept.old.items)
         (length ahead.old.items) }
-    ensures none { IfOk result (λ others. 4 ≤ limit → others.items ≡ []) }
+    ensures none { IfOk result (λ others. 20 ≤ limit → others.items ≡ []) }
     ensures few { IfOk result (λ others. All (λ f. length f.inside.items + length f.across.items ≤ 4) others.items) }
     ensures sizes { IfOk result (λ others.
         Sizes (is_outer kind) most (length others.items) (length kept.new.items) (length ahead.new.items)) }
@@ -309,6 +313,9 @@ fn settle_some<R: RoughRegion>(
         → Front R.id (R.sound r) R.work (R.outside r) (R.inside r) (R.crosses r) (is_outer kind) allowed
         most deepest k k spent (map (λ f. f.cell) others.items) kept.new.items ahead.new.items) }
 {
+    if limit < LAST_TURN && !is_any_due(kind, limit, &families) {
+        return Ok(families);
+    }
     let mut others = Vec::new(alloc);
     while let Some(family) = families.pop() {
         if turn_of(kind, &family) <= limit {
@@ -321,15 +328,28 @@ fn settle_some<R: RoughRegion>(
     Ok(others)
 }
 
-/// The turn of a family: in an outer covering those with the fewest children come first, in an inner one those with the
-/// most.
+/// Whether it is the turn of some family.
+fn is_any_due<Q>(kind: Kind, limit: usize, families: &[Family<Q>]) -> bool
+    requires { All (λ f. length f.inside.items + length f.across.items ≤ 4) families.now }
+{
+    for n in 0..families.len() {
+        if turn_of(kind, &families[n]) <= limit {
+            return true;
+        }
+    }
+    false
+}
+
+/// The turn of a family: in an outer covering those with the fewest children come first, and of these those with the
+/// fewest inside; in an inner one those with the most children.
 fn turn_of<Q>(kind: Kind, family: &Family<Q>) -> usize
     requires { length family.now.inside.items + length family.now.across.items ≤ 4 }
-    ensures { result ≤ 4 }
+    ensures { result ≤ 20 }
 {
-    let count = family.inside.len() + family.across.len();
+    let inside = family.inside.len();
+    let count = inside + family.across.len();
     match kind {
-        Kind::Outer => count,
+        Kind::Outer => 4 * count + inside,
         Kind::Inner => 4 - count,
     }
 }

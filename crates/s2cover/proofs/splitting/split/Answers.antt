@@ -38,15 +38,15 @@ loop-limit-preserved g c =
 
 pub returns-clause-sizes : goal.returns-clause-sizes
 returns-clause-sizes g c =
-    let five : 4 < c.loop-limit.limit = (let t = c.loop-limit-test.false in omega arith) in
-    let none = ap length (c.loop-limit.invariant.none five) in
+    let last : 20 < c.loop-limit.limit = (let t = c.loop-limit-test.false in omega arith) in
+    let none = ap length (c.loop-limit.invariant.none last) in
     subst (λ n. Sizes (is_outer c.args.kind) c.args.most n (length c.loop-limit.kept.items)
     (length c.loop-limit.ahead.items)) none c.loop-limit.invariant.sizes
 
 pub returns-clause-front : goal.returns-clause-front
 returns-clause-front g c =
     let r = c.args.region.now in
-    let five : c.loop-limit.limit ≡ 5 = (let t = c.loop-limit-test.false in let e = c.loop-limit.auto.limit-end in
+    let last : c.loop-limit.limit ≡ 21 = (let t = c.loop-limit-test.false in let e = c.loop-limit.auto.limit-end in
     omega arith) in
     splits_done g.R.RoughRegion.id (g.R.RoughRegion.sound r) g.R.RoughRegion.work
     (g.R.RoughRegion.outside r) (g.R.RoughRegion.inside r) (g.R.RoughRegion.crosses r)
@@ -54,4 +54,4 @@ returns-clause-front g c =
     (λ k f. IsFamily g.R.RoughRegion.id (g.R.RoughRegion.sound r) g.R.RoughRegion.work
     (g.R.RoughRegion.outside r) (g.R.RoughRegion.inside r) (g.R.RoughRegion.crosses r) k f.cell
     f.inside.items f.across.items)
-    five c.loop-limit.invariant
+    last c.loop-limit.invariant
