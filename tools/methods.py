@@ -7,6 +7,8 @@ It writes each SOURCE to FOLDER with what is made in the place of these lines, w
                                  out what stands there by hand
   // functions: all              in C++ what is asked of lists, in no class
   // examples: all others        in examples.cc those of C++ that don't stand there by hand
+  % usage: all                   in the help page of R each function; `aliases` and `values` are its names and what each
+                                 returns, `arguments` what stands there by hand of none
   // comment: NAME               the comment of the call, whose method stands below it by hand; in Python
                                  `# comment: NAME`, for a docstring
   // questions: all but NAME, .. what the tests ask of each method, for which a question is in tests/model/vectors.py
@@ -15,7 +17,8 @@ It writes each SOURCE to FOLDER with what is made in the place of these lines, w
 
 SOURCE may also be a file that is made whole: bindings/java/calls.h, the same numbers for s2union.c and what makes each
 call; bindings/rust/src/calls.rs, each call as a safe function over slices, with the statuses and the limits; and of
-bindings/python/s2union calls.h, each call as a function of Python in C, _library.pyi, their types, and _rooms.py.
+bindings/python/s2union calls.h, each call as a function of Python in C, _library.pyi, their types, and _rooms.py; and
+bindings/r/src/calls.h, the functions in C that R asks.
 
 It takes a call from the exports and s2union.h (declared.py) and from its row of methods.toml. The form of a language is
 that of in_LANGUAGE.py.
@@ -32,6 +35,7 @@ import in_go
 import in_java
 import in_js
 import in_python
+import in_r
 import in_rust
 import in_types
 import java_calls
@@ -43,9 +47,9 @@ TOP = Path(__file__).resolve().parents[1]
 TABLE = "tools/methods.toml"
 LANGUAGES = {".java": in_java.Java(), ".ts": in_types.TypeScript(), ".mjs": in_types.TypeScript(),
              ".py": in_python.Python(), ".rs": in_rust.Rust(), ".go": in_go.Go(), ".hpp": in_cpp.Cpp(),
-             ".cc": in_cpp.Cpp(), ".js": in_js.JavaScript()}
-MARK = re.compile(r"^[ \t]*(?://|#) (methods|functions|comment|examples|questions|numbers): ((?:.*,\n *// +)*.*)\n",
-                  re.M)
+             ".cc": in_cpp.Cpp(), ".js": in_js.JavaScript(), ".R": in_r.R(), ".Rd": in_r.Help()}
+MARK = re.compile(r"^[ \t]*(?://|#|%) (methods|functions|comment|examples|questions|numbers|aliases|usage|arguments|"
+                  r"values): ((?:.*,\n *// +)*.*)\n", re.M)
 UNION = "a new union"
 
 
@@ -195,10 +199,11 @@ def methods(top=TOP):
 
 
 MADE_WHOLE = {"java/calls.h": java_calls.in_c, "src/calls.rs": rust_calls.whole, "s2union/calls.h": python_calls.in_c,
-              "s2union/_library.pyi": python_calls.types, "s2union/_rooms.py": python_calls.rooms}
+              "s2union/_library.pyi": python_calls.types, "s2union/_rooms.py": python_calls.rooms,
+              "src/calls.h": in_r.in_c}
 NUMBERS = {".java": java_calls.in_java, ".hpp": in_cpp.rooms}
 FORMS = {"methods": "whole", "functions": "function", "comment": "comment", "examples": "examples",
-         "questions": "question"}
+         "questions": "question", "aliases": "aliases", "usage": "usage", "values": "values"}
 CLASS = re.compile(r"^(?:(?:export |public |final )*class|impl(?:<.*?>)?) (\w+)", re.M)
 
 
@@ -248,6 +253,8 @@ def filled(path, top=TOP):
         if mark[1] == "numbers":
             own = java_calls.faults_in_java if mark[2] == "of the faults" else NUMBERS[path.suffix]
             return "\n".join([*own(top), ""])
+        if mark[1] == "arguments":
+            return "\n".join([*language.arguments(found, of(mark), text), ""])
         form = getattr(language, FORMS[mark[1]])
         between = language.BETWEEN if mark[1] == "methods" else "\n"
         texts = ("\n".join(form(found, it, text[:mark.start()])) for it in of(mark))
@@ -279,6 +286,12 @@ def of_python(top=TOP):
     """The sources of the module for Python that have something made in them, or are made whole."""
     own = top / "bindings" / "python" / "s2union"
     return [own / name for name in ("__init__.py", "_library.pyi", "_rooms.py", "calls.h")]
+
+
+def of_r(top=TOP):
+    """The sources of the package for R that have something made in them, or are made whole."""
+    own = top / "bindings" / "r"
+    return [own / name for name in ("R/s2union.R", "man/s2union.Rd", "src/calls.h")]
 
 
 def write(folder, sources):

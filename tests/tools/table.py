@@ -75,6 +75,8 @@ MISTAKES = [
     Mistake("another version in the header", HEADER, "#define S2U_VERSION_MAJOR ", "#define S2U_VERSION_MAJOR 9"),
     Mistake("a call that Java lacks", "bindings/java/s2union/CellUnion.java", "  // methods: all others\n", "",
             "Java: s2u_complement: it isn't in bindings/java/s2union.c or"),
+    Mistake("a call that R lacks", "bindings/r/R/s2union.R", "# methods: all others\n", "",
+            "R: s2u_complement: it isn't in bindings/r/R/s2union.R"),
     Mistake("a row of methods for no call", "tools/methods.toml", "[call.is_union]", "[call.is_list]",
             "tools/methods.toml: is_list: no such export"),
     Mistake("a method that has no row", "tools/methods.toml", "[call.is_union]", "[call.is_list]",

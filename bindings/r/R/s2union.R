@@ -1,21 +1,5 @@
 # man/s2union.Rd says what these take and return.
-s2u_normalise <- function(x) new_s2_cell(.Call(C_normalise, cells_of(x)))
-s2u_union <- function(x, y) new_s2_cell(.Call(C_union, cells_of(x), cells_of(y)))
-s2u_intersection <- function(x, y) new_s2_cell(.Call(C_intersection, cells_of(x), cells_of(y)))
-s2u_difference <- function(x, y) new_s2_cell(.Call(C_difference, cells_of(x), cells_of(y)))
-s2u_symmetric_difference <- function(x, y) new_s2_cell(.Call(C_symmetric_difference, cells_of(x), cells_of(y)))
-s2u_contains <- function(x, y) .Call(C_contains, cells_of(x), cells_of(y))
-s2u_intersects <- function(x, y) .Call(C_intersects, cells_of(x), cells_of(y))
-s2u_contains_cells <- function(x, cells) .Call(C_contains_cells, cells_of(x), cells_of(cells))
-s2u_intersects_cells <- function(x, cells) .Call(C_intersects_cells, cells_of(x), cells_of(cells))
-s2u_tokens <- function(x) .Call(C_tokens, cells_of(x))
-s2u_from_tokens <- function(text) {
-  if (!is.character(text)) stop("not a text")
-  new_s2_cell(.Call(C_from_tokens, paste(text, collapse = " ")))
-}
-s2u_encode <- function(x) .Call(C_encode, cells_of(x))
-s2u_decode <- function(bytes) new_s2_cell(.Call(C_decode, bytes_of(bytes)))
-s2u_file_contains_cells <- function(bytes, cells) .Call(C_file_contains_cells, bytes_of(bytes), cells_of(cells))
+# methods: all others
 
 s2u_leaf <- function(longitude, latitude) {
   places <- places_of(longitude, latitude)
@@ -40,8 +24,9 @@ covered <- function(shape, which, max_cells = if (is.null(within)) 200 else 1e6,
     rings <- rings_of(shape)
     .Call(C_cover_rings, rings[[1]], rings[[2]], rings[[3]], numbers, which)
   }
-  list(outer = new_s2_cell(made[[1]]), inner = new_s2_cell(made[[2]]))
+  both_of(made)
 }
+both_of <- function(made) list(outer = new_s2_cell(made[[1]]), inner = new_s2_cell(made[[2]]))
 
 s2u_zones <- function(shapes) {
   made <- .Call(C_zones)
@@ -62,7 +47,7 @@ s2u_pairs <- function(zones, longitude, latitude, borders = FALSE) {
   asked <- as.numeric(which(!is.na(places[[1]]) & !is.na(places[[2]])))
   made <- tryCatch(.Call(C_pairs, zones, places[[1]][asked], places[[2]][asked], isTRUE(borders)),
                    S2U_COVER_NUMBER = function(error)
-                     refuse(c(class(error)[1], sub(" at [0-9]+$", "", error$message)), asked[error$place], NA))
+                     refuse(c(class(error)[1], sub(" at [0-9]+$", "", error$message)), c(asked[error$place], NA)))
   data.frame(place = asked[made[[1]]], zone = made[[2]])
 }
 
@@ -86,10 +71,8 @@ number_of <- function(x) { # NA goes as NaN: in C it stands for what is not give
 }
 degrees_of <- function(x) if (is.numeric(x) || all(is.na(x))) as.double(x) else stop("not degrees")
 
-s2u_neighbors <- function(cell, level = NULL) {
-  if (length(cells_of(cell)) != 1) stop("not one cell")
-  new_s2_cell(.Call(C_neighbors, cells_of(cell), if (is.null(level)) NA_real_ else number_of(level)))
-}
+s2u_neighbors <- function(cell, level = NULL)
+  new_s2_cell(.Call(C_neighbors, cell_of(cell), if (is.null(level)) NA_real_ else number_of(level)))
 s2u_expanded <- function(x, level) new_s2_cell(.Call(C_expanded, cells_of(x), number_of(level)))
 s2u_bounds <- function(x) {
   sides <- .Call(C_bounds, cells_of(x))
@@ -99,6 +82,12 @@ s2u_bounds <- function(x) {
 s2u_area <- function(x) .Call(C_area, cells_of(x))
 
 bytes_of <- function(bytes) if (is.raw(bytes)) bytes else stop("not a raw vector")
+text_of <- function(text) if (is.character(text)) charToRaw(paste(text, collapse = " ")) else stop("not a text")
+utf8_of <- function(text) {
+  if (is.character(text)) charToRaw(enc2utf8(paste(text, collapse = "\n")))
+  else if (is.raw(text)) text else stop("not a text, nor a raw vector")
+}
+cell_of <- function(cell) if (length(cells_of(cell)) == 1) cells_of(cell) else stop("not one cell")
 
 # The vector of cells that an argument is.
 cells_of <- function(x) {
@@ -107,10 +96,15 @@ cells_of <- function(x) {
   x
 }
 
-# The C calls it: words are the name of a status and its text.
-refuse <- function(words, place, ring) {
-  at <- if (is.na(place)) "" else if (is.na(ring)) sprintf(" at %.0f", place) else
-    sprintf(": ring %.0f, position %.0f", ring, place)
-  stop(structure(class = c(words[1], "s2union_error", "error", "condition"),
-                 list(message = paste0(words[2], at), call = NULL, place = place, ring = ring)))
+# The C calls these: words are the name of an error and its text, and the numbers count from 1.
+refuse <- function(words, at) { # the place and the ring, or NA
+  where <- if (is.na(at[1])) "" else if (is.na(at[2])) sprintf(" at %.0f", at[1]) else
+    sprintf(": ring %.0f, position %.0f", at[2], at[1])
+  end_by(words[1], paste0(words[2], where), place = at[1], ring = at[2])
 }
+refuse_shape <- function(words, at) { # the byte of WKB, or NA, the part, the ring and the place
+  where <- sprintf(": part %.0f, ring %.0f, position %.0f", at[2], at[3], at[4])
+  end_by(c(words[1], "S2U_SHAPE"), paste0(words[2], where), byte = at[1], part = at[2], ring = at[3], place = at[4])
+}
+end_by <- function(names, message, ...)
+  stop(structure(class = c(names, "s2union_error", "error", "condition"), list(message = message, call = NULL, ...)))

@@ -1,27 +1,12 @@
 \name{s2union}
-\alias{s2union} \alias{s2u_normalise} \alias{s2u_union} \alias{s2u_intersection} \alias{s2u_difference}
-\alias{s2u_symmetric_difference} \alias{s2u_contains} \alias{s2u_intersects} \alias{s2u_contains_cells}
-\alias{s2u_intersects_cells} \alias{s2u_tokens} \alias{s2u_from_tokens} \alias{s2u_encode} \alias{s2u_decode}
-\alias{s2u_file_contains_cells} \alias{s2u_leaf} \alias{s2u_covering} \alias{s2u_interior} \alias{s2u_coverings}
+\alias{s2union} \alias{s2u_leaf} \alias{s2u_covering} \alias{s2u_interior} \alias{s2u_coverings}
 \alias{s2u_neighbors} \alias{s2u_expanded} \alias{s2u_bounds} \alias{s2u_area} \alias{s2u_zones} \alias{s2u_pairs}
+% aliases: all
 \title{Unions of S2 cells}
 \description{A region is a set of leaf cells, the cells of level 30. It has exactly one list of cells, in which no two
 share a leaf and no four are the children of one cell, and exactly one union file and one text.}
 \usage{
-s2u_normalise(x)
-s2u_union(x, y)
-s2u_intersection(x, y)
-s2u_difference(x, y)
-s2u_symmetric_difference(x, y)
-s2u_contains(x, y)
-s2u_intersects(x, y)
-s2u_contains_cells(x, cells)
-s2u_intersects_cells(x, cells)
-s2u_tokens(x)
-s2u_from_tokens(text)
-s2u_encode(x)
-s2u_decode(bytes)
-s2u_file_contains_cells(bytes, cells)
+% usage: all
 s2u_leaf(longitude, latitude)
 s2u_covering(shape, ...)
 s2u_interior(shape, ...)
@@ -38,8 +23,10 @@ s2u_pairs(zones, longitude, latitude, borders = FALSE)
 \item{cells}{an \code{s2_cell} vector. The answer for \code{NA} is \code{NA}.}
 \item{cell}{an \code{s2_cell} vector of length 1, or a region of one cell.}
 \item{level}{a level, 0 to 30; of neighbors the cell's own or a deeper one, its own if it is \code{NULL}.}
-\item{text}{tokens, with blanks, commas or line ends between them, or in several texts.}
-\item{bytes}{a raw vector: a union file, as \code{s2u_encode} and S2's own \code{S2CellUnion::Encode} write it.}
+\item{text}{tokens, with blanks, commas or line ends between them, or in several texts. For \code{s2u_map_geojson},
+since 1.5, GeoJSON, in one text or several lines, or as a raw vector of UTF-8.}
+% arguments: all
+\item{bytes, other}{a raw vector: a union file, as \code{s2u_encode} and S2's own \code{S2CellUnion::Encode} write it.}
 \item{longitude, latitude}{degrees, from -540 to 540 and from -90 to 90. The leaf of \code{NA} or \code{NaN} is
 \code{NA}.}
 \item{shape}{polygons, lines and points in degrees: a raw vector of WKB, as an element of \code{sf::st_as_binary} or
@@ -57,12 +44,12 @@ and lines have no place.}
 300,000; \code{edges}: \code{"map"} (straight in longitude and latitude), \code{"geodesic"} (the shortest ways; of
 each ring the smaller side is inside) or \code{"left"} (the same, with the inside on the left of the rings).}
 }
-\value{The first five, and \code{s2u_decode}, return the one list of a region, an \code{s2_cell} vector.
-\code{s2u_contains} and \code{s2u_intersects} return whether \code{x} has all leaves of \code{y}, or shares one with
-it, and \code{s2u_contains_cells} and \code{s2u_intersects_cells} the same for each of the cells.
-\code{s2u_file_contains_cells} asks the same of a union file, which it checks and doesn't copy. \code{s2u_tokens}
-returns one text, and \code{s2u_from_tokens} the cells that a text names, in its order. \code{s2u_encode} returns a raw
-vector. \code{s2u_leaf} returns the leaf at each place, as S2 has it. \code{s2u_covering} returns a union that contains
+\value{A region is returned as its one list, an \code{s2_cell} vector. \code{s2u_from_tokens} returns the cells that a
+text names, in its order, and a union file is checked and isn't copied.
+\describe{
+% values: all
+}
+\code{s2u_leaf} returns the leaf at each place, as S2 has it. \code{s2u_covering} returns a union that contains
 the shape, \code{s2u_interior} one that lies in its polygons, and \code{s2u_coverings} both, as \code{outer} and
 \code{inner}. What is proved of them is that they do so of corners in whole numbers, to which degrees are rounded by 3
 mm at most. \code{s2u_neighbors} returns the cells of the level that touch the cell, at an edge or a corner, as a union,
@@ -85,6 +72,9 @@ too long for so few positions), \code{S2U_COVER_OUTSIDE} (no place is outside), 
 positions of geodesic edges lie opposite each other); their \code{ring} and \code{place} count from 1.
 \code{S2U_COVER_OPTION}: an option is out of range. An error of \code{s2u_zones} has the number of the shape as
 \code{zone}.
+Of \code{s2u_map_geojson} and \code{s2u_map_wkb}, since 1.5: \code{S2U_SHAPE}, and a class with the name of the fault,
+such as \code{S2U_FAULT_OPEN}, with the \code{part}, the \code{ring} and the \code{place} there, and of WKB the
+\code{byte}, from 1 on; or \code{S2U_MANY}, if the search would take more than \code{work}.
 Of WKB, with \code{place} that of the byte: \code{S2U_COVER_WKB} (it is none), \code{S2U_COVER_TYPE} (curves
 or surfaces), \code{S2U_COVER_SRID} (no degrees), \code{S2U_COVER_DEEP} (collections in more than 32 others). An
 argument of another type is a simple error.}
@@ -96,4 +86,5 @@ s2u_contains_cells(park, s2u_leaf(c(2.9, 2.1), c(48.5, 48.9)))
 round(s2u_area(lawn) / s2u_area(s2u_from_tokens("1")), 2)
 zones <- s2u_zones(list(list(cbind(c(2, 3, 3, 2), c(48, 48, 49, 48)))))
 s2u_pairs(zones, c(2.9, 2.1), c(48.5, 48.9))
+% examples: all
 }

@@ -12,7 +12,6 @@
 #include <Rinternals.h>
 #include <R_ext/Rdynload.h>
 #include <s2union_join.h>
-#include "rooms.h"
 
 typedef struct {
   const uint64_t* ids;
@@ -23,6 +22,14 @@ static list list_of(SEXP x) { /* R gives an empty vector an address that isn't a
   size_t n = (size_t)XLENGTH(x);
   return (list){n ? (const uint64_t*)REAL(x) : NULL, n};
 }
+typedef struct {
+  const uint8_t* at;
+  size_t n;
+} raw;
+static raw raw_of(SEXP bytes) {
+  size_t n = (size_t)XLENGTH(bytes);
+  return (raw){n ? RAW(bytes) : NULL, n};
+}
 static uint64_t* room_for(size_t n) { return (uint64_t*)R_alloc(n, sizeof(uint64_t)); } /* until the .Call ends */
 static SEXP vector_of(const uint64_t* ids, size_t n) {
   SEXP made = Rf_allocVector(REALSXP, (R_xlen_t)n);
@@ -30,22 +37,40 @@ static SEXP vector_of(const uint64_t* ids, size_t n) {
   return made;
 }
 
+static SEXP raw_in(const uint8_t* bytes, size_t n) {
+  SEXP made = Rf_allocVector(RAWSXP, (R_xlen_t)n);
+  if (n) memcpy(RAW(made), bytes, n);
+  return made;
+}
+static SEXP text_in(const char* text, size_t n) { return Rf_ScalarString(Rf_mkCharLen(n ? text : "", (int)n)); }
+static SEXP lists_in(const uint64_t* ids, size_t first, size_t n) { /* two lists that follow each other */
+  SEXP made = PROTECT(Rf_allocVector(VECSXP, 2));
+  SET_VECTOR_ELT(made, 0, vector_of(ids, first));
+  SET_VECTOR_ELT(made, 1, vector_of(ids + first, n - first));
+  UNPROTECT(1);
+  return made;
+}
+
 #define NAMED(status) [-(status)] = #status
 static const char* const names[] = {NAMED(S2U_MEMORY), NAMED(S2U_NO_CELL), NAMED(S2U_ARGUMENT), NAMED(S2U_MANY),
-  NAMED(S2U_FILE_SHORT), NAMED(S2U_FILE_VERSION), NAMED(S2U_FILE_TRAILING), NAMED(S2U_FILE_CELL),
+  NAMED(S2U_FILE_SHORT), NAMED(S2U_FILE_VERSION), NAMED(S2U_FILE_TRAILING), NAMED(S2U_FILE_CELL), NAMED(S2U_SHAPE),
   NAMED(S2U_COVER_NUMBER), NAMED(S2U_COVER_FEW), NAMED(S2U_COVER_OPEN), NAMED(S2U_COVER_PIECES),
   NAMED(S2U_COVER_OUTSIDE), NAMED(S2U_COVER_OPPOSITE), NAMED(S2U_COVER_OPTION), NAMED(S2U_COVER_WKB),
   NAMED(S2U_COVER_TYPE), NAMED(S2U_COVER_SRID), NAMED(S2U_COVER_DEEP)};
+/* Ends the .Call by an error, which a function of R makes of its name, its text and numbers. */
+static void end_by(const char* function, const char* name, const char* text, const double* numbers, R_xlen_t n) {
+  SEXP words = PROTECT(Rf_allocVector(STRSXP, 2)), at = PROTECT(Rf_allocVector(REALSXP, n));
+  SET_STRING_ELT(words, 0, Rf_mkChar(name ? name : "S2U_ERROR"));
+  SET_STRING_ELT(words, 1, Rf_mkChar(text));
+  memcpy(REAL(at), numbers, (size_t)n * sizeof *numbers);
+  SEXP own = PROTECT(R_FindNamespace(PROTECT(Rf_mkString("s2union"))));
+  Rf_eval(PROTECT(Rf_lang3(Rf_install(function), words, at)), own);
+  UNPROTECT(5);
+}
 /* Ends the .Call by the error of a status, at a place and in a ring, from 1 on, or NA. */
 static void refuse(int32_t status, double place, double ring) {
   const char* name = status > -(int32_t)(sizeof names / sizeof *names) ? names[-status] : NULL;
-  SEXP words = PROTECT(Rf_allocVector(STRSXP, 2));
-  SET_STRING_ELT(words, 0, Rf_mkChar(name ? name : "S2U_ERROR"));
-  SET_STRING_ELT(words, 1, Rf_mkChar(s2u_cover_status_text(status)));
-  SEXP at = PROTECT(Rf_ScalarReal(place)), of = PROTECT(Rf_ScalarReal(ring));
-  SEXP own = PROTECT(R_FindNamespace(PROTECT(Rf_mkString("s2union"))));
-  Rf_eval(PROTECT(Rf_lang4(Rf_install("refuse"), words, at, of)), own);
-  UNPROTECT(6);
+  end_by("refuse", name, s2u_cover_status_text(status), (double[]){place, ring}, 2);
 }
 static void check(int32_t status, size_t place) {
   if (status < 0) refuse(status, status == S2U_NO_CELL ? (double)place + 1 : NA_REAL, NA_REAL);
@@ -64,38 +89,50 @@ static SEXP r_normalise(SEXP x) {
   return vector_of(it.ids, it.n);
 }
 
-typedef int32_t operation(const uint64_t*, size_t, const uint64_t*, size_t, uint64_t*, size_t, size_t*);
-static SEXP made_of(operation* call, size_t room_of(size_t, size_t), SEXP x, SEXP y) {
-  list a = region(x), b = region(y);
-  size_t room = room_of(a.n, b.n), len;
-  uint64_t* out = room_for(room);
-  int32_t status = call(a.ids, a.n, b.ids, b.n, out, room, &len);
-  if (status == S2U_ROOM) status = call(a.ids, a.n, b.ids, b.n, out = room_for(len), len, &len);
-  check(status, 0);
-  return vector_of(out, len);
-}
-static SEXP r_union(SEXP x, SEXP y) { return made_of(s2u_union, room_of_union, x, y); }
-static SEXP r_intersection(SEXP x, SEXP y) { return made_of(s2u_intersection, room_of_intersection, x, y); }
-static SEXP r_difference(SEXP x, SEXP y) { return made_of(s2u_difference, room_of_difference, x, y); }
-static SEXP r_symmetric_difference(SEXP x, SEXP y) {
-  return made_of(s2u_symmetric_difference, room_of_symmetric_difference, x, y);
+static raw file_of(SEXP bytes) { /* where the file lies, if it is that of a union, or else a copy that is */
+  raw it = raw_of(bytes);
+  if (s2u_file_check(it.at, it.n) == 1) return it;
+  size_t room = S2U_MOST_IN_FILE(it.n), len;
+  uint64_t* ids = room_for(room);
+  check(s2u_decode(it.at, it.n, ids, room, &len), 0);
+  uint8_t* own = (uint8_t*)R_alloc(S2U_FILE_SIZE(len), 1);
+  check(s2u_encode(ids, len, own, S2U_FILE_SIZE(len), &room), 0);
+  return (raw){own, room};
 }
 
-typedef int32_t question(const uint64_t*, size_t, const uint64_t*, size_t);
-static SEXP answer_of(question* call, SEXP x, SEXP y) {
-  list a = region(x), b = region(y);
-  return Rf_ScalarLogical(call(a.ids, a.n, b.ids, b.n));
+static SEXP answer(int32_t found) {
+  check(found, 0);
+  return Rf_ScalarLogical(found);
 }
-static SEXP r_contains(SEXP x, SEXP y) { return answer_of(s2u_contains, x, y); }
-static SEXP r_intersects(SEXP x, SEXP y) { return answer_of(s2u_intersects, x, y); }
+static uint64_t cell_in(SEXP cell) {
+  uint64_t id;
+  memcpy(&id, REAL(cell), sizeof id);
+  check(s2u_level(id), 0);
+  return id;
+}
+static uint32_t count_of(double number) { /* what is none, or too large, is out of the range of each option */
+  return number >= 0 && number <= UINT_MAX && number == floor(number) ? (uint32_t)number : UINT_MAX;
+}
+static uint32_t count_in(SEXP number) { return count_of(REAL(number)[0]); }
+static uint64_t whole_in(SEXP number) { /* a bound: nothing is more than the greatest */
+  double given = REAL(number)[0];
+  if (!(given >= 0 && (given == floor(given)))) check(S2U_ARGUMENT, 0);
+  return given < 0x1p64 ? (uint64_t)given : UINT64_MAX;
+}
+
+/* What a call makes, of which more than `most` elements are an error: `room` is tried, and then as much as it says. */
+#define FILL(kind, first, most, call) \
+  const uint64_t limit = most; \
+  size_t room = first, len = 0; \
+  kind* out = (kind*)R_alloc(room, sizeof *out); \
+  int32_t status = call; \
+  if ((status == S2U_OK || status == S2U_ROOM) && len > limit) status = S2U_MANY; \
+  if (status == S2U_ROOM) out = (kind*)R_alloc(room = len, sizeof *out), status = call
 
 /* Many questions to a list or to the bytes of a file. NA is the answer for NA, and no NA is a cell. */
 #define QUESTIONS(name) int32_t name(const void* of, size_t n, const uint64_t* cells, size_t m, uint8_t* answers, \
                                      size_t room, size_t* bad)
 #define ASKS(name) static QUESTIONS(ask_##name) { return s2u_##name(of, n, cells, m, answers, room, bad); }
-ASKS(contains_cells)
-ASKS(intersects_cells)
-ASKS(file_contains_cells)
 static SEXP answers_of(QUESTIONS((*call)), const void* of, size_t n, SEXP y) {
   list cells = list_of(y);
   uint8_t* answers = (uint8_t*)R_alloc(cells.n, 1);
@@ -113,52 +150,18 @@ static SEXP answers_of(QUESTIONS((*call)), const void* of, size_t n, SEXP y) {
     LOGICAL(out)[k] = has_missing && R_IsNA(REAL(y)[k]) ? NA_LOGICAL : answers[k];
   return out;
 }
-static SEXP of_region(QUESTIONS((*call)), SEXP x, SEXP y) {
-  list whole = region(x);
-  return answers_of(call, whole.ids, whole.n, y);
-}
-static SEXP r_contains_cells(SEXP x, SEXP y) { return of_region(ask_contains_cells, x, y); }
-static SEXP r_intersects_cells(SEXP x, SEXP y) { return of_region(ask_intersects_cells, x, y); }
 
-static SEXP r_tokens(SEXP x) {
-  list it = region(x);
-  size_t room = S2U_MOST_TOKENS(it.n), len;
-  char* text = R_alloc(room, 1);
-  int32_t status = s2u_tokens(it.ids, it.n, text, room, &len);
-  check(len > INT_MAX ? S2U_MANY : status, 0); /* a text of R has fewer bytes */
-  return Rf_ScalarString(Rf_mkCharLen(len ? text : "", (int)len));
+static const char* name_of_fault(size_t fault); /* as calls.h has it */
+static void check_shape(int32_t status, const s2u_shape_fault* it, int is_text) {
+  if (status != S2U_SHAPE) {
+    check(status, 0);
+    return;
+  }
+  double at[] = {(double)it->byte + 1, (double)it->part + 1, (double)it->ring + 1, (double)it->position + 1};
+  if (is_text) at[0] = NA_REAL;
+  end_by("refuse_shape", name_of_fault(it->name), s2u_fault_text(it->name), at, 4);
 }
-static SEXP r_from_tokens(SEXP x) {
-  const char* text = CHAR(STRING_ELT(x, 0));
-  size_t n = strlen(text), room = S2U_MOST_NAMED(n), len;
-  uint64_t* out = room_for(room);
-  int32_t status = s2u_from_tokens(text, n, out, room, &len);
-  check(status, len);
-  return vector_of(out, len);
-}
-static SEXP r_encode(SEXP x) {
-  list it = region(x);
-  size_t room = S2U_FILE_SIZE(it.n), len;
-  SEXP out = PROTECT(Rf_allocVector(RAWSXP, (R_xlen_t)room));
-  check(s2u_encode(it.ids, it.n, RAW(out), room, &len), 0);
-  UNPROTECT(1);
-  return out;
-}
-static SEXP r_decode(SEXP bytes) {
-  size_t n = (size_t)XLENGTH(bytes), room = S2U_MOST_IN_FILE(n), len;
-  uint64_t* out = room_for(room);
-  check(s2u_decode(n ? RAW(bytes) : NULL, n, out, room, &len), 0);
-  return vector_of(out, len);
-}
-
-static SEXP r_file_contains_cells(SEXP bytes, SEXP y) { /* where the file lies, if it is that of a union */
-  size_t n = (size_t)XLENGTH(bytes);
-  const uint8_t* at = n ? RAW(bytes) : NULL;
-  if (s2u_file_check(at, n) == 1) return answers_of(ask_file_contains_cells, at, n, y);
-  SEXP answers = r_contains_cells(PROTECT(r_decode(bytes)), y);
-  UNPROTECT(1);
-  return answers;
-}
+#include "calls.h"
 
 /* ---- leaves of places, and coverings */
 
@@ -176,9 +179,6 @@ static SEXP r_leaf(SEXP longitude, SEXP latitude) { /* two vectors of one length
   return made;
 }
 
-static uint32_t count_of(double number) { /* what is none, or too large, is out of the range of each option */
-  return number >= 0 && number <= UINT_MAX && number == floor(number) ? (uint32_t)number : UINT_MAX;
-}
 static s2u_cover_options options_of(SEXP numbers) { /* max_cells, min_level, max_level, margin, edges, within or NA */
   const double *at = REAL(numbers), within = at[5];
   s2u_cover_options it = {count_of(at[0]), count_of(at[1]), count_of(at[2]), count_of(at[4]), at[3]};
@@ -346,10 +346,7 @@ static SEXP r_area(SEXP x) {
 }
 
 #define CALL(name, arguments) {#name, (DL_FUNC)r_##name, arguments}
-static const R_CallMethodDef calls[] = {CALL(normalise, 1), CALL(union, 2), CALL(intersection, 2), CALL(difference, 2),
-  CALL(symmetric_difference, 2), CALL(contains, 2), CALL(intersects, 2), CALL(contains_cells, 2),
-  CALL(intersects_cells, 2), CALL(tokens, 1), CALL(from_tokens, 1), CALL(encode, 1), CALL(decode, 1),
-  CALL(file_contains_cells, 2), CALL(leaf, 2), CALL(cover_wkb, 3), CALL(cover_rings, 5),
+static const R_CallMethodDef calls[] = {MADE_CALLS, CALL(leaf, 2), CALL(cover_wkb, 3), CALL(cover_rings, 5),
   CALL(zones, 0), CALL(add_wkb, 2), CALL(add_rings, 4), CALL(pairs, 4),
   CALL(neighbors, 2), CALL(expanded, 2), CALL(bounds, 1), CALL(area, 1), {NULL, NULL, 0}};
 void R_init_s2union(DllInfo* library) {
