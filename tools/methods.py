@@ -6,7 +6,7 @@ It writes each SOURCE to FOLDER with what is made in the place of these lines, w
   // methods: all others         each other method of the class, or in JavaScript of the module; `but NAME, ..` leaves
                                  out what stands there by hand
   // functions: all              in C++ what is asked of lists, in no class
-  // examples: all others        in examples.cc those of C++ that don't stand there by hand
+  // examples: all others        in examples.cc and examples.c those that don't stand there by hand
   % usage: all                   in the help page of R each function; `aliases` and `values` are its names and what each
                                  returns, `arguments` what stands there by hand of none
   // comment: NAME               the comment of the call, whose method stands below it by hand; in Python
@@ -30,6 +30,7 @@ from functools import cache, cached_property
 from pathlib import Path
 
 import declared
+import in_c
 import in_cpp
 import in_go
 import in_java
@@ -47,7 +48,7 @@ TOP = Path(__file__).resolve().parents[1]
 TABLE = "tools/methods.toml"
 LANGUAGES = {".java": in_java.Java(), ".ts": in_types.TypeScript(), ".mjs": in_types.TypeScript(),
              ".py": in_python.Python(), ".rs": in_rust.Rust(), ".go": in_go.Go(), ".hpp": in_cpp.Cpp(),
-             ".cc": in_cpp.Cpp(), ".js": in_js.JavaScript(), ".R": in_r.R(), ".Rd": in_r.Help()}
+             ".cc": in_cpp.Cpp(), ".c": in_c.C(), ".js": in_js.JavaScript(), ".R": in_r.R(), ".Rd": in_r.Help()}
 MARK = re.compile(r"^[ \t]*(?://|#|%) (methods|functions|comment|examples|questions|numbers|aliases|usage|arguments|"
                   r"values): ((?:.*,\n *// +)*.*)\n", re.M)
 UNION = "a new union"

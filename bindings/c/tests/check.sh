@@ -43,7 +43,11 @@ program() { # NAME LIBRARY FLAGS..: builds a test and runs it
   gcc -std=c11 -D_DEFAULT_SOURCE -O2 "${strict[@]}" "$@" -I"$include" "$tests/$name.c" "$library" -lpthread -lm \
     -o "$work/$name" && timeout 7200 "$work/$name"
 }
-step "an example of each call" program examples "$static"
+each_example() { # with those that are made
+  /usr/bin/python3 -B "$top/tools/methods.py" "$work" "$tests/examples.c" &&
+    gcc -std=c11 "${strict[@]}" -I"$include" "$work/examples.c" "$static" -o "$work/examples" && "$work/examples"
+}
+step "an example of each call" each_example
 step "traps" program traps "$static"
 step "traps, under the sanitizers" program traps "$static" -fsanitize=address,undefined -fno-sanitize-recover
 refusing() { # what refuses them is built without the sanitizer, which takes memory before it is ready

@@ -242,27 +242,6 @@ int main(void) {
     /* [s2u_intersects_cells] */
   }
   {
-    /* [s2u_contains] */
-    uint64_t xs[] = {UINT64_C(0x1000000000000000)}, ys[] = {UINT64_C(0x0400000000000000),
-          UINT64_C(0x1400000000000000)};
-    check(s2u_contains(xs, 1, ys, 2) == 1 && s2u_contains(ys, 2, xs, 1) == 0);
-    /* [s2u_contains] */
-  }
-  {
-    /* [s2u_intersects] */
-    uint64_t xs[] = {UINT64_C(0x1000000000000000)}, ys[] = {UINT64_C(0x0400000000000000),
-          UINT64_C(0x1400000000000000)};
-    check(s2u_intersects(ys, 2, xs, 1) == 1);
-    /* [s2u_intersects] */
-  }
-  {
-    /* [s2u_compare] */
-    uint64_t xs[] = {UINT64_C(0x1000000000000000)}, ys[] = {UINT64_C(0x0400000000000000),
-          UINT64_C(0x1400000000000000)};
-    check(s2u_compare(xs, 1, ys, 2) == 1 && s2u_compare(xs, 1, xs, 1) == 0);
-    /* [s2u_compare] */
-  }
-  {
     /* [s2u_normalise] */
     uint64_t ids[] = {UINT64_C(0x1400000000000000), UINT64_C(0x0400000000000000), UINT64_C(0x1400000000000000)};
     size_t len;
@@ -276,42 +255,6 @@ int main(void) {
     size_t ends[] = {1, 2, 3}, len;
     check(s2u_union_of_many(ids, 3, ends, 3, work, 6, out, 3, &len) == S2U_OK && len == 2);
     /* [s2u_union_of_many] */
-  }
-  {
-    /* [s2u_union] */
-    uint64_t xs[] = {UINT64_C(0x0400000000000000)}, ys[] = {UINT64_C(0x1400000000000000)}, out[2];
-    size_t len;
-    check(s2u_union(xs, 1, ys, 1, out, 2, &len) == S2U_OK && len == 2 && out[1] == UINT64_C(0x1400000000000000));
-    /* [s2u_union] */
-  }
-  {
-    /* [s2u_intersection] */
-    uint64_t xs[] = {UINT64_C(0x0400000000000000)}, ys[] = {UINT64_C(0x1400000000000000)}, out[2];
-    size_t len;
-    check(s2u_intersection(xs, 1, ys, 1, out, 2, &len) == S2U_OK && len == 0);
-    /* [s2u_intersection] */
-  }
-  {
-    /* [s2u_difference] */
-    uint64_t xs[] = {UINT64_C(0x0400000000000000)}, ys[] = {UINT64_C(0x1400000000000000)}, out[91];
-    size_t len;
-    check(s2u_difference(xs, 1, ys, 1, out, 91, &len) == S2U_OK && len == 1 &&
-          out[0] == UINT64_C(0x0400000000000000));
-    /* [s2u_difference] */
-  }
-  {
-    /* [s2u_symmetric_difference] */
-    uint64_t xs[] = {UINT64_C(0x0400000000000000)}, ys[] = {UINT64_C(0x1400000000000000)}, out[180];
-    size_t len;
-    check(s2u_symmetric_difference(xs, 1, ys, 1, out, 180, &len) == S2U_OK && len == 2);
-    /* [s2u_symmetric_difference] */
-  }
-  {
-    /* [s2u_complement] */
-    uint64_t ids[] = {UINT64_C(0x1000000000000000)}, out[S2U_MOST_COMPLEMENT(1)];
-    size_t len;
-    check(s2u_complement(ids, 1, out, S2U_MOST_COMPLEMENT(1), &len) == S2U_OK && len == 5);
-    /* [s2u_complement] */
   }
   {
     /* [s2u_range] */
@@ -336,13 +279,6 @@ int main(void) {
     check(s2u_denormalised(ids, 1, 1, 1, out, 4, &len) == S2U_OK && len == 4 &&
           out[2] == UINT64_C(0x1400000000000000));
     /* [s2u_denormalised] */
-  }
-  {
-    /* [s2u_ancestors] */
-    uint64_t ids[] = {UINT64_C(0x0400000000000000), UINT64_C(0x1400000000000000)}, out[S2U_MOST_ANCESTORS(2)];
-    size_t len;
-    check(s2u_ancestors(ids, 2, out, S2U_MOST_ANCESTORS(2), &len) == S2U_OK && len == 3);
-    /* [s2u_ancestors] */
   }
   {
     /* [s2u_outer] */
@@ -553,6 +489,7 @@ int main(void) {
     check(strcmp(s2u_status_text(S2U_NO_CELL), "not a cell") == 0);
     /* [s2u_status_text] */
   }
+  // examples: all others
   printf("%d passed, %d failed\n", passed, failed);
   return failed > 0;
 }
