@@ -4,6 +4,7 @@ import re
 import textwrap
 
 import languages
+from python_calls import RENAMED
 
 NAMES = {"next": "next_cell", "prev": "previous_cell", "cell_contains": "contains", "cell_intersects": "intersects",
          "square_of": "square", "range": "from_range", "encode": "to_bytes", "decode": "from_bytes",
@@ -134,3 +135,29 @@ class Python(languages.Language):
         tree = ast.parse(method.example, mode="eval").body
         return [f">>> {self.shown(method, languages.Expression(self, methods).visit(tree))}",
                 method.own(self.NAME).get("answer") or self.answer(method)]
+
+    # ---- methods that are made whole
+
+    def whole(self, methods, method, *_):
+        """A method of a union or a file, alone or with another one or a cell, that forwards to its call; nothing of
+        another form."""
+        call, (own, *others) = method.call, method.given or [None]
+        if not method.has_receiver or call.answers_each or call.out and call.out.kind != "u64" or len(others) > 1 or \
+                any(it.kind not in (own.kind, "u64") for it in others):
+            return []
+        of, kind = ("self._bytes", "UnionFile") if method.is_of_file else ("self._ids", "Cells")
+        other = f"_wanted(UnionFile, other){of[4:]}" if method.is_of_file else f"_union_of(other){of[4:]}"
+        words = [("other", kind, other) if it.is_list else ("cell", "SupportsIndex", "cell") for it in others]
+        name = RENAMED.get(call.name, call.name)
+        length, held = ("self._bytes.nbytes", f"_unchanging({of})") if method.is_of_file else ("len(self)", of)
+        passed = ", ".join([of, *(it[2] for it in words)])
+        result, answer = "bool" if method.is_question else "int", f"_library.{name}({passed})"
+        if call.out and others:
+            result, answer = "Self", f"self._with(_library.{name}, _union_of(other), _rooms.{name})"
+        elif call.out:
+            made = f'_library.{name}("", _rooms.{name}({length}), {held})'
+            result, answer = ("Self", f"self._holding({made})") if method.makes_union else (
+                "list[int]", f"_cells_in({made}).tolist()")
+        given = ", ".join([f"self{': Self' * (result == 'Self')}", *(f"{it[0]}: {it[1]}" for it in words)])
+        head = f"    def {self.name_of(method)}({given}) -> {result}:"
+        return [head, *self.comment(methods, method, head + "\n"), f"        return {answer}", ""]

@@ -771,10 +771,6 @@ class UnionFile:
         # comment: file_contains_cell
         return _library.file_contains_cell(self._bytes, cell)
 
-    def intersects_cell(self, cell: SupportsIndex) -> bool:
-        # comment: file_intersects_cell
-        return _library.file_intersects_cell(self._bytes, cell)
-
     @overload
     def contains_cells(self, cells: Array) -> npt.NDArray[np.bool_]: ...
     @overload
@@ -825,23 +821,7 @@ class UnionFile:
         found = (_library.file_intersects_cell(self._bytes, cell) for cell in _cells_in(_read(cells)))
         return _answers(cells, bytearray(found))
 
-    def leaf_count(self) -> int:
-        # comment: file_leaf_count
-        return _library.file_leaf_count(self._bytes)
-
-    def contains(self, other: UnionFile) -> bool:
-        # comment: file_contains
-        return _library.file_contains(self._bytes, _wanted(UnionFile, other)._bytes)
-
-    def intersects(self, other: UnionFile) -> bool:
-        # comment: file_intersects
-        return _library.file_intersects(self._bytes, _wanted(UnionFile, other)._bytes)
-
-    def ancestors(self) -> list[int]:
-        # comment: file_ancestors
-        room = _rooms.file_ancestors(self._bytes.nbytes)
-        return _cells_in(_library.file_ancestors("", room, _unchanging(self._bytes))).tolist()
-
+    # methods: all others but file_count, file_cell
     def union(self) -> CellUnion:
         """The union itself, copied.
 
@@ -1396,10 +1376,6 @@ class CellUnion:
         # comment: contains_cell
         return _library.contains_cell(self._ids, cell)
 
-    def intersects_cell(self, cell: SupportsIndex) -> bool:
-        # comment: intersects_cell
-        return _library.intersects_cell(self._ids, cell)
-
     def cells_at(self, cell: SupportsIndex) -> list[int]:
         # comment: cells_at
         first, count = _library.cells_at(self._ids, cell)
@@ -1422,10 +1398,6 @@ class CellUnion:
     def intersects_cells(self, cells: Any) -> Any:
         # comment: intersects_cells
         return _answers(cells, _found(*_library.intersects_cells(self._ids, _given(cells))))
-
-    def leaf_count(self) -> int:
-        # comment: leaf_count
-        return _library.leaf_count(self._ids)
 
     def _with(self: Self, call: Callable[..., bytes], other: CellUnion, room: Callable[[int, int], int]) -> Self:
         return self._holding(call("", room(len(self), len(other)), self._ids, other._ids))
@@ -1565,10 +1537,6 @@ class CellUnion:
         # comment: symmetric_difference
         return self ^ _union_of(other)
 
-    def complement(self: Self) -> Self:
-        # comment: complement
-        return self._holding(_library.complement("", _rooms.complement(len(self)), self._ids))
-
     def __ge__(self, other: CellUnion) -> bool:
         if not isinstance(other, CellUnion):
             return NotImplemented
@@ -1589,10 +1557,7 @@ class CellUnion:
             return NotImplemented
         return other.__gt__(self)
 
-    def intersects(self, other: Cells) -> bool:
-        # comment: intersects
-        return _library.intersects(self._ids, _union_of(other)._ids)
-
+    # methods: all others but union, intersection, difference, contains, compare
     def isdisjoint(self, other: Cells) -> bool:
         """Whether two unions share no leaf.
 
@@ -1693,10 +1658,6 @@ class CellUnion:
         return _cells_in(_library.denormalised("", need, self._ids, min_level, modulus)).tolist()
 
     denormalized = denormalised
-
-    def ancestors(self) -> list[int]:
-        # comment: ancestors
-        return _cells_in(_library.ancestors("", _rooms.ancestors(len(self)), self._ids)).tolist()
 
     def __repr__(self) -> str:
         shown = [_library.token(cell) for cell in self.ids[:8]]
