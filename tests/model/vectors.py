@@ -14,6 +14,8 @@ from model.random_cells import FACE, Random
 peer_model = model.plain
 random = Random(20261126)
 LAST = 2**30 - 1
+# The edges of what is asked of unions: no leaf, all of them, a face, the first and the last leaf.
+EDGES = [], [face * FACE for face in (1, 3, 5, 7, 9, 11)], [FACE], [1], [12 * FACE - 1]
 
 
 def shown(value):
@@ -131,6 +133,11 @@ def sets(a):
     b = lists()
     if random.random() < 0.7 and a:
         b = model.normal(model.runs([random.near(random.choice(a)) for _ in range(random.randrange(9))]))
+    of_two(a, b)
+
+
+def of_two(a, b):
+    """What is asked of unions, and of two of them."""
     x, y = model.runs(a), model.runs(b)
     both = model.common(x, y)
     less, more = model.common(x, model.rest(y)), model.common(y, model.rest(x))
@@ -238,6 +245,9 @@ def main(rounds):
         sets(a)
         ranges_and_cuts(a)
         coverings(a)
+    for a in EDGES:
+        for b in EDGES:
+            of_two(a, b)
 
 
 if __name__ == "__main__":
