@@ -48,6 +48,13 @@ static const char* const listed[][4] = {
   {"s2_inner", "region, face, i0, i1, j0, j1, level",
    "the cells of a level that lie in what a union and a rectangle on a face share, as a union. Errors: a"
    " level outside 0 to 30, a place outside the face, more than 1,000,000 cells", "s2union"},
+  {"s2_map_outer", "shape, level",
+   "a union that contains polygons in WKB or GeoJSON, as they are written, whose edges are straight on "
+   "the map: cells of a level, and larger ones for four of them. Proved; since 1.5. Errors: a fault of "
+   "the bytes or of the text, a point or a line, a level outside 0 to 30, too many cells", "s2union"},
+  {"s2_map_inner", "shape, level",
+   "a union that lies in polygons in WKB or GeoJSON, as they are written. Proved; since 1.5. Errors: "
+   "those of s2_map_outer", "s2union"},
   {"s2_range", "first, last",
    "all leaves from the first of one cell to the last of another. Errors: a last leaf before the first, "
    "an invalid cell", "s2union"},

@@ -34,13 +34,14 @@ static void drop_cells(void* cells) { drop(block_of(cells)); }
 
 /* ---- values: each call answers a status, which is made an error at the end ---- */
 
-enum { NOT_A_UNION = -100, NOT_A_CELL = -101, NOT_A_NUMBER = -102, NO_FRAME = -103 };
+enum { NOT_A_UNION = -100, NOT_A_CELL = -101, NOT_A_NUMBER = -102, NO_FRAME = -103, NOT_A_SHAPE = -104 };
 
 static const char* reason(int32_t status) {
   switch (status) {
     case NOT_A_UNION: return "a union is a BLOB, or cells in an INTEGER or a TEXT";
     case NOT_A_CELL: return "a cell is an INTEGER or a TEXT";
     case NOT_A_NUMBER: return "a level, face or coordinate is an INTEGER";
+    case NOT_A_SHAPE: return "a shape is a BLOB of WKB, or a TEXT of GeoJSON";
     case NO_FRAME: return "the frame of a window has to begin with UNBOUNDED PRECEDING";
     default: return s2u_status_text(status);
   }
@@ -150,6 +151,9 @@ static int32_t file_of(sqlite3_value* v, block** file) {
 
 /* ---- arguments ---- */
 
+/* What a call says of a shape: how many of its cells are those of the outer covering, or its fault. */
+typedef struct mapped { size_t outer; s2u_shape_fault fault; } mapped;
+
 /* What an argument is read as. The held block is dropped after the call. */
 typedef struct argument {
   block* held;
@@ -157,6 +161,8 @@ typedef struct argument {
   size_t n;
   uint64_t cell;
   uint32_t number;
+  int is_text; /* of a shape: GeoJSON */
+  mapped* mapped;
 } argument;
 
 typedef int32_t maker(const argument* a, uint64_t* out, size_t room, size_t* n);
@@ -213,8 +219,18 @@ static int32_t file_argument(sqlite3_context* c, sqlite3_value** v, int k, argum
   return status;
 }
 
+static int32_t shape_argument(sqlite3_value* v, argument* a) {
+  const char* text = NULL;
+  int type = sqlite3_value_type(v);
+  a->is_text = type == SQLITE_TEXT;
+  if (!a->is_text) return type == SQLITE_BLOB ? bytes_of(v, &a->bytes, &a->n) : NOT_A_SHAPE;
+  int32_t status = text_of(v, &text, &a->n);
+  a->bytes = (const uint8_t*)text;
+  return status;
+}
+
 /* The letters of arguments: a list, a file to be asked, a cell or a file to be asked, a cell, what may be a cell, a
- * number, or bytes. */
+ * number, a shape, or bytes. */
 static int32_t read_argument(sqlite3_context* c, char letter, sqlite3_value** v, int k, argument* a) {
   int type = sqlite3_value_type(v[k]);
   switch (letter) {
@@ -224,6 +240,7 @@ static int32_t read_argument(sqlite3_context* c, char letter, sqlite3_value** v,
     case 'c': return cell_of(v[k], &a->cell);
     case 'm': return a->number = (type = cell_of(v[k], &a->cell)) == S2U_OK, type == S2U_MEMORY ? type : S2U_OK;
     case 'n': return number_of(v[k], &a->number);
+    case 's': return shape_argument(v[k], a);
     default: return type == SQLITE_BLOB ? bytes_of(v[k], &a->bytes, &a->n) : S2U_OK;
   }
 }
@@ -246,6 +263,15 @@ COVERS(_of, LIST(a[0]), a[1].number, S2U_MOST_COVERING)
 COVERS(_in, LIST(a[0]), RECT(a + 1), a[6].number, S2U_MOST_COVERING)
 MAKER(make_ancestors, s2u_ancestors, LIST(a[0]))
 MAKER(make_part, s2u_intersection, LIST(a[0]), &a[1].cell, 1)
+
+/* The cells of both coverings of a shape, the outer ones first. */
+#define SHAPE_MAKER(name, f, ...) \
+  static int32_t name(const argument* a, uint64_t* out, size_t room, size_t* n) { \
+    mapped* m = a->mapped; \
+    return a->is_text ? f##_geojson((const char*)a->bytes, a->n, __VA_ARGS__, out, room, n, &m->outer, &m->fault) \
+                      : f##_wkb(a->bytes, a->n, __VA_ARGS__, out, room, n, &m->outer, &m->fault); \
+  }
+SHAPE_MAKER(make_map, s2u_map, a[1].number, S2U_MAP_WORK)
 
 /* The list that a maker makes. The caller drops it, even after a refusal. */
 static int32_t list_made(maker* make, const argument* a, size_t room, block** list) {
@@ -284,6 +310,38 @@ CALL(makes) {
   drop(list);
   return status;
 }
+
+static int32_t answer_fault(sqlite3_context* c, const s2u_shape_fault* fault) {
+  char* text = sqlite3_mprintf("s2: %s: byte %llu, part %llu, ring %llu, position %llu", s2u_fault_text(fault->name),
+                               (uint64_t)fault->byte, (uint64_t)fault->part, (uint64_t)fault->ring,
+                               (uint64_t)fault->position);
+  if (text) sqlite3_result_error(c, text, -1);
+  sqlite3_free(text);
+  return text ? S2U_OK : S2U_MEMORY;
+}
+
+/* One of the two coverings of a shape, or the error of its fault. */
+static int32_t covering_of(sqlite3_context* c, const function* f, const argument* a, int is_outer) {
+  enum { FIRST_ROOM = 4096 };
+  mapped m;
+  argument own[MOST_ARGUMENTS];
+  block* list = NULL;
+  memcpy(own, a, sizeof own);
+  own->mapped = &m;
+  int32_t status = list_made(f->make, own, FIRST_ROOM, &list);
+  if (status == S2U_OK) {
+    if (!is_outer) memmove(list->cells, list->cells + m.outer, (list->n - m.outer) * sizeof(uint64_t));
+    list->n = is_outer ? m.outer : list->n - m.outer;
+    status = answer_list(c, list);
+  } else if (status == S2U_SHAPE) {
+    status = answer_fault(c, &m.fault);
+  }
+  drop(list);
+  return status;
+}
+
+CALL(outer_of_shape) { return covering_of(c, f, a, 1); }
+CALL(inner_of_shape) { return covering_of(c, f, a, 0); }
 
 #define FILE_OF(a) (a).bytes, (a).n
 #define ASK(x, y, of, of_cell) (y).cell ? of_cell(FILE_OF(x), (y).cell) : of(FILE_OF(x), FILE_OF(y))
@@ -332,6 +390,8 @@ CALL(level) { return answer_number(c, s2u_level(a->cell)); }
 CALL(face) { return answer_number(c, s2u_face(a->cell)); }
 CALL(version) { return sqlite3_result_text(c, S2U_VERSION_TEXT, -1, SQLITE_STATIC), S2U_OK; }
 
+#define OF_SHAPE(name, l, e) \
+  {name "_outer", l, outer_of_shape, .make = e}, {name "_inner", l, inner_of_shape, .make = e}
 #define COVERINGS(l, e) {"s2_outer", l, makes, .make = make_outer##e}, {"s2_inner", l, makes, .make = make_inner##e}
 static const function functions[] = {
   {"s2_union", "ll", makes, .make = make_union}, {"s2_intersection", "ll", makes, .make = make_intersection},
@@ -344,6 +404,7 @@ static const function functions[] = {
   {"s2_level", "c", level}, {"s2_face", "c", face}, {"s2_parent", "cn", parent}, {"s2_child", "cn", child},
   {"s2_range_min", "c", range_min}, {"s2_range_max", "c", range_max}, {"s2_common_ancestor", "cc", common_ancestor},
   {"s2_leaf", "nnn", leaf}, {"s2_version", "", version}, {"s2_complement", "l", makes, .make = make_complement},
+  OF_SHAPE("s2_map", "sn", make_map),
 };
 
 /* Every function comes through here: NULL if an argument is NULL, an error if the call refuses. */

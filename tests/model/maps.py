@@ -10,16 +10,20 @@ GeoJSON. The library is the libs2union.so.1 that the system finds.
 import ctypes
 import json
 import math
+import os
 import re
 import struct
 import sys
 from fractions import Fraction
 from pathlib import Path
 from random import Random
+from typing import NamedTuple
 
 from model.calculator import leaf_at
 
-TABLE = Path(__file__).resolve().parents[2] / "crates" / "test_library" / "stdin"
+CRATES = Path(__file__).resolve().parents[2] / "crates"
+TABLE = CRATES / "test_library" / "stdin"
+HEADER = CRATES / "s2union_c" / "include" / "s2union.h"
 NAMES = ("truncated trailing order type uncovered srid member deep count few open not_finite utf8 json twice no_type "
          "missing position range no_inside no_map").split()
 KINDS = "point", "line", "polygon"
@@ -474,6 +478,36 @@ def rows(library):
         polygons = random.choice([each for each in own if each and each[0]])
         data = random.choice([wkb_of(polygons), geojson_of(polygons).encode()])
         say(library, "wkb" if data[0] < 2 else "geojson", mutated(data), random.randrange(5))
+
+
+# ---- what databases are asked, whose bound of work is always the usual one
+
+
+class Asked(NamedTuple):
+    """A text or bytes, a level, and the cells of both coverings, or what an error says after the database's name."""
+
+    call: str
+    data: bytes
+    level: int
+    outer: list
+    inner: list
+    error: str
+
+
+def asked():
+    """What the file asks that S2UNION_MAPS names, but for what takes more than a smaller bound of work."""
+    texts = dict(re.findall(r'case S2U_FAULT_(\w+):\s+return "(.*?)";', HEADER.read_text("utf-8")))
+    for line in Path(os.environ["S2UNION_MAPS"]).read_text("utf-8").splitlines():
+        call, data, level, work, *answer = line.split("\t")
+        if int(work) < WORK and answer == ["!many"]:
+            continue
+        cells, error = [[int(cell, 16) for cell in words.split()] for words in answer if words[:1] != "!"], ""
+        if answer[0] == "!argument":
+            error = "argument out of range"
+        elif answer[0][:1] == "!":
+            name, *places = answer[0][1:].split()
+            error = f"{texts[name.upper()]}: byte {places[0]}, part {places[1]}, ring {places[2]}, position {places[3]}"
+        yield Asked(call, bytes.fromhex(data), int(level), *(cells or [[], []]), error)
 
 
 def main(*files):

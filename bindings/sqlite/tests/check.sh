@@ -37,8 +37,8 @@ tests() { # FOLDER TEST..
   shift
   (
     cd "$top/bindings/sqlite/tests" && export PYTHONPATH=$top/tests PYTHONDONTWRITEBYTECODE=1
-    S2UNION_SQLITE=$work/$folder/mod_s2union.so S2UNION_ROUNDS=${S2UNION_ROUNDS:-$rounds} timeout 7200 \
-      /usr/bin/python3 -m pytest "$@"
+    export S2UNION_SQLITE=$work/$folder/mod_s2union.so S2UNION_MAPS=$work/map-texts
+    S2UNION_ROUNDS=${S2UNION_ROUNDS:-$rounds} timeout 7200 /usr/bin/python3 -m pytest "$@"
   )
 }
 if [ "${1:-}" = --costs ]; then
@@ -62,13 +62,15 @@ any_name() { # and none that Python's import of the library's module would find
   PYTHONPATH=$work/usr/lib/python LD_LIBRARY_PATH=$work/usr/lib /usr/bin/python3 -c 'import s2union'
 }
 step "the file loads under any name, and is not taken for the Python module" any_name
+step "texts and bytes of shapes, with their coverings" maps
 step "against the model" tests plain test_sqlite.py::AgainstTheModel
 step "what is refused" tests plain test_sqlite.py::WhatIsRefused
+step "coverings of polygons as they are written" tests plain test_maps.py
 step "mod_s2union_geo: points, and what is refused" tests plain test_geo.py
 step "mod_s2union_geo: exact joins" tests plain test_joins.py
 step "a union that is asked for each row is looked at once" tests counted test_sqlite.py::Steps
 step "under the sanitizers" sanitized test_sqlite.py::{AgainstTheModel,WhatIsRefused} \
-  test_geo.py test_joins.py
+  test_geo.py test_joins.py test_maps.py
 
 refused() {
   gcc -std=c11 -D_DEFAULT_SOURCE -Wall -Wextra -Werror "$top/bindings/sqlite/tests/memory.c" \
@@ -101,7 +103,7 @@ else
 fi
 covered() {
   build covered CFLAGS="-O0 -g --coverage" && export S2UNION_ROUNDS=300 &&
-    tests covered test_sqlite.py::{AgainstTheModel,WhatIsRefused} test_geo.py test_joins.py &&
+    tests covered test_sqlite.py::{AgainstTheModel,WhatIsRefused} test_geo.py test_joins.py test_maps.py &&
     "$work/memory" "$work/covered/"mod_s2union{,_geo} && documented covered &&
     "${sqlite[@]}" ".load $work/covered/mod_s2union sqlite3_sunion_init" &&
     /usr/bin/python3 "$top/tests/coverage.py" "$work/covered" s2union.c=bindings/sqlite/s2union.c \

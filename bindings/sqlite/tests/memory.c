@@ -36,6 +36,11 @@ static const char* const queries[] = {
   "SELECT tile, hex(t.part), x FROM parts, s2_tiles(parts.part, 1) AS t WHERE id < 3",
   "SELECT hex(value), count(*) FROM s2_prepared('04 14'), parts WHERE s2_intersects(value, part)",
   "SELECT name, arguments, result FROM s2_functions WHERE extension = 's2union_geo'",
+  "SELECT hex(s2_map_outer(" SHAPE ", 6)), s2_tokens(s2_map_inner(" SHAPE ", 9))",
+  "SELECT s2_count(s2_map_outer('{\"type\": \"Polygon\", \"coordinates\": [[[0,0], [9,2], [5,8], [0,0]]]}', 3))",
+  "SELECT s2_map_outer('{\"type\": \"Polygon\", \"coordinates\": [[[0,0], [9,2], [5,8]]]}', 3)",
+  "SELECT s2_map_inner(" SHAPE " || x'00', 3)",
+  "SELECT s2_map_outer(" SHAPE ", 31)",
   "SELECT s2_longitude(s2_leaf_at(2.3522, 48.8566)), s2_latitude('1/0')",
   "SELECT s2_leaf_at('north', 0)",
   "SELECT hex(s2_covering(x'0101000000000000000000F03F0000000000000040', 8, 9))",
@@ -54,6 +59,7 @@ static const char* const queries[] = {
 static const char* const of_texts[] = {
   "SELECT s2_is_cell('04')", "SELECT s2_cell('0/12')", "SELECT s2_count('04 0c')", "SELECT s2_contains('1', '04')",
   "SELECT s2_parent('04', 31)", "SELECT s2_longitude('04')", "SELECT s2_latitude('zz')", "SELECT s2_union_agg('04')",
+  "SELECT s2_map_outer('{}', 3)",
   NULL,
 };
 

@@ -55,7 +55,7 @@ def test_bytes_that_the_heap_has_no_room_for():
              f"s2_clip({bytes_}, 1)", f"s2_join_tiles({bytes_}, 3)", f"s2_expanded({bytes_}, 3)",
              f"s2_bounds({bytes_})", f"s2_area({bytes_})", f"s2_union({bytes_}, 1)", f"s2_tokens({bytes_})",
              f"s2_contains({bytes_}, 1)", f"s2_is_union({bytes_})",
-             f"s2_tiles({bytes_}, 3)", f"s2_union_agg({bytes_})"]
+             f"s2_tiles({bytes_}, 3)", f"s2_union_agg({bytes_})", f"s2_map_inner({bytes_}, 3)"]
     done = subprocess.run([sys.executable, "-c", WITHOUT_ROOM, EXTENSION, os.environ["S2UNION_SQLITE"], *calls],
                           capture_output=True, text=True, check=False)
     assert (done.returncode, done.stdout.splitlines()) == (0, [f"{call} is out of memory" for call in calls])

@@ -7,6 +7,7 @@ import gc
 import os
 import re
 import sqlite3
+import struct
 import unittest
 from pathlib import Path
 
@@ -27,12 +28,13 @@ FUNCTIONS = {
     "s2_count": "l", "s2_leaves": "l", "s2_tokens": "l", "s2_is_cell": "b",
     "s2_cell": "c", "s2_token": "c", "s2_debug": "c", "s2_level": "c", "s2_face": "c", "s2_parent": "cv",
     "s2_child": "ck", "s2_range_min": "c", "s2_range_max": "c", "s2_common_ancestor": "cc", "s2_leaf": "fnn",
-    "s2_union_agg": "l", "s2_intersection_agg": "l", "s2_version": "",
+    "s2_union_agg": "l", "s2_intersection_agg": "l", "s2_version": "", "s2_map_outer": "sv", "s2_map_inner": "sv",
 }
 COVERINGS = ("s2_outer", "s2_inner")
 # A value that each kind of argument takes, and of each kind of number the first that is too great: lists, cells or
-# lists, cells, bytes; levels, faces, children, places on a face, the modulus.
-GOOD = {"l": "0c 14", "q": "0c", "c": "1c", "b": EMPTY, "v": 1, "f": 1, "k": 1, "n": 1, "m": 1}
+# lists, cells, bytes, shapes; levels, faces, children, places on a face, the modulus.
+TRIANGLE = b"\1" + struct.pack("<3I8d", 3, 1, 4, 0, 0, 9, 2, 5, 8, 0, 0)
+GOOD = {"l": "0c 14", "q": "0c", "c": "1c", "b": EMPTY, "s": TRIANGLE, "v": 1, "f": 1, "k": 1, "n": 1, "m": 1}
 TOO_GREAT = {"v": 31, "f": 6, "k": 4, "n": 2**30, "m": 4}
 NUMBERS = {"v": (-1, 31, 50, 2**31, 2**32, 2**32 + 5, -2**63), **{
     letter: (-1, TOO_GREAT[letter], 2**31, 2**32, 2**32 + 1, 2**63 - 1) for letter in "fknm"}}
@@ -650,9 +652,10 @@ class WhatIsRefused(Tests):
     def test_wrong_types(self):
         for name, letters, values in calls():
             for k, letter in enumerate(letters):
-                for wrong in {"l": (1.5,), "q": (1.5,), "c": (1.5, EMPTY), "b": ()}.get(letter, (1.0, "1", b"1")):
+                for wrong in {"l": (1.5,), "q": (1.5,), "c": (1.5, EMPTY), "b": (), "s": (1, 1.5)}.get(
+                        letter, (1.0, "1", b"1")):
                     what = "a level, face or coordinate is" if letter in NUMBERS else "a union is"
-                    what = "a cell is" if letter == "c" else what
+                    what = {"c": "a cell is", "s": "a shape is"}.get(letter, what)
                     marks = ", ".join("?" * len(values))
                     self.refused(f"s2: {what}", f"{name}({marks})", *values[:k], wrong, *values[k + 1 :])
         for wrong in (1, 1.5, "1", b"", b"\1", EMPTY.decode()):
@@ -688,7 +691,7 @@ class WhatIsRefused(Tests):
                    "s2: a latitude is a number from -90 to 90 (the longitude comes first)"}
         for expression in (
             "s2_count(1.5)", "s2_level(1.5)", "s2_parent('1', 1.5)", "s2_level(0)", "s2_leaf(6, 0, 0)",
-            "s2_outer(0, 0, 1073741823, 5, 5, 30)", "s2_count(x'01')", "s2_count(x'02')",
+            "s2_outer(0, 0, 1073741823, 5, 5, 30)", "s2_count(x'01')", "s2_count(x'02')", "s2_map_outer(1, 1)",
             "s2_count(x'01000000000000000000')", "s2_count(x'0101000000000000000000000000000000')",
             "sum(length(u)) FROM (SELECT s2_union_agg('1') OVER (ROWS 1 PRECEDING) AS u FROM s2_cells('1 3 5'))",
         ):
@@ -702,7 +705,7 @@ class WhatIsRefused(Tests):
         """Each value that an argument may not have, in its place among others that are right, is an error."""
         for k, letter in enumerate(letters):
             reason = "s2: argument out of range" if letter in NUMBERS else "s2: not a cell"
-            for wrong in {**NUMBERS, "c": NO_CELLS, "l": NO_LISTS, "q": NO_LISTS, "b": ()}[letter]:
+            for wrong in {**NUMBERS, "c": NO_CELLS, "l": NO_LISTS, "q": NO_LISTS}.get(letter, ()):
                 self.refused(reason, call, *values[:k], wrong, *values[k + 1 :])
 
     def test_levels_and_cells_that_there_are_not(self):
@@ -847,6 +850,7 @@ class WhatIsRefused(Tests):
             ("SELECT s2_intersection_agg(part) FROM parts", ()),
             ("SELECT s2_count(s2_union_agg(part) OVER (ORDER BY id)) FROM parts", ()),
             ("SELECT s2_range('0000000000000001', 'afffffffffffffff')", ()), ("SELECT s2_count(zeroblob(1000000))", ()),
+            ("SELECT s2_map_outer(?, 8), s2_map_inner(?1, 8)", (TRIANGLE,)),
         )
         for query, values in queries:
             try:

@@ -1,0 +1,58 @@
+"""Coverings of polygons as they are written, in SQLite: the texts and bytes of tests/model/maps.py, in the file that
+S2UNION_MAPS names, and what is refused."""
+
+import sqlite3
+
+from model import maps
+from model import unions as model
+from test_sqlite import EMPTY, TRIANGLE, Tests
+
+NO_POLYGONS = '{"type": "MultiPolygon", "coordinates": []}'
+
+
+class Maps(Tests):
+    def error(self, call, *values):
+        with self.assertRaises(sqlite3.OperationalError) as caught:
+            self.ask(call, *values)
+        return str(caught.exception)
+
+    def test_texts_and_bytes(self):
+        rows = list(maps.asked())
+        for row in rows:
+            shape = "?1" if row.call == "wkb" else "CAST(?1 AS TEXT)"
+            for name, cells in (("s2_map_outer", row.outer), ("s2_map_inner", row.inner)):
+                call = f"{name}({shape}, ?2)"
+                if not row.error:
+                    self.assertEqual(self.ask(call, row.data, row.level), model.file(cells), row)
+                elif row.level > 30:
+                    self.assertTrue(self.error(call, row.data, row.level).startswith(f"s2: {row.error}: "), row)
+                else:
+                    self.assertEqual(self.error(call, row.data, row.level), f"s2: {row.error}")
+        self.assertGreater(len(rows), 600)
+
+    def test_what_is_refused(self):
+        place = "byte 0, part 0, ring 0, position 0"
+        for name in "s2_map_outer", "s2_map_inner":
+            for shape, said in ((b"", "bytes are missing: " + place), ("", "the text is not JSON: " + place),
+                                ("\0", "the text is not JSON: " + place), ("{}", "an object without a type: " + place),
+                                (TRIANGLE.hex(), "the text is not JSON: " + place),
+                                (b"{}", "a geometry begins with the byte 0 or 1: " + place),
+                                (1, "a shape is a BLOB of WKB, or a TEXT of GeoJSON: 1")):
+                self.assertEqual(self.error(f"{name}(?, 3)", shape), f"s2: {said}")
+            for level, said in ((31, f"'{NO_POLYGONS[:40]}', 31"), (-1, "-1"), (2**32 + 3, "4294967299")):
+                self.assertEqual(self.error(f"{name}(?, ?)", NO_POLYGONS, level), f"s2: argument out of range: {said}")
+            self.assertEqual(self.error(f"{name}(?, 30)", TRIANGLE),
+                             f"s2: too many cells: a BLOB of length {len(TRIANGLE)}, 30")
+            self.assertEqual(self.ask(f"{name}(?, 30)", NO_POLYGONS), EMPTY)
+
+    def test_each_beginning_of_bytes(self):
+        for size in range(len(TRIANGLE)):
+            self.assertRegex(self.error("s2_map_outer(?, 3)", TRIANGLE[:size]),
+                             rf"^s2: (bytes are missing|a count beyond the end of the bytes): byte \d+, part 0, ring 0, ")
+        self.refused("s2: bytes after the geometry: ", "s2_map_outer(?, 3)", TRIANGLE + b"\0")
+
+    def test_more_cells_than_there_is_room_for_at_first(self):
+        outer, inner = (self.ask(f"s2_map_{name}(?, 13)", TRIANGLE) for name in ("outer", "inner"))
+        self.assertGreater((len(outer) + len(inner)) // 8, 5000)
+        self.assertEqual(self.ask("s2_contains(?1, ?2) + 2 * s2_contains(?2, ?1)", outer, inner), 1)
+        self.assertEqual(self.ask("s2_is_union(?) + s2_is_union(?)", outer, inner), 2)
