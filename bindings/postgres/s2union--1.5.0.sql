@@ -662,6 +662,40 @@ COMMENT ON FUNCTION s2_inner(s2union, integer, integer, integer, integer, intege
   IS 'the cells of a level that lie in what a union and a rectangle on a face share, as a union. Errors: a level '
   'outside 0 to 30, a place outside the face, more than 1,000,000 cells';
 
+CREATE FUNCTION s2_map_outer(shape bytea, level integer)
+RETURNS s2union
+AS 'MODULE_PATHNAME', 's2union_map_outer_of_wkb'
+LANGUAGE C IMMUTABLE STRICT PARALLEL SAFE COST 10000;
+COMMENT ON FUNCTION s2_map_outer(bytea, integer)
+  IS 'a union that contains polygons in WKB or GeoJSON, as they are written, whose edges are straight on the map: '
+  'cells of a level, and larger ones for four of them. Proved; since 1.5. Errors: a fault of the bytes or of the '
+  'text, a point or a line, a level outside 0 to 30, too many cells';
+
+CREATE FUNCTION s2_map_outer(shape text, level integer)
+RETURNS s2union
+AS 'MODULE_PATHNAME', 's2union_map_outer_of_geojson'
+LANGUAGE C IMMUTABLE STRICT PARALLEL SAFE COST 10000;
+COMMENT ON FUNCTION s2_map_outer(text, integer)
+  IS 'a union that contains polygons in WKB or GeoJSON, as they are written, whose edges are straight on the map: '
+  'cells of a level, and larger ones for four of them. Proved; since 1.5. Errors: a fault of the bytes or of the '
+  'text, a point or a line, a level outside 0 to 30, too many cells';
+
+CREATE FUNCTION s2_map_inner(shape bytea, level integer)
+RETURNS s2union
+AS 'MODULE_PATHNAME', 's2union_map_inner_of_wkb'
+LANGUAGE C IMMUTABLE STRICT PARALLEL SAFE COST 10000;
+COMMENT ON FUNCTION s2_map_inner(bytea, integer)
+  IS 'a union that lies in polygons in WKB or GeoJSON, as they are written. Proved; since 1.5. Errors: those of '
+  's2_map_outer';
+
+CREATE FUNCTION s2_map_inner(shape text, level integer)
+RETURNS s2union
+AS 'MODULE_PATHNAME', 's2union_map_inner_of_geojson'
+LANGUAGE C IMMUTABLE STRICT PARALLEL SAFE COST 10000;
+COMMENT ON FUNCTION s2_map_inner(text, integer)
+  IS 'a union that lies in polygons in WKB or GeoJSON, as they are written. Proved; since 1.5. Errors: those of '
+  's2_map_outer';
+
 CREATE FUNCTION s2_range(first bigint, last bigint)
 RETURNS s2union
 AS 'MODULE_PATHNAME', 's2union_range'

@@ -47,6 +47,21 @@ LANGUAGE SQL IMMUTABLE STRICT PARALLEL SAFE
 RETURN s2_interior(shape::geometry, max_cells, max_level);
 COMMENT ON FUNCTION s2_interior(text, integer, integer) IS 's2_interior of a geometry, which is written as a text';
 
+CREATE OR REPLACE FUNCTION s2_map_outer(shape geometry, level integer)
+RETURNS s2union
+LANGUAGE SQL IMMUTABLE STRICT PARALLEL SAFE
+RETURN s2_map_outer(ST_AsBinary(s2_degrees(shape)), level);
+COMMENT ON FUNCTION s2_map_outer(geometry, integer)
+  IS 'a union that contains the polygons as they are written, proved from their WKB on. Errors: a point or a line, an '
+  'open ring, a level out of range, too many cells';
+
+CREATE OR REPLACE FUNCTION s2_map_inner(shape geometry, level integer)
+RETURNS s2union
+LANGUAGE SQL IMMUTABLE STRICT PARALLEL SAFE
+RETURN s2_map_inner(ST_AsBinary(s2_degrees(shape)), level);
+COMMENT ON FUNCTION s2_map_inner(geometry, integer)
+  IS 'a union that lies in the polygons as they are written. Errors: those of s2_map_outer';
+
 CREATE OR REPLACE FUNCTION s2_geometry(region s2union)
 RETURNS geometry
 LANGUAGE SQL IMMUTABLE STRICT PARALLEL SAFE

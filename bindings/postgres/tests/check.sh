@@ -46,10 +46,13 @@ fi
 
 # ---- the tests
 
+export S2UNION_MAPS=$work/map-texts
 step "the type and its functions, against the model" tests AgainstTheModel
 step "what is refused; 100 stored values, each bit flipped" tests WhatIsRefused
 step "indexes: 2,000 questions by GIN, GiST and by a scan" tests Indexes
 step "no two regions overlap" tests Exclusion
+step "texts and bytes of shapes, with their coverings" maps
+step "coverings of polygons as they are written" tests test_maps.py
 step "s2union_geo: points and shapes, and what is refused" tests Points Shapes
 step "exact joins of points with polygons in WKB" tests test_wkb.py
 step "tiles of joins: rights, and what is kept in step" tests test_join_table.py
@@ -128,7 +131,7 @@ step "200 questions over two servers" tests Servers
 export S2UNION_ROUNDS=150
 again() {
   tests Guarded AgainstTheModel WhatIsRefused Indexes Points Shapes Exclusion Aggregates test_kept.py::AroundACall \
-    test_wkb.py test_catalogue.py::Catalogue "$@"
+    test_maps.py test_wkb.py test_catalogue.py::Catalogue "$@"
 }
 put_in counted
 step "guarded: each allocation refused in turn, nothing written over, nothing left" again Planner

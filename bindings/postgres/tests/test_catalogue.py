@@ -9,7 +9,7 @@ import unittest
 from pathlib import Path
 
 from model import unions as model
-from test_postgres import BINDINGS, TRY, Tests, ask, psql
+from test_postgres import BINDINGS, TRY, Tests, ask, psql, wkb_of
 
 CONTROL = Path(os.environ["EXTENSIONS"], "s2union.control").read_text(encoding="utf-8")
 VERSION = re.search("default_version = '(.*)'", CONTROL)[1]
@@ -85,7 +85,8 @@ CALLS = [
 # For each type of an argument that isn't a number, and for each name of one that is: a value that it takes, and those
 # that it may not have. A number that no integer has is no function's.
 RIGHT = {"s2union": "'04 0c'::s2union", "bigint": "s2_cell('0401')", "text": "'0401'::text", "bytea": "'\\x01'::bytea",
-         "shape": "'\\x010100000000000000000000000000000000000000'::bytea",
+         "shape bytea": wkb_of([(0, 0), (9, 2), (5, 8), (0, 0)]),
+         "shape text": '\'{"type": "Polygon", "coordinates": [[[0, 0], [9, 2], [5, 8], [0, 0]]]}\'::text',
          "double precision": "1", "level": "4", "face": "0", "child": "1", "modulus": "1"}
 OTHER = {"s2_neighbors": {"level": "9"}}  # not above the cell's
 WRONG = {"bigint": ("0::bigint", "2::bigint", "'-1'::bigint", "'-9223372036854775808'::bigint"),
@@ -113,8 +114,8 @@ class Catalogue(Tests):
         right, wrong = [], []
         for name, kind, rows, types, names in (line.split("|") for line in said):
             types, names = types.split(","), names.split(",")
-            kinds = [names[k] if names[k] in {*WRONG, "shape"} else "place" if each == "integer" else each
-                     for k, each in enumerate(types)]
+            kinds = [names[k] if names[k] in WRONG else f"shape {each}" if names[k] == "shape" else
+                     "place" if each == "integer" else each for k, each in enumerate(types)]
             values = [{**RIGHT, **OTHER.get(name, {})}.get(each, "5") for each in kinds]
             call = f"(SELECT count(*) FROM {name}({{}}))" if rows == "t" else f"{name}({{}})"
             call = f"(SELECT {name}(v) FROM (SELECT {{}} AS v) t)" if kind == "a" else call

@@ -613,6 +613,7 @@ class WhatIsRefused(Tests):
             ("SELECT ARRAY[NULL::bigint]::s2union", "22004"), ("SELECT s2_parent('04', 31)", "22023"),
             ("SELECT s2_leaf_at(541, 0)", "22003"), ("SELECT s2_leaf_at(0, -91)", "22003"),
             ("SELECT s2_longitude(2)", "22023"), ("SELECT s2_latitude(2)", "22023"),
+            ("SELECT s2_map_outer('[]', 3)", "22P02"), ("SELECT s2_map_outer('[]'::bytea, 3)", "22P03"),
         ]
         psql(STATE + "CREATE EXTENSION IF NOT EXISTS s2union_geo;")
         self.all_are([(f"state_of($s${query}$s$)", code) for query, code in codes])
@@ -1638,6 +1639,7 @@ class Guarded(Tests):
         """)
 
     def test_each_allocation_refused_in_turn(self):
+        triangle = [(0, 0), (9, 2), (5, 8), (0, 0)]
         over_parts = (
             "part | '3'", "part & '0c 14'", "'1'::s2union - part", "part # '0c 14'", "~part", "part::bytea",
             "part::bytea::s2union",
@@ -1655,6 +1657,9 @@ class Guarded(Tests):
             "SELECT array_agg(u) FROM (SELECT s2_union_agg(part) AS u FROM parts GROUP BY id % 2 ORDER BY 1) g",
             "SELECT s2_outer(0, 5, 9000, 7, 9000, 24)", "SELECT '1 04 3'::s2union",
             "SELECT s2_inner(0, 5, 9000, 7, 9000, 24)", "SELECT s2_range(s2_cell('0000000000000001'), s2_cell('3'))",
+            f"SELECT s2_map_outer({wkb_of(triangle)}, 6)", f"SELECT s2_map_inner({wkb_of(triangle)}, 9)",
+            """SELECT s2_map_outer('{"type": "Polygon", "coordinates": [[[0, 0], [9, 2], [5, 8], [0, 0]]]}', 4)""",
+            f"SELECT s2_map_inner({wkb_of(triangle[1:])}, 4)", "SELECT s2_map_outer('[]', 4)",
             "SELECT s2_token(s2_parent(s2_cell('1c'), 0)), s2_cell('04')::s2union", "SELECT indexed('gin')",
             "SELECT s2_longitude('04') + s2_latitude('1/0') + s2_latitude(s2_leaf_at(2.3522, 48.8566))",
             "SELECT s2_latitude('zz')", "SELECT s2_leaf_at(0, 91)",
@@ -1678,7 +1683,7 @@ class Guarded(Tests):
         """The call takes no other one, its error is that of the cancel, and then the session answers as before."""
         ring = [(0, 0), (30, 5), (40, 40), (10, 30), (-5, 20), (0, 0)]
         calls = [f"s2_covering({wkb_of(ring)}, 500)", f"s2_interior({wkb_of(ring)}, 500)",
-                 f"(s2_coverings({wkb_of(ring)}, 500)).interior"]
+                 f"(s2_coverings({wkb_of(ring)}, 500)).interior", f"s2_map_inner({wkb_of(ring)}, 9)"]
         script = """SET client_min_messages = error; CREATE EXTENSION IF NOT EXISTS s2union_geo;
             CREATE FUNCTION pg_temp.cancelled(query text, OUT all_takes bigint, OUT wrong text) LANGUAGE plpgsql AS $$
             DECLARE answer text; again text; n bigint; takes bigint;
