@@ -1114,7 +1114,8 @@ module _ {A : Type 0} (id : A → ℕ) (sound : A → Type 0) (work : A → ℕ)
               (λ (v : ((has_leaf kept x || any_covers id old_ahead x) || has_leaf [] x) ≡ true). inl (there x v))
               (λ (v : o x). inr (inl v)) (z x b)))
               (λ (z : (most ≤ length kept) ⊎ IsMuchCrossing cr (looked_into most) allowed (k + 1)).
-              inr (subst (λ n. (most ≤ length kept) ⊎ IsMuchCrossing cr (looked_into most) allowed n) at z)) (f.looked t))
+              inr (subst (λ n. (most ≤ length kept) ⊎ IsMuchCrossing cr (looked_into most) allowed n) at z))
+              (f.looked t))
               (cases_lt j (k + 1));
           looked = λ t. ⊎_elim
               (λ (z : (x : ℕ) → x < LEAVES →

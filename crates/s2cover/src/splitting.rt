@@ -1,6 +1,6 @@
 //! Coverings of few cells, for any region that is walked down from the faces: level by level, each cell
-//! that crosses the region is split if its children fit, those first that have the fewest, and of these those first that
-//! have the fewest inside.
+//! that crosses the region is split if its children fit, those first that have the fewest, and of these those first
+//! that have the fewest inside.
 ghost use Rattle.std.specs.Prelude.{◌≡◌, ◌+◌, ◌*◌, ◌<◌, ◌≤◌, ◌∷◌, ◌⊎◌, [], ℕ, Bool, List, true, false, All, IfOk};
 ghost use Rattle.std.specs.Prelude.{Contains, IsTrue, drop, length, map, max, take};
 ghost use Rattle.std.specs.List.{sum_by};
