@@ -2,14 +2,17 @@
 use Rattle.std.proofs.Common.{◌≡◌, ◌≢◌, ℕ, ◌+◌, ◌-◌, ◌*◌, ◌/◌, ◌^◌, ◌<◌, ◌≤◌, Bool, true, false, ◌||◌, cond}
 use Rattle.std.proofs.Common.{List, [], ◌∷◌, ◌++◌, length, map, take, drop, All, AllPairs, Contains, refl, sym}
 use Rattle.std.proofs.Common.{◌∙◌, ap, arith, subst, ◌⊎◌, inl, inr, ⊎_elim, length-append}
-use Rattle.std.proofs.Common.{append_assoc, append-nil}
+use Rattle.std.proofs.Common.{append_assoc, append-nil, reverse}
 use Rattle.std.specs.List.{sum_by}
+use Rattle.std.specs.List.Sorted.{IsPermutation}
 use Rattle.std.proofs.lemmas.Bool.{both_ways, or_left, or_right, or_cases, cases_lt}
-use Rattle.std.proofs.lemmas.List.{length-map, map-append}
+use Rattle.std.proofs.lemmas.List.{length-map, length-reverse, map-append}
 use Rattle.std.proofs.lemmas.List.Elements.{All-append, All-push, All-pop, All-nil, All-take, All-contains}
 use Rattle.std.proofs.lemmas.List.Elements.{All-contains_itself, All-map}
 use Rattle.std.proofs.lemmas.List.Elements.{All-weaker}
 use Rattle.std.proofs.lemmas.List.Folds.{list_any-append}
+use Rattle.std.proofs.lemmas.List.Sorted.{All-permutation, IsPermutation-reverse, length_permutation}
+use Rattle.std.proofs.lemmas.List.Sorted.{sum_by-IsPermutation}
 use Rattle.std.proofs.lemmas.List.Sums.{sum_by-append, sum_by-cons, sum_by_push}
 use Rattle.s2cell.specs.Cell.{IsCell, level_of, face_of, place_of, first_leaf, covers, parent_of, child_of, id_at}
 use Rattle.s2cell.specs.declared.TheConstants.{LEAVES}
@@ -306,6 +309,19 @@ module _ {F A : Type 0} (Few : F → Type 0) where
         none = λ h. absurd (turn h);
         sizes = subst (λ n. Sizes whole most n (length kept) (length ahead)) same s.sizes;
       }
+
+  pub settled_turned : {whole : Bool} {most limit : ℕ} {families others : List F} (others2 : List F) {kept : List ℕ}
+      {ahead : List A} → others2 ≡ reverse others → Settled whole most limit families others kept ahead →
+      Settled whole most limit families others2 kept ahead
+  settled_turned {whole} {most} {families = families} {others} others2 {kept} {ahead} e s = record {
+    few = s.few;
+    few_others = All-permutation Few others others2
+        (subst (IsPermutation others) (sym e) (IsPermutation-reverse others))
+        s.few_others;
+    none = λ h. e ∙ ap reverse (s.none h);
+    sizes = subst (λ n. Sizes whole most (length families + n) (length kept) (length ahead))
+        (sym (ap length e ∙ length-reverse others)) s.sizes;
+  }
 
 module _ {A : Type 0} (id : A → ℕ) where
   -- the quadrants of `old` whose cells are kept; `ahead` are left
@@ -754,6 +770,32 @@ module _ {A : Type 0} (id : A → ℕ) (sound : A → Type 0) (work : A → ℕ)
               let q = length-map families2 cell in
               let r = length-map others cell in
               let t = length-map others2 cell in
+              omega arith) (s.front al d k sp a fr);
+        }
+
+    pub moved_turned : {whole : Bool} {most : ℕ} {old : List F} {old_kept : List ℕ} {old_ahead : List A}
+        {families others : List F} (others2 : List F) {kept : List ℕ} {ahead : List A} → others2 ≡ reverse others →
+        Moved whole most old old_kept old_ahead families others kept ahead →
+        Moved whole most old old_kept old_ahead families others2 kept ahead
+    moved_turned {families = families} {others} others2 e s =
+        let same = subst (IsPermutation others) (sym e) (IsPermutation-reverse others) in
+        record {
+          families_are = λ k a.
+              let was = s.families_are k a in
+              (was.0, All-permutation (Fam k) others others2 same was.1);
+          front = λ al d k sp a fr. front_rest (map cell families ++ map cell others2)
+              (λ x.
+              let b = times-append (λ n. n) (map cell families) (map cell others) x in
+              let c = times-append (λ n. n) (map cell families) (map cell others2) x in
+              let g = times-map cell others x in
+              let h = times-map cell others2 x in
+              let j = sum_by-IsPermutation (λ f. cond (covers (cell f) x) 1 0) others others2 same in
+              omega arith)
+              (let b = length-append (map cell families) (map cell others) in
+              let c = length-append (map cell families) (map cell others2) in
+              let g = length-map others cell in
+              let h = length-map others2 cell in
+              let j = length_permutation others others2 same in
               omega arith) (s.front al d k sp a fr);
         }
 

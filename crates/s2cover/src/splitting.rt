@@ -282,7 +282,7 @@ fn keep_whole<R: RoughRegion>(
     Ok(())
 }
 
-/// Settles the families whose turn is at most `limit`, and answers the others: if none is settled, all as they are.
+/// Settles the families whose turn is at most `limit`, the last first, and answers the others in their order.
 fn settle_some<R: RoughRegion>(
     alloc: Global,
     mut families: Vec<Family<R::At>>,
@@ -325,6 +325,7 @@ fn settle_some<R: RoughRegion>(
             add(&mut others, family)?;
         }
     }
+    others.reverse();
     Ok(others)
 }
 

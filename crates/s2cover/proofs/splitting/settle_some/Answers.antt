@@ -3,8 +3,8 @@ use Rattle.std.specs.Prelude.{Some}
 use Rattle.std.proofs.lemmas.List.Elements.{All-pop}
 use Rattle.s2cover.specs.Working.Descent.{is_outer}
 use Rattle.s2cover.specs.Working.Splitting.{Front, IsFamily, Sizes}
-use Rattle.s2cover.proofs.Splittings.{moved_next, moved_none, moved_other, settled_next, settled_none, settled_other}
-use Rattle.s2cover.proofs.Splittings.{settled_sizes, popped, ended}
+use Rattle.s2cover.proofs.Splittings.{moved_next, moved_none, moved_other, moved_turned, settled_next, settled_none}
+use Rattle.s2cover.proofs.Splittings.{settled_other, settled_sizes, settled_turned, popped, ended}
 use Rattle.s2cover.proofs.splitting.settle_some.Goals as goal
 
 pub loop-family-init : goal.loop-family-init
@@ -89,21 +89,30 @@ loop-family-preserved-in-Continue-1 g c =
     )
 
 pub returns-clause-none : goal.returns-clause-none
-returns-clause-none g c = c.loop-family.invariant.0.none
+returns-clause-none g c = (settled_turned (λ f. length f.inside.items + length f.across.items ≤ 4)
+    c.reverse.new.self.items c.reverse.ensures.items c.loop-family.invariant.0).none
 
 pub returns-clause-few : goal.returns-clause-few
-returns-clause-few g c = c.loop-family.invariant.0.few_others
+returns-clause-few g c = (settled_turned (λ f. length f.inside.items + length f.across.items ≤ 4)
+    c.reverse.new.self.items c.reverse.ensures.items c.loop-family.invariant.0).few_others
 
 pub returns-clause-sizes : goal.returns-clause-sizes
 returns-clause-sizes g c =
-    let none : length c.loop-family.families.items + length c.loop-family.others.items
-    ≡ length c.loop-family.others.items =
+    let left = c.reverse.new.self.items in
+    let none : length c.loop-family.families.items + length left ≡ length left =
     omega (arith, c.in_default.ensures.cases.0, c.loop-family.families.ok) in
     subst (λ n. Sizes (is_outer c.args.kind) c.args.most n (length c.loop-family.kept.items)
-    (length c.loop-family.ahead.items)) none c.loop-family.invariant.0.sizes
+    (length c.loop-family.ahead.items)) none (settled_turned (λ f. length f.inside.items + length f.across.items ≤ 4)
+    left c.reverse.ensures.items c.loop-family.invariant.0).sizes
 
 pub returns-clause-families : goal.returns-clause-families
-returns-clause-families g c r k a = ((c.loop-family.invariant.1 r).families_are k a).1
+returns-clause-families g c r k a = ((moved_turned g.R.RoughRegion.id (g.R.RoughRegion.sound r) g.R.RoughRegion.work
+    (g.R.RoughRegion.outside r) (g.R.RoughRegion.inside r) (g.R.RoughRegion.crosses r)
+    (λ f. f.cell) (λ f. length f.inside.items + length f.across.items ≤ 4)
+    (λ k f. IsFamily g.R.RoughRegion.id (g.R.RoughRegion.sound r) g.R.RoughRegion.work
+    (g.R.RoughRegion.outside r) (g.R.RoughRegion.inside r) (g.R.RoughRegion.crosses r) k f.cell
+    f.inside.items f.across.items)
+    c.reverse.new.self.items c.reverse.ensures.items (c.loop-family.invariant.1 r)).families_are k a).1
 
 pub returns-clause-front : goal.returns-clause-front
 returns-clause-front g c r al d k sp a fr =
@@ -112,5 +121,11 @@ returns-clause-front g c r al d k sp a fr =
     subst (λ u. Front g.R.RoughRegion.id (g.R.RoughRegion.sound r) g.R.RoughRegion.work
     (g.R.RoughRegion.outside r) (g.R.RoughRegion.inside r) (g.R.RoughRegion.crosses r)
     (is_outer c.args.kind) al c.args.most d k k sp (map (λ f. f.cell) u ++ map (λ f. f.cell)
-    c.loop-family.others.items) c.loop-family.kept.items c.loop-family.ahead.items) none
-    ((c.loop-family.invariant.1 r).front al d k sp a fr)
+    c.reverse.new.self.items) c.loop-family.kept.items c.loop-family.ahead.items) none
+    ((moved_turned g.R.RoughRegion.id (g.R.RoughRegion.sound r) g.R.RoughRegion.work
+    (g.R.RoughRegion.outside r) (g.R.RoughRegion.inside r) (g.R.RoughRegion.crosses r)
+    (λ f. f.cell) (λ f. length f.inside.items + length f.across.items ≤ 4)
+    (λ k f. IsFamily g.R.RoughRegion.id (g.R.RoughRegion.sound r) g.R.RoughRegion.work
+    (g.R.RoughRegion.outside r) (g.R.RoughRegion.inside r) (g.R.RoughRegion.crosses r) k f.cell
+    f.inside.items f.across.items)
+    c.reverse.new.self.items c.reverse.ensures.items (c.loop-family.invariant.1 r)).front al d k sp a fr)
