@@ -12,7 +12,9 @@
 extern void* _current_thd(void) __attribute__((weak));
 extern int thd_killed(const void* thd) __attribute__((weak));
 extern void my_error(unsigned number, unsigned long flags, ...) __attribute__((weak));
-enum { QUERY_INTERRUPTED = 1317 };
+/* How its own functions warn of a value for which they answer NULL. */
+extern void my_printf_error(unsigned number, const char* form, unsigned long flags, ...) __attribute__((weak));
+enum { QUERY_INTERRUPTED = 1317, NO_GEOMETRY = 1416, AS_WARNING = 2048 };
 static int is_killed(void* of) {
   const void* thd = of;
   if (_current_thd && thd_killed && my_error) thd = _current_thd();
@@ -25,8 +27,8 @@ static const s2u_heap_asked killed = {is_killed, NULL};
 typedef char flag; /* where the server hears whether the answer is NULL */
 
 /* ---- what is given. The letters of arguments: a file to be asked, a list, a text or a list, a cell, what may be a
- * cell, a number, degrees, bytes, or the WKB of a shape. The first three are unions. A capital letter may be left out.
- */
+ * cell, a number, degrees, bytes, the WKB of a shape, or its WKB or GeoJSON. The first three are unions. A capital
+ * letter may be left out. */
 
 typedef struct {
   uint64_t* ids; /* of a list */
@@ -51,13 +53,14 @@ typedef struct {
 static const char* missed(const UDF_ARGS* args, unsigned k, char letter) {
   int is_text = args->arg_type[k] == STRING_RESULT;
   if (is_text && args->lengths[k] == 0 && !args->args[k]) return NULL;
-  if (args->arg_type[k] == INT_RESULT && letter != 'w') return NULL;
+  if (args->arg_type[k] == INT_RESULT && !strchr("ws", letter)) return NULL;
   switch (letter) {
     case 'm': case 'b': return NULL;
     case 'd': return is_text ? "a longitude or a latitude is a number" : NULL;
     case 'n': return "a level or the number of a child is an integer";
     case 'N': return "a number of cells or a level is an integer";
     case 'w': return is_text ? NULL : "a shape is a BLOB of WKB";
+    case 's': return is_text ? NULL : "a shape is a BLOB of WKB, or a text of GeoJSON";
     case 'c': return is_text ? NULL : "a cell is an integer or a text";
     default: return is_text ? NULL : "a union is a BLOB, or cells in an integer or a text";
   }
@@ -166,7 +169,7 @@ static int read_argument(state* kept, const UDF_ARGS* args, unsigned k, char let
     case 'm': a->number = (uint32_t)read_cell(args, k, &a->cell); return 1;
     case 'n': case 'N': return read_number(args, k, &a->number);
     case 'd': return read_degrees(args, k, &a->degrees);
-    case 'w': return read_bytes(args, k, a);
+    case 'w': case 's': return read_bytes(args, k, a);
     default: return a->number = is_file(args, k) && s2u_file_check(BYTES(k)) == 1, 1;
   }
 }
@@ -358,6 +361,62 @@ static uint8_t* covering_of(const argument* a, unsigned count, int is_outer, siz
 
 KEEPER(s2_covering, "wNN", LONGEST, covering_of(a, args->arg_count, 1, &len))
 KEEPER(s2_interior, "wNN", LONGEST, covering_of(a, args->arg_count, 0, &len))
+
+/* ---- coverings of polygons as they are written, proved, in WKB or GeoJSON. The server doesn't say which of the two
+ * comes: WKB begins with the byte 0 or 1, as no text of JSON does. */
+
+typedef struct {
+  size_t n, outer; /* both coverings' cells, of which those of the outer one come first */
+  s2u_shape_fault fault;
+} mapped;
+typedef int32_t mapper(const argument* a, uint64_t* out, size_t room, mapped* m);
+
+#define SHAPE_MAKER(name, f, ...)                                                                   \
+  static int32_t name(const argument* a, uint64_t* out, size_t room, mapped* m) {                    \
+    int is_wkb = a->size > 0 && a->bytes[0] < 2;                                                     \
+    return is_wkb ? f##_wkb(a->bytes, a->size, __VA_ARGS__, out, room, &m->n, &m->outer, &m->fault)  \
+                  : f##_geojson((const char*)a->bytes, a->size, __VA_ARGS__, out, room, &m->n, &m->outer, &m->fault); \
+  }
+SHAPE_MAKER(on_map, s2u_map, a[1].number, S2U_MAP_WORK)
+
+/* Both coverings; the caller frees `out`. */
+static int32_t made_by(mapper* make, const argument* a, uint64_t** out, mapped* m) {
+  enum { FIRST_ROOM = 4096 };
+  int32_t status = S2U_ROOM;
+  size_t room = FIRST_ROOM;
+  s2u_heap_ask(&killed);
+  for (int turn = 0; turn < 2 && status == S2U_ROOM; turn++, room = m->n) {
+    free(*out);
+    *out = malloc(8 * room);
+    status = *out ? make(a, *out, room, m) : S2U_MEMORY;
+  }
+  s2u_heap_ask(NULL);
+  return status;
+}
+
+/* Says why there is no covering, where the server has warnings. */
+static void warn(int32_t status, const s2u_shape_fault* at) {
+  if (status == S2U_OK || status == S2U_MEMORY || !my_printf_error) return;
+  if (status == S2U_SHAPE)
+    my_printf_error(NO_GEOMETRY, "s2: %s: byte %zu, part %zu, ring %zu, position %zu", AS_WARNING,
+                    s2u_fault_text(at->name), at->byte, at->part, at->ring, at->position);
+  else
+    my_printf_error(NO_GEOMETRY, "s2: %s", AS_WARNING, s2u_status_text(status));
+}
+
+static uint8_t* one_of_both(mapper* make, const argument* a, int is_outer, size_t* len) {
+  mapped m;
+  uint64_t* out = NULL;
+  uint8_t* file = NULL;
+  int32_t status = made_by(make, a, &out, &m);
+  warn(status, &m.fault);
+  if (is_made(status)) file = is_outer ? file_of(out, m.outer, len) : file_of(out + m.outer, m.n - m.outer, len);
+  free(out);
+  return file;
+}
+
+KEEPER(s2_map_outer, "sn", LONGEST, one_of_both(on_map, a, 1, &len))
+KEEPER(s2_map_inner, "sn", LONGEST, one_of_both(on_map, a, 0, &len))
 
 /* ---- cells around a cell, of its own level if no other is named, and around a union; the box of a union */
 

@@ -17,6 +17,7 @@ built() { # LANGUAGE FLAGS..
 step "build" built mariadb
 step "build, for SQLite" built sqlite
 [ "$failed" -eq 0 ] || finish
+step "texts and bytes of shapes, with their coverings" maps
 beside_sqlite() {
   cd "$top/bindings/mariadb/tests" || return
   export PYTHONPATH=$top/tests:$work/usr/lib/python PYTHONDONTWRITEBYTECODE=1 WORK=$work

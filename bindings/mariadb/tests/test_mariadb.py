@@ -8,6 +8,7 @@ import sqlite3
 import subprocess
 import unittest
 
+from model import maps
 from model.engine import INSTALL, WORK, MariadbServer
 from model.random_cells import FACE, Random, signed
 from model.shapes import box, of_lines, of_polygons, shapes_in_wkb, wkb_of
@@ -49,13 +50,18 @@ CELLS = [signed(cell) for cell in {*NO_CELLS, *(cell for cells in LISTS for cell
 NUMBERS = [-2**63, -1, *range(5), 12, 29, 30, 31, 99, 100, 2**32, 2**63 - 1]
 DEGREES = [0.0, -0.0, 2.3522, 48.8566, -90.0, 90.0, 90.0000001, 180.0, 540.0, -540.0, 540.0000001, 1e30, -1e-300]
 SQUARE, LINE = wkb_of(of_polygons([box(2, 48, 3, 49)])), wkb_of(of_lines([(0, 0), (10, 5)]))
+POLYGON = '{"type": "Polygon", "coordinates": [[[2, 48], [3, 48], [3, 49], [2, 48]]]}'
+GEOJSON = [POLYGON, POLYGON[:-1], "", " " + POLYGON, "{}", '{"type": "Feature", "geometry": null}',
+           POLYGON.replace("3", "é")]
 COUNTS = [-1, 7, 300, 1_000_001, 2**32 + 9]
 DEPTHS = [-1, 9, 30, 31, 2**32 + 9]
+COARSE = [-1, 0, 5, 31, 2**32 + 5]
 KINDS = {"files": ("longblob", FILES), "texts": ("longtext", TEXTS), "cells": ("bigint", CELLS),
          "numbers": ("bigint", NUMBERS), "degrees": ("double", DEGREES), "shapes": ("longblob", shapes_in_wkb()),
-         "counts": ("bigint", COUNTS), "depths": ("bigint", DEPTHS)}
+         "counts": ("bigint", COUNTS), "depths": ("bigint", DEPTHS), "geojson": ("longtext", GEOJSON),
+         "coarse": ("bigint", COARSE)}
 UNION, CELL_OF, NUMBER, DEGREE = ("files", "texts", "cells"), ("texts", "cells"), ("numbers",), ("degrees", "numbers")
-SHAPE, COUNT, DEPTH = ("shapes",), ("counts",), ("depths",)
+SHAPE, COUNT, DEPTH, EITHER, COARSE_OF = ("shapes",), ("counts",), ("depths",), ("shapes", "geojson"), ("coarse",)
 ANY = tuple(KINDS)
 TAKES = {
     **dict.fromkeys(("s2_contains", "s2_intersects", "s2_union", "s2_intersection", "s2_difference",
@@ -65,17 +71,19 @@ TAKES = {
     **dict.fromkeys(("s2_level", "s2_face", "s2_range_min", "s2_range_max", "s2_cell", "s2_token", "s2_longitude",
                      "s2_latitude"), (CELL_OF,)),
     **dict.fromkeys(("s2_covering", "s2_interior"), (SHAPE, COUNT, DEPTH)),
+    **dict.fromkeys(("s2_map_outer", "s2_map_inner"), (EITHER, COARSE_OF)),
     **dict.fromkeys(("s2_parent", "s2_child"), (CELL_OF, NUMBER)),
     "s2_neighbors": (CELL_OF, DEPTH), "s2_expanded": (UNION, NUMBER), "s2_bounds": (UNION,), "s2_area": (UNION,),
     "s2_common_ancestor": (CELL_OF, CELL_OF), "s2_leaf_at": (DEGREE, DEGREE), "s2_is_cell": (ANY,),
     "s2_is_union": (ANY,),
 }
-SHAPED = ("s2_covering", "s2_interior")
-LEAST = dict.fromkeys((*SHAPED, "s2_neighbors"), 1)  # arguments, if some may be left out
+MAPS = ("s2_map_outer", "s2_map_inner")
+SHAPED = ("s2_covering", "s2_interior", *MAPS)
+LEAST = dict.fromkeys(("s2_covering", "s2_interior", "s2_neighbors"), 1)  # arguments, if some may be left out
 # SQLite has one function for a cell and for a region.
 BESIDE = {"s2_contains_cell": "s2_contains", "s2_intersects_cell": "s2_intersects"}
 TEXTS_OF = {"s2_union", "s2_intersection", "s2_difference", "s2_symmetric_difference", "s2_complement", "s2_normalise",
-            "s2_token", "s2_tokens", "s2_expanded", *LEAST}
+            "s2_token", "s2_tokens", "s2_expanded", *MAPS, *LEAST}
 READ_BY = {"s2_longitude": float, "s2_latitude": float, "s2_area": float, "s2_bounds": json.loads}
 
 
@@ -162,6 +170,7 @@ class BesideSqlite(MariadbServer):
         union, cell = "a union is a BLOB, or cells in an integer or a text", "a cell is an integer or a text"
         number, degree = "a level or the number of a child is an integer", "a longitude or a latitude is a number"
         shape, count = "a shape is a BLOB of WKB", "a number of cells or a level is an integer"
+        square = f"x'{SQUARE.hex()}'"
         self.ask("USE trial; CREATE TABLE none (t text, d double, m decimal(20, 0), x varchar(9))")
         columns = {"t": ("'3'", ("'abc'", "'2,3522'", "''")), "d": ("3e0", ("1e30", "5180949494577750587e0")),
                    "m": ("3.5", ("99999999999999999999", "-0.5"))}
@@ -169,7 +178,7 @@ class BesideSqlite(MariadbServer):
         for name, takes in TAKES.items():
             for place, kinds in enumerate(takes):
                 what = {UNION: union, CELL_OF: cell, NUMBER: number, DEGREE: degree, SHAPE: shape, COUNT: count,
-                        DEPTH: count}.get(kinds)
+                        DEPTH: count, EITHER: f"{shape}, or a text of GeoJSON", COARSE_OF: number}.get(kinds)
                 for column, (sample, others) in columns.items():
                     fits = kinds == ANY or ("degrees" in kinds if column != "t" else {"texts", "shapes"} & {*kinds})
                     for value in (column, f"MIN({column})", sample, *others):
@@ -179,7 +188,7 @@ class BesideSqlite(MariadbServer):
                         self.assertEqual(error[-len(wanted):] if wanted else error, wanted, (name, given))
                         asked += 1
                         if not fits and value in (sample, *others) and column != "m":
-                            other = [{DEGREE: "0", SHAPE: f"x'{SQUARE.hex()}'"}.get(each, "1") for each in takes]
+                            other = [{DEGREE: "0", SHAPE: square, EITHER: square}.get(each, "1") for each in takes]
                             other[place] = value
                             statement = f"SELECT {BESIDE.get(name, name)}({', '.join(other)})"
                             with self.assertRaises(sqlite3.OperationalError, msg=statement):
@@ -196,6 +205,31 @@ class BesideSqlite(MariadbServer):
         said = self.ask(f"""USE trial; SELECT s2_contains_cell(s2_covering(ST_AsWKB({square})), s2_leaf_at(2.5, 48.5)),
             s2_contains_cell(s2_interior(ST_AsWKB({square}), 9), s2_leaf_at(3.5, 48.5)), s2_covering({square})""")
         self.assertEqual(said, "1\t0\tNULL\n")
+
+    def test_texts_and_bytes(self):
+        """Those of tests/model/maps.py, in the file that S2UNION_MAPS names: an error is NULL and a warning."""
+        asked = list(maps.asked())
+        calls = [f"SELECT hex({name}({shown(row.data)}, {row.level})); SHOW WARNINGS; SELECT '--';"
+                 for row in asked for name in MAPS]
+        said = self.ask("USE trial; " + "\n".join(calls)).split("\n--\n")
+        wanted = [f"NULL\nWarning\t1416\ts2: {row.error}" if row.error else file(cells).hex().upper()
+                  for row in asked for cells in (row.outer, row.inner)]
+        for call, answer, right in zip(calls, said, [*wanted, ""], strict=False):
+            self.assertEqual(answer, right, call[:400])
+        self.assertEqual((len(said), len(asked) > 600), (len(wanted) + 1, True))
+
+    def test_a_warning_of_a_shape(self):
+        """A column that is strict takes no such NULL, as of the server's own functions."""
+        said = self.ask(f"USE trial; SELECT s2_map_outer('{POLYGON}', 31), s2_map_inner(x'{SQUARE.hex()}', 30);"
+                        " SHOW WARNINGS").splitlines()
+        self.assertEqual(said, ["NULL\tNULL", "Warning\t1416\ts2: argument out of range",
+                                "Warning\t1416\ts2: too many cells"])
+        self.ask("USE trial; CREATE TABLE strict (region longblob)")
+        self.assertIn("s2: the text is not JSON: byte 0, part 0, ring 0, position 0",
+                      self.error("USE trial; INSERT INTO strict VALUES (s2_map_outer('x', 9))"))
+        self.assertEqual(self.ask("USE trial; SELECT count(*) FROM strict"), "0\n")
+        self.assertEqual(self.ask(f"SET NAMES latin1; SELECT s2_map_outer('{POLYGON}', 9) = s2_map_outer(x'"
+                                  f"{POLYGON.encode().hex()}', 9)"), "1\n")
 
     @classmethod
     def error(cls, statement):
@@ -224,7 +258,8 @@ class BesideSqlite(MariadbServer):
         said = self.ask(f"USE trial; CREATE TABLE kept AS SELECT s2_token(1), hex(s2_normalise('1')), "
                         f"s2_tokens(x'{two}'); SELECT * FROM kept")
         self.assertEqual(said, f"{1:016x}\t{file([FACE]).hex().upper()}\t{words([1, 9])}\n")
-        given = {UNION: "'47e66c 89c24'", CELL_OF: "'89c25'", SHAPE: f"x'{SQUARE.hex()}'", NUMBER: "9"}
+        given = {UNION: "'47e66c 89c24'", CELL_OF: "'89c25'", SHAPE: f"x'{SQUARE.hex()}'", NUMBER: "9",
+                 EITHER: f"'{POLYGON}'", COARSE_OF: "9"}
         names = sorted(TEXTS_OF | {"s2_bounds"})
         calls = [f"{name}({', '.join(given[each] for each in TAKES[name][: LEAST.get(name)])})" for name in names]
         columns = ", ".join(f"{call} AS {name}" for name, call in zip(names, calls))
@@ -255,7 +290,8 @@ class BesideSqlite(MariadbServer):
         self.ask(f"""USE trial; CREATE TABLE large (u longblob, w longblob, t longtext);
             INSERT INTO large VALUES (x'{file(many).hex()}', x'{file(many[::-1]).hex()}', '{words(many)}');""")
         for call in (f"length(s2_covering(x'{SQUARE.hex()}', 500))", f"s2_interior(x'{LINE.hex()}', 500)",
-                     f"s2_covering(x'{SQUARE[:-1].hex()}')", "length(s2_union(u, w))", "length(s2_complement(u))",
+                     f"s2_covering(x'{SQUARE[:-1].hex()}')", f"length(s2_map_outer(x'{SQUARE.hex()}', 9))",
+                     f"s2_map_inner(x'{LINE.hex()}', 9)", "length(s2_union(u, w))", "length(s2_complement(u))",
                      "length(s2_tokens(u))", "length(s2_normalise(t))", "s2_contains(u, t)", "s2_contains(w, u)",
                      "s2_union(u, 'x')", "s2_count(w)", "s2_intersects_cell(t, 1)", "s2_bounds(u)", "s2_area(w)",
                      "s2_neighbors('1', 9)", "s2_neighbors('1', 30)", "s2_expanded(u, 30)"):

@@ -36,7 +36,7 @@ static const char* const queries[] = {
   "SELECT tile, hex(t.part), x FROM parts, s2_tiles(parts.part, 1) AS t WHERE id < 3",
   "SELECT hex(value), count(*) FROM s2_prepared('04 14'), parts WHERE s2_intersects(value, part)",
   "SELECT name, arguments, result FROM s2_functions WHERE extension = 's2union_geo'",
-  "SELECT hex(s2_map_outer(" SHAPE ", 6)), s2_tokens(s2_map_inner(" SHAPE ", 9))",
+  "SELECT hex(s2_map_outer(" SHAPE ", 3)), s2_tokens(s2_map_inner(" SHAPE ", 4))",
   "SELECT s2_count(s2_map_outer('{\"type\": \"Polygon\", \"coordinates\": [[[0,0], [9,2], [5,8], [0,0]]]}', 3))",
   "SELECT s2_map_outer('{\"type\": \"Polygon\", \"coordinates\": [[[0,0], [9,2], [5,8]]]}', 3)",
   "SELECT s2_map_inner(" SHAPE " || x'00', 3)",

@@ -82,6 +82,7 @@ class Random(random_cells.Random):
 
 class Tests(unittest.TestCase):
     def setUp(self):
+        gc.collect()  # what tests of another file have left
         self.before = sqlite.sqlite3_memory_used()
         self.random = Random(20261122)
         self.db = sqlite3.connect(":memory:", isolation_level=None)
