@@ -4,12 +4,15 @@ import re
 import textwrap
 
 import languages
+from layout import folded
 from python_calls import RENAMED
 
 NAMES = {"next": "next_cell", "prev": "previous_cell", "cell_contains": "contains", "cell_intersects": "intersects",
          "square_of": "square", "range": "from_range", "encode": "to_bytes", "decode": "from_bytes",
          "token_fields": "tokens"}
-ERRORS = {"NO_CELL": "NotACellError", "ARGUMENT": "OutOfRangeError", "MANY": "TooManyCellsError"}
+ERRORS = {"NO_CELL": "NotACellError", "ARGUMENT": "OutOfRangeError", "MANY": "TooManyCellsError",
+          "SHAPE": "ShapeError"}
+USUAL = {"work": "_library.MAP_WORK"}  # what an argument is if it is left out
 CHANGED = "The bytes were changed since they were checked, and are no union file."
 NO_MEMORY = "There is no memory for the result."
 DEF = re.compile(r"^ *def \w+\((?:[^()]|\([^()]*\))*\)(?: -> .*)?:\n\Z", re.M)
@@ -23,7 +26,8 @@ def as_sentence(text):
 def kind_of(annotation):
     """A type, as docstrings write it."""
     kinds = {"SupportsIndex": "int", "Cells": "CellUnion, or cells", "Self": "CellUnion", "str | bytes": "str or bytes",
-             "Any": "", "Bytes": "bytes, or a buffer without gaps"}
+             "Any": "", "Bytes": "bytes, or a buffer without gaps",
+             "str | Bytes": "str, bytes, or a buffer without gaps"}
     found = kinds.get(annotation, annotation.replace(" | ", " or "))
     return re.sub(r"^(list|tuple)\[(\w+).*\]$", r"\1 of \2", found)
 
@@ -39,7 +43,8 @@ class Python(languages.Language):
             "file": "UnionFile(CellUnion.from_tokens({}).to_bytes())"}
 
     def name_of(self, method):
-        return NAMES.get(method.call.name, method.call.name.removeprefix("file_"))
+        own = method.own(self.NAME).get("name")
+        return own or NAMES.get(method.call.name, method.call.name.removeprefix("file_"))
 
     # ---- what is said
 
@@ -62,7 +67,8 @@ class Python(languages.Language):
             named = "file" if "other: UnionFile" in head else word.arg
             said = own.get(word.arg) or method.row.get(there) or general.get(named) or method.general["argument"][there]
             kind, _, text = said.rpartition(" : ")
-            yield word.arg, kind or kind_of(ast.unparse(word.annotation)), as_sentence(self.marked(methods, text))
+            kind = kind or kind_of(ast.unparse(word.annotation)) + ", optional" * (word.arg in USUAL)
+            yield word.arg, kind, as_sentence(self.marked(methods, text))
 
     def raises(self, methods, method, head):
         """The errors of the function, each with when it comes."""
@@ -76,7 +82,7 @@ class Python(languages.Language):
             found["TypeError"] = general["no_file"]
         if method.is_of_file:
             found["UnionFileError"] = CHANGED
-        if method.call.out and method.call.arguments[-1].name == "len" and self.owner(method):
+        if method.reads_shape or (method.call.out and method.call.arguments[-1].name == "len" and self.owner(method)):
             found["OutOfMemoryError"] = NO_MEMORY
         found |= own.get("raises", {})
         return {name: as_sentence(self.marked(methods, why)) for name, why in found.items() if why}
@@ -139,8 +145,10 @@ class Python(languages.Language):
     # ---- methods that are made whole
 
     def whole(self, methods, method, *_):
-        """A method of a union or a file, alone or with another one or a cell, that forwards to its call; nothing of
-        another form."""
+        """A method of a union or a file, alone or with another one or a cell, that forwards to its call; or a function
+        that reads a shape; nothing of another form."""
+        if method.reads_shape:
+            return self.of_shape(methods, method)
         call, (own, *others) = method.call, method.given or [None]
         if not method.has_receiver or call.answers_each or call.out and call.out.kind != "u64" or len(others) > 1 or \
                 any(it.kind not in (own.kind, "u64") for it in others):
@@ -161,3 +169,16 @@ class Python(languages.Language):
         given = ", ".join([f"self{': Self' * (result == 'Self')}", *(f"{it[0]}: {it[1]}" for it in words)])
         head = f"    def {self.name_of(method)}({given}) -> {result}:"
         return [head, *self.comment(methods, method, head + "\n"), f"        return {answer}", ""]
+
+    def of_shape(self, methods, method):
+        """A function that reads a shape."""
+        name, (shape, *numbers) = method.call.name, method.given
+        words = [f"{shape.name}: {'str | Bytes' if shape.is_text else 'Bytes'}"]
+        words += [f"{it.name}: SupportsIndex{' = ' * (it.name in USUAL)}{USUAL.get(it.name, '')}" for it in numbers]
+        start = f"def {self.name_of(method)}("
+        head = [f"{start}{', '.join(words[:-1])},", f"{' ' * len(start)}{words[-1]}) -> tuple[CellUnion, CellUnion]:"]
+        said = ", ".join(f"{it.name} {{{it.name}}}" for it in numbers)
+        read = f"_text_given({shape.name})" if shape.is_text else f"_unchanging(_bytes_in({shape.name}))"
+        given = [f'f"{said}"', f"_rooms.{name}()", read, *(it.name for it in numbers)]
+        body = folded(f"    return _both(_library.{name}({', '.join(given)}))")
+        return [*head, *self.comment(methods, method, "\n".join([*head, ""])), *body, "", ""]

@@ -3,7 +3,7 @@ import ast
 import re
 
 import languages
-from declared import is_of_shape, text_of
+from declared import text_of
 
 INDENT = " " * 4
 OF = {"CellId": "self.id()", "CellUnion": "self.as_ref()", "UnionFile": "self.bytes", "Rect": "self"}
@@ -63,7 +63,7 @@ class Rust(languages.Language):
         yield from ((name, "usize", name) for name in method.row.get("more", []))
 
     def result(self, method):
-        if is_of_shape(method.call):
+        if method.reads_shape:
             return "Result<(CellUnion, CellUnion), Error>"
         return method.own(self.NAME).get("result") or self.answered(method)[0]
 
@@ -114,7 +114,7 @@ class Rust(languages.Language):
                 for name, why in said.items()}
 
     def comment(self, methods, method, *_):
-        indent = "" if method.row.get("by_hand") else INDENT  # a function of the crate
+        indent = "" if method.reads_shape else INDENT  # a function of the crate
         begin, empty = f"{indent}/// ", f"{indent}///"
         said = self.lines(f"{self.sentence(methods, method)} Since {self.since(method)}.", begin)
         more = " ".join([*self.told(methods, method), *([f"S2: {method.s2}."] if method.s2 else [])])
@@ -130,7 +130,7 @@ class Rust(languages.Language):
         """Sentences on its result and on its arguments, except those whose type says all."""
         names = {self.named(method, it): it for it in method.given}
         for name, kind, _ in self.parameters(method):
-            is_told = name not in names or kind in ("u32", "usize", "&str") or names[name].name in method.row
+            is_told = name not in names or kind in ("u32", "u64", "usize", "&str") or names[name].name in method.row
             if is_told:
                 yield f"`{name}` is {self.argument(methods, method, name)}."
         if not (method.makes_union and method.returns == UNION or method.is_question):

@@ -21,13 +21,13 @@ class Language:
 
     def has(self, method):
         """Whether it is made in the language."""
-        return self.NAME not in method.lacked_by and not method.row.get("by_hand")
+        return self.NAME not in (*method.lacked_by, *method.row.get("by_hand", []))
 
     def owner(self, method):
         """The class that has a method, or nothing if the module has it."""
         if method.is_of_file:
             return "UnionFile"
-        return "CellUnion" if method.makes_union or method.has_receiver else ""
+        return "CellUnion" if (method.makes_union or method.has_receiver) and not method.reads_shape else ""
 
     def name_of(self, method):
         """The name of a method: its own one in the language or in both, or that of the call without its class."""

@@ -93,6 +93,11 @@ class Method:
         return self.call.name.startswith("file_")
 
     @property
+    def reads_shape(self):
+        """Whether it reads a shape as users write it, and makes both coverings, or tells the fault."""
+        return declared.is_of_shape(self.call)
+
+    @property
     def has_receiver(self):
         """Whether its first list is that of the union or the file itself."""
         return (self.is_of_union or self.is_of_file) and not self.row.get("static")

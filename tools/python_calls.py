@@ -4,7 +4,8 @@ each makes is first given (_rooms.py). Functions that _library.c has by hand sta
 import re
 from pathlib import Path
 
-from declared import C_TYPES, HEADER, IN_PLACE, calls, is_of_cover, is_of_shape, limits, snake, statuses, text_of
+from declared import C_TYPES, HEADER, IN_PLACE, calls, faults, is_of_cover, is_of_shape, limits, snake, statuses
+from declared import text_of
 from layout import filled, folded
 from rooms import FIRST_ROOMS, room_in, room_lengths
 
@@ -19,7 +20,7 @@ NUMBERS = {"level": ("a level", "0", "30"), "min": ("a level", "0", "30"), "modu
            "j": ("j", *COORDINATE), "most": ("most", "0", "INT64_MAX"), "k": PLACE,
            "least": ("a level", "0", "30"), "deepest": ("a level", "0", "30"),
            "margin": ("a margin", "0", "UINT64_C(1152921504606846976)"),
-           "cells": ("a number of cells", "0", "INT64_MAX")}
+           "cells": ("a number of cells", "0", "INT64_MAX"), "work": ("work", "0", "UINT64_MAX")}
 QUESTION = re.compile(r"^(?:file_)?(?:is_|contains|intersects)|^cell_(?:contains|intersects)")  # answered by yes or no
 SEARCHES = {"contains_cell", "intersects_cell"}  # so short that they keep the interpreter's lock
 
@@ -36,13 +37,17 @@ class Function:
         self.cells = [it.name for it in self.given if it.kind == "u64" and not it.is_list and it.name not in NUMBERS]
         self.out = next((it for it in self.written if it.is_list), None)
         self.last = self.written[-1].name if self.written else ""
-        self.makes_list = self.out is not None and self.last == "len"
+        self.reads_shape = is_of_shape(call)
+        self.makes_list = self.out is not None and (self.last == "len" or self.reads_shape)
         self.makes_entries = self.out is not None and self.last == "bad"
         self.takes = (["what", "room"] if self.makes_list else []) + [it.name for it in self.given]
 
     @property
     def is_regular(self):
-        """Whether its arguments say all that there is to say. A text, and what is no number, are read by hand."""
+        """Whether its arguments say all that there is to say. A text, and what is no number, are read by hand, if they
+        don't stand for a shape."""
+        if self.reads_shape:
+            return True
         numbers = all(it.kind in C_TYPES for it in self.written)
         lone = len(self.written) < 2 or (len(self.written) == 2 and (self.makes_list or self.makes_entries))
         is_text = any(it.is_text for it in self.given) or (self.makes_list and self.out.is_text)
@@ -102,7 +107,7 @@ class Function:
             kinds.setdefault(kind, []).append(f"{it.name} = {{0}}" if it.is_list else it.name)
         for it in self.written:
             if not it.is_list and not self.makes_entries:
-                kinds.setdefault(C_TYPES[it.kind], []).append(f"{it.name} = 0")
+                kinds.setdefault(c_element(it), []).append(f"{it.name} = {'0' if it.kind in C_TYPES else '{0}'}")
         if self.makes_list:
             kinds.setdefault("uint64_t", []).append("room")
             kinds["Room"] = ["out"]
@@ -149,8 +154,10 @@ class Function:
                     f"  UNLOCKED(while (has_part(&{name})) {assigned});",
                     f"  return entered(status, entries, &{name});"]
         if self.makes_list:
+            made = "both_of(status, &out, len, outer, &fault, WORD(0))" if self.reads_shape else \
+                f"listed(module, status, &out, len, WORD(0), {cells}, {count})"
             return ["  int32_t status;", "  do {", done, "  } while (is_larger_now(status, &out, len));",
-                    f"  return listed(module, status, &out, len, WORD(0), {cells}, {count});"]
+                    f"  return {made};"]
         return ["  int32_t status;", done[2:], f"  return written(status, {self.last});"]
 
     def answered(self, call, cells, count):
@@ -172,6 +179,11 @@ def c_element(argument):
     return C_TYPES.get(argument.kind, f"s2u_{snake(argument.kind)}")
 
 
+def numbers(header):
+    """The names of the numbers that the module has: the statuses, the limits, and the work of maps."""
+    return [*(status.name for status in statuses(header)), *limits(header)[0], "MAP_WORK"]
+
+
 def by_hand_in(text):
     """The functions of the module that are written by hand, with how they take their words."""
     kinds = {"given": "METH_O", "words": "METH_VARARGS"}
@@ -185,7 +197,7 @@ def in_c(top):
     own = by_hand_in(text_of(Path(top, LIBRARY)))
     functions = [each for each in map(Function, table) if each.is_regular or each.name in own]
     texts = [function.text() for function in functions if function.name not in own]
-    names = [status.name for status in statuses(header)] + list(limits(header)[0])
+    names = numbers(header)
     kinds = [f"X({each.name}, {own.get(each.name, each.kind)})" for each in functions]
 
     def of_names(name, words):
@@ -195,6 +207,7 @@ def in_c(top):
     lines = ["/* The calls of s2union.h and the functions that make them. _library.c says what they take. */",
              *of_names("CALLS", [f"X({call.name})" for call in table]), *of_names("METHODS", kinds),
              *of_names("NUMBERS", [f"X({name})" for name in names]),
+             *of_names("FAULTS", [f"X({fault.name})" for fault in faults(header)]),
              "typedef struct Calls {", "#define CALL(name) __typeof__(s2u_##name)* s2u_##name;", "  CALLS(CALL)",
              "} Calls;", "", "#define LIBRARY(name) ((Calls*)PyModule_GetState(module))->s2u_##name"]
     for text in texts:
@@ -235,7 +248,7 @@ def types_of(function):
     for it in function.given:
         kinds[it.name] = "List" if it.is_list else "SupportsIndex" if it.kind in C_TYPES else "Iterable[SupportsIndex]"
     if function.makes_list:
-        answer = "bytes"
+        answer = "tuple[bytes, bytes]" if function.reads_shape else "bytes"
     elif function.makes_entries:
         answer = "tuple[bytearray, int, int]"
     elif QUESTION.match(function.call.name) and not function.written:
@@ -252,14 +265,14 @@ OPTIONAL = {"parent", "child", "next_cell", "previous_cell", "common_ancestor"}
 def types(top):
     """_library.pyi."""
     table, header = calls(top), text_of(Path(top, HEADER))
-    functions = [each for each in map(Function, table) if not is_of_cover(each.call) and not is_of_shape(each.call)]
+    functions = [each for each in map(Function, table) if not is_of_cover(each.call)]
     found = {each.name: types_of(each) for each in functions} | TYPES_BY_HAND
     lines = ["# The types of _library.c.", "from __future__ import annotations", "",
              "from typing import Iterable, NoReturn, SupportsIndex, Tuple, Union", "",
              "List = Union[bytes, memoryview]", "Text = Union[str, bytes, bytearray]",
              "Options = Tuple[int, int, int, int, float]",
              "Covered = Union[Tuple[bytes, bytes], Tuple[int, int, int, str]]", ""]
-    lines += [f"{name}: int" for name in [each.name for each in statuses(header)] + list(limits(header)[0])]
+    lines += [f"{name}: int" for name in numbers(header)]
     lines.append("")
     for name, (takes, answer) in sorted(found.items()):
         lines += folded(f"def {name}({', '.join(f'__{word}' for word in takes.split(', ') if word)}) -> {answer}: ...")

@@ -62,6 +62,7 @@ __all__ = ["CellUnion", "Union", "UnionFile", "version", "is_cell", "level", "fa
            "range_max", "size", "next_cell", "previous_cell", "common_ancestor", "contains", "intersects",
            "from_face_ij", "square", "token", "from_token", "debug", "from_debug", "tokens", "from_tokens", "to_signed",
            "levels", "parents", "range_mins", "range_maxes", "token_fields", "from_points", "is_union",
+           "cover_geojson", "cover_wkb",
            "S2UnionError", "NotACellError", "NotNormalizedError", "OutOfRangeError", "TooManyCellsError",
            "OutOfMemoryError", "UnionFileError", "FileShortError", "FileVersionError", "FileTrailingError",
            "FileCellError", "CornerError", "RingError", "ShapeError", "UnknownStatusError"]
@@ -624,6 +625,20 @@ def _unchanging(view: memoryview) -> memoryview | bytes:
     return view if view.readonly else view.tobytes()
 
 
+def _text_given(text: str | Bytes) -> memoryview | bytes:
+    """The bytes of a text: in UTF-8, or as they are given. Of a str with halves of a character the call says so."""
+    if isinstance(text, dict):
+        raise TypeError("a text is wanted, not a dict: json.dumps writes one of it")
+    return text.encode("utf-8", "surrogatepass") if isinstance(text, str) else _unchanging(_bytes_in(text))
+
+
+def _both(coverings: tuple[bytes, bytes]) -> tuple[CellUnion, CellUnion]:
+    """The outer and the inner covering whose normalized lists have these bytes."""
+    outer, inner = coverings
+    return CellUnion._holding(outer), CellUnion._holding(inner)
+
+
+# methods: all others
 class UnionFile:
     """A union file that answers questions in place, as in a mapped file or a row of a table: nothing is copied.
 

@@ -135,6 +135,26 @@ class ShapeError(S2UnionError, ValueError):
 
     status = -16  # SHAPE
 
+    fault: str
+    """Why, by the name that it has in s2union.h, such as ``"OPEN"``; ``"OTHER"`` of a later version."""
+
+    byte: int
+    """How many bytes of WKB come before the fault; 0 of a text, and of ``"NO_INSIDE"``."""
+
+    part: int
+    """How many points, lines and polygons come before it."""
+
+    ring: int
+    """How many rings and lines have ended before it, of all parts."""
+
+    position: int
+    """How many positions of its ring or line come before it."""
+
+    def __init__(self, message: str = "", fault: str = "OTHER", *place: int) -> None:
+        super().__init__(message)
+        self.fault = fault
+        self.byte, self.part, self.ring, self.position = place or (0, 0, 0, 0)
+
 
 class UnknownStatusError(S2UnionError, ValueError):
     """A status of a later version of the library.

@@ -95,18 +95,24 @@ static PyObject* attribute(PyObject* object, const char* name) {
   return found;
 }
 
-/* Raises the exception of a status, which _errors.py has, with a text. */
-static PyObject* raise_refusal(int32_t status, const char* format, ...) {
+/* The exception of a status, which _errors.py has. */
+static PyObject* exception_of(int32_t status) {
   PyObject* errors = PyImport_ImportModule("s2union._errors");
   PyObject* of_status = errors ? attribute(errors, "of_status") : NULL;
   PyObject* kind = of_status ? PyObject_CallFunction(of_status, "i", (int)status) : NULL;
+  Py_XDECREF(of_status);
+  Py_XDECREF(errors);
+  return kind;
+}
+
+/* Raises the exception of a status with a text. */
+static PyObject* raise_refusal(int32_t status, const char* format, ...) {
+  PyObject* kind = exception_of(status);
   va_list words;
   va_start(words, format);
   if (kind) PyErr_FormatV(kind, format, words);
   va_end(words);
   Py_XDECREF(kind);
-  Py_XDECREF(of_status);
-  Py_XDECREF(errors);
   return NULL;
 }
 
@@ -447,10 +453,46 @@ static PyObject* entered(int32_t status, PyObject* entries, const Parts* list) {
   return refused(status, NULL);
 }
 
+/* Both coverings of a shape, which lie in one room, whose memory is given back; or why there are none. */
+static PyObject* both_of(int32_t status, Room* room, size_t length, size_t outer, const s2u_shape_fault* fault,
+                         PyObject* what);
+
 #include "calls.h"
 
 static bool is_cell(PyObject* module, uint64_t number) {
   return LIBRARY(is_cell)(number) == 1;
+}
+
+static const char* fault_name(size_t number) {
+#define FAULT(name) if (number == S2U_FAULT_##name) return #name;
+  FAULTS(FAULT)
+  return "OTHER";
+}
+
+/* Raises the exception of a shape that has a fault, with its name and its place. */
+static void raise_fault(const s2u_shape_fault* it) {
+  PyObject* kind = exception_of(S2U_SHAPE);
+  PyObject* words = kind ? Py_BuildValue("(Nsnnnn)", PyUnicode_FromFormat(
+      "%s: byte %zu, part %zu, ring %zu, position %zu", s2u_fault_text(it->name), it->byte, it->part, it->ring,
+      it->position), fault_name(it->name), (Py_ssize_t)it->byte, (Py_ssize_t)it->part, (Py_ssize_t)it->ring,
+      (Py_ssize_t)it->position) : NULL;
+  if (words) PyErr_SetObject(kind, words);
+  Py_XDECREF(words);
+  Py_XDECREF(kind);
+}
+
+static PyObject* both_of(int32_t status, Room* room, size_t length, size_t outer, const s2u_shape_fault* fault,
+                         PyObject* what) {
+  PyObject* both = NULL;
+  const uint64_t* ids = room->at;
+  if (!ids) return NULL;
+  if (status == S2U_OK)
+    both = Py_BuildValue("(y#y#)", (const char*)ids, (Py_ssize_t)(outer * room->unit), (const char*)(ids + outer),
+                         (Py_ssize_t)((length - outer) * room->unit));
+  else if (status == S2U_SHAPE) raise_fault(fault);
+  else refused(status, what);
+  given_back(room);
+  return both;
 }
 
 /* ---- the calls of other forms */

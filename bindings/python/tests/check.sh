@@ -48,6 +48,8 @@ else
 fi
 step "what all languages are asked" python -m pytest test_questions.py
 step "the edges" python -m pytest test_edges.py
+step "texts and bytes of shapes" maps
+step "coverings of texts and bytes" python -m pytest test_shapes.py
 without_memory() { # Python's memory is the C library's own
   gcc -std=c11 -O2 "${strict[@]}" -fPIC -shared "$top/tests/refuse.c" -o "$work/refuse.so" &&
     PYTHONMALLOC=malloc LD_PRELOAD=$work/refuse.so S2UNION_REFUSE=$work/refuse.so python -m pytest \

@@ -47,7 +47,9 @@ NO_TEXT = "a cell is an int, not str: from_token reads a token, and from_tokens 
 DEGREES = "from_face_ij takes one point, and s2union_geo.leaves longitudes and latitudes"
 POLYGON = (memoryview(array("q", [10, 1, 1, 10, 9, 1, 10, 1, 9])), memoryview(array("Q", [3])),
            s2union.from_face_ij(3, 0, 0), 0)  # a triangle: corners, ends, a leaf outside, and no margin
-OTHERS = {"from_debug": ("0/2",), "neighbors": (CELL, 4),
+SQUARE = b'{"type": "Polygon", "coordinates": [[[0, 0], [2, 0], [2, 2], [0, 2], [0, 0]]]}'
+OTHERS = {"from_debug": ("0/2",), "neighbors": (CELL, 4), "map_geojson": ("", 1, SQUARE, 9, 2**24),
+          "map_wkb": ("", 1, TRIANGLE, 9, 2**24),
           "pairs": (ZONES, memoryview(array("d", [1.5, 9, 1])), memoryview(array("d", [0.5, 9, 1])), 1),
           **dict.fromkeys(("file_contains", "file_intersects"), (FILE, FILE)),
           **dict.fromkeys(("polygon_outer", "polygon_inner"), ("", 1, *POLYGON, 3, 99)),
@@ -74,6 +76,7 @@ REFUSED = {
     "coverings_of_wkb": (b"", (9, 0, 31, 0, 0.0), 3), "coverings_of_circle": (0, 0, 1, (9, 0, 30, 0, "x"), 3),
     "neighbors": (CELL, 0), "vertex_neighbors": (CELL, 1), "expanded": (CELLS, 30), "edge_neighbors": (2,),
     "complement": ("", 2**62, CELLS), "refuse": (-5, "what"), "token": (object(),),
+    "map_geojson": ("what", 1, SQUARE[:-1], 3, 9), "map_wkb": ("what", 1, TRIANGLE, 30, 9),
     "zones": ((TRIANGLE, TRIANGLE[:-1]),), "pairs": (ZONES, WORDS["longitudes"], WORDS["latitudes"], 1),
 }
 
