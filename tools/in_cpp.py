@@ -5,10 +5,12 @@ import ast
 import re
 
 import languages
+from layout import filled
 from rooms import CPP_ROOMS, FIRST_ROOMS, room_in, room_lengths
 
 INDENT = " " * 2
 OF = {"CellUnionOf": ("ids()", "size()"), "UnionFileOf": ("bytes_", "n_")}  # the list of each class
+USUAL = {"work": "S2U_MAP_WORK"}  # what an argument is if it is left out
 ROOM = "[&](uint64_t* out, size_t room, size_t* len) {"
 
 
@@ -22,13 +24,14 @@ class Cpp(languages.Language):
     RENAMED = {"ys": "y", "cell": "id", "bounds": "rect"}
 
     def has(self, method):
-        """Whether it is made: it asks a union, a file or a rectangle, and answers by yes or no, by a number, by an
-        answer to each cell, or by cells."""
+        """Whether it is made: it reads a shape, or asks a union, a file or a rectangle, and answers by yes or no, by a
+        number, by an answer to each cell, or by cells."""
         out, kinds = method.call.out, [it.kind for it in method.given]
         is_simple = method.is_question or (method.is_count and not self.statuses(method)) or \
             (out and method.call.name in FIRST_ROOMS and out.kind == "u64") or \
             (method.call.answers_each and out.name == "answers")
-        return super().has(method) and bool((method.has_receiver or kinds[:1] == ["Rect"]) and is_simple)
+        is_asked = (method.has_receiver or kinds[:1] == ["Rect"]) and is_simple
+        return super().has(method) and bool(is_asked or method.reads_shape)
 
     def owner(self, method):
         return "UnionFileOf" if method.is_of_file else "CellUnionOf"
@@ -52,7 +55,12 @@ class Cpp(languages.Language):
         at, n = OF[self.owner(method)]
         for it in method.given[1:] if method.has_receiver else method.given:
             name = self.named(method, it)
-            if it.is_list and it.name == "ys":
+            if it.is_list and method.reads_shape:
+                at = f"{name}.data()" if it.is_text else f"internal::bytes_of({name})"
+                yield f"std::string_view {name}", f"{at}, {name}.size()"
+            elif it.name in USUAL:
+                yield f"{'uint64_t' if it.kind == 'u64' else 'size_t'} {name} = {USUAL[it.name]}", name
+            elif it.is_list and it.name == "ys":
                 yield f"const {self.owner(method)}& {name}", f"{name}.{at}, {name}.{n}"
             elif it.is_list:
                 yield f"const std::vector<Id>& {name}", name
@@ -71,6 +79,8 @@ class Cpp(languages.Language):
         return [f"S2U_{name}" for name in names + ["MEMORY"] * (method.call.out is not None)]
 
     def result(self, method):
+        if method.reads_shape:
+            return "CoveringsOf<Id>"
         if method.call.answers_each:
             return "std::vector<bool>"
         if method.call.out:
@@ -88,6 +98,9 @@ class Cpp(languages.Language):
         words = ", ".join([*own, *(passed for _, passed in self.parameters(method))])
         of = "CellUnionOf<Id>::" if method.is_of_file else ""
         call = f"s2u_{name}({words}"
+        if method.reads_shape:
+            return [f"return Covered(internal::rooms::of_{name}(), fault, status, [&](auto... out) {{",
+                    f"  return {call}, out...);", "});"]
         if method.call.answers_each:
             return [f"return {of}AboutEach(s2u_{name}, {words}, status);"]
         if method.call.out and self.is_function(method) and method.makes_union:
@@ -122,14 +135,14 @@ class Cpp(languages.Language):
         general = method.general[self.NAME]
         plain, said = [], []
         for status in sorted([*self.statuses(method), *more], key=lambda it: it == "S2U_MEMORY"):
-            why = general.get(status.removeprefix("S2U_")) or method.row.get(status.removeprefix("S2U_"))
+            why = method.row.get(status.removeprefix("S2U_")) or general.get(status.removeprefix("S2U_"))
             (said if why else plain).append(f"{status}: {why}." if why else status)
         return said + ([", ".join(plain) + "."] if plain else [])
 
     def comment(self, methods, method, *_):
         said = [self.sentence(methods, method)]
         for it, name in ((it, self.named(method, it)) for it in method.given):
-            if it.kind == "u32" and not it.is_list:
+            if it.kind == "u32" and not it.is_list or method.reads_shape:
                 said.append(f"The {name} is {self.argument(methods, method, name)}.")
         if method.is_count:
             said.append(f"It is {self.returns(methods, method)}.")
@@ -148,12 +161,13 @@ class Cpp(languages.Language):
     def whole(self, methods, method, *_):
         """A member with its comment: in one line if it has but one, and that fits."""
         words = [declared for declared, _ in self.parameters(method)]
+        words += ["s2u_shape_fault* fault = nullptr"] * method.reads_shape
         words += ["int32_t* status = nullptr"] if self.statuses(method) else []
         start = f"{INDENT}{'' if method.has_receiver else 'static '}{self.result(method)} {self.name_of(method)}("
         end = f"){' const' * method.has_receiver} {{"
         body, head = self.body(method), [f"{start}{', '.join(words)}{end}"]
         if len(head[0]) > self.WIDTH:
-            head = [f"{start}{', '.join(words[:-1])},", f"{' ' * len(start)}{words[-1]}{end}"]
+            head = filled(start, words, ", ", end, " " * len(start))
         if not self.statuses(method) and len(body) == 1 and len(f"{head[0]} {body[0]} }}") <= self.WIDTH:
             return [*self.comment(methods, method), f"{head[0]} {body[0]} }}"]
         return [*self.comment(methods, method), *head, *(f"{INDENT * 2}{line}" for line in body), f"{INDENT}}}"]
@@ -196,8 +210,8 @@ class Cpp(languages.Language):
 
     def examples(self, methods, method, before):
         """The example of a member, and that of a function, but of one that stands in the source by hand."""
-        shown = Shown(self, methods)
-        texts = [(self.shown_as(method), shown.checked(method))]
+        own = method.own(self.NAME).get("example", "").strip("\n").split("\n")
+        texts = [(self.shown_as(method), own if own[0] else Shown(self, methods).checked(method))]
         if self.is_function(method):
             shown = Shown(self, methods, is_of_lists=True)
             texts.append((self.function_shown_as(method), shown.checked(method)))
@@ -211,6 +225,9 @@ class Cpp(languages.Language):
     # ---- the questions of the tests
 
     def question(self, _, method, *__):
+        """What is asked of a member; nothing of one that reads shapes, which has questions of its own."""
+        if method.reads_shape:
+            return []
         given = []
         for it, field, place in languages.fields(method):
             form = "rect" if it.kind == "Rect" else languages.form_of(method, it)
@@ -297,9 +314,7 @@ class Shown(languages.Expression):
 
 
 def rooms(_):
-    """The room of each call that makes a list, as a function of the lengths. C++ has none that reads a shape."""
+    """The room of each call that makes a list, as a function of the lengths."""
     for name, room in CPP_ROOMS.items():
-        if name.startswith("map_"):
-            continue
         given = ", ".join(f"size_t {length}" for length in room_lengths(room))
         yield f"inline size_t of_{name}({given}) {{ return {room_in('C++', room)}; }}"

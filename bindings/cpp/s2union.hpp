@@ -27,6 +27,10 @@
  *     Make it one before, with a status of its own. So may S2's Encoder, which takes its memory itself.
  * Copies of a union, its texts, and S2's unions that are made of it have no status: they take memory as std's do.
  *
+ * SHAPES. CoverGeoJson and CoverWkb read polygons as users write them, and make both coverings: proved from the text
+ * on. S2U_SHAPE has a fault and its place, which the ShapeError has that is thrown. They also go to the argument before
+ * `status`, if that isn't null.
+ *
  * ZONES. Where <s2union_join.h> is included before this header, s2union::Zones is here too: exact joins of places with
  * polygons in degrees.
  *
@@ -89,6 +93,26 @@ class Error : public std::runtime_error {
   int32_t status_;
 };
 
+/// A text of GeoJSON, or bytes of WKB, are no shape of polygons: `what` has the text of the fault and its place.
+class ShapeError : public Error {
+ public:
+  /// The error of a fault. @since 1.5
+  /// @snippet examples.cc ShapeError
+  explicit ShapeError(const s2u_shape_fault& fault) : Error(S2U_SHAPE, TextOf(fault).c_str()), fault_(fault) {}
+  /// Which fault it is, such as S2U_FAULT_OPEN, and where. @since 1.5
+  /// @snippet examples.cc ShapeError
+  const s2u_shape_fault& fault() const noexcept { return fault_; }
+
+ private:
+  static std::string TextOf(const s2u_shape_fault& fault) {
+    return std::string(s2u_fault_text(fault.name)) + ": byte " + std::to_string(fault.byte) + ", part " +
+           std::to_string(fault.part) + ", ring " + std::to_string(fault.ring) + ", position " +
+           std::to_string(fault.position);
+  }
+
+  s2u_shape_fault fault_;
+};
+
 /// A polygon of rings of corners, with a leaf that is known to lie outside. Rings may cross, touch, nest and repeat
 /// each other: what is crossed an odd number of times on the way from the leaf outside lies inside. @since 1.4
 /// @snippet examples.cc Polygon
@@ -117,6 +141,16 @@ struct Polygon {
 
 template <class Id>
 class CellUnionOf;
+
+/// The two coverings of a shape: no place of it is missing from the outer one, and no place outside is in the inner
+/// one.
+template <class Id>
+struct CoveringsOf {
+  /// The outer covering.
+  CellUnionOf<Id> outer;
+  /// The inner covering.
+  CellUnionOf<Id> inner;
+};
 
 namespace internal {
 
@@ -204,6 +238,12 @@ template <class Id>
 uint64_t* numbers(std::vector<Id>* cells) {
   void* at = cells->data();
   return static_cast<uint64_t*>(at);
+}
+
+/// The bytes of a text.
+inline const uint8_t* bytes_of(std::string_view text) {
+  const void* at = text.data();
+  return static_cast<const uint8_t*>(at);
 }
 
 /// Makes a list of these numbers: S2U_OK, or S2U_MEMORY, and then it is as it was.
@@ -1023,6 +1063,26 @@ class CellUnionOf {
     return made;
   }
 
+  /// The coverings that a call makes of a shape, one after the other in a list.
+  template <class Call>
+  static CoveringsOf<Id> Covered(size_t most, s2u_shape_fault* fault, int32_t* status, Call call) {
+    CoveringsOf<Id> made;
+    std::vector<Id>& cells = made.outer.cell_ids_;
+    size_t outer = 0;
+    s2u_shape_fault why = {0, 0, 0, 0, 0};
+    int32_t found = internal::listed(most, &cells, [&](uint64_t* out, size_t room, size_t* len) {
+      return call(out, room, len, &outer, &why);
+    });
+    if (found == S2U_OK) found = internal::copied(Numbers(cells) + outer, cells.size() - outer, &made.inner.cell_ids_);
+    cells.resize(found == S2U_OK ? outer : 0);
+    if (found == S2U_SHAPE && fault != nullptr) *fault = why;
+#if S2UNION_THROWS
+    if (found == S2U_SHAPE && status == nullptr) throw ShapeError(why);
+#endif
+    internal::succeeded(found, status);
+    return made;
+  }
+
   template <class Bytes>
   int32_t Appended(Bytes* out) const {
     static_assert(sizeof(*out->data()) == 1, "a union file goes to a string or a vector of bytes");
@@ -1101,6 +1161,8 @@ class UnionFileOf {
 
 /// The union whose cells are their identifiers.
 using CellUnion = CellUnionOf<uint64_t>;
+/// The coverings of a shape by such unions.
+using Coverings = CoveringsOf<uint64_t>;
 /// The file of such a union.
 using UnionFile = UnionFileOf<uint64_t>;
 

@@ -611,7 +611,42 @@ static void ancestors() {
   REFUSES(S2U_NO_CELL, file.ContainsCells({Id(1), Id(2)}, status));
 }
 
+template <class Id>
+static void shapes() {
+  using Union = s2union::CellUnionOf<Id>;
+  const std::string square = R"({"type": "Polygon", "coordinates": [[[0,0], [20,0], [20,20], [0,20], [0,0]]]})";
+  const std::string empty("\0\0\0\0\6\0\0\0\0", 9);
+  int32_t status = S2U_SHAPE;
+  s2u_shape_fault fault = {99, 0, 0, 0, 0};
+  const s2union::CoveringsOf<Id> made = Union::CoverGeoJson(square, 6, S2U_MAP_WORK, &fault, &status);
+  CHECK(status == S2U_OK && fault.name == 99 && made.outer.size() == 81 && made.inner.size() == 38);
+  CHECK(made.outer.Contains(made.inner) && !made.inner.Contains(made.outer));
+  const s2union::CoveringsOf<Id> many = Union::CoverGeoJson(square, 12);
+  CHECK(many.outer.size() + many.inner.size() > 4096 && made.outer.Contains(many.outer));
+  CHECK(Union::CoverWkb(empty, 30).outer.empty() && Union::CoverWkb(empty, 0).inner.empty());
+  REFUSES(S2U_ARGUMENT, Union::CoverGeoJson(square, 31, S2U_MAP_WORK, nullptr, status));
+  REFUSES(S2U_ARGUMENT, Union::CoverWkb(empty, -1, S2U_MAP_WORK, nullptr, status));
+  REFUSES(S2U_MANY, Union::CoverGeoJson(square, 6, 100, &fault, status));
+  CHECK(fault.name == 99);
+  CHECK(Union::CoverWkb({empty.data(), 7}, 6, S2U_MAP_WORK, &fault, &status).outer.empty() && status == S2U_SHAPE);
+  CHECK(fault.name == S2U_FAULT_TRUNCATED && fault.byte == 5 && fault.part == 0);
+#if S2UNION_THROWS
+  try {
+    Union::CoverWkb({empty.data(), 7}, 6);
+    CHECK(false);
+  } catch (const s2union::ShapeError& error) {
+    CHECK(std::string(error.what()) == "bytes are missing: byte 5, part 0, ring 0, position 0");
+    CHECK(error.fault().name == S2U_FAULT_TRUNCATED && error.status() == S2U_SHAPE);
+  }
+#endif
+  has_memory = false;
+  REFUSES(S2U_MEMORY, Union::CoverGeoJson(square, 6, S2U_MAP_WORK, nullptr, status));
+  has_memory = true;
+}
+
 int main() {
+  shapes<uint64_t>();
+  shapes<Cell>();
   unions<uint64_t>();
   collections<uint64_t>();
   collections<Cell>();

@@ -30,6 +30,12 @@ each_member() { # in the order of C++20, and of what comes first
   done
 }
 step "an example of each member" each_member
+step "texts and bytes of shapes" maps
+of_maps() {
+  g++ -std=c++17 -fsanitize=address,undefined -fno-sanitize-recover "${strict[@]}" -Wconversion -I"$include" \
+    "$tests/maps.cc" "$static" -o "$work/maps" && "$work/maps" <"$work/map-texts"
+}
+step "coverings of texts and bytes" of_maps
 step "shapes in degrees" shapes
 zones() {
   g++ -std=c++17 -fsanitize=address,undefined -fno-sanitize-recover "${strict[@]}" -Wconversion -I"$include" \

@@ -25,6 +25,14 @@ int main() {
     // [Error]
   }
   {
+    // [ShapeError]
+    const s2u_shape_fault fault = {S2U_FAULT_OPEN, 0, 1, 2, 4};
+    const s2union::ShapeError error(fault);
+    check(error.status() == S2U_SHAPE && error.fault().position == 4);
+    check(std::string(error.what()).rfind(": byte 0, part 1, ring 2, position 4") != std::string::npos);
+    // [ShapeError]
+  }
+  {
     // [Error.status]
     int32_t caught = S2U_OK;
     try {
