@@ -151,6 +151,7 @@ maps() { # $work/map-texts: texts of GeoJSON and bytes of WKB with their coverin
 need_compiler() { # what tools/page makes a module with
   [ -z "${S2UNION_MODULE:-}" ] || return 0
   need wasm-opt binaryen
+  need_installed libclang-rt-14-dev-wasm64
   command -v rt >/dev/null && return
   need clang-15 clang-15
   need ld.lld lld

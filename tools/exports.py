@@ -128,7 +128,7 @@ def snake(name):
     return re.sub(r"(?<=[a-z])(?=[A-Z])", "_", name).lower()
 
 
-def of_types(found, text):
+def of_types(found, text, called):
     owners = [(it.start(), it[1]) for it in re.finditer(r"^export class (\w+)", text, re.M)]
     for it in TYPES.finditer(text):
         comment, member, arguments, result = it.groups()
@@ -137,7 +137,7 @@ def of_types(found, text):
         if owner == "Refusal" and place != member:
             continue
         given = re.findall(r"(?:^\(|, )(\w+)\??:", arguments or "")
-        calls = [CALLED.get(place, snake(member) if place == member else "")]
+        calls = [called.get(place, snake(member) if place == member else "")]
         comment = comment or ""
         is_answer = arguments is not None and member != "constructor"
         yield f"TypeScript: {place}", [
@@ -172,8 +172,9 @@ def of_go(name, text, examples):
             *([] if re.search(SINCE, comment) else ["Since"])]
 
 
-def lacking(header, statuses, sources):
-    """Each export, with what its text lacks. `sources` answers the files of a language, each with its name and text."""
+def lacking(header, statuses, sources, called):
+    """Each export, with what its text lacks. `sources` answers the files of a language, each with its name and text;
+    `called` has the calls of more functions of s2union.d.ts by their names."""
     found = facts(header)
     yield from of_header(found, statuses)
     examples = "\n".join(text for _, text in sources("cpp examples"))
@@ -184,7 +185,7 @@ def lacking(header, statuses, sources):
     for name, text in sources("java"):
         yield from of_java(found, name, text)
     for _, text in sources("js"):
-        yield from of_types(found, text)
+        yield from of_types(found, text, CALLED | called)
     for name, text in sources("rust"):
         yield from of_rust(found, name, text)
     examples = "\n".join(text for _, text in sources("go examples"))

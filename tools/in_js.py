@@ -13,7 +13,10 @@ class JavaScript(in_types.TypeScript):
         """The words that pass the arguments beside its own list."""
         for it in method.call.given[1:] if method.has_receiver else method.given:
             name = self.named(method, it)
-            if it.is_list and it.name == "ys":
+            if method.reads_shape:
+                yield f"{'textGiven' if it.is_text else 'bytesGiven'}({name})" if it.is_list else \
+                    f"longOf({name})" if it.kind in ("u64", "usize") else f"within({name}, {GREATEST[it.name]})"
+            elif it.is_list and it.name == "ys":
                 yield f"cellsIn({name})" if self.owner(method) == "CellUnion" else f"{name}.#bytes"
             elif it.is_list:
                 yield f"encoded({name})" if it.is_text else f"numbersOf({name})"
@@ -33,7 +36,7 @@ class JavaScript(in_types.TypeScript):
         is_of_cells = all(not it.is_list and it.kind in ("u64", "u32") for it in given) and given
         is_of_text = given and given[0].is_text and method.written
         is_of_each = call.answers_each and call.out.name != "text" and given[0].kind == "u64"
-        return super().has(method) and bool(is_of_cells or is_of_text or is_of_each)
+        return super().has(method) and bool(is_of_cells or is_of_text or is_of_each or method.reads_shape)
 
     def answered(self, method):
         """What a method answers: an expression, with the line before it if it needs one."""
@@ -58,6 +61,8 @@ class JavaScript(in_types.TypeScript):
     def of_cells(self, method, name, words):
         """The same of a function of cells, of a text, or of each cell of a list."""
         call = method.call
+        if method.reads_shape:
+            return [], f"bothOf(calls().coveringsOf({name}, {', '.join(words)}))"
         if call.answers_each:
             kind, none = KINDS[call.out.kind]
             more = "".join(f", {it}" for it in ["1", *words[1:]] if len(words) > 1)
@@ -76,7 +81,8 @@ class JavaScript(in_types.TypeScript):
 
     def whole(self, methods, method, *_):
         """A line, or a method, for which in_types.py has the comment."""
-        names = ", ".join(name for _, name in self.parameters(method))
+        names = ", ".join(f"{name}{' = ' * (name in in_types.USUAL)}{in_types.USUAL.get(name, '')}"
+                          for _, name in self.parameters(method))
         before, answer = self.answered(method)
         if not self.owner(method) and not before:
             return [f"export const {self.name_of(method)} = ({names}) => {answer};"]

@@ -4,6 +4,7 @@ import re
 import languages
 
 BYTES = "ArrayBuffer | ArrayBufferView"
+USUAL = {"work": "MAP_WORK"}  # what an argument is if it is left out
 
 
 class TypeScript(languages.Language):
@@ -19,17 +20,20 @@ class TypeScript(languages.Language):
         """The arguments, each with its type and its name."""
         for it in method.call.given[1:] if method.has_receiver else method.given:
             if it.is_text:
-                yield "string", self.named(method, it)
+                yield f"string | {BYTES}" if method.reads_shape else "string", self.named(method, it)
             elif it.is_list:
                 kind = self.owner(method) if it.name == "ys" else BYTES if it.kind == "u8" else "Cells"
                 yield kind, self.named(method, it)
             elif it.name != "most":
-                yield "Cell" if it.kind == "u64" and it.name != "k" else "number", self.named(method, it)
+                is_cell = it.kind == "u64" and it.name not in ("k", *USUAL)
+                yield "Cell" if is_cell else "number", self.named(method, it)
         yield from (("number", name) for name in method.row.get("more", []))
 
     def result(self, method):
         """The type of what it answers."""
         call, usual = method.call, self.usual_result(method)
+        if method.reads_shape:
+            return "{outer: CellUnion; inner: CellUnion}"
         if usual:
             return usual
         if call.result == "i32" and method.written is None:
@@ -41,7 +45,8 @@ class TypeScript(languages.Language):
     def comment(self, methods, method, *_):
         indent = "  " if self.owner(method) else ""
         begin = f"{indent} * "
-        said = self.lines(self.marked(methods, method.sentence), begin)
+        sentence = self.sentence(methods, method) if method.reads_shape else self.marked(methods, method.sentence)
+        said = self.lines(sentence, begin)
         if method.s2:
             said += self.lines(f"S2: {method.s2}.", begin)
         for _, name in self.parameters(method):
@@ -54,7 +59,7 @@ class TypeScript(languages.Language):
                 *self.example(methods, method, begin), f"{indent} */"]
 
     def whole(self, methods, method, *_):
-        words = ", ".join(f"{name}: {kind}" for kind, name in self.parameters(method))
+        words = ", ".join(f"{name}{'?' * (name in USUAL)}: {kind}" for kind, name in self.parameters(method))
         head = "export function " if not self.owner(method) else "  " if method.has_receiver else "  static "
         return [*self.comment(methods, method), f"{head}{self.name_of(method)}({words}): {self.result(method)};"]
 
@@ -78,6 +83,9 @@ class TypeScript(languages.Language):
     # ---- the questions of the tests
 
     def question(self, _, method, *__):
+        """What is asked of a method; nothing of one that reads shapes, which has questions of its own."""
+        if method.reads_shape:
+            return []
         given = []
         for it, field, place in languages.fields(method):
             form = languages.form_of(method, it)

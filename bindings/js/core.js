@@ -1,6 +1,7 @@
 "use strict";
-// The calls of s2union.h that take no memory, in a module for WebAssembly. Its memory has 32-bit addresses, which calls
-// take as BigInt, as they take lengths. A list is a BigUint64Array. The page has this file, and so has the package.
+// The calls of s2union.h that take no memory, and those that read shapes, in a module for WebAssembly. Its memory has
+// 32-bit addresses, which calls take as BigInt, as they take lengths. A list is a BigUint64Array. The page has this
+// file, and so has the package.
 
 const LAST_LEVEL = 30;
 
@@ -26,6 +27,30 @@ const FAULTS = {
 const KINDS = {[-1]: "ROOM", [-2]: "MEMORY", [-3]: "NO_CELL", [-4]: "NO_UNION", [-5]: "ARGUMENT",
   [-6]: "MANY", [-10]: "FILE_SHORT", [-11]: "FILE_VERSION", [-12]: "FILE_TRAILING", [-13]: "FILE_CELL",
   [-14]: "CORNER", [-15]: "RING", [-16]: "SHAPE"};
+const SHAPE_FAULTS = {
+  TRUNCATED: "bytes are missing",
+  TRAILING: "bytes after the geometry",
+  ORDER: "a geometry begins with the byte 0 or 1",
+  TYPE: "no type of geometry",
+  UNCOVERED: "a geometry that is no point, line, polygon or collection of them",
+  SRID: "an SRID that is not 4326",
+  MEMBER: "a geometry of another type than the list that it is in",
+  DEEP: "too many collections in each other",
+  COUNT: "a count beyond the end of the bytes",
+  FEW: "a ring has fewer than four positions",
+  OPEN: "a ring is open: its last position is not its first",
+  NOT_FINITE: "a coordinate is infinite or not a number",
+  UTF8: "the text is not UTF-8",
+  JSON: "the text is not JSON",
+  TWICE: "an object has a member twice",
+  NO_TYPE: "an object without a type",
+  MISSING: "a list of coordinates, geometries or features is missing",
+  POSITION: "a position is a longitude and a latitude",
+  RANGE: "a longitude is from -540 to 540 and a latitude from -90 to 90 (the longitude first)",
+  NO_INSIDE: "a point or a line has no inside",
+  NO_MAP: "a position is no place, or a ring no ring",
+};
+const MAP_WORK = 268435456;
 /** The room that what a call makes is first given. */
 const ROOMS = {
   s2u_from_tokens: (n) => Math.floor(n / 2) + 1,
@@ -38,6 +63,8 @@ const ROOMS = {
   s2u_ancestors: (n) => 2 * n + 30,
   s2u_encode: (n) => 8 * n + 9,
   s2u_file_ancestors: (n) => Math.floor(n / 4) + 30,
+  s2u_map_geojson: () => 4096,
+  s2u_map_wkb: () => 4096,
 };
 
 const HEAD_SIZE = 9;
@@ -55,18 +82,27 @@ const IMPORTS = {
   fmod: (x, y) => x % y,
 };
 
-/** A refusal of the library: its kind, its status, and the place that it reports. */
+/** A refusal of the library: its kind, its status, and the place that it reports; of a shape its fault. */
 class Refusal extends Error {
   /** The kinds, each by its name. */
   static Kind = Object.freeze(Object.fromEntries([...Object.values(KINDS), "OTHER"].map((kind) => [kind, kind])));
 
-  constructor(status, place) {
-    super(FAULTS[status] ?? `unknown refusal ${status}`);
+  constructor(status, place, fault = null) {
+    super(fault ? faultText(fault) : FAULTS[status] ?? `unknown refusal ${status}`);
     this.kind = KINDS[status] ?? "OTHER";
     this.status = status;
     this.place = place;
+    this.fault = fault;
   }
 }
+
+/** The fault of a shape that has these numbers: its own from 1 on, and how many of each come before it. */
+function faultOf([number, byte, part, ring, position]) {
+  return {name: Object.keys(SHAPE_FAULTS)[number - 1] ?? "OTHER", byte, part, ring, position};
+}
+
+const faultText = ({name, byte, part, ring, position}) =>
+  `${SHAPE_FAULTS[name] ?? "unknown fault"}: byte ${byte}, part ${part}, ring ${ring}, position ${position}`;
 
 /** The answer to a question, yes or no; its refusal is thrown. */
 function isYes(status) {
@@ -365,6 +401,23 @@ class Core {
     const status = this.taking(end, name, ...words, ...more, BigInt(made));
     if (status < 0) throw new Refusal(status, 0);
     return made;
+  }
+
+  /**
+   * The coverings that a call of s2union.h makes of the bytes of a shape and of numbers; a fault of the shape is
+   * thrown. A call that had too little room is made once more.
+   */
+  coveringsOf(name, list, ...numbers) {
+    for (let room = ROOMS[name](); ;) {
+      const [words, [out, found, end]] = this.passed([list], [8 * room, 56, 0]);
+      const places = [out, room, found, found + 8, found + 16].map(BigInt);
+      const status = this.taking(end, name, ...words, ...numbers, ...places);
+      const [count, first, ...fault] = Array.from(new BigUint64Array(this.calls.memory.buffer, found, 7), Number);
+      const cells = new BigUint64Array(this.calls.memory.buffer, out, status < 0 ? 0 : count);
+      if (status >= 0) return {outer: cells.slice(0, first), inner: cells.slice(first)};
+      if (status !== ROOM) throw new Refusal(status, 0, status === SHAPE ? faultOf(fault) : null);
+      room = count;
+    }
   }
 
   /** The rings that a call draws of a union: positions, and where each ring and each polygon ends. */

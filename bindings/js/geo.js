@@ -2,7 +2,7 @@
 // longitude comes first.
 import {CellUnion, Refusal, internals, level as levelOf, square} from "./s2union.js";
 
-const {calls, cellOf, cellsIn, unionOf} = internals;
+const {bothOf, calls, cellOf, cellsIn, unionOf} = internals;
 
 // ---- numbers
 
@@ -62,19 +62,13 @@ function given(shape) {
   return ArrayBuffer.isView(shape) ? new Uint8Array(shape.buffer, shape.byteOffset, shape.byteLength) : shapeOf(shape);
 }
 
-function covered(shape, options, which) {
-  const {outer, inner} = coveringsIn(calls(), given(shape), optionsOf(options), which);
-  return {outer: unionOf(outer), inner: unionOf(inner)};
-}
+const covered = (shape, options, which) => bothOf(coveringsIn(calls(), given(shape), optionsOf(options), which));
 
 export const covering = (shape, options) => covered(shape, options, OUTER).outer;
 export const interior = (shape, options) => covered(shape, options, INNER).inner;
 export const coverings = (shape, options) => covered(shape, options, BOTH);
 
-function bothBy(name, ...words) {
-  const {outer, inner} = fine(calls(), calls().coveredBy(name, [], ...words, BOTH), null);
-  return {outer: unionOf(outer), inner: unionOf(inner)};
-}
+const bothBy = (name, ...words) => bothOf(fine(calls(), calls().coveredBy(name, [], ...words, BOTH), null));
 
 export function circle(longitude, latitude, radius, options) {
   const place = placeOf([longitude, latitude]);

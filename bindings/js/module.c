@@ -83,24 +83,6 @@ void s2u_block_grow(s2u_block* block, void* at, size_t old_size, size_t size, si
 
 void s2u_block_give_back(void* at) { free(at); }
 
-/* The product of two numbers of 128 bits, which the compiler calls by this name. */
-__int128 __multi3(__int128 a, __int128 b) {
-  uint64_t x = (uint64_t)a, y = (uint64_t)b, low = x & UINT32_MAX, high = x >> 32;
-  uint64_t less = y & UINT32_MAX, more = y >> 32;
-  uint64_t first = low * less, second = high * less + (first >> 32), third = low * more + (second & UINT32_MAX);
-  uint64_t upper = high * more + (second >> 32) + (third >> 32);
-  upper += x * (uint64_t)(b >> 64) + (uint64_t)(a >> 64) * y;
-  return (__int128)((unsigned __int128)upper << 64 | third << 32 | (first & UINT32_MAX));
-}
-
-/* A number of 128 bits, shifted to the right by fewer than 128 places, which the compiler calls by this name. */
-unsigned __int128 __lshrti3(unsigned __int128 a, int places) {
-  uint64_t low = (uint64_t)a, high = (uint64_t)(a >> 64);
-  if (places >= 64) return high >> (places - 64);
-  if (places == 0) return a;
-  return (unsigned __int128)(high >> places) << 64 | high << (64 - places) | low >> places;
-}
-
 /* ---- calls */
 
 enum { S2JS_OUTER = 1, S2JS_INNER = 2 };

@@ -24,8 +24,9 @@ export function version(): string;
  * The kind of an error: MEMORY, there is none; NO_CELL, a number is no cell, or a text names none; NO_UNION, a list is
  * not normalized; ARGUMENT, a level, coordinate, modulus or place is out of range; MANY, there would be more cells than
  * are allowed; FILE_SHORT, FILE_VERSION, FILE_TRAILING, FILE_CELL, bytes are no union file, since they end too early,
- * begin with another version, go on after the last cell, or have a number that is no cell. ROOM is not thrown, nor are
- * CORNER and RING, which are of polygons, and SHAPE, which is of texts. OTHER is of a later version.
+ * begin with another version, go on after the last cell, or have a number that is no cell; SHAPE, a text or bytes are
+ * no shape of polygons, since they have a fault. ROOM is not thrown, nor are CORNER and RING, which are of polygons.
+ * OTHER is of a later version.
  * @since 1.2
  */
 export type RefusalKind = "ROOM" | "MEMORY" | "NO_CELL" | "NO_UNION" | "ARGUMENT" | "MANY" | "FILE_SHORT"
@@ -62,6 +63,28 @@ export class Refusal extends Error {
    * @since 1.1
    */
   readonly place: number;
+  /**
+   * Why a text of GeoJSON, or bytes of WKB, are no shape of polygons, and where; null of another kind than SHAPE.
+   * @since 1.5
+   */
+  readonly fault: ShapeFault | null;
+}
+
+/**
+ * The first fault of a shape in a text of GeoJSON, or in bytes of WKB.
+ * @since 1.5
+ */
+export interface ShapeFault {
+  /** Its name, as s2union.h has it after S2U_FAULT_, such as OPEN; OTHER of a later version. */
+  readonly name: string;
+  /** How many bytes of WKB come before it; 0 of a text, and of NO_INSIDE. */
+  readonly byte: number;
+  /** How many points, lines and polygons come before it. */
+  readonly part: number;
+  /** How many rings and lines have ended before it, of all parts. */
+  readonly ring: number;
+  /** How many positions of its ring or line come before it. */
+  readonly position: number;
 }
 
 // comment: is_cell

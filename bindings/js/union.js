@@ -50,6 +50,12 @@ function numbersOf(values) {
   return BigUint64Array.from(given);
 }
 
+/** A whole number of 64 bits, for a call. */
+const longOf = (number) => BigInt(within(number, Number.MAX_SAFE_INTEGER));
+
+/** The bytes that are given, or those of a text. */
+const textGiven = (text) => (typeof text === "string" ? encoded(text) : bytesGiven(text));
+
 /** A cell, or null where a call answers none. */
 const orNull = (id) => id || null;
 
@@ -111,6 +117,8 @@ export const isUnion = (cells) => calls().isUnion(numbersOf(cells));
 let cellsIn;
 /** A union of a list that is normalized. */
 let unionOf;
+/** The unions of two coverings. */
+const bothOf = ({outer, inner}) => ({outer: unionOf(outer), inner: unionOf(inner)});
 
 /** A set of leaves as the one normalized list of cells that covers it. It never changes. */
 export class CellUnion {
@@ -251,7 +259,7 @@ export class CellUnion {
 function bytesGiven(bytes) {
   if (ArrayBuffer.isView(bytes)) return new Uint8Array(bytes.buffer, bytes.byteOffset, bytes.byteLength);
   if (bytes instanceof ArrayBuffer) return new Uint8Array(bytes);
-  throw new TypeError("a file is an ArrayBuffer or a view of one");
+  throw new TypeError("bytes are an ArrayBuffer or a view of one");
 }
 
 /** The bytes of a union file, which answer as they are. */
@@ -286,6 +294,6 @@ export class UnionFile {
 }
 
 /** What geo.js asks. */
-export const internals = {calls, cellOf, cellsIn, unionOf};
+export const internals = {bothOf, calls, cellOf, cellsIn, unionOf};
 
 export {Refusal};

@@ -79,7 +79,7 @@ def figures():
         (headline, r"the (N) lines of \[`main`\]", about(lines_of_main())),
         (headline, r"on (N) random cases", just(cases)),
         (headline, r"on (N) random rings", just(rings)),
-        (headline, r"product of (N) bits", just(128)),
+        (headline, r"runtime for numbers of (N) bits", just(128)),
         ("docs/FAQ.md", r"with (N) random cases beside S2", just(cases)),
         ("docs/DECISIONS.md", r"At most 2\^(N) \+ 32 \(edges", just(pairs)),
         (proof, r"at most (N) KiB, waited", just(constant("s2calc/src/limits.rt", "MOST_WAITING") // 1024)),

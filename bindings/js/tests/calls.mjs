@@ -1,6 +1,8 @@
 // Each call of the package for JavaScript: what it takes, a question over long lists, and its plain answer.
 
 export const FACE = 0x1000000000000000n;
+const SQUARE = '{"type": "Polygon", "coordinates": [[[0,0], [20,0], [20,20], [0,20], [0,0]]]}';
+const EMPTY = Uint8Array.of(0, 0, 0, 0, 6, 0, 0, 0, 0);
 
 /** The lists of questions to a module: the first `count` of every second leaf of a face, and the leaves between. */
 export class Given {
@@ -90,6 +92,9 @@ export const CALLS = {
   fromPoints: {asks: (it) => it.module.fromPoints(it.points),
     wanted: (it) => it.points.map((point) => it.module.fromFaceIJ(...point))},
   isUnion: {asks: (it) => it.module.isUnion(it.cells), wanted: () => true},
+  coverGeoJson: {level: (it, level) => it.module.coverGeoJson(SQUARE, level),
+    asks: (it) => it.module.coverGeoJson(SQUARE, 3)},
+  coverWkb: {level: (it, level) => it.module.coverWkb(EMPTY, level), asks: (it) => it.module.coverWkb(EMPTY, 3)},
 
   CellUnion: of("cells", (it, given) => new it.module.CellUnion(given), cells),
   "CellUnion.fromNormalized": {asks: (it) => it.module.CellUnion.fromNormalized(it.cells), wanted: cells},

@@ -24,6 +24,8 @@ need_page
 questions() { PYTHONPATH=$top/tests /usr/bin/python3 -B -m model.vectors "$rounds" >"$work/vectors"; }
 step "questions" questions
 step "its questions" /usr/bin/python3 -B "$top/tools/methods.py" "$work" "$tests/vectors.mjs"
+step "texts and bytes of shapes" maps
+step "coverings of texts and bytes" node "$tests/maps.mjs" "$module" "$work/map-texts"
 step "against the model" node "$work/vectors.mjs" "$module" "$work/vectors"
 step "what is refused, and what stays" node "$tests/refusals.mjs" "$module" "$version" "$cells"
 step "the page's own code, without a browser" node "$top/page/tests/page.mjs" "$top"
@@ -31,7 +33,7 @@ heap() {
   gcc -std=gnu11 -O2 -Wall -Wextra -Werror -I"$top/bindings/js" -I"$top/bindings/c" -I"$work/usr/include" \
     "$tests/heap.c" "$work/usr/lib/libs2union.a" -lm -o "$work/heap" && "$work/heap"
 }
-step "the heap of its module, and the product of 128 bits" heap
+step "the heap of its module" heap
 
 places() { PYTHONPATH=$top/tests /usr/bin/python3 -B -c 'from model.places import POINTS
 for place in POINTS: print(*place)' >"$work/places"; }

@@ -1,6 +1,5 @@
-/* The heap of the page's module and its product of 128 bits, which bindings/js/module.c has, compiled for this system:
- * the product beside the processor's, blocks that each have a pattern of their own, and zones with less and less
- * memory. The last line is 'N passed, M failed'. */
+/* The heap of the page's module, which bindings/js/module.c has, compiled for this system: blocks that each have a
+ * pattern of their own, and zones with less and less memory. The last line is 'N passed, M failed'. */
 #define _GNU_SOURCE
 #include <math.h>
 #include <stdbool.h>
@@ -10,7 +9,7 @@
 #include <string.h>
 #include <sys/mman.h>
 
-enum { BLOCKS = 500, ROUNDS = 300000, PAIRS = 1000000 };
+enum { BLOCKS = 500, ROUNDS = 300000 };
 #define BEGIN 0x10000000u
 #define PAGES 1024u /* of the memory, at the most, behind BEGIN */
 
@@ -31,8 +30,6 @@ void heap_free(void* at);
 #define calloc heap_calloc
 #define realloc heap_realloc
 #define free heap_free
-#define __multi3 product
-#define __lshrti3 shifted
 #include "module.c"
 #undef malloc
 #undef calloc
@@ -49,24 +46,6 @@ static uint64_t any(void) {
   static uint64_t state = 88172645463325252u;
   state ^= state << 13, state ^= state >> 7, state ^= state << 17;
   return state * 2685821657736338717u;
-}
-
-/* The halves at whose borders a carry may be lost. */
-static uint64_t half(void) {
-  static const uint64_t borders[] = {0, 1, 2, UINT32_MAX - 1, UINT32_MAX, (uint64_t)UINT32_MAX + 1, INT64_MAX,
-                                     (uint64_t)INT64_MAX + 1, UINT64_MAX - UINT32_MAX, UINT64_MAX - 1, UINT64_MAX};
-  uint64_t kind = any() % 4, n = sizeof borders / sizeof *borders;
-  return kind == 0 ? any() : kind == 1 ? any() >> any() % 64 : kind == 2 ? ~(any() >> any() % 64) : borders[any() % n];
-}
-
-static void products(void) {
-  for (long k = 0; k < PAIRS; k++) {
-    __int128 a = (__int128)((unsigned __int128)half() << 64 | half());
-    __int128 b = (__int128)((unsigned __int128)half() << 64 | half());
-    is(product(a, b) == (__int128)((unsigned __int128)a * (unsigned __int128)b), "a product");
-    int places = (int)(k & 127);
-    is(shifted((unsigned __int128)a, places) == (unsigned __int128)a >> places, "a shift");
-  }
 }
 
 typedef struct block {
@@ -175,7 +154,6 @@ int main(void) {
   void* at = mmap((void*)(uintptr_t)BEGIN, PAGES * 65536, PROT_READ | PROT_WRITE,
                   MAP_PRIVATE | MAP_ANONYMOUS | MAP_FIXED_NOREPLACE, -1, 0);
   if (at != (void*)(uintptr_t)BEGIN) return perror("mmap"), 2;
-  products();
   zones();
   s2js_begin(BEGIN + 3);
   uint64_t end = end_of_all();
