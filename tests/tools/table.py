@@ -77,6 +77,8 @@ MISTAKES = [
             "Java: s2u_complement: it isn't in bindings/java/s2union.c or"),
     Mistake("a call that R lacks", "bindings/r/R/s2union.R", "# methods: all others\n", "",
             "R: s2u_complement: it isn't in bindings/r/R/s2union.R"),
+    Mistake("another name in SQL on the page for users of S2", "tools/methods.toml", 'sql = "`s2_complement`"',
+            'sql = "`s2_rest`"', "docs/FROM_S2.md: not what tools/calls makes"),
     Mistake("a row of methods for no call", "tools/methods.toml", "[call.is_union]", "[call.is_list]",
             "tools/methods.toml: is_list: no such export"),
     Mistake("a method that has no row", "tools/methods.toml", "[call.is_union]", "[call.is_list]",
