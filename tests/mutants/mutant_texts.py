@@ -29,6 +29,7 @@ ALWAYS = re.compile(r"^gate: always$", re.M)
 TEST = re.compile(r"^test: (.+)$", re.M)
 WATCHED = "watched"  # a part of tests/run, as a mutant's test
 CRATE = re.compile(r"^crate: (\S+)$", re.M)
+OPERATION = re.compile(r"^    let n = put_(\w+)\((.*), &mut out\[\.\.room\]\);$", re.M)
 FN = re.compile(r'^ *(?:pub(?:\([a-z]+\))? )?(?:const )?(?:extern "C" )?fn (\w+)')
 TYPE = re.compile(r"^(?:pub(?:\([a-z]+\))? )?(?:struct|enum) (\w+)", re.M)
 TRAIT = ("trait ", "pub trait ")
@@ -41,9 +42,22 @@ def files_of_mutants(top):
 
 
 def mutants_of(file):
-    """The mutants in a file: each name with the lines below it."""
+    """The mutants in a file, each name with the lines below it, and those of the operations on unions beside it."""
     _, *parts = BEGIN.split(Path(file).read_text(encoding="utf-8"))
-    return [(name, lines.strip("\n")) for name, lines in zip(parts[::2], parts[1::2])]
+    written = [(name, lines.strip("\n")) for name, lines in zip(parts[::2], parts[1::2])]
+    return written + list(of_operations(Path(file).parent / "src" / "sets.rt"))
+
+
+def of_operations(source):
+    """A mutant of each operation on unions, which answers another one: that of both, or of a list with itself."""
+    text = source.read_text(encoding="utf-8") if source.exists() else ""
+    for name, lists in OPERATION.findall(text):
+        given = lists if lists.count("&IdList") == 2 else f"{lists}, {lists}"
+        other = "symmetric_difference" if name == "union" else "union"
+        ends = "(", ", &mut out[..room]);"
+        yield f"{name}_answered_by_another", "\n".join([
+            f"function: sets::s2u_{name}", "file: src/sets.rt", f"old: put_{name}{lists.join(ends)}",
+            f"new: put_{other}{given.join(ends)}"])
 
 
 def mutant_of(file, name):
