@@ -62,6 +62,7 @@ def figures():
                     for name in ("OfCells", "OfStates"))
     cases = in_source("tests/peer/s2.sh", r"bench/out/peer \"\$\{1:-(\d+)\}")
     pairs = in_source("crates/s2cover/src/budget.rt", r"1 << (\d+);")
+    looked = in_source("crates/s2cover/src/splitting.rt", r"^const LOOKED: usize = (\d+);")
     scripts = in_source("tests/run", r"in_gate\(\"tests/peer/scripts.py (\d+)")
     rings = in_source("tests/peer/polygons.sh", r"beside_s2 \"\$\{1:-(\d+)\}\"")
     cells, to_c, polygons = (lines_of_specs(*crates) for crates in (CELLS, ["s2union_c"], ["s2polygon"]))
@@ -74,6 +75,7 @@ def figures():
         (headline, r"DEPTH is .*?, or (N);", just(depth)),
         (headline, r"From (N) empty registers", just(constant("s2script/src/register.rt", "REGISTERS"))),
         (headline, r"edges touch more than (N) cells", just(constant("s2polygon/src/counting.rt", "MOST_TOUCHED"))),
+        (headline, r"edges touch more cells than (N) and those allowed", just(looked)),
         (headline, r"with (N) contracts of C functions", just(call)),
         (headline, r"(N) functions of the C library", just(imported)),
         (headline, r"the (N) lines of \[`main`\]", about(lines_of_main())),
