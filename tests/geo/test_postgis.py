@@ -34,8 +34,11 @@ CATALOGUE = """
 CALLS = [f"SELECT own.{call}" for call in (
     "s2_degrees(public.ST_Point(2, 48))", "s2_covering(public.ST_Point(2, 48))", "s2_covering('POINT(2 48)')",
     "s2_interior('POLYGON((2 48, 3 48, 3 49, 2 48))'::public.geometry, 9)", "s2_interior('POINT(2 48)', 9, 12)",
-    "s2_coverings(public.ST_Point(2, 48))", "s2_geometry('04')", "s2_geometry('04', true)", "s2_geojson('04')",
-    "s2_geojson('04', true)", "s2_envelope(1)", "s2_join_tiles(public.ST_Point(2, 48), 3)",
+    "s2_coverings(public.ST_Point(2, 48))",
+    "s2_map_outer('POLYGON((2 48, 3 48, 3 49, 2 48))'::public.geometry, 9)",
+    "s2_map_inner('POLYGON((2 48, 3 48, 3 49, 2 48))'::public.geometry, 9)", "s2_geometry('04')",
+    "s2_geometry('04', true)", "s2_geojson('04')", "s2_geojson('04', true)", "s2_envelope(1)",
+    "s2_join_tiles(public.ST_Point(2, 48), 3)",
     "s2_has_degrees(public.ST_Point(2, 48))", "s2_has_degrees(public.ST_Point(2, 48, 3857))", "s2_has_degrees(4258)")]
 
 
@@ -72,6 +75,21 @@ class PostGIS(unittest.TestCase):
                                        f" s2_geojson('{region}', outline => false) = s2_geojson('{region}')"), ["t|t"])
         self.assertEqual(self.said("SELECT ST_NumGeometries(ST_GeomFromGeoJSON(s2_geojson('04 0c', outline => true))),"
                                    " ST_NumGeometries(ST_GeomFromGeoJSON(s2_geojson('04 0c')))"), ["1|2"])
+
+    def test_coverings_of_geometries_as_they_are_written(self):
+        """Those of the bytes and of the text that PostGIS writes; also of a geometry without a system of coordinates,
+        and of one in another."""
+        self.said("CREATE EXTENSION s2union_postgis CASCADE")
+        square = "ST_MakeEnvelope(2, 48, 3, 49, {})"
+        for name in "s2_map_outer", "s2_map_inner":
+            self.assertEqual(self.said(f"SELECT {name}({square.format(0)}, 8) = {name}(ST_AsEWKB(geom), 8), {name}"
+                                       f"(geom, 8) = {name}(ST_AsGeoJSON(geom), 8), {name}(ST_Transform(geom, 4258), 8)"
+                                       f" = {name}(geom, 8), {name}(NULL::geometry, 8) IS NULL"
+                                       f" FROM (SELECT {square.format(4326)} AS geom) v"), ["t|t|t|t"])
+        self.assertIn("a point or a line has no inside: byte 0, part 0, ring 0, position 0",
+                      error_of("SELECT s2_map_outer(ST_Point(2, 48), 8)"))
+        self.assertIn("no point, line, polygon or collection of them: byte 0, part 0, ring 0, position 0",
+                      error_of("SELECT s2_map_inner('CURVEPOLYGON((2 48, 3 48, 3 49, 2 48))'::geometry, 8)"))
 
     def test_the_update_from_1_4(self):
         """It makes what a new database has; a view that asks its function goes on."""

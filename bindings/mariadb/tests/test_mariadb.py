@@ -7,6 +7,7 @@ import re
 import sqlite3
 import subprocess
 import unittest
+from pathlib import Path
 
 from model import maps
 from model.engine import INSTALL, WORK, MariadbServer
@@ -14,6 +15,7 @@ from model.random_cells import FACE, Random, signed
 from model.shapes import box, of_lines, of_polygons, shapes_in_wkb, wkb_of
 
 random = Random(12)
+PAGE = (Path(__file__).resolve().parents[1] / "README.md").read_text("utf-8")
 CELL = FACE + FACE // 4
 
 
@@ -205,6 +207,10 @@ class BesideSqlite(MariadbServer):
         said = self.ask(f"""USE trial; SELECT s2_contains_cell(s2_covering(ST_AsWKB({square})), s2_leaf_at(2.5, 48.5)),
             s2_contains_cell(s2_interior(ST_AsWKB({square}), 9), s2_leaf_at(3.5, 48.5)), s2_covering({square})""")
         self.assertEqual(said, "1\t0\tNULL\n")
+        (call, shape), = re.findall(r"`(s2_map_outer\(ST_AsGeoJSON\((.*)\), 9\))`", PAGE)  # what the page shows
+        said = self.ask(f"SELECT {call} = s2_map_outer(ST_AsWKB({shape}), 9), "
+                        f"s2_contains_cell({call}, s2_leaf_at(3, 49))")
+        self.assertEqual(said, "1\t1\n")
 
     def test_texts_and_bytes(self):
         """Those of tests/model/maps.py, in the file that S2UNION_MAPS names: an error is NULL and a warning."""

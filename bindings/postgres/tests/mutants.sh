@@ -17,11 +17,13 @@ survives() { # NAME: without one it notes how long the tests may take, which is 
     psql -qXd mutant -c "LOAD 's2union'" || return 2 # all that it calls is there
   PGDATABASE=mutant refuse AgainstTheModel WhatIsRefused Aggregates Guarded test_kept.py::AroundACall \
     test_catalogue.py::Catalogue test_catalogue.py::Updates Indexes Exclusion Planner Points Shapes test_wkb.py \
-    test_strangers.py test_kept.py::Errors test_join_table.py || return
+    test_maps.py test_strangers.py test_kept.py::Errors test_join_table.py || return
   whole || return 1
   [ -n "$1" ] || SECONDS_OF_TESTS=$((120 + 4 * (SECONDS - begun)))
 }
 
 step "a copy of PostgreSQL $server" copied
 step "a cluster on a socket" begun data
+export S2UNION_MAPS=$work/map-texts
+step "texts and bytes of shapes, with their coverings" maps
 try_mutants "$top/bindings/postgres/mutants.txt" "$@"

@@ -20,9 +20,9 @@ tests() { # FOLDER PRELOAD
   (
     LD_PRELOAD=$2 ASAN_OPTIONS=detect_leaks=0 timeout 100 "$work/memory" "$1/"mod_s2union{,_geo} || exit
     cd "$top/bindings/sqlite/tests" && export PYTHONPATH=$top/tests PYTHONDONTWRITEBYTECODE=1
-    export ASAN_OPTIONS=detect_leaks=0
+    export ASAN_OPTIONS=detect_leaks=0 S2UNION_MAPS=$work/map-texts
     LD_PRELOAD=$2 S2UNION_ROUNDS=300 S2UNION_SQLITE=$1/mod_s2union.so timeout 300 \
-      /usr/bin/python3 -m pytest -x test_sqlite.py::{WhatIsRefused,AgainstTheModel} test_{geo,joins}.py
+      /usr/bin/python3 -m pytest -x test_sqlite.py::{WhatIsRefused,AgainstTheModel} test_{geo,joins,maps}.py
   )
 }
 
@@ -34,4 +34,5 @@ survives() { # NAME
   refuse "$work/sanitized" "$(gcc -print-file-name=libasan.so) $(gcc -print-file-name=libubsan.so)"
 }
 
+step "texts and bytes of shapes, with their coverings" maps
 try_mutants "$top/bindings/sqlite/mutants.txt" "$@"

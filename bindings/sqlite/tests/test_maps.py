@@ -48,7 +48,7 @@ class Maps(Tests):
     def test_each_beginning_of_bytes(self):
         for size in range(len(TRIANGLE)):
             self.assertRegex(self.error("s2_map_outer(?, 3)", TRIANGLE[:size]),
-                             rf"^s2: (bytes are missing|a count beyond the end of the bytes): byte \d+, part 0, ring 0, ")
+                             r"^s2: (bytes are missing|a count beyond the end of the bytes): byte \d+, part 0, ring 0")
         self.refused("s2: bytes after the geometry: ", "s2_map_outer(?, 3)", TRIANGLE + b"\0")
 
     def test_more_cells_than_there_is_room_for_at_first(self):
