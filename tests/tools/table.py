@@ -1,8 +1,10 @@
 """The table of the library's calls, and that a mistake in what is declared is refused: tests/tools/table.py.
 
-First `tools/calls --check`. Then each mistake below is made in a copy of the repository, and it has to find fault. The
+First `tools/calls --check`. Then each mistake below is made in a copy of the repository, and it has to find fault. At
+last a new call of unions stands in the copy in the files that docs/EXTENDING.md names, and no language may lack it. The
 last line is 'N passed, M failed'.
 """
+import re
 import subprocess
 import sys
 import tempfile
@@ -137,9 +139,17 @@ MISTAKES = [
 ]
 
 
-def checked(folder):
-    """What tools/calls says of a folder, and whether it finds nothing."""
-    done = subprocess.run([sys.executable, TOP / "tools" / "calls", "--check", folder], capture_output=True, text=True,
+# What a call of unions has by hand, as that of `union` stands there: a second one is made of it, with another name.
+CALL = [("crates/s2union_c/src/sets.rt", r'(?s)#\[unsafe\(no_mangle\)\]\npub extern "C" fn s2u_union\(.*?\n\}\n'),
+        (HEADER, r"(?s)/\*\* \[pure\] The leaves of either\.(?:(?!/\*\*).)*?s2u_union\([^;]*;\n"),
+        ("tools/methods.toml", r"(?s)\[call\.union\]\n.*?\n\n"), ("tests/model/vectors.py", r' +say\("union", .*\n')]
+RENAMED = {"s2u_union": "s2u_either", "[call.union]\n": '[call.either]\nfrom_s2.differs = "S2 has no such call"\n',
+           ").union(": ").either(", '"union"': '"either"'}
+
+
+def checked(folder, top=TOP):
+    """What tools/calls of a checkout says of a folder, and whether it finds nothing."""
+    done = subprocess.run([sys.executable, top / "tools" / "calls", "--check", folder], capture_output=True, text=True,
                           check=False)
     return done.stdout + done.stderr, done.returncode == 0
 
@@ -160,6 +170,20 @@ def is_refused(mistake, copy):
     return True
 
 
+def takes_a_call(copy):
+    """Whether no language lacks a call that these files alone have by hand, once `tools/calls` has run."""
+    for file, part in CALL:
+        text = (copy / file).read_text(encoding="utf-8")
+        old = new = re.search(part, text)[0]
+        for name, other in RENAMED.items():
+            new = new.replace(name, other)
+        (copy / file).write_text(text.replace(old, f"{old}{new}", 1), encoding="utf-8")
+    subprocess.run([sys.executable, copy / "tools" / "calls"], capture_output=True, check=False)
+    said, is_fine = checked(copy, copy)
+    print("" if is_fine else said, end="")
+    return is_fine and "s2u_either" in (copy / "docs/FROM_S2.md").read_text(encoding="utf-8")
+
+
 def main():
     said, is_fine = checked(TOP)
     print(said, end="" if is_fine else "\n")
@@ -167,6 +191,7 @@ def main():
     with tempfile.TemporaryDirectory() as room:
         copy_tracked(TOP, room)
         refused = [is_refused(mistake, Path(room).resolve()) for mistake in MISTAKES]
+        refused.append(takes_a_call(Path(room).resolve()))
     passed, failed = int(counts[0]) + sum(refused), int(counts[2]) + refused.count(False)
     print(f"{passed} passed, {failed} failed")
     return failed > 0
