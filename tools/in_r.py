@@ -148,8 +148,8 @@ class R(languages.Language):
     def question(self, _, method, *__):
         given = []
         for it, field, place in languages.fields(method):
-            form = languages.form_of(method, it)
-            given.append(f"numbers(g[{field + 1}])[{(place or 0) + 1}]" if form == "number" else f"{form}(g[{field + 1}])")
+            form, own = languages.form_of(method, it), f"g[{field + 1}]"
+            given.append(f"numbers({own})[{(place or 0) + 1}]" if form == "number" else f"{form}({own})")
         return [f'ask("{method.question}", function(g) {self.name_of(method)}({", ".join(given)}))']
 
     def example_of(self, methods, method):

@@ -1,5 +1,5 @@
-# The cells of shapes, and the names and places of errors, which tests/model/shapes.py has of Python: shapes.R SHAPES. The
-# last line is 'N passed, M failed'.
+# The cells of shapes, and the names and places of errors, which tests/model/shapes.py has of Python: shapes.R SHAPES.
+# The last line is 'N passed, M failed'.
 library(s2union)
 bytes <- function(hex) {
   digits <- strtoi(strsplit(hex, "")[[1]], 16)
