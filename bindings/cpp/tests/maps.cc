@@ -1,5 +1,5 @@
-// The coverings of the texts and bytes of tests/model/maps.py by s2union.hpp, whose rows are the standard input: what is
-// made, and each error as it is thrown and as it is reported. The last line is 'N passed, M failed'.
+// The coverings of the texts and bytes of tests/model/maps.py by s2union.hpp, whose rows are the standard input: what
+// is made, and each error as it is thrown and as it is reported. The last line is 'N passed, M failed'.
 #include <cstdio>
 #include <iostream>
 #include <map>
@@ -15,9 +15,10 @@ using s2union::Coverings;
 static unsigned long passed, failed;
 
 // The names of faults as the rows have them, in the order of their numbers.
-static const char* const kFaults[] = {"truncated", "trailing", "order",   "type",       "uncovered", "srid",     "member",
-                                      "deep",      "count",    "few",     "open",       "not_finite", "utf8",    "json",
-                                      "twice",     "no_type",  "missing", "position",   "range",     "no_inside", "no_map"};
+static const char* const kFaults[] = {
+    "truncated", "trailing", "order", "type", "uncovered", "srid", "member", "deep", "count", "few",
+    "open", "not_finite", "utf8", "json", "twice", "no_type", "missing", "position", "range",
+    "no_inside", "no_map"};
 
 static const std::map<int32_t, std::string> kStatuses = {{S2U_MANY, "!many"}, {S2U_ARGUMENT, "!argument"}};
 
