@@ -1,5 +1,6 @@
 """The methods of Java: their comments with examples, what they forward to Calls, and the questions of their tests."""
 import languages
+from declared import is_of_shape
 
 RECTANGLE = ("face", "i0", "i1", "j0", "j1")
 OF = {"CellUnion": "ids", "UnionFile": "bytes"}  # the list of each class
@@ -36,7 +37,7 @@ class Java(languages.Language):
             elif it.is_list:
                 kind = "int" if it.kind == "Point" else "long"
                 yield kind + ("..." if place + 1 == len(given) else "[]"), name
-            elif it.name != "most":
+            elif it.name != "most" or is_of_shape(method.call):
                 yield "long" if it.kind == "u64" and it.name != "k" else "int", name
         yield from (("int", name) for name in method.row.get("more", []))
 

@@ -5,8 +5,8 @@ S2U_RING = -15, S2U_SHAPE = -16 };
 enum { S2U_FAULT_TRUNCATED = 1, S2U_FAULT_TRAILING = 2, S2U_FAULT_ORDER = 3, S2U_FAULT_TYPE = 4, S2U_FAULT_UNCOVERED =
 5, S2U_FAULT_SRID = 6, S2U_FAULT_MEMBER = 7, S2U_FAULT_DEEP = 8, S2U_FAULT_COUNT = 9, S2U_FAULT_FEW = 10, S2U_FAULT_OPEN
 = 11, S2U_FAULT_NOT_FINITE = 12, S2U_FAULT_UTF8 = 13, S2U_FAULT_JSON = 14, S2U_FAULT_TWICE = 15, S2U_FAULT_NO_TYPE = 16,
-S2U_FAULT_MISSING = 17, S2U_FAULT_POSITION = 18, S2U_FAULT_RANGE = 19, S2U_FAULT_NO_INSIDE = 20, S2U_FAULT_NO_MAP = 21
-};
+S2U_FAULT_MISSING = 17, S2U_FAULT_POSITION = 18, S2U_FAULT_RANGE = 19, S2U_FAULT_NO_INSIDE = 20, S2U_FAULT_NO_MAP = 21,
+S2U_FAULT_LONG_EDGE = 22, S2U_FAULT_SPREAD = 23 };
 typedef struct { uint32_t face; uint32_t i; uint32_t j; uint32_t size; } s2u_square;
 typedef struct { uint32_t face; uint32_t i0; uint32_t i1; uint32_t j0; uint32_t j1; } s2u_rect;
 typedef struct { uint32_t face; uint32_t i; uint32_t j; } s2u_point;
@@ -50,6 +50,10 @@ uint64_t s2u_from_face_ij(uint32_t face, uint32_t i, uint32_t j);
 int32_t s2u_from_points(const s2u_point* points, size_t n, uint64_t* out, size_t room, size_t* bad);
 int32_t s2u_from_token(const char* text, size_t n, uint64_t* id);
 int32_t s2u_from_tokens(const char* text, size_t n, uint64_t* out, size_t room, size_t* len);
+int32_t s2u_geodesic_geojson(const char* text, size_t n, uint32_t level, size_t most, uint64_t* out, size_t room,
+  size_t* len, size_t* outer, s2u_shape_fault* fault);
+int32_t s2u_geodesic_wkb(const uint8_t* wkb, size_t n, uint32_t level, size_t most, uint64_t* out, size_t room, size_t*
+  len, size_t* outer, s2u_shape_fault* fault);
 int32_t s2u_inner(const s2u_rect* bounds, uint32_t level, size_t most, uint64_t* out, size_t room, size_t* len);
 int32_t s2u_inner_in(const uint64_t* ids, size_t n, const s2u_rect* bounds, uint32_t level, size_t most, uint64_t* out,
   size_t room, size_t* len);

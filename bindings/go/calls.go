@@ -26,6 +26,8 @@ const (
 	FaultRange     FaultName = C.S2U_FAULT_RANGE      // a longitude is beyond 540 degrees, or a latitude beyond 90
 	FaultNoInside  FaultName = C.S2U_FAULT_NO_INSIDE  // a part is a point or a line, which has no inside
 	FaultNoMap     FaultName = C.S2U_FAULT_NO_MAP     // a position or a ring is none on the map; no shape read is so
+	FaultLongEdge  FaultName = C.S2U_FAULT_LONG_EDGE  // a geodesic edge of a polygon is 128 degrees or longer
+	FaultSpread    FaultName = C.S2U_FAULT_SPREAD     // the corners of a polygon are too far apart for geodesic edges
 )
 
 // LeafCellsCovered is how many leaves the union has. It takes n steps. It is 0 to 6 * 4^30. Since 0.2.

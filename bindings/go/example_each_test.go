@@ -486,6 +486,20 @@ func ExampleCoverWKB() {
 	// s2union: bytes are missing: byte 5, part 0, ring 0, position 0
 }
 
+func ExampleCoverGeodesicGeoJSON() {
+	square := `{"type": "Polygon", "coordinates": [[[0,0], [20,0], [20,20], [0,20], [0,0]]]}`
+	outer, inner, err := s2union.CoverGeodesicGeoJSON([]byte(square), 6, 1000)
+	middle, _ := s2union.CellIDFromPosition(s2union.Position{10, 10})
+	fmt.Println(outer.ContainsCellID(middle), inner.ContainsCellID(middle), outer.Contains(inner), err)
+	// Output: true true true <nil>
+}
+
+func ExampleCoverGeodesicWKB() {
+	outer, _, err := s2union.CoverGeodesicWKB([]byte{0, 0, 0, 0, 6, 0, 0, 0, 0}, 6, 1000)
+	fmt.Println(outer.IsEmpty(), err)
+	// Output: true <nil>
+}
+
 func ExampleFaultName_String() {
 	fmt.Println(s2union.FaultOpen)
 	// Output: a ring is open: its last position is not its first

@@ -32,6 +32,35 @@ func CoverWKB(wkb []byte, level int, work uint64) (outer, inner CellUnion, err e
 	return mapped(roomOfMapWkb(), call)
 }
 
+// CoverGeodesicGeoJSON is the outer and the inner covering of the polygons in a text of GeoJSON, whose edges are
+// geodesics, the short ways on the sphere: the cells of a level, 0 to 30. Proved: no leaf that a polygon touches or has
+// inside is missing from the outer covering, and each leaf of the inner one lies inside a polygon. ErrArgument: the
+// level is out of range, or `most` below 0. ErrShape, in a ShapeError: the text has a fault, a part of the shape is a
+// point or a line, or the corners of a polygon are too far apart. ErrMany: a covering of a polygon has more cells than
+// `most`, or its edges touch too many. ErrMemory. Since 1.5.
+func CoverGeodesicGeoJSON(text []byte, level, most int) (outer, inner CellUnion, err error) {
+	if most < 0 {
+		return CellUnion{}, CellUnion{}, ErrArgument
+	}
+	call := func(out *C.uint64_t, room C.size_t, n, first *C.size_t, fault *C.s2u_shape_fault) C.int32_t {
+		at, size := pointerToText(text)
+		return C.s2u_geodesic_geojson(at, size, narrowed(level), C.size_t(most), out, room, n, first, fault)
+	}
+	return mapped(roomOfGeodesicGeojson(), call)
+}
+
+// CoverGeodesicWKB is the same of bytes of WKB or EWKB, in either order of bytes. Since 1.5.
+func CoverGeodesicWKB(wkb []byte, level, most int) (outer, inner CellUnion, err error) {
+	if most < 0 {
+		return CellUnion{}, CellUnion{}, ErrArgument
+	}
+	call := func(out *C.uint64_t, room C.size_t, n, first *C.size_t, fault *C.s2u_shape_fault) C.int32_t {
+		at, size := pointerToBytes(wkb)
+		return C.s2u_geodesic_wkb(at, size, narrowed(level), C.size_t(most), out, room, n, first, fault)
+	}
+	return mapped(roomOfGeodesicWkb(), call)
+}
+
 // mapped is the two unions that a call makes, one after the other.
 func mapped(room int, call mapping) (outer, inner CellUnion, err error) {
 	var first C.size_t

@@ -15,7 +15,19 @@ import (
 
 // The names of faults as the questions have them, in the order of their numbers.
 var faultNames = strings.Fields("truncated trailing order type uncovered srid member deep count few open not_finite " +
-	"utf8 json twice no_type missing position range no_inside no_map")
+	"utf8 json twice no_type missing position range no_inside no_map long_edge spread")
+
+// The calls by their names in the questions, each with a bound of work or of cells.
+var mapCalls = map[string]func([]byte, int, uint64) (s2union.CellUnion, s2union.CellUnion, error){
+	"map_geojson": s2union.CoverGeoJSON,
+	"map_wkb":     s2union.CoverWKB,
+	"geodesic_geojson": func(data []byte, level int, most uint64) (s2union.CellUnion, s2union.CellUnion, error) {
+		return s2union.CoverGeodesicGeoJSON(data, level, int(most))
+	},
+	"geodesic_wkb": func(data []byte, level int, most uint64) (s2union.CellUnion, s2union.CellUnion, error) {
+		return s2union.CoverGeodesicWKB(data, level, int(most))
+	},
+}
 
 // TestMaps asks the texts and bytes of tests/model/maps.py, in the file that S2UNION_MAPS names.
 func TestMaps(t *testing.T) {
@@ -31,12 +43,8 @@ func TestMaps(t *testing.T) {
 		fields := strings.Split(lines.Text(), "\t")
 		data, _ := hex.DecodeString(fields[1])
 		level, _ := strconv.Atoi(fields[2])
-		work, _ := strconv.ParseUint(fields[3], 10, 64)
-		cover := s2union.CoverGeoJSON
-		if fields[0] == "wkb" {
-			cover = s2union.CoverWKB
-		}
-		outer, inner, err := cover(data, level, work)
+		most, _ := strconv.ParseUint(fields[3], 10, 64)
+		outer, inner, err := mapCalls[fields[0]](data, level, most)
 		check(t, answerOf(outer, inner, err) == strings.Join(fields[4:], "\t"), lines.Text())
 	}
 	check(t, asked > 500, fmt.Sprint(asked, lines.Err()))

@@ -41,6 +41,10 @@ func roomOfMapGeojson() int { return 4096 }
 
 func roomOfMapWkb() int { return 4096 }
 
+func roomOfGeodesicGeojson() int { return 4096 }
+
+func roomOfGeodesicWkb() int { return 4096 }
+
 func roomOfPolygonOuter() int { return 4096 }
 
 func roomOfPolygonInner() int { return 4096 }

@@ -292,7 +292,7 @@ typedef struct {
   const void* given;
   size_t size;
   uint32_t level;
-  uint64_t work;
+  uint64_t most; /* work on the map, or cells of a covering */
   uint64_t* out;
   size_t room, len, outer;
   s2u_shape_fault fault;
@@ -301,22 +301,28 @@ typedef struct {
 static int32_t map_of(jint call, mapping* it) {
   switch (call) {
     case MAP_GEOJSON:
-      return s2u_map_geojson(it->given, it->size, it->level, it->work, it->out, it->room, &it->len, &it->outer,
+      return s2u_map_geojson(it->given, it->size, it->level, it->most, it->out, it->room, &it->len, &it->outer,
                              &it->fault);
     case MAP_WKB:
-      return s2u_map_wkb(it->given, it->size, it->level, it->work, it->out, it->room, &it->len, &it->outer, &it->fault);
+      return s2u_map_wkb(it->given, it->size, it->level, it->most, it->out, it->room, &it->len, &it->outer, &it->fault);
+    case GEODESIC_GEOJSON:
+      return s2u_geodesic_geojson(it->given, it->size, it->level, (size_t)it->most, it->out, it->room, &it->len,
+                                  &it->outer, &it->fault);
+    case GEODESIC_WKB:
+      return s2u_geodesic_wkb(it->given, it->size, it->level, (size_t)it->most, it->out, it->room, &it->len,
+                              &it->outer, &it->fault);
     default: return S2U_ARGUMENT;
   }
 }
 
 /* Both coverings of a text or of bytes, whose cells are put to `made`. A fault is put to `at`. */
-CALL(jint, map)(JNIEnv* env, jclass of, jint call, jlong room, jbyteArray given, jint level, jlong work,
+CALL(jint, map)(JNIEnv* env, jclass of, jint call, jlong room, jbyteArray given, jint level, jlong most,
                 jobjectArray made, jlongArray at) {
   (void)of;
   jbyte* bytes = (*env)->GetByteArrayElements(env, given, NULL);
   if (bytes == NULL) return S2U_MEMORY;
   mapping it = {.given = bytes, .size = (size_t)(*env)->GetArrayLength(env, given), .level = (uint32_t)level,
-                .work = (uint64_t)work, .len = (size_t)room};
+                .most = (uint64_t)most, .len = (size_t)room};
   int32_t status = S2U_ROOM;
   while (status == S2U_ROOM) {
     it.room = it.len;

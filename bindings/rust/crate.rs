@@ -18,7 +18,7 @@ pub use covering::{Rect, MOST_COVERING};
 pub use error::{Error, ShapeFault};
 pub use file::UnionFile;
 pub use geo::{Edges, Position, RegionCoverer, Shape};
-pub use maps::{cover_geojson, cover_wkb, MAP_WORK};
+pub use maps::{cover_geodesic_geojson, cover_geodesic_wkb, cover_geojson, cover_wkb, MAP_WORK};
 pub use polygon::{Direction, Polygon};
 pub use union::CellUnion;
 pub use zones::{Pair, Zones};

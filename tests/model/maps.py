@@ -1,11 +1,13 @@
 #!/usr/bin/env python3
-"""Prints texts of GeoJSON and bytes of WKB with the coverings on the map that the library makes of them, for the tests
-of all languages. What it says of each is first compared with a plain reader and with plain places here.
+"""Prints texts of GeoJSON and bytes of WKB with the coverings that the library makes of them, for the tests of all
+languages. What it says of each is first compared with a plain reader, and with plain places here, or with those of
+model.geodesics.
 
-A line is 'geojson' or 'wkb', the bytes in hexadecimal, a level and a bound of work, with tabs between them, and then
-the cells of the outer and of the inner covering, in hexadecimal; or an error: '!argument', '!many', or '!' and the name
-of a fault with its byte, part, ring and position. `python3 -m model.maps FILE` also compares each country of a file of
-GeoJSON. The library is the libs2union.so.1 that the system finds.
+A line is the name of a call, such as 'map_geojson' or 'geodesic_wkb', the bytes in hexadecimal, a level, and a bound of
+work or of cells, with tabs between them, and then the cells of the outer and of the inner covering, in hexadecimal; or
+an error: '!argument', '!many', or '!' and the name of a fault with its byte, part, ring and position.
+`python3 -m model.maps FILE` also compares each country of a file of GeoJSON. The library is the libs2union.so.1 that
+the system finds.
 """
 import ctypes
 import json
@@ -19,16 +21,18 @@ from pathlib import Path
 from random import Random
 from typing import NamedTuple
 
+from model import geodesics
 from model.calculator import leaf_at
 
 CRATES = Path(__file__).resolve().parents[2] / "crates"
 TABLE = CRATES / "test_library" / "stdin"
 HEADER = CRATES / "s2union_c" / "include" / "s2union.h"
 NAMES = ("truncated trailing order type uncovered srid member deep count few open not_finite utf8 json twice no_type "
-         "missing position range no_inside no_map").split()
+         "missing position range no_inside no_map long_edge spread").split()
 KINDS = "point", "line", "polygon"
 STATUSES = {-5: "!argument", -6: "!many"}
 WORK = 1 << 28
+CELLS = 20_000
 TURN, QUARTER = 360 * 10**15, 90 * 10**15
 random = Random(20261201)
 
@@ -257,7 +261,7 @@ def read_wkb(data):
 
 def polygons_of(call, data):
     """The polygons that the bytes stand for, each with its rings, or their fault."""
-    parts = (read_wkb if call == "wkb" else read_geojson)(data)
+    parts = (read_wkb if "wkb" in call else read_geojson)(data)
     for number, (kind, _) in enumerate(parts):
         if kind != "polygon":
             raise Wrong("no_inside", 0, number, 0, 0)
@@ -361,21 +365,29 @@ class Fault(ctypes.Structure):
     _fields_ = [(name, ctypes.c_size_t) for name in ("name", "byte", "part", "ring", "position")]
 
 
-def answer_of(library, call, data, level, work, room=1 << 16):
+def answer_of(library, call, data, level, most, room=1 << 16):
     """The status, the cells of both coverings, and the fault."""
     out = (ctypes.c_uint64 * room)()
     count, outer, fault = ctypes.c_size_t(), ctypes.c_size_t(), Fault()
-    status = getattr(library, f"s2u_map_{call}")(
-        data, ctypes.c_size_t(len(data)), ctypes.c_uint32(level), ctypes.c_uint64(work), out, ctypes.c_size_t(room),
+    status = getattr(library, f"s2u_{call}")(
+        data, ctypes.c_size_t(len(data)), ctypes.c_uint32(level), ctypes.c_uint64(most), out, ctypes.c_size_t(room),
         ctypes.byref(count), ctypes.byref(outer), ctypes.byref(fault))
     if status == -1:
-        return answer_of(library, call, data, level, work, count.value)
+        return answer_of(library, call, data, level, most, count.value)
     return status, list(out[:outer.value]), list(out[outer.value:count.value]), fault
 
 
-def found(library, call, data, level, work=WORK):
+def is_wanted(call, told, wanted, polygons):
+    """Whether a fault, or none, is that of a shape: the first of its text, or else one of its geodesic edges."""
+    if wanted or told is None or not call.startswith("geodesic"):
+        return told == wanted and (wanted or not call.startswith("geodesic") or geodesics.first_fault(polygons, None))
+    name, byte, part, ring, position = told
+    return (byte, ring, position) == (0, 0, 0) and geodesics.first_fault(polygons, (name, part))
+
+
+def found(library, call, data, level, most):
     """The words of the answer, once it is the one that the plain reader and plain places give."""
-    status, outer, inner, fault = answer_of(library, call, data, level, work)
+    status, outer, inner, fault = answer_of(library, call, data, level, most)
     if status in STATUSES:
         return [STATUSES[status]]
     try:
@@ -383,15 +395,18 @@ def found(library, call, data, level, work=WORK):
     except Wrong as wrong:
         polygons, wanted = [], wrong.args
     told = (NAMES[fault.name - 1], fault.byte, fault.part, fault.ring, fault.position) if status == -16 else None
-    wrong = [f"{told}, not {wanted}"] if told != wanted else list(compare(polygons, level, outer, inner))
+    judge = geodesics.compare if call.startswith("geodesic") else compare
+    wrong = [] if is_wanted(call, told, wanted, polygons) else [f"{told}, not {wanted}"]
+    wrong += judge([] if told else polygons, level, outer, inner)
     if wrong or status not in (0, -16):
         sys.exit(f"{call} {data[:400]} at level {level}: status {status}, {wrong[:3]}")
     return ["!" + " ".join(map(str, told))] if told else [" ".join(f"{cell:x}" for cell in own)
                                                           for own in (outer, inner)]
 
 
-def say(library, call, data, level, work=WORK):
-    print(call, data.hex(), level, work, *found(library, call, data, level, work), sep="\t")
+def say(library, form, data, level, work=WORK, cells=CELLS):
+    for call, most in ((f"map_{form}", work), (f"geodesic_{form}", cells)):
+        print(call, data.hex(), level, most, *found(library, call, data, level, most), sep="\t")
 
 
 # ---- what is asked
@@ -471,13 +486,15 @@ def rows(library):
     for k, polygons in enumerate(own):
         for call, data in (("wkb", wkb_of(polygons, "<>"[k % 2])), ("geojson", geojson_of(polygons).encode())):
             say(library, call, data, (0, 3, 5, 6, 7)[k % 5])
-            say(library, call, data, 5, 10 ** (k % 7))
+            say(library, call, data, 5, 10 ** (k % 7), 3 ** (k % 7))
             say(library, call, data, 31)
     say(library, "geojson", geojson_of([[star(2, 48, 0.001, 12)]]).encode(), 18)
     for _ in range(400):
         polygons = random.choice([each for each in own if each and each[0]])
         data = random.choice([wkb_of(polygons), geojson_of(polygons).encode()])
         say(library, "wkb" if data[0] < 2 else "geojson", mutated(data), random.randrange(5))
+    for ring in ([(-80, 1), (80, 1), (0, 50)], [(0, 0), (120, 0), (-120, 0)], [(-60, 9), (60, 9), (0, 80)]):
+        say(library, "geojson", geojson_of([[box(0, 0, 9, 9)], [closed(ring)]]).encode(), 4)
 
 
 # ---- what databases are asked, whose bound of work is always the usual one
@@ -519,8 +536,9 @@ def main(*files):
         for feature in features:
             for call, data in (("geojson", json.dumps(feature).encode()),
                                ("wkb", wkb_of(polygons_of("geojson", json.dumps(feature).encode())))):
-                found(library, call, data, 8)
-        print(f"{2 * len(features)} passed, 0 failed")
+                found(library, f"map_{call}", data, 8, WORK)
+                found(library, f"geodesic_{call}", data, 8, CELLS)
+        print(f"{4 * len(features)} passed, 0 failed")
 
 
 if __name__ == "__main__":

@@ -48,6 +48,10 @@
   ASK(from_points, (points, points_count, out, out_room, &len), SEE(out) SEE(len)) \
   ASK(from_token, (words, words_size, &number), SEE(number)) \
   ASK(from_tokens, (words, words_size, out, out_room, &len), SEE(out) SEE(len)) \
+  ASK(geodesic_geojson, (geojson, geojson_size, coarse, most, out, out_room, &len, &count, &shape_fault), SEE(out) \
+    SEE(len) SEE(count) SEE(shape_fault)) \
+  ASK(geodesic_wkb, (wkb, wkb_size, coarse, most, out, out_room, &len, &count, &shape_fault), SEE(out) SEE(len) \
+    SEE(count) SEE(shape_fault)) \
   ASK(inner, (&rect, level, most, out, out_room, &len), SEE(out) SEE(len)) \
   ASK(inner_in, (xs, nx, &rect, level, most, out, out_room, &len), SEE(out) SEE(len)) \
   ASK(inner_of, (xs, nx, level, most, out, out_room, &len), SEE(out) SEE(len)) \

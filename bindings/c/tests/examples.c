@@ -403,6 +403,31 @@ int main(void) {
     /* [s2u_map_geojson] */
   }
   {
+    /* [s2u_geodesic_wkb] */
+    const uint8_t none[] = {0, 0, 0, 0, 6, 0, 0, 0, 0}; /* a multipolygon of no polygon */
+    uint64_t out[8];
+    size_t len, outer;
+    s2u_shape_fault fault;
+    check(s2u_geodesic_wkb(none, 9, 5, 100, out, 8, &len, &outer, &fault) == S2U_OK && len == 0 && outer == 0);
+    check(s2u_geodesic_wkb(none, 8, 5, 100, out, 8, &len, &outer, &fault) == S2U_SHAPE &&
+          fault.name == S2U_FAULT_TRUNCATED && fault.byte == 5);
+    /* [s2u_geodesic_wkb] */
+  }
+  {
+    /* [s2u_geodesic_geojson] */
+    const char square[] = "{\"type\":\"Polygon\",\"coordinates\":[[[0,0],[20,0],[20,20],[0,20],[0,0]]]}";
+    const char wide[] = "{\"type\":\"Polygon\",\"coordinates\":[[[0,0],[120,0],[240,0],[0,0]]]}";
+    uint64_t out[256];
+    size_t len, outer;
+    s2u_shape_fault fault;
+    check(s2u_geodesic_geojson(square, sizeof square - 1, 5, 128, out, 256, &len, &outer, &fault) == S2U_OK);
+    uint64_t leaf = UINT64_C(0x103f6a1c3e5d9d8b); /* at 10 degrees east and 10 degrees north */
+    check(s2u_contains_cell(out, outer, leaf) == 1 && s2u_contains_cell(out + outer, len - outer, leaf) == 1);
+    check(s2u_geodesic_geojson(wide, sizeof wide - 1, 5, 128, out, 256, &len, &outer, &fault) == S2U_SHAPE &&
+          fault.name == S2U_FAULT_SPREAD && fault.part == 0);
+    /* [s2u_geodesic_geojson] */
+  }
+  {
     /* [s2u_fault_text] */
     check(strcmp(s2u_fault_text(S2U_FAULT_OPEN), "a ring is open: its last position is not its first") == 0);
     /* [s2u_fault_text] */

@@ -451,19 +451,23 @@ static void shapes(void) {
   }
   for (; kind % 2 && begun < n && begun < sizeof ring - 1; begun++) text[begun] = ring[begun];
   for (begun = 0; kind % 2 && begun < n && begun < sizeof head; begun++) bytes[begun] = head[begun];
-  for (int call = 0; call < 2; call++) {
+  for (int call = 0; call < 4; call++) {
     size_t len = 77, outer = 77;
     s2u_shape_fault fault = {99, 99, 99, 99, 99};
     uint64_t* out = fresh();
-    int32_t status = call ? s2u_map_wkb(n ? bytes : NULL, n, level, work, out, room, &len, &outer, &fault)
-                          : s2u_map_geojson(n ? text : NULL, n, level, work, out, room, &len, &outer, &fault);
+    const void* given = !n ? NULL : call % 2 ? (const void*)bytes : text;
+    int32_t status =
+        call == 0   ? s2u_map_geojson(given, n, level, work, out, room, &len, &outer, &fault)
+        : call == 1 ? s2u_map_wkb(given, n, level, work, out, room, &len, &outer, &fault)
+        : call == 2 ? s2u_geodesic_geojson(given, n, level, work % 999, out, room, &len, &outer, &fault)
+                    : s2u_geodesic_wkb(given, n, level, work % 999, out, room, &len, &outer, &fault);
     MUST(level > 30 ? status == S2U_ARGUMENT
                     : status == S2U_OK || status == S2U_ROOM || status == S2U_MANY || status == S2U_SHAPE);
     seen(35 + call, status, status == S2U_SHAPE ? fault.name : len);
     left_alone(status, len);
     MUST(outer <= len && (status != S2U_ROOM || len > room) && (status >= S2U_ROOM || len == 0));
     MUST(status != S2U_SHAPE ? fault.name == 99 && fault.position == 99
-                             : fault.name - 1 < S2U_FAULT_NO_INSIDE && fault.byte <= n && fault.part <= n &&
+                             : fault.name - 1 < S2U_FAULT_SPREAD && fault.byte <= n && fault.part <= n &&
                                    fault.ring <= n && fault.position <= n && strlen(s2u_fault_text(fault.name)) > 9);
     if (status != S2U_OK) continue;
     MUST(len <= room && s2u_is_union(out, outer) == 1 && s2u_is_union(out + outer, len - outer) == 1);

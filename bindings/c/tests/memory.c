@@ -62,14 +62,28 @@ static int32_t map_geojson(void) {
   size_t outer;
   return s2u_map_geojson(triangle, sizeof triangle - 1, 7, S2U_MAP_WORK, out, ROOM, &len, &outer, &fault);
 }
-static int32_t map_wkb(void) {
+enum { TRIANGLE = 13 + 8 * 8 };
+static void triangle_to(uint8_t* wkb) {
   static const uint8_t head[] = {1, 3, 0, 0, 0, 1, 0, 0, 0, 4, 0, 0, 0};
   static const double at[] = {0, 0, 9, 0, 0, 9, 0, 0};
-  uint8_t wkb[sizeof head + sizeof at];
-  size_t outer;
   memcpy(wkb, head, sizeof head);
   memcpy(wkb + sizeof head, at, sizeof at);
+}
+static int32_t map_wkb(void) {
+  uint8_t wkb[TRIANGLE];
+  size_t outer;
+  triangle_to(wkb);
   return s2u_map_wkb(wkb, sizeof wkb, 7, S2U_MAP_WORK, out, ROOM, &len, &outer, &fault);
+}
+static int32_t geodesic_geojson(void) {
+  size_t outer;
+  return s2u_geodesic_geojson(triangle, sizeof triangle - 1, 7, 1000, out, ROOM, &len, &outer, &fault);
+}
+static int32_t geodesic_wkb(void) {
+  uint8_t wkb[TRIANGLE];
+  size_t outer;
+  triangle_to(wkb);
+  return s2u_geodesic_wkb(wkb, sizeof wkb, 7, 1000, out, ROOM, &len, &outer, &fault);
 }
 static int32_t encode(void) { return s2u_encode(xs, nx, bytes, sizeof bytes, &len); }
 static int32_t decode(void) { return s2u_decode(file, nfile, out, ROOM, &len); }
@@ -135,6 +149,7 @@ int main(void) {
                {"polygon_outer_up_to", polygon_outer_up_to, 0}, {"polygon_inner_up_to", polygon_inner_up_to, 0},
                {"polygon_coverings_up_to", polygon_coverings_up_to, 0},
                {"map_geojson", map_geojson, 0}, {"map_wkb", map_wkb, 0},
+               {"geodesic_geojson", geodesic_geojson, 0}, {"geodesic_wkb", geodesic_wkb, 0},
                {"encode", encode, 1}, {"decode of a union", decode, 1}, {"decode in any order", decode_mixed, 1},
                {"decode in little room", decode_in_little_room, 0}};
   nx = random_union(xs, N, 6, 12);

@@ -107,7 +107,7 @@ final class Calls {
    * Makes both coverings of a text or of bytes on the map, in some room at first. Of a fault of the shape its numbers
    * are put to {@code fault}.
    */
-  private static native int map(int call, long room, byte[] given, int level, long work, long[][] made, long[] fault);
+  private static native int map(int call, long room, byte[] given, int level, long most, long[][] made, long[] fault);
 
   static native long zones();
 
@@ -251,10 +251,10 @@ final class Calls {
   }
 
   /** Both coverings that a call makes of a text or of bytes. */
-  static RegionCoverer.Coverings mapped(int call, byte[] given, int level, long work) {
+  static RegionCoverer.Coverings mapped(int call, byte[] given, int level, long most) {
     long[][] made = new long[2][];
     long[] fault = new long[5];
-    int status = map(call, roomOf(call, 0, 0), given, level, work, made, fault);
+    int status = map(call, roomOf(call, 0, 0), given, level, most, made, fault);
     if (status == Refusal.SHAPE) throw new Refusal(fault);
     checked(status, 0);
     return new RegionCoverer.Coverings(CellUnion.holding(made[0]), CellUnion.holding(made[1]));

@@ -114,6 +114,21 @@ public final class CellUnion implements Comparable<CellUnion> {
     return Calls.mapped(Calls.MAP_WKB, wkb, level, work);
   }
 
+  // comment: geodesic_geojson
+  public static RegionCoverer.Coverings coverGeodesicGeoJson(String text, int level, int most) {
+    return coverGeodesicGeoJson(text.getBytes(StandardCharsets.UTF_8), level, most);
+  }
+
+  // comment: geodesic_geojson
+  public static RegionCoverer.Coverings coverGeodesicGeoJson(byte[] text, int level, int most) {
+    return Calls.mapped(Calls.GEODESIC_GEOJSON, text, level, Calls.within(most, Integer.MAX_VALUE));
+  }
+
+  // comment: geodesic_wkb
+  public static RegionCoverer.Coverings coverGeodesicWkb(byte[] wkb, int level, int most) {
+    return Calls.mapped(Calls.GEODESIC_WKB, wkb, level, Calls.within(most, Integer.MAX_VALUE));
+  }
+
   /**
    * How many cells it has.
    * S2: {@code S2CellUnion::num_cells}.

@@ -23,16 +23,22 @@ final class Maps extends Checks {
     return LongStream.of(union.cellIds()).mapToObj(Long::toHexString).collect(Collectors.joining(" "));
   }
 
-  private static RegionCoverer.Coverings covered(String call, byte[] data, int level, long work) {
-    if (call.equals("wkb")) return CellUnion.coverWkb(data, level, work);
+  private static RegionCoverer.Coverings covered(String call, byte[] data, int level, long most) {
+    int cells = (int) most;
+    if (call.equals("map_wkb")) return CellUnion.coverWkb(data, level, most);
+    if (call.equals("geodesic_wkb")) return CellUnion.coverGeodesicWkb(data, level, cells);
     String text = new String(data, StandardCharsets.UTF_8);
     boolean isText = Arrays.equals(text.getBytes(StandardCharsets.UTF_8), data);
-    return isText ? CellUnion.coverGeoJson(text, level, work) : CellUnion.coverGeoJson(data, level, work);
+    if (call.equals("map_geojson")) {
+      return isText ? CellUnion.coverGeoJson(text, level, most) : CellUnion.coverGeoJson(data, level, most);
+    }
+    return isText ? CellUnion.coverGeodesicGeoJson(text, level, cells)
+        : CellUnion.coverGeodesicGeoJson(data, level, cells);
   }
 
-  private static String answer(String call, byte[] data, int level, long work) {
+  private static String answer(String call, byte[] data, int level, long most) {
     try {
-      RegionCoverer.Coverings found = covered(call, data, level, work);
+      RegionCoverer.Coverings found = covered(call, data, level, most);
       return shown(found.outer()) + "\t" + shown(found.inner());
     } catch (Refusal refusal) {
       if (refusal.kind() != Refusal.Kind.SHAPE) {

@@ -1,4 +1,4 @@
-//! Coverings of GeoJSON and WKB as they are written, with edges that are straight on the map.
+//! Coverings of GeoJSON and WKB as they are written, with edges that are straight on the map, or geodesics.
 use std::mem::MaybeUninit;
 
 use crate::calls::{self, rooms, FaultName};
@@ -38,6 +38,23 @@ pub fn cover_geojson(text: impl AsRef<[u8]>, level: u32, work: u64) -> Result<(C
 // comment: map_wkb
 pub fn cover_wkb(wkb: &[u8], level: u32, work: u64) -> Result<(CellUnion, CellUnion), Error> {
     both(rooms::map_wkb(), |out, len, outer, fault| calls::map_wkb(wkb, level, work, out, len, outer, fault))
+}
+
+// comment: geodesic_geojson
+pub fn cover_geodesic_geojson(
+    text: impl AsRef<[u8]>,
+    level: u32,
+    most: usize,
+) -> Result<(CellUnion, CellUnion), Error> {
+    let text = text.as_ref();
+    both(rooms::geodesic_geojson(), |out, len, outer, fault| {
+        calls::geodesic_geojson(text, level, most, out, len, outer, fault)
+    })
+}
+
+// comment: geodesic_wkb
+pub fn cover_geodesic_wkb(wkb: &[u8], level: u32, most: usize) -> Result<(CellUnion, CellUnion), Error> {
+    both(rooms::geodesic_wkb(), |out, len, outer, fault| calls::geodesic_wkb(wkb, level, most, out, len, outer, fault))
 }
 
 /// The two unions that a call makes, one after the other.

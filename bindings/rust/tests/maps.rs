@@ -1,7 +1,7 @@
 //! The texts and bytes of tests/model/maps.py, in the file that S2UNION_MAPS names, with their answers.
 use std::{env, fs};
 
-use s2union::{cover_geojson, cover_wkb, CellUnion, Error};
+use s2union::{cover_geodesic_geojson, cover_geodesic_wkb, cover_geojson, cover_wkb, CellUnion, Error};
 
 #[test]
 fn maps() {
@@ -12,9 +12,13 @@ fn maps() {
     let lines = fs::read_to_string(path).unwrap();
     for line in lines.lines() {
         let fields: Vec<&str> = line.split('\t').collect();
-        let (bytes, level, work) = (bytes(fields[1]), fields[2].parse().unwrap(), fields[3].parse().unwrap());
-        let is_wkb = fields[0] == "wkb";
-        let found = if is_wkb { cover_wkb(&bytes, level, work) } else { cover_geojson(&bytes, level, work) };
+        let (bytes, level, most) = (bytes(fields[1]), fields[2].parse().unwrap(), fields[3].parse::<u64>().unwrap());
+        let found = match fields[0] {
+            "map_wkb" => cover_wkb(&bytes, level, most),
+            "map_geojson" => cover_geojson(&bytes, level, most),
+            "geodesic_wkb" => cover_geodesic_wkb(&bytes, level, most as usize),
+            _ => cover_geodesic_geojson(&bytes, level, most as usize),
+        };
         assert_eq!(answer(found), fields[4..].join("\t"), "{line:.200}");
     }
     assert!(lines.lines().count() > 500);

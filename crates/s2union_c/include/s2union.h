@@ -116,7 +116,9 @@ enum {
   S2U_FAULT_POSITION = 18,   /**< a position is not a list that begins with two numbers */
   S2U_FAULT_RANGE = 19,      /**< a longitude is beyond 540 degrees, or a latitude beyond 90 */
   S2U_FAULT_NO_INSIDE = 20,  /**< a part is a point or a line, which has no inside */
-  S2U_FAULT_NO_MAP = 21      /**< a position or a ring is none on the map; no shape read is so */
+  S2U_FAULT_NO_MAP = 21,     /**< a position or a ring is none on the map; no shape read is so */
+  S2U_FAULT_LONG_EDGE = 22,  /**< a geodesic edge of a polygon is 128 degrees or longer */
+  S2U_FAULT_SPREAD = 23      /**< the corners of a polygon are too far apart for geodesic edges */
 };
 
 /** The least coordinates and the side, in leaves, of a cell's square on its face. @since 0.1 */
@@ -154,7 +156,7 @@ typedef struct s2u_direction {
 /** The first fault of a shape in a text or in bytes, and where it is. @since 1.5 */
 typedef struct s2u_shape_fault {
   size_t name;     /**< which fault, such as S2U_FAULT_OPEN */
-  size_t byte;     /**< how many bytes of WKB come before it; 0 of a text, and of S2U_FAULT_NO_INSIDE */
+  size_t byte;     /**< how many bytes of WKB come before it; 0 of a text, and from S2U_FAULT_NO_INSIDE on */
   size_t part;     /**< how many points, lines and polygons come before it */
   size_t ring;     /**< how many rings and lines have ended before it, of all parts */
   size_t position; /**< how many positions of its ring or line come before it */
@@ -1116,6 +1118,9 @@ int32_t s2u_polygon_coverings_up_to(const s2u_direction* corners, size_t n, cons
  * cross and nest, and a ring that goes over the date line has longitudes beyond 180. A place is inside a shape if it is
  * inside one of its polygons, which may overlap. The two poles themselves are left out of all this.
  *
+ * Edges of the calls with `geodesic` in their names are the short ways on the sphere instead, as in S2. What is proved
+ * of these is said there.
+ *
  * Both coverings are normalized, and no cell is deeper than the level. Each leaf that only the outer one has lies in a
  * cell of the level whose box on the map meets an edge. Geometries are polygons and collections of them; an empty one
  * has empty coverings. A shape with a point or a line has no inside to speak of: S2U_FAULT_NO_INSIDE.
@@ -1174,6 +1179,57 @@ int32_t s2u_map_wkb(const uint8_t* wkb, size_t n, uint32_t level, uint64_t work,
  */
 int32_t s2u_map_geojson(const char* text, size_t n, uint32_t level, uint64_t work, uint64_t* out, size_t room,
                         size_t* len, size_t* outer, s2u_shape_fault* fault);
+
+/** The outer and the inner covering of the polygons in bytes of WKB, with edges that are geodesics: the cells of a
+ * level. No leaf that a polygon touches or has inside is missing from the outer one, and each leaf of the inner one
+ * lies inside a polygon that doesn't touch it: proved, of all corners at most 3 micrometers away from the positions.
+ *
+ * Leaves within 2.34 leaves of an edge, 2 centimeters, count as touched, which pays for the rounding of corners. What
+ * lies opposite all corners of a polygon is outside of it, so its rings may run in either direction. Each polygon is
+ * covered by itself, and may have `most` cells in each covering, so that of texts of strangers it should be small.
+ * @param wkb,n WKB or EWKB at any address, in either order of bytes, and how many bytes it has
+ * @param level 0 (a face) to 30 (a leaf): the level of the cells, before four that make their parent are replaced by it
+ * @param most the most cells of a covering of one polygon, of which S2U_MOST_COVERING are the most that count
+ * @param out,room,len the cells of the outer covering and then those of the inner one, how many cells there is room
+ *   for, and how many both have
+ * @param outer how many of them are the outer covering's
+ * @param fault of S2U_SHAPE the fault and its place; no other answer touches it
+ * @return S2U_OK
+ * @retval S2U_ROOM room is too small; len says what is needed, and outer how many of those are outer's
+ * @retval S2U_MEMORY out of memory; nothing has changed
+ * @retval S2U_ARGUMENT the level is above 30
+ * @retval S2U_SHAPE the bytes have a fault, a part of the shape is a point or a line, or the corners of a polygon are
+ *   too far apart for geodesic edges
+ * @retval S2U_MANY a covering of a polygon has more than most cells, or its edges touch too many of the level
+ * @s2{S2RegionCoverer::GetCovering} and `GetInteriorCovering` of an `S2Polygon`, with one level
+ * @since 1.5
+ * @snippet examples.c s2u_geodesic_wkb
+ */
+int32_t s2u_geodesic_wkb(const uint8_t* wkb, size_t n, uint32_t level, size_t most, uint64_t* out, size_t room,
+                         size_t* len, size_t* outer, s2u_shape_fault* fault);
+
+/** The outer and the inner covering of the polygons in a text of GeoJSON, with edges that are geodesics: the cells of a
+ * level. The rest is as for s2u_geodesic_wkb. The text is a geometry, a feature, or a collection of either.
+ * @param text,n the text in UTF-8, and how many bytes it has
+ * @param level 0 (a face) to 30 (a leaf): the level of the cells, before four that make their parent are replaced by it
+ * @param most the most cells of a covering of one polygon, of which S2U_MOST_COVERING are the most that count
+ * @param out,room,len the cells of the outer covering and then those of the inner one, how many cells there is room
+ *   for, and how many both have
+ * @param outer how many of them are the outer covering's
+ * @param fault of S2U_SHAPE the fault and its place; no other answer touches it
+ * @return S2U_OK
+ * @retval S2U_ROOM room is too small; len says what is needed, and outer how many of those are outer's
+ * @retval S2U_MEMORY out of memory; nothing has changed
+ * @retval S2U_ARGUMENT the level is above 30
+ * @retval S2U_SHAPE the text has a fault, a part of the shape is a point or a line, or the corners of a polygon are too
+ *   far apart for geodesic edges
+ * @retval S2U_MANY a covering of a polygon has more than most cells, or its edges touch too many of the level
+ * @s2{S2RegionCoverer::GetCovering} and `GetInteriorCovering` of an `S2Polygon`, with one level
+ * @since 1.5
+ * @snippet examples.c s2u_geodesic_geojson
+ */
+int32_t s2u_geodesic_geojson(const char* text, size_t n, uint32_t level, size_t most, uint64_t* out, size_t room,
+                             size_t* len, size_t* outer, s2u_shape_fault* fault);
 
 /** @} */
 
@@ -1458,6 +1514,8 @@ static inline const char* s2u_fault_text(size_t name) {
       return "a longitude is from -540 to 540 and a latitude from -90 to 90 (the longitude first)";
     case S2U_FAULT_NO_INSIDE: return "a point or a line has no inside";
     case S2U_FAULT_NO_MAP: return "a position is no place, or a ring no ring";
+    case S2U_FAULT_LONG_EDGE: return "an edge is 128 degrees or longer";
+    case S2U_FAULT_SPREAD: return "no half of the sphere has all corners of a polygon";
     default: return "unknown fault";
   }
 }

@@ -8,6 +8,8 @@ use Rattle.s2union_c.specs.Status.{bad_shape, no_memory, too_many}
 use Rattle.s2union_c.specs.declared.shapes.ShapeFault.{ShapeFault}
 use Rattle.s2written.specs.declared.fault.CoverError.{CoverError}
 use Rattle.s2written.specs.declared.fault.CoverError.TheVariants as errors
+use Rattle.s2written.specs.declared.fault.GeodesicError.{GeodesicError}
+use Rattle.s2written.specs.declared.fault.GeodesicError.TheVariants as geodesic
 
 -- two lists with the property were written, the second after the first, or are longer than the buffer together;
 -- `first` is the length of the first
@@ -59,7 +61,23 @@ Tells (errors.Fault f) status old new = (status ≡ bad_shape) × (new ≡ told 
 Tells (errors.NoInside part) status old new = (status ≡ bad_shape) × (new ≡ told_of_part 20 part)
 Tells errors.NoMap status old new = (status ≡ bad_shape) × (new ≡ told_of_part 21 0)
 
+-- the same of an error of geodesic edges
+abbrev pub TellsGeodesic : GeodesicError → ℤ → ShapeFault → ShapeFault → Type 0
+TellsGeodesic geodesic.Memory status old new = Tells errors.Memory status old new
+TellsGeodesic geodesic.TooManyCells status old new = Tells errors.TooManyCells status old new
+TellsGeodesic (geodesic.Fault f) status old new = Tells (errors.Fault f) status old new
+TellsGeodesic (geodesic.NoInside part) status old new = Tells (errors.NoInside part) status old new
+TellsGeodesic geodesic.NoMap status old new = Tells errors.NoMap status old new
+TellsGeodesic (geodesic.LongEdge part) status old new = (status ≡ bad_shape) × (new ≡ told_of_part 22 part)
+TellsGeodesic (geodesic.Spread part) status old new = (status ≡ bad_shape) × (new ≡ told_of_part 23 part)
+
 -- an error with the property is told, both lengths are 0, and nothing is written
 abbrev pub TellsWhy : ℤ → (CoverError → Type 0) → List ℕ → List ℕ → ℕ → ℕ → ShapeFault → ShapeFault → Type 0
 TellsWhy status P old new len first old_fault new_fault =
     (e : CoverError) × P e × Tells e status old_fault new_fault × (len ≡ 0) × (first ≡ 0) × (new ≡ old)
+
+-- the same of an error of geodesic edges
+abbrev pub TellsWhyGeodesic : ℤ → (GeodesicError → Type 0) → List ℕ → List ℕ → ℕ → ℕ → ShapeFault → ShapeFault
+    → Type 0
+TellsWhyGeodesic status P old new len first old_fault new_fault =
+    (e : GeodesicError) × P e × TellsGeodesic e status old_fault new_fault × (len ≡ 0) × (first ≡ 0) × (new ≡ old)
