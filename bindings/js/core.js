@@ -49,6 +49,8 @@ const SHAPE_FAULTS = {
   RANGE: "a longitude is from -540 to 540 and a latitude from -90 to 90 (the longitude first)",
   NO_INSIDE: "a point or a line has no inside",
   NO_MAP: "a position is no place, or a ring no ring",
+  LONG_EDGE: "an edge is 128 degrees or longer",
+  SPREAD: "no half of the sphere has all corners of a polygon",
 };
 const MAP_WORK = 268435456;
 /** The room that what a call makes is first given. */
@@ -65,6 +67,8 @@ const ROOMS = {
   s2u_file_ancestors: (n) => Math.floor(n / 4) + 30,
   s2u_map_geojson: () => 4096,
   s2u_map_wkb: () => 4096,
+  s2u_geodesic_geojson: () => 4096,
+  s2u_geodesic_wkb: () => 4096,
 };
 
 const HEAD_SIZE = 9;

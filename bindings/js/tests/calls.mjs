@@ -95,6 +95,10 @@ export const CALLS = {
   coverGeoJson: {level: (it, level) => it.module.coverGeoJson(SQUARE, level),
     asks: (it) => it.module.coverGeoJson(SQUARE, 3)},
   coverWkb: {level: (it, level) => it.module.coverWkb(EMPTY, level), asks: (it) => it.module.coverWkb(EMPTY, 3)},
+  coverGeodesicGeoJson: {level: (it, level) => it.module.coverGeodesicGeoJson(SQUARE, level, 99),
+    asks: (it) => it.module.coverGeodesicGeoJson(SQUARE, 3, 99)},
+  coverGeodesicWkb: {level: (it, level) => it.module.coverGeodesicWkb(EMPTY, level, 99),
+    asks: (it) => it.module.coverGeodesicWkb(EMPTY, 3, 99)},
 
   CellUnion: of("cells", (it, given) => new it.module.CellUnion(given), cells),
   "CellUnion.fromNormalized": {asks: (it) => it.module.CellUnion.fromNormalized(it.cells), wanted: cells},

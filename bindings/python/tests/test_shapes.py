@@ -10,7 +10,8 @@ import pytest
 import s2union
 
 ROWS = [line.split("\t") for line in Path(os.environ["S2UNION_MAPS"]).read_text("utf-8").splitlines()]
-CALLS = {"geojson": s2union.cover_geojson, "wkb": s2union.cover_wkb}
+CALLS = {"geojson": s2union.cover_geojson, "wkb": s2union.cover_wkb,
+         "geodesic_geojson": s2union.cover_geodesic_geojson, "geodesic_wkb": s2union.cover_geodesic_wkb}
 KINDS = {s2union.TooManyCellsError: "!many", s2union.OutOfRangeError: "!argument"}
 SQUARE = '{"type": "Polygon", "coordinates": [[[0,0], [20,0], [20,20], [0,20], [0,0]]]}'
 EMPTY = bytes([0, 0, 0, 0, 6, 0, 0, 0, 0])
@@ -36,7 +37,7 @@ def forms_of(call, data):
     """The same bytes in each form that a call takes."""
     yield from (data, bytearray(data), memoryview(data), memoryview(b"." + data)[1:], array("B", data))
     try:
-        yield data.decode("utf-8") if call == "geojson" else data
+        yield data.decode("utf-8") if call.endswith("geojson") else data
     except UnicodeDecodeError:
         pass  # it is no str
 
