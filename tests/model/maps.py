@@ -5,7 +5,8 @@ model.geodesics.
 
 A line is 'geojson' or 'wkb', or of geodesic edges 'geodesic_geojson' or 'geodesic_wkb', the bytes in hexadecimal, a
 level, and a bound of work or of cells, with tabs between them, and then the cells of the outer and of the inner
-covering, in hexadecimal; or an error: '!argument', '!many', or '!' and the name of a fault with its byte, part, ring and position.
+covering, in hexadecimal; or an error: '!argument', '!many', or '!' and the name of a fault with its byte, part, ring
+and position.
 `python3 -m model.maps FILE` also compares each country of a file of GeoJSON. The library is the libs2union.so.1 that
 the system finds.
 """
