@@ -10,7 +10,6 @@ from rooms import CPP_ROOMS, FIRST_ROOMS, room_in, room_lengths
 
 INDENT = " " * 2
 OF = {"CellUnionOf": ("ids()", "size()"), "UnionFileOf": ("bytes_", "n_")}  # the list of each class
-USUAL = {"work": "S2U_MAP_WORK"}  # what an argument is if it is left out
 ROOM = "[&](uint64_t* out, size_t room, size_t* len) {"
 
 
@@ -22,6 +21,8 @@ class Cpp(languages.Language):
     NAME, BETWEEN = "cpp", "\n"
     SINCE = 0.1
     RENAMED = {"ys": "y", "cell": "id", "bounds": "rect"}
+    READS_SHAPES, USUAL = True, {"work": "S2U_MAP_WORK"}
+    NO_POLYGON = ('R"({"type": "Polygon", "coordinates": []})"', r'{"\0\0\0\0\6\0\0\0\0", 9}')
 
     def has(self, method):
         """Whether it is made: it reads a shape, or asks a union, a file or a rectangle, and answers by yes or no, by a
@@ -42,8 +43,8 @@ class Cpp(languages.Language):
         return method.is_of_union and method.has_receiver and kinds == [("u64", True)]
 
     def name_of(self, method):
-        own = method.own(self.NAME).get("name") or method.own("go").get("name")
-        return own or camel(re.sub("^file_|_cell$", "", method.call.name))
+        own = self.name_of_reader(method, "java") or method.own("go").get("name")
+        return own and own[0].upper() + own[1:] or camel(re.sub("^file_|_cell$", "", method.call.name))
 
     def function_of(self, method):
         return camel(method.call.name)
@@ -58,8 +59,9 @@ class Cpp(languages.Language):
             if it.is_list and method.reads_shape:
                 at = f"{name}.data()" if it.is_text else f"internal::bytes_of({name})"
                 yield f"std::string_view {name}", f"{at}, {name}.size()"
-            elif it.name in USUAL:
-                yield f"{'uint64_t' if it.kind == 'u64' else 'size_t'} {name} = {USUAL[it.name]}", name
+            elif method.reads_shape and it.kind in ("u64", "usize"):
+                usual = f" = {self.USUAL[it.name]}" if it.name in self.USUAL else ""
+                yield f"{'uint64_t' if it.kind == 'u64' else 'size_t'} {name}{usual}", name
             elif it.is_list and it.name == "ys":
                 yield f"const {self.owner(method)}& {name}", f"{name}.{at}, {name}.{n}"
             elif it.is_list:
@@ -210,8 +212,10 @@ class Cpp(languages.Language):
 
     def examples(self, methods, method, before):
         """The example of a member, and that of a function, but of one that stands in the source by hand."""
-        own = method.own(self.NAME).get("example", "").strip("\n").split("\n")
-        texts = [(self.shown_as(method), own if own[0] else Shown(self, methods).checked(method))]
+        own = method.own(self.NAME).get("example", "").strip("\n")
+        if method.reads_shape and not own:
+            own = f"check(CellUnion::{self.name_of(method)}({self.asked_of_none(method)}).outer.empty());"
+        texts = [(self.shown_as(method), own.split("\n") if own else Shown(self, methods).checked(method))]
         if self.is_function(method):
             shown = Shown(self, methods, is_of_lists=True)
             texts.append((self.function_shown_as(method), shown.checked(method)))

@@ -4,7 +4,8 @@ Their types, with comments, are those of in_types.py.
 import in_types
 
 OF = {"CellUnion": "this.#ids", "UnionFile": "this.#bytes"}  # the list of each class
-GREATEST = {"level": "LAST_LEVEL", "child": "3", "face": "5", "i": "MOST_SIDE", "j": "MOST_SIDE"}
+GREATEST = {"level": "LAST_LEVEL", "deepest": "LAST_LEVEL",
+            "child": "3", "face": "5", "i": "MOST_SIDE", "j": "MOST_SIDE"}
 KINDS = {"u8": ("Uint8Array", "255"), "u64": ("BigUint64Array", "0n")}  # a list, and its entry that is no answer
 
 
@@ -81,7 +82,7 @@ class JavaScript(in_types.TypeScript):
 
     def whole(self, methods, method, *_):
         """A line, or a method, for which in_types.py has the comment."""
-        names = ", ".join(f"{name}{' = ' * (name in in_types.USUAL)}{in_types.USUAL.get(name, '')}"
+        names = ", ".join(f"{name}{' = ' * (name in self.USUAL)}{self.USUAL.get(name, '')}"
                           for _, name in self.parameters(method))
         before, answer = self.answered(method)
         if not self.owner(method) and not before:

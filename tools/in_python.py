@@ -12,7 +12,6 @@ NAMES = {"next": "next_cell", "prev": "previous_cell", "cell_contains": "contain
          "token_fields": "tokens"}
 ERRORS = {"NO_CELL": "NotACellError", "ARGUMENT": "OutOfRangeError", "MANY": "TooManyCellsError",
           "SHAPE": "ShapeError"}
-USUAL = {"work": "_library.MAP_WORK"}  # what an argument is if it is left out
 CHANGED = "The bytes were changed since they were checked, and are no union file."
 NO_MEMORY = "There is no memory for the result."
 DEF = re.compile(r"^ *def \w+\((?:[^()]|\([^()]*\))*\)(?: -> .*)?:\n\Z", re.M)
@@ -41,9 +40,11 @@ class Python(languages.Language):
     JOINED = "{1}"
     MADE = {"cell": "from_token({})", "union": "CellUnion.from_tokens({})", "len": "len({})",
             "file": "UnionFile(CellUnion.from_tokens({}).to_bytes())"}
+    READS_SHAPES, USUAL = True, {"work": "_library.MAP_WORK"}
+    NO_POLYGON = ("""'{"type": "Polygon", "coordinates": []}'""", "bytes([0, 0, 0, 0, 6, 0, 0, 0, 0])")
 
     def name_of(self, method):
-        own = method.own(self.NAME).get("name")
+        own = self.name_of_reader(method, "rust")
         return own or NAMES.get(method.call.name, method.call.name.removeprefix("file_"))
 
     # ---- what is said
@@ -67,7 +68,7 @@ class Python(languages.Language):
             named = "file" if "other: UnionFile" in head else word.arg
             said = own.get(word.arg) or method.row.get(there) or general.get(named) or method.general["argument"][there]
             kind, _, text = said.rpartition(" : ")
-            kind = kind or kind_of(ast.unparse(word.annotation)) + ", optional" * (word.arg in USUAL)
+            kind = kind or kind_of(ast.unparse(word.annotation)) + ", optional" * (word.arg in self.USUAL)
             yield word.arg, kind, as_sentence(self.marked(methods, text))
 
     def raises(self, methods, method, head):
@@ -138,6 +139,9 @@ class Python(languages.Language):
         own = method.own(self.NAME).get("example")
         if own:
             return own.strip("\n").split("\n")
+        if method.reads_shape:
+            return [f">>> outer, inner = {self.name_of(method)}({self.asked_of_none(method)})",
+                    ">>> len(outer), len(inner)", "(0, 0)"]
         tree = ast.parse(method.example, mode="eval").body
         return [f">>> {self.shown(method, languages.Expression(self, methods).visit(tree))}",
                 method.own(self.NAME).get("answer") or self.answer(method)]
@@ -170,11 +174,16 @@ class Python(languages.Language):
         head = f"    def {self.name_of(method)}({given}) -> {result}:"
         return [head, *self.comment(methods, method, head + "\n"), f"        return {answer}", ""]
 
+    def aliases(self, _, method, *__):
+        """The name of a function that reads a shape, for those of the module; nothing of another one."""
+        return [f'           "{self.name_of(method)}",'] if method.reads_shape else []
+
     def of_shape(self, methods, method):
         """A function that reads a shape."""
         name, (shape, *numbers) = method.call.name, method.given
         words = [f"{shape.name}: {'str | Bytes' if shape.is_text else 'Bytes'}"]
-        words += [f"{it.name}: SupportsIndex{' = ' * (it.name in USUAL)}{USUAL.get(it.name, '')}" for it in numbers]
+        words += [f"{it.name}: SupportsIndex{' = ' * (it.name in self.USUAL)}{self.USUAL.get(it.name, '')}"
+                  for it in numbers]
         start = f"def {self.name_of(method)}("
         head = [f"{start}{', '.join(words[:-1])},", f"{' ' * len(start)}{words[-1]}) -> tuple[CellUnion, CellUnion]:"]
         said = ", ".join(f"{it.name} {{{it.name}}}" for it in numbers)

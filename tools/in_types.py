@@ -4,7 +4,6 @@ import re
 import languages
 
 BYTES = "ArrayBuffer | ArrayBufferView"
-USUAL = {"work": "MAP_WORK"}  # what an argument is if it is left out
 
 
 class TypeScript(languages.Language):
@@ -15,6 +14,11 @@ class TypeScript(languages.Language):
     RESULTS = {"union": "CellUnion", "cells": "BigUint64Array", "text": "string", "bytes": "Uint8Array",
                "answer": "boolean"}
     RENAMED = {"id": "cell", "ids": "cells", "ys": "other", "k": "place"}
+    READS_SHAPES, USUAL = True, {"work": "MAP_WORK"}
+    NO_POLYGON = ("""'{"type": "Polygon", "coordinates": []}'""", "Uint8Array.of(0, 0, 0, 0, 6, 0, 0, 0, 0)")
+
+    def name_of(self, method):
+        return self.name_of_reader(method, "java") or super().name_of(method)
 
     def parameters(self, method):
         """The arguments, each with its type and its name."""
@@ -24,8 +28,8 @@ class TypeScript(languages.Language):
             elif it.is_list:
                 kind = self.owner(method) if it.name == "ys" else BYTES if it.kind == "u8" else "Cells"
                 yield kind, self.named(method, it)
-            elif it.name != "most":
-                is_cell = it.kind == "u64" and it.name not in ("k", *USUAL)
+            elif it.name != "most" or method.reads_shape:
+                is_cell = it.kind == "u64" and it.name not in ("k", *self.USUAL)
                 yield "Cell" if is_cell else "number", self.named(method, it)
         yield from (("number", name) for name in method.row.get("more", []))
 
@@ -59,11 +63,16 @@ class TypeScript(languages.Language):
                 *self.example(methods, method, begin), f"{indent} */"]
 
     def whole(self, methods, method, *_):
-        words = ", ".join(f"{name}{'?' * (name in USUAL)}: {kind}" for kind, name in self.parameters(method))
+        words = ", ".join(f"{name}{'?' * (name in self.USUAL)}: {kind}" for kind, name in self.parameters(method))
         head = "export function " if not self.owner(method) else "  " if method.has_receiver else "  static "
         return [*self.comment(methods, method), f"{head}{self.name_of(method)}({words}): {self.result(method)};"]
 
     # ---- examples
+
+    def example(self, methods, method, indent):
+        if method.reads_shape and "example" not in method.own(self.NAME):
+            return [f"{indent}{self.name_of(method)}({self.asked_of_none(method)}).outer.size // 0"]
+        return super().example(methods, method, indent)
 
     def compared(self, left, right):
         return f"{left} === {right}"

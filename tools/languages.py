@@ -18,10 +18,13 @@ class Language:
     MADE = {}  # what makes a cell, a union or a file of tokens
     RESULTS = {}  # the types of a union, cells, a text, bytes, and yes or no
     RENAMED = {}  # arguments that have another name than in the header
+    READS_SHAPES = False  # whether what reads a shape is made, which else stands by hand
+    USUAL = {}  # what arguments of that are, if they are left out
+    NO_POLYGON = ("", "")  # a text and bytes of a shape without a polygon
 
     def has(self, method):
         """Whether it is made in the language."""
-        return self.NAME not in (*method.lacked_by, *method.row.get("by_hand", []))
+        return self.NAME not in method.lacked_by and (self.READS_SHAPES or not method.reads_shape)
 
     def owner(self, method):
         """The class that has a method, or nothing if the module has it."""
@@ -33,6 +36,17 @@ class Language:
         """The name of a method: its own one in the language or in both, or that of the call without its class."""
         own = method.own(self.NAME).get("name") or method.row.get("camel")
         return own or camel(re.sub("^(?:file|cell)_", "", method.call.name))
+
+    def name_of_reader(self, method, other):
+        """The name of what reads a shape, as in the other language if it has no other; nothing of another method."""
+        return method.own(self.NAME).get("name") or (method.reads_shape and method.own(other).get("name"))
+
+    def asked_of_none(self, method):
+        """What an example asks of a call that reads a shape, if its row has no example: no polygon, at a level, and if
+        that is asked for with many cells."""
+        shape, *numbers = method.given
+        needed = [it for it in numbers if it.name not in self.USUAL]
+        return ", ".join([self.NO_POLYGON[not shape.is_text], *["6", "1000"][:len(needed)]])
 
     def named(self, method, it):
         """The name of an argument."""

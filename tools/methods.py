@@ -8,7 +8,8 @@ It writes each SOURCE to FOLDER with what is made in the place of these lines, w
   // functions: all              in C++ what is asked of lists, in no class
   // examples: all others        in examples.cc and examples.c those that don't stand there by hand
   % usage: all                   in the help page of R each function; `aliases` and `values` are its names and what each
-                                 returns, `arguments` what stands there by hand of none
+                                 returns, `arguments` what stands there by hand of none. In Python `# aliases: all` is
+                                 the names of functions that read a shape
   // comment: NAME               the comment of the call, whose method stands below it by hand; in Python
                                  `# comment: NAME`, for a docstring
   // questions: all but NAME, .. what the tests ask of each method, for which a question is in tests/model/vectors.py

@@ -62,7 +62,7 @@ __all__ = ["CellUnion", "Union", "UnionFile", "version", "is_cell", "level", "fa
            "range_max", "size", "next_cell", "previous_cell", "common_ancestor", "contains", "intersects",
            "from_face_ij", "square", "token", "from_token", "debug", "from_debug", "tokens", "from_tokens", "to_signed",
            "levels", "parents", "range_mins", "range_maxes", "token_fields", "from_points", "is_union",
-           "cover_geojson", "cover_wkb", "cover_geodesic_geojson", "cover_geodesic_wkb",
+           # aliases: all
            "S2UnionError", "NotACellError", "NotNormalizedError", "OutOfRangeError", "TooManyCellsError",
            "OutOfMemoryError", "UnionFileError", "FileShortError", "FileVersionError", "FileTrailingError",
            "FileCellError", "CornerError", "RingError", "ShapeError", "UnknownStatusError"]

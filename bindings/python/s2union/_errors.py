@@ -163,9 +163,10 @@ class UnknownStatusError(S2UnionError, ValueError):
     """
 
 
-_KINDS = {kind.status: kind for kind in (
+_ALL: tuple[type[S2UnionError], ...] = (
     NotACellError, NotNormalizedError, OutOfRangeError, TooManyCellsError, OutOfMemoryError, FileShortError,
-    FileVersionError, FileTrailingError, FileCellError, CornerError, RingError, ShapeError)}
+    FileVersionError, FileTrailingError, FileCellError, CornerError, RingError, ShapeError)
+_KINDS = {kind.status: kind for kind in _ALL}
 
 for _kind in (S2UnionError, UnionFileError, UnknownStatusError, *_KINDS.values()):
     _kind.__module__ = "s2union"  # where they are found

@@ -48,13 +48,14 @@ DEGREES = "from_face_ij takes one point, and s2union_geo.leaves longitudes and l
 POLYGON = (memoryview(array("q", [10, 1, 1, 10, 9, 1, 10, 1, 9])), memoryview(array("Q", [3])),
            s2union.from_face_ij(3, 0, 0), 0)  # a triangle: corners, ends, a leaf outside, and no margin
 SQUARE = b'{"type": "Polygon", "coordinates": [[[0, 0], [2, 0], [2, 2], [0, 2], [0, 0]]]}'
-OTHERS = {"from_debug": ("0/2",), "neighbors": (CELL, 4), "map_geojson": ("", 1, SQUARE, 9, 2**24),
-          "map_wkb": ("", 1, TRIANGLE, 9, 2**24),
+TYPES = (Path(calls.__file__).parent / "_library.pyi").read_text()
+READERS = re.findall(r"^def (\w+)\(__what: str, __room: int, __(text|wkb): List,", TYPES, re.M)  # of shapes
+OTHERS = {"from_debug": ("0/2",), "neighbors": (CELL, 4),
+          **{name: ("", 1, SQUARE if given == "text" else TRIANGLE, 9, 2**24) for name, given in READERS},
           "pairs": (ZONES, memoryview(array("d", [1.5, 9, 1])), memoryview(array("d", [0.5, 9, 1])), 1),
           **dict.fromkeys(("file_contains", "file_intersects"), (FILE, FILE)),
           **dict.fromkeys(("polygon_outer", "polygon_inner"), ("", 1, *POLYGON, 3, 99)),
           **dict.fromkeys(("polygon_outer_up_to", "polygon_inner_up_to"), ("", 1, *POLYGON, 0, 3, 9))}
-TYPES = (Path(calls.__file__).parent / "_library.pyi").read_text()
 
 
 def each_call(words, others):
