@@ -624,6 +624,10 @@ static void shapes() {
   const s2union::CoveringsOf<Id> many = Union::CoverGeoJson(square, 12);
   CHECK(many.outer.size() + many.inner.size() > 4096 && made.outer.Contains(many.outer));
   CHECK(Union::CoverWkb(empty, 30).outer.empty() && Union::CoverWkb(empty, 0).inner.empty());
+  const s2union::CoveringsOf<Id> curved = Union::CoverGeodesicGeoJson(square, 6, 1000);
+  CHECK(curved.outer.Contains(curved.inner) && !curved.inner.empty());
+  CHECK(Union::CoverGeodesicWkb(empty, 6, 9).outer.empty());
+  REFUSES(S2U_MANY, Union::CoverGeodesicGeoJson(square, 6, 9, nullptr, status));
   REFUSES(S2U_ARGUMENT, Union::CoverGeoJson(square, 31, S2U_MAP_WORK, nullptr, status));
   REFUSES(S2U_ARGUMENT, Union::CoverWkb(empty, -1, S2U_MAP_WORK, nullptr, status));
   REFUSES(S2U_MANY, Union::CoverGeoJson(square, 6, 100, &fault, status));

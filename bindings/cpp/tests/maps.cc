@@ -16,9 +16,9 @@ static unsigned long passed, failed;
 
 // The names of faults as the rows have them, in the order of their numbers.
 static const char* const kFaults[] = {
-    "truncated", "trailing", "order", "type", "uncovered", "srid", "member", "deep", "count", "few",
-    "open", "not_finite", "utf8", "json", "twice", "no_type", "missing", "position", "range",
-    "no_inside", "no_map", "long_edge", "spread"};
+    "truncated", "trailing", "order", "type", "uncovered", "srid", "member", "deep", "count", "few", "open",
+    "not_finite", "utf8", "json", "twice", "no_type", "missing", "position", "range", "no_inside", "no_map",
+    "long_edge", "spread"};
 
 static const std::map<int32_t, std::string> kStatuses = {{S2U_MANY, "!many"}, {S2U_ARGUMENT, "!argument"}};
 
@@ -52,11 +52,11 @@ static std::string Shown(const s2u_shape_fault& fault) {
 static Coverings Covered(const std::vector<std::string>& row, s2u_shape_fault* fault, int32_t* status) {
   const std::string bytes = BytesOf(row[1]);
   const int level = std::stoi(row[2]);
-  const uint64_t most = std::stoull(row[3]);
+  const size_t most = std::stoull(row[3]);  // work, or cells
+  if (row[0] == "map_wkb") return CellUnion::CoverWkb(bytes, level, most, fault, status);
+  if (row[0] == "map_geojson") return CellUnion::CoverGeoJson(bytes, level, most, fault, status);
   if (row[0] == "geodesic_wkb") return CellUnion::CoverGeodesicWkb(bytes, level, most, fault, status);
-  if (row[0] == "geodesic_geojson") return CellUnion::CoverGeodesicGeoJson(bytes, level, most, fault, status);
-  return row[0] == "wkb" ? CellUnion::CoverWkb(bytes, level, most, fault, status)
-                         : CellUnion::CoverGeoJson(bytes, level, most, fault, status);
+  return CellUnion::CoverGeodesicGeoJson(bytes, level, most, fault, status);
 }
 
 // What is made of a row, or the error that is thrown.

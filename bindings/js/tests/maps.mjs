@@ -8,7 +8,7 @@ const [path, texts] = process.argv.slice(2);
 const s2 = await import(pathToFileURL(path));
 await s2.load();
 
-const CALLS = {geojson: s2.coverGeoJson, wkb: s2.coverWkb, geodesic_geojson: s2.coverGeodesicGeoJson,
+const CALLS = {map_geojson: s2.coverGeoJson, map_wkb: s2.coverWkb, geodesic_geojson: s2.coverGeodesicGeoJson,
   geodesic_wkb: s2.coverGeodesicWkb};
 const inWords = (union) => Array.from(union, (cell) => cell.toString(16)).join(" ");
 
@@ -51,9 +51,9 @@ function is(found, wanted, what) {
 }
 
 for (const line of readFileSync(texts, "utf8").split("\n").filter(Boolean)) {
-  const [call, hex, level, work, ...wanted] = line.split("\t");
+  const [call, hex, level, most, ...wanted] = line.split("\t");
   for (const bytes of formsOf(call, Uint8Array.from(Buffer.from(hex, "hex")))) {
-    is(answerOf(() => CALLS[call](bytes, Number(level), Number(work))), wanted, line);
+    is(answerOf(() => CALLS[call](bytes, Number(level), Number(most))), wanted, line);
   }
 }
 
@@ -65,10 +65,14 @@ for (const wrong of [undefined, null, 1, 1n, {}, [square]]) {
 }
 assert.throws(() => s2.coverWkb("00", 6), TypeError);
 for (const wrong of [-1, 1.5, 31, 2 ** 32, NaN, "6", 6n, undefined]) {
-  is(answerOf(() => s2.coverWkb(empty, wrong)), ["!argument"], `the level ${wrong}`);
+  for (const call of Object.values(CALLS)) {
+    is(answerOf(() => call(empty, wrong, 9)), ["!argument"], `the level ${wrong}`);
+  }
 }
 for (const wrong of [-1, 1.5, 2 ** 53, NaN, "6", 6n, null]) {
-  is(answerOf(() => s2.coverWkb(empty, 6, wrong)), ["!argument"], `the work ${wrong}`);
+  for (const call of Object.values(CALLS)) {
+    is(answerOf(() => call(empty, 6, wrong)), ["!argument"], `the work or the cells ${wrong}`);
+  }
 }
 console.log(`${passed} passed, ${failed} failed`);
 process.exitCode = failed ? 1 : 0;

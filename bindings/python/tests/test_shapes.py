@@ -10,8 +10,7 @@ import pytest
 import s2union
 
 ROWS = [line.split("\t") for line in Path(os.environ["S2UNION_MAPS"]).read_text("utf-8").splitlines()]
-CALLS = {"geojson": s2union.cover_geojson, "wkb": s2union.cover_wkb,
-         "geodesic_geojson": s2union.cover_geodesic_geojson, "geodesic_wkb": s2union.cover_geodesic_wkb}
+CALLS = {call: getattr(s2union, f"cover_{call.removeprefix('map_')}") for call, *_ in ROWS}
 KINDS = {s2union.TooManyCellsError: "!many", s2union.OutOfRangeError: "!argument"}
 SQUARE = '{"type": "Polygon", "coordinates": [[[0,0], [20,0], [20,20], [0,20], [0,0]]]}'
 EMPTY = bytes([0, 0, 0, 0, 6, 0, 0, 0, 0])
@@ -21,10 +20,11 @@ def place_of(error):
     return error.byte, error.part, error.ring, error.position
 
 
-def answer(call, data, level, work):
-    """What a call answers, as the rows have it; the message of an error has its place."""
+def answer(call, data, level, most):
+    """What a call answers, as the rows have it, with this much work or so many cells; the message of an error has its
+    place."""
     try:
-        return [" ".join(f"{cell:x}" for cell in union) for union in CALLS[call](data, level, work)]
+        return [" ".join(f"{cell:x}" for cell in union) for union in CALLS[call](data, level, most)]
     except s2union.ShapeError as error:
         said = "byte %d, part %d, ring %d, position %d" % place_of(error)
         assert str(error).endswith(f": {said}") and error.status == -16
@@ -44,9 +44,9 @@ def forms_of(call, data):
 
 def test_each_row():
     assert len(ROWS) > 500
-    for call, data, level, work, *wanted in ROWS:
+    for call, data, level, most, *wanted in ROWS:
         for given in forms_of(call, bytes.fromhex(data)):
-            assert answer(call, given, int(level), int(work)) == wanted
+            assert answer(call, given, int(level), int(most)) == wanted
 
 
 def test_what_is_usual():
