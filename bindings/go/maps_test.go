@@ -19,8 +19,8 @@ var faultNames = strings.Fields("truncated trailing order type uncovered srid me
 
 // The calls by their names in the questions, each with a bound of work or of cells.
 var mapCalls = map[string]func([]byte, int, uint64) (s2union.CellUnion, s2union.CellUnion, error){
-	"geojson": s2union.CoverGeoJSON,
-	"wkb":     s2union.CoverWKB,
+	"map_geojson": s2union.CoverGeoJSON,
+	"map_wkb":     s2union.CoverWKB,
 	"geodesic_geojson": func(data []byte, level int, most uint64) (s2union.CellUnion, s2union.CellUnion, error) {
 		return s2union.CoverGeodesicGeoJSON(data, level, int(most))
 	},

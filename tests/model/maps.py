@@ -3,10 +3,9 @@
 languages. What it says of each is first compared with a plain reader, and with plain places here, or with those of
 model.geodesics.
 
-A line is 'geojson' or 'wkb', or of geodesic edges 'geodesic_geojson' or 'geodesic_wkb', the bytes in hexadecimal, a
-level, and a bound of work or of cells, with tabs between them, and then the cells of the outer and of the inner
-covering, in hexadecimal; or an error: '!argument', '!many', or '!' and the name of a fault with its byte, part, ring
-and position.
+A line is the name of a call, such as 'map_geojson' or 'geodesic_wkb', the bytes in hexadecimal, a level, and a bound of
+work or of cells, with tabs between them, and then the cells of the outer and of the inner covering, in hexadecimal; or
+an error: '!argument', '!many', or '!' and the name of a fault with its byte, part, ring and position.
 `python3 -m model.maps FILE` also compares each country of a file of GeoJSON. The library is the libs2union.so.1 that
 the system finds.
 """
@@ -370,7 +369,7 @@ def answer_of(library, call, data, level, most, room=1 << 16):
     """The status, the cells of both coverings, and the fault."""
     out = (ctypes.c_uint64 * room)()
     count, outer, fault = ctypes.c_size_t(), ctypes.c_size_t(), Fault()
-    status = getattr(library, f"s2u_{call}" if call.startswith("geodesic") else f"s2u_map_{call}")(
+    status = getattr(library, f"s2u_{call}")(
         data, ctypes.c_size_t(len(data)), ctypes.c_uint32(level), ctypes.c_uint64(most), out, ctypes.c_size_t(room),
         ctypes.byref(count), ctypes.byref(outer), ctypes.byref(fault))
     if status == -1:
@@ -406,7 +405,7 @@ def found(library, call, data, level, most):
 
 
 def say(library, form, data, level, work=WORK, cells=CELLS):
-    for call, most in ((form, work), (f"geodesic_{form}", cells)):
+    for call, most in ((f"map_{form}", work), (f"geodesic_{form}", cells)):
         print(call, data.hex(), level, most, *found(library, call, data, level, most), sep="\t")
 
 
@@ -513,11 +512,11 @@ class Asked(NamedTuple):
 
 
 def asked():
-    """What the file asks on the map that S2UNION_MAPS names, without what takes more than a smaller bound of work."""
+    """What the file asks that S2UNION_MAPS names, but for what takes more than a smaller bound of work."""
     texts = dict(re.findall(r'case S2U_FAULT_(\w+):\s+return "(.*?)";', HEADER.read_text("utf-8")))
     for line in Path(os.environ["S2UNION_MAPS"]).read_text("utf-8").splitlines():
         call, data, level, work, *answer = line.split("\t")
-        if call.startswith("geodesic") or int(work) < WORK and answer == ["!many"]:
+        if int(work) < WORK and answer == ["!many"]:
             continue
         cells, error = [[int(cell, 16) for cell in words.split()] for words in answer if words[:1] != "!"], ""
         if answer[0] == "!argument":
@@ -537,7 +536,7 @@ def main(*files):
         for feature in features:
             for call, data in (("geojson", json.dumps(feature).encode()),
                                ("wkb", wkb_of(polygons_of("geojson", json.dumps(feature).encode())))):
-                found(library, call, data, 8, WORK)
+                found(library, f"map_{call}", data, 8, WORK)
                 found(library, f"geodesic_{call}", data, 8, CELLS)
         print(f"{4 * len(features)} passed, 0 failed")
 

@@ -22,7 +22,7 @@ static map_call* call_of(const char* name) {
   static const struct {
     const char* name;
     map_call* call;
-  } calls[] = {{"wkb", map_wkb}, {"geojson", map_geojson}, {"geodesic_wkb", geodesic_wkb},
+  } calls[] = {{"map_wkb", map_wkb}, {"map_geojson", map_geojson}, {"geodesic_wkb", geodesic_wkb},
                {"geodesic_geojson", geodesic_geojson}};
   for (size_t k = 0; k < sizeof calls / sizeof *calls; k++)
     if (!strcmp(name, calls[k].name)) return calls[k].call;

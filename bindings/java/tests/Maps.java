@@ -25,11 +25,11 @@ final class Maps extends Checks {
 
   private static RegionCoverer.Coverings covered(String call, byte[] data, int level, long most) {
     int cells = (int) most;
-    if (call.equals("wkb")) return CellUnion.coverWkb(data, level, most);
+    if (call.equals("map_wkb")) return CellUnion.coverWkb(data, level, most);
     if (call.equals("geodesic_wkb")) return CellUnion.coverGeodesicWkb(data, level, cells);
     String text = new String(data, StandardCharsets.UTF_8);
     boolean isText = Arrays.equals(text.getBytes(StandardCharsets.UTF_8), data);
-    if (call.equals("geojson")) {
+    if (call.equals("map_geojson")) {
       return isText ? CellUnion.coverGeoJson(text, level, most) : CellUnion.coverGeoJson(data, level, most);
     }
     return isText ? CellUnion.coverGeodesicGeoJson(text, level, cells)

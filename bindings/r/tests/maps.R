@@ -25,7 +25,6 @@ answer <- function(ask, given, line) tryCatch({
 
 passed <- failed <- 0
 for (line in strsplit(paste0(readLines(commandArgs(TRUE)), "\t."), "\t")) {
-  if (startsWith(line[1], "geodesic")) next
   given <- bytes(line[2])
   wanted <- line[5:(length(line) - 1)]
   said <- if (line[1] == "wkb") list(answer(s2u_map_wkb, given, line)) else list(answer(s2u_map_geojson, given, line))

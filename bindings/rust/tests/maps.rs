@@ -14,8 +14,8 @@ fn maps() {
         let fields: Vec<&str> = line.split('\t').collect();
         let (bytes, level, most) = (bytes(fields[1]), fields[2].parse().unwrap(), fields[3].parse::<u64>().unwrap());
         let found = match fields[0] {
-            "wkb" => cover_wkb(&bytes, level, most),
-            "geojson" => cover_geojson(&bytes, level, most),
+            "map_wkb" => cover_wkb(&bytes, level, most),
+            "map_geojson" => cover_geojson(&bytes, level, most),
             "geodesic_wkb" => cover_geodesic_wkb(&bytes, level, most as usize),
             _ => cover_geodesic_geojson(&bytes, level, most as usize),
         };
