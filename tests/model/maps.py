@@ -512,11 +512,11 @@ class Asked(NamedTuple):
 
 
 def asked():
-    """What the file asks that S2UNION_MAPS names, but for what takes more than a smaller bound of work."""
+    """What the file asks on the map that S2UNION_MAPS names, without what takes more than a smaller bound of work."""
     texts = dict(re.findall(r'case S2U_FAULT_(\w+):\s+return "(.*?)";', HEADER.read_text("utf-8")))
     for line in Path(os.environ["S2UNION_MAPS"]).read_text("utf-8").splitlines():
         call, data, level, work, *answer = line.split("\t")
-        if int(work) < WORK and answer == ["!many"]:
+        if not call.startswith("map_") or int(work) < WORK and answer == ["!many"]:
             continue
         cells, error = [[int(cell, 16) for cell in words.split()] for words in answer if words[:1] != "!"], ""
         if answer[0] == "!argument":
@@ -524,7 +524,7 @@ def asked():
         elif answer[0][:1] == "!":
             name, *places = answer[0][1:].split()
             error = f"{texts[name.upper()]}: byte {places[0]}, part {places[1]}, ring {places[2]}, position {places[3]}"
-        yield Asked(call, bytes.fromhex(data), int(level), *(cells or [[], []]), error)
+        yield Asked(call.removeprefix("map_"), bytes.fromhex(data), int(level), *(cells or [[], []]), error)
 
 
 def main(*files):
