@@ -66,7 +66,7 @@ class R(languages.Language):
     def parameters(self, method):
         """The arguments, each with its name and what it is. No covering of a union has more cells than that."""
         for it in method.given:
-            if it.name != "most":
+            if it.name != "most" or declared.is_of_shape(method.call):
                 yield self.named(method, it), self.form(it)
         yield from ((name, "number") for name in method.row.get("more", []))
 
@@ -105,11 +105,11 @@ class R(languages.Language):
                 is_file = method.is_of_file and not is_free
                 before.append(f"raw {of} = {'file_of' if is_file else 'raw_of'}({name});")
                 words.append(f"{'(const char*)' if it.is_text else ''}{of}.at, {of}.n")
-            elif it.name == "most":
+            elif it.name == "most" and not is_of_shape:
                 words.append(f"of_{self.named(method, method.given[0])}.n")
             else:
                 words.append(f"{ {'cell': 'cell_in', 'number': 'count_in'}[self.form(it)] }({name})"
-                             if it.kind != "u64" or not is_of_shape else f"whole_in({name})")
+                             if it.kind == "u32" or not is_of_shape else f"whole_in({name})")
         return before, words
 
     def room(self, method):
@@ -133,7 +133,8 @@ class R(languages.Language):
             return [head, *(f"  {line}" for line in before), f"  return {answer};", "}"]
         is_of_shape = declared.is_of_shape(call)
         kind = "char" if call.out.is_text else C_TYPES[call.out.kind]
-        most = "whole_in(most)" if "most" in names else "INT_MAX" if call.out.is_text else "SIZE_MAX"
+        greatest = "INT_MAX" if call.out.is_text else "SIZE_MAX"
+        most = "whole_in(most)" if "most" in method.row.get("more", []) else greatest
         made = "lists_in(out, outer, len)" if is_of_shape else \
             f"{'text_in' if call.out.is_text else 'raw_in' if call.out.kind == 'u8' else 'vector_of'}(out, len)"
         checked = f"check_shape(status, &fault, {int(method.given[0].is_text)})" if is_of_shape else \
@@ -146,6 +147,8 @@ class R(languages.Language):
     # ---- the questions of the tests, and the examples with their answers
 
     def question(self, _, method, *__):
+        if declared.is_of_shape(method.call):  # as maps.R asks it
+            return []
         given = []
         for it, field, place in languages.fields(method):
             form, own = languages.form_of(method, it), f"g[{field + 1}]"
@@ -205,9 +208,9 @@ class Help(R):
     def values(self, methods, method, *_):
         """What a function returns, and its errors that not all have."""
         is_of_shape = declared.is_of_shape(method.call)
-        returns = "a list of both, `outer` and `inner`" if is_of_shape else method.own(self.NAME).get(
-            "returns", method.returns)
-        said = [self.sentence(methods, method), f"It returns {self.marked(methods, returns)}."]
+        returns = "a list of both, \\code{outer} and \\code{inner}" if is_of_shape else self.marked(
+            methods, method.own(self.NAME).get("returns", method.returns))
+        said = [self.sentence(methods, method), f"It returns {returns}."]
         said += [f"\\code{{S2U_{name}}}: {self.marked(methods, why)}." for name, why in method.errors()
                  if name in ("ARGUMENT", "MANY", "SHAPE")]
         said += [] if method.call.name in BEFORE_1_5 else [f"Since {self.since(method)}."]

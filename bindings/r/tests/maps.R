@@ -23,15 +23,18 @@ answer <- function(ask, given, line) tryCatch({
   c(cells(both$outer), cells(both$inner))
 }, s2union_error = fault)
 
+asked <- list(wkb = s2u_map_wkb, geojson = s2u_map_geojson, geodesic_wkb = s2u_geodesic_wkb,
+              geodesic_geojson = s2u_geodesic_geojson)
 passed <- failed <- 0
 for (line in strsplit(paste0(readLines(commandArgs(TRUE)), "\t."), "\t")) {
   given <- bytes(line[2])
   wanted <- line[5:(length(line) - 1)]
-  said <- if (line[1] == "wkb") list(answer(s2u_map_wkb, given, line)) else list(answer(s2u_map_geojson, given, line))
-  if (line[1] == "geojson" && !any(given == 0) && validUTF8(rawToChar(given))) { # also as a text
+  ask <- asked[[line[1]]]
+  said <- list(answer(ask, given, line))
+  if (grepl("geojson$", line[1]) && !any(given == 0) && validUTF8(rawToChar(given))) { # also as a text
     text <- rawToChar(given)
     Encoding(text) <- "UTF-8"
-    said <- c(said, list(answer(s2u_map_geojson, text, line)))
+    said <- c(said, list(answer(ask, text, line)))
   }
   for (it in said) {
     if (identical(it, wanted)) passed <- passed + 1

@@ -52,7 +52,7 @@ shows <- function(said, wanted) {
 
 ways <- list()
 ask <- function(question, way) ways[[question]] <<- c(ways[[question]], way)
-# questions: all but map_geojson, map_wkb
+# questions: all
 ask("from_tokens", function(g) s2u_normalise(s2u_from_tokens(text(g[1]))))
 ask("union_contains", function(g) all(s2u_contains_cells(union(g[1]), union(g[2]))))
 ask("normalise", function(g) s2u_union(cells(g[1]), cells("")))
