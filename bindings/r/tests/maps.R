@@ -23,7 +23,7 @@ answer <- function(ask, given, line) tryCatch({
   c(cells(both$outer), cells(both$inner))
 }, s2union_error = fault)
 
-asked <- list(wkb = s2u_map_wkb, geojson = s2u_map_geojson, geodesic_wkb = s2u_geodesic_wkb,
+asked <- list(map_wkb = s2u_map_wkb, map_geojson = s2u_map_geojson, geodesic_wkb = s2u_geodesic_wkb,
               geodesic_geojson = s2u_geodesic_geojson)
 passed <- failed <- 0
 for (line in strsplit(paste0(readLines(commandArgs(TRUE)), "\t."), "\t")) {
