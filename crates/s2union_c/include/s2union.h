@@ -1131,8 +1131,8 @@ int32_t s2u_polygon_coverings_up_to(const s2u_direction* corners, size_t n, cons
  * and for each cell.
  * @{ */
 
-/** A `work` for callers that have no better one: a second for a shape of a country, and some seconds for any text. Of
- * texts of strangers 2^24 is enough for a country at level 10, and takes a fifth of a second. @since 1.5 */
+/** A `work` for callers that have no better one: a second for a shape of a country, and eight for any text. Of texts
+ * of strangers 2^24 is enough for a country at level 10, and takes half a second. @since 1.5 */
 #define S2U_MAP_WORK (UINT64_C(1) << 28)
 
 /** The outer and the inner covering of the polygons in bytes of WKB: of those as they are written, edges straight on
