@@ -215,7 +215,8 @@ class BesideSqlite(MariadbServer):
     def test_texts_and_bytes(self):
         """Those of tests/model/maps.py, in the file that S2UNION_MAPS names: an error is NULL and a warning."""
         asked = list(maps.asked())
-        calls = [f"SELECT hex({name}({shown(row.data)}, {row.level})); SHOW WARNINGS; SELECT '--';"
+        warnings = "SHOW WARNINGS; "  # a statement without a table keeps those of the one before, if it has none
+        calls = [f"SELECT hex({name}({shown(row.data)}, {row.level})); {warnings if row.error else ''}SELECT '--';"
                  for row in asked for name in MAPS]
         said = self.ask("USE trial; " + "\n".join(calls)).split("\n--\n")
         wanted = [f"NULL\nWarning\t1416\ts2: {row.error}" if row.error else file(cells).hex().upper()
