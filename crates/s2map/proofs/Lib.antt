@@ -2,6 +2,7 @@ mod Answers
 mod Boxes
 mod Corners
 mod Coverings
+mod FewCells
 mod Folding
 mod Leaves
 mod Meanings

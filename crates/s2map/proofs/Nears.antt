@@ -1,11 +1,11 @@
 -- The edges that are left for a box: what is known of a smaller box by them.
 use Rattle.std.proofs.Common.{◌≡◌, refl, sym, ap, ap₂, ◌∙◌, pos, arith, int_le, int_lt, ◌⊎◌, inl, inr, Bool, true}
-use Rattle.std.proofs.Common.{false, not, cond, ◌&&◌, ◌||◌, List, [], ◌∷◌, All, filter, map, flat_map}
+use Rattle.std.proofs.Common.{false, not, cond, ◌&&◌, ◌||◌, List, [], ◌∷◌, All, filter, map, flat_map, subst}
 use Rattle.std.proofs.Math.Bool.{xor}
-use Rattle.std.proofs.lemmas.Bool.{and_parts, or_cases, or_parts, or_right}
+use Rattle.std.proofs.lemmas.Bool.{and_parts, both_ways, or_cases, or_left, or_parts, or_right}
 use Rattle.std.proofs.lemmas.Int.{ints}
 use Rattle.std.proofs.lemmas.List.Concat.{flat_map-cons}
-use Rattle.std.proofs.lemmas.List.Elements.{All-head, All-tail}
+use Rattle.std.proofs.lemmas.List.Elements.{All-head, All-nil, All-tail}
 use Rattle.std.proofs.lemmas.List.Folds.{list_any-append}
 use Rattle.std.specs.List.{list_any}
 use Rattle.s2polygon.proofs.Changes.{odd_both, xor_none, xor_self}
@@ -17,10 +17,11 @@ use Rattle.s2map.proofs.Corners.{all_left, all_right}
 use Rattle.s2map.proofs.Passing.{step}
 use Rattle.s2map.specs.Boxes.{InBox, IsBox, east_corner, holds_box, lies_aside, lies_east, lies_north, lies_south}
 use Rattle.s2map.specs.Boxes.{lies_west, meets, met_by, part_of, rises, south_west, west_corner}
-use Rattle.s2map.specs.Map.{inside_part, passes_north, place_turned, side, turned, turns}
+use Rattle.s2map.specs.Map.{inside_part, on_turns, passes_north, place_turned, side, turned, turns}
 use Rattle.s2map.specs.Working.Even.{IsPart, has_one, passes_over}
-use Rattle.s2map.specs.Working.Near.{HoldsBox, IsKnown, IsSummary, PartNear, changes, has_edges, has_some, is_whole}
-use Rattle.s2map.specs.Working.Near.{narrowed, near_box, on_turns, part_by, seen}
+use Rattle.s2map.specs.Working.Near.{HasNearEdges, HoldsBox, IsKnown, IsSummary, PartNear, changes, has_edges}
+use Rattle.s2map.specs.Working.Near.{has_some, is_whole}
+use Rattle.s2map.specs.Working.Near.{narrowed, near_box, part_by, seen}
 use Rattle.s2map.specs.declared.near.Known.{Known}
 use Rattle.s2map.specs.declared.near.Near.{Near}
 use Rattle.s2map.specs.declared.place.MapBox.{MapBox}
@@ -361,6 +362,36 @@ module _ (q s : MapBox) (box : IsBox q) (is : IsBox s) (h : HoldsBox q s) where
         left = λ o. sum.left o ∙ ap (filter has_edges) left ∙ edges_left shape parts;
         near = sum.near;
       }
+
+  -- ---- a box in one that a part has whole inside
+  still_whole : (odd : Bool) (l : List MapEdge) → (not (has_some l) && odd) ≡ true
+      → is_whole (narrowed (south_west q) s (part_near odd l)) ≡ true
+  unfolding xor
+  still_whole odd (e ∷ l) w = cc
+  still_whole true [] w = refl
+  still_whole false [] w = cc
+
+  one_still_whole : (shape : List (List MapEdge)) → All IsPart shape
+      → list_any is_whole (map (near_box q) shape) ≡ true → list_any is_whole (map (near_box s) shape) ≡ true
+  one_still_whole [] parts w = cc
+  one_still_whole (es ∷ shape) parts w =
+      let same = near_narrowed es (All-head IsPart es shape parts) in
+      elim (or_cases (is_whole (near_box q es)) (list_any is_whole (map (near_box q) shape)) w) [
+        | inl h ↦
+            or_left (is_whole (near_box s es)) (list_any is_whole (map (near_box s) shape))
+            (ap is_whole (sym same) ∙ still_whole (near_box q es).odd (near_box q es).edges h)
+        | inr h ↦
+            or_right (is_whole (near_box s es)) (list_any is_whole (map (near_box s) shape))
+            (one_still_whole shape (All-tail IsPart es shape parts) h)
+      ]
+
+  pub known_whole : (shape : List (List MapEdge)) (k l : Known) → All IsPart shape → IsKnown shape q k
+      → k.inside ≡ true → l.inside ≡ true → l.parts.items ≡ [] → IsKnown shape s l
+  known_whole shape k l parts known whole inside none = record {
+    inside = inside ∙ sym (one_still_whole shape parts (sym known.inside ∙ whole));
+    left = λ o. absurd (both_ways l.inside o inside);
+    near = subst (All HasNearEdges) (sym none) (All-nil HasNearEdges);
+  }
 
 -- ---- how the box lies
 module _ (q : MapBox) where

@@ -1,6 +1,6 @@
 -- The map of longitudes and latitudes: which edges pass north of a place, and which places lie inside.
 use Rattle.std.specs.Prelude.{◌*◌, ◌≤◌, ℤ, pos, neg_ℤ, ◌+ℤ◌, ◌-ℤ◌, ◌*ℤ◌, unsigned_abs, int_le, int_lt}
-use Rattle.std.specs.Prelude.{Bool, not, cond, ◌&&◌, List, [], ◌∷◌}
+use Rattle.std.specs.Prelude.{Bool, not, cond, ◌&&◌, List, [], ◌∷◌, map}
 use Rattle.std.specs.List.{list_any}
 use Rattle.s2degrees.specs.Degrees.{quarter, turn}
 use Rattle.s2polygon.specs.Parity.{is_odd_by}
@@ -46,6 +46,10 @@ turned k e = record { a = place_turned k e.a; b = place_turned k e.b }
 -- the turns on which an edge may pass north of a place
 abbrev pub turns : List ℤ
 turns = neg_ℤ (pos 3) ∷ neg_ℤ (pos 2) ∷ neg_ℤ (pos 1) ∷ pos 0 ∷ pos 1 ∷ pos 2 ∷ pos 3 ∷ []
+
+-- the edge on each turn
+abbrev pub on_turns : MapEdge → List MapEdge
+on_turns e = map (λ k. turned k e) turns
 
 -- the edge passes north of the place on an odd number of turns
 abbrev pub passes_on_turns : Place → MapEdge → Bool

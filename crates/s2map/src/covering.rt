@@ -4,6 +4,7 @@ ghost use Rattle.s2cell.specs.Cell.{covers, level_of};
 ghost use Rattle.s2cover.specs.declared.region.CoverFault.TheVariants.{TooMany};
 ghost use Rattle.s2list.specs.Union.{has_leaf};
 ghost use Rattle.s2map.specs.Cells.{AreMet, HasMore, HoldsPlace, IsPartOfCell, IsProperPlace, LeafInside, LeafOutside};
+ghost use Rattle.s2map.specs.Boxes.{part_of};
 ghost use Rattle.s2map.specs.Map.{inside};
 ghost use Rattle.s2map.specs.Working.Covering.{IsFound, IsSorted, Keeps};
 ghost use Rattle.s2map.specs.Working.Near.{HoldsBox, IsBoxedCell, IsKnown};
@@ -90,10 +91,10 @@ fn visit(
 }
 
 /// How a cell lies, by what is known of its box.
-fn part_by_known(shape: &MapShape, at: &BoxedCell, known: &Known) -> BoxPart
+pub(crate) fn part_by_known(shape: &MapShape, at: &BoxedCell, known: &Known) -> BoxPart
     requires boxed { IsBoxedCell at.now }
     requires known { IsKnown shape.now at.now.bounds known.now }
-    ensures exact { IsPartOfCell shape.now at.now.cell result }
+    ensures exact { result ≡ part_of shape.now at.now.bounds }
     ensures inside { result ≡ BoxPart.In → (n : ℕ) → covers at.now.cell n ≡ true → LeafInside shape.now n }
     ensures outside { result ≡ BoxPart.Out → (n : ℕ) → covers at.now.cell n ≡ true → LeafOutside shape.now n }
     ensures none { result ≡ BoxPart.Met → known.now.inside ≡ false }
@@ -102,8 +103,8 @@ fn part_by_known(shape: &MapShape, at: &BoxedCell, known: &Known) -> BoxPart
     known.part()
 }
 
-/// The facts on the box of a child, from those on its parent's box, which no part has whole inside.
-fn known_of_child(
+/// The facts on the box of a child, from those on its parent's box.
+pub(crate) fn known_of_child(
     alloc: Global,
     shape: &MapShape,
     parent: &BoxedCell,
@@ -112,12 +113,14 @@ fn known_of_child(
 ) -> Result<Known, AllocError>
     requires parent { IsBoxedCell parent.now }
     requires known { IsKnown shape.now parent.now.bounds known.now }
-    requires none { known.now.inside ≡ false }
     requires child { IsBoxedCell child.now }
     requires held { HoldsBox parent.now.bounds child.now.bounds }
     ensures { IfOk result (λ near. IsKnown shape.now child.now.bounds near) }
 {
     shape.are_parts();
+    if known.inside {
+        return Ok(Known::whole(alloc));
+    }
     let near = known.narrowed(alloc, corner_of(parent.bounds), child.bounds)?;
     Ok(near)
 }

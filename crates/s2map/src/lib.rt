@@ -11,6 +11,7 @@ mod cells;
 mod covering;
 mod edge;
 mod fault;
+mod few;
 pub mod laws;
 mod meeting;
 mod near;
@@ -23,3 +24,6 @@ pub use fault::MapFault;
 pub use part::MapPart;
 pub use place::{MapBox, MapEdge, Place};
 pub use shape::{BoxPart, MapShape};
+
+/// The work for the box of a cell: it takes about the time of this many comparisons of a cell with an edge.
+pub const BOX_WORK: u64 = 100;

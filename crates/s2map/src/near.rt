@@ -1,10 +1,12 @@
 //! The edges that are left for a box on the way down from the whole map.
-ghost use Rattle.std.specs.Prelude.{◌≡◌, ◌++◌, ◌∷◌, [], All, IfOk, cond, filter, flat_map, int_lt, map};
+ghost use Rattle.std.specs.Prelude.{◌≡◌, ◌-◌, ◌^◌, ◌++◌, ◌∷◌, [], All, IfOk, cond, filter, flat_map, int_lt, map};
+ghost use Rattle.std.specs.Prelude.{min, true};
 ghost use Rattle.s2map.specs.Boxes.{IsBox, meets as meets_of};
-ghost use Rattle.s2map.specs.Map.{IsMapEdge, is_west as is_west_of};
+ghost use Rattle.s2map.specs.Map.{IsMapEdge, is_west as is_west_of, on_turns};
 ghost use Rattle.s2map.specs.Working.Even.{passes_over as passes_over_of};
-ghost use Rattle.s2map.specs.Working.Near.{HasNearEdges, IsSummary, changes as changes_of, has_edges, is_whole};
-ghost use Rattle.s2map.specs.Working.Near.{narrowed as narrowed_of, near_box, on_turns, part_by, seen};
+ghost use Rattle.s2map.specs.Working.Near.{HasNearEdges, IsSummary, changes as changes_of, edges_left, has_edges};
+ghost use Rattle.s2map.specs.Working.Near.{is_whole};
+ghost use Rattle.s2map.specs.Working.Near.{narrowed as narrowed_of, near_box, part_by, seen};
 ghost use Rattle.s2map.specs.Working.Sizes.{IsNear, IsNearEdge};
 
 use crate::edge::{passes_north, turned};
@@ -207,6 +209,28 @@ impl Known {
             inside: false,
             parts: near,
         })
+    }
+
+    /// The facts on a box that a part has whole inside.
+    pub(crate) fn whole(alloc: Global) -> Known
+        ensures inside { result.inside ≡ true }
+        ensures none { result.parts.items ≡ [] }
+    {
+        Known {
+            inside: true,
+            parts: Vec::new(alloc),
+        }
+    }
+
+    /// How many edges are left, as far as they are counted.
+    pub(crate) fn size(&self) -> usize
+        ensures { result ≡ min (edges_left self.now) (2 ^ 64 - 1) }
+    {
+        let mut size = 0usize;
+        for part in &self.parts {
+            size = size.saturating_add(part.edges.len());
+        }
+        size
     }
 
     /// How the box lies.

@@ -151,6 +151,13 @@ impl MapPart {
         let _ = &self.edges;
     }
 
+    /// How many edges there are.
+    pub(crate) fn size(&self) -> usize
+        ensures { result ≡ length self.now }
+    {
+        self.edges.len()
+    }
+
     /// Whether a place lies inside.
     pub(crate) fn has(&self, p: Place) -> bool
         requires { IsMapPlace p }

@@ -1,6 +1,7 @@
 //! Shapes: which places lie inside, and how boxes lie.
 ghost use Rattle.std.specs.Prelude.{◌≡◌, ◌++◌, [], ◌∷◌, All, IfErr, IfOk, OnErr, OnOk, false, true};
 ghost use Rattle.s2map.specs.Boxes.{InBox, IsBox, part_of};
+ghost use Rattle.s2map.specs.Few.{edge_count};
 ghost use Rattle.s2map.specs.Map.{IsMapPlace, inside};
 ghost use Rattle.s2map.specs.Working.Even.{IsPart};
 ghost use Rattle.s2map.specs.Working.Near.{IsKnown};
@@ -90,6 +91,17 @@ impl MapShape {
         ensures { All IsPart self.now }
     {
         let _ = &self.parts;
+    }
+
+    /// How many edges there are, as far as they are counted.
+    pub(crate) fn edges(&self) -> usize
+        ensures { result ≡ edge_count self.now }
+    {
+        let mut edges = 0usize;
+        for part in &self.parts {
+            edges = edges.saturating_add(part.size());
+        }
+        edges
     }
 
     /// The facts on a box.

@@ -1,12 +1,12 @@
 -- The edges that are left for a box on the way down from the whole map.
 use Rattle.std.specs.Prelude.{◌≡◌, Bool, true, false, not, cond, ◌&&◌, List, [], ◌∷◌, All, filter, flat_map, map}
-use Rattle.std.specs.Prelude.{◌≤ℤ◌}
+use Rattle.std.specs.Prelude.{◌≤ℤ◌, ℕ, length}
 use Rattle.std.specs.Bool.{xor}
-use Rattle.std.specs.List.{list_any}
+use Rattle.std.specs.List.{list_any, sum_by}
 use Rattle.s2polygon.specs.Parity.{is_odd_by}
 use Rattle.s2map.specs.Boxes.{IsBox, meets, south_west}
 use Rattle.s2map.specs.Cells.{IsBoxOf}
-use Rattle.s2map.specs.Map.{inside_part, passes_north, turned, turns}
+use Rattle.s2map.specs.Map.{inside_part, on_turns, passes_north}
 use Rattle.s2map.specs.Working.Even.{has_one, passes_over}
 use Rattle.s2map.specs.Working.Sizes.{IsNearEdge}
 use Rattle.s2map.specs.declared.boxed.BoxedCell.{BoxedCell}
@@ -24,10 +24,6 @@ pub record HoldsBox (q s : MapBox) : Type 0 where
   pub east : s.east ≤ℤ q.east
   pub south : q.south ≤ℤ s.south
   pub north : s.north ≤ℤ q.north
-
--- the edge on each turn
-abbrev pub on_turns : MapEdge → List MapEdge
-on_turns e = map (λ k. turned k e) turns
 
 -- of the edge and two places: it passes north of just one of them, or the step from one to the other passes south of
 -- just one of its ends, and not both. So it doesn't meet a box that has the two
@@ -80,6 +76,10 @@ pub record IsSummary (parts : List PartNear) (known : Known) : Type 0 where
 -- it is right of this box
 abbrev pub IsKnown : List (List MapEdge) → MapBox → Known → Type 0
 IsKnown shape q known = IsSummary (map (near_box q) shape) known
+
+-- how many edges it has left
+abbrev pub edges_left : Known → ℕ
+edges_left known = sum_by (λ n. length n.edges.items) known.parts.items
 
 -- how the box lies by it
 abbrev pub part_by : Known → BoxPart

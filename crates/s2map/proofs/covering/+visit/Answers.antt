@@ -40,7 +40,7 @@ returns-then-level-clause-sorted t c =
     let items = c.in_ok-add-in-Met.ensures.added in
     let own : level_of c.args.at.now.cell ≡ c.args.level = sym c.level.ensures.value ∙ c.if-level.true in
     rw items (met_pushed c.args.shape.now c.args.level c.args.met.now.items c.args.within.now.items
-    c.args.at.now.cell c.requires.sorted own c.in-Met.ensures.exact)
+    c.args.at.now.cell c.requires.sorted own (c.args.at.now.bounds, c.requires.boxed.of, c.in-Met.ensures.exact))
 
 pub returns-in-Out-clause-found : goal.returns-in-Out-clause-found
 returns-in-Out-clause-found t c n h = inr (inr (c.in-Out.ensures.outside refl n h))
@@ -79,5 +79,6 @@ returns-in_err-add-in-Met-clause-fault t c =
     let others = c.len-then-level.ensures in
     let own : level_of c.args.at.now.cell ≡ c.args.level = sym c.level.ensures.value ∙ c.if-level.true in
     rw (p.1, p.2) (λ so. more_met c.args.shape.now c.args.level c.args.met.now.items c.args.within.now.items
-    c.args.at.now.cell c.args.most c.requires.sorted own c.in-Met.ensures.exact
+    c.args.at.now.cell c.args.most c.requires.sorted own
+    (c.args.at.now.bounds, c.requires.boxed.of, c.in-Met.ensures.exact)
     (omega (arith, others, c.in_err-add-in-Met.ensures.fault so)))

@@ -10,7 +10,7 @@ made : (c : After-part) → c.part.result ≡ part_of c.args.shape.now c.args.at
 made c = c.part.ensures ∙ part_known c.args.at.now.bounds c.args.shape.now c.args.known.now c.requires.known
 
 pub returns-clause-exact : goal.returns-clause-exact
-returns-clause-exact c = (c.args.at.now.bounds, c.requires.boxed.of, made c)
+returns-clause-exact c = made c
 
 pub returns-clause-inside : goal.returns-clause-inside
 returns-clause-inside c e =

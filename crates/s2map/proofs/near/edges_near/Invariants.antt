@@ -1,6 +1,6 @@
 use Rattle.std.proofs.Common.{◌≡◌, All, filter, flat_map, take}
 use Rattle.s2map.specs.Boxes.{meets}
-use Rattle.s2map.specs.Working.Near.{on_turns}
+use Rattle.s2map.specs.Map.{on_turns}
 use Rattle.s2map.specs.Working.Sizes.{IsNearEdge}
 use Rattle.s2map.proofs.near.edges_near.Given as goal
 

@@ -2,7 +2,7 @@ use Rattle.std.proofs.Common.{◌∷◌, [], neg_ℤ, pos, take}
 use Rattle.s2map.proofs.Sifting.{kept_next}
 use Rattle.s2map.specs.Boxes.{meets}
 use Rattle.s2map.specs.Map.{turned}
-use Rattle.s2map.specs.Working.Near.{on_turns}
+use Rattle.s2map.specs.Map.{on_turns}
 use Rattle.s2map.proofs.near.keep_on_turns.Goals as goal
 
 pub returns-clause-kept : goal.returns-clause-kept
