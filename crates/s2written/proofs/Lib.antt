@@ -1,5 +1,6 @@
 mod Corners
 mod Degrees
+mod Errors
 mod Leaves
 mod Maps
 mod Polygons

@@ -9,7 +9,7 @@ use Rattle.s2shape.specs.declared.fault.Fault.{Fault}
 use Rattle.s2shape.specs.declared.shape.Kind.TheVariants.{Point}
 use Rattle.s2shape.specs.declared.shape.Part.{Part}
 use Rattle.s2shape.specs.declared.shape.Position.{Position}
-use Rattle.s2written.specs.Coverings.{AreCoverings}
+use Rattle.s2written.specs.Coverings.{AreCoverings, AreFewCoverings}
 use Rattle.s2written.specs.Maps.{ArePlacesOf, IsPlaceOf, IsPolygon, corners_of, ends_of, first_ring}
 use Rattle.s2written.specs.Walks.{IsTooMuch}
 use Rattle.s2written.specs.declared.fault.CoverError.{CoverError}
@@ -44,33 +44,56 @@ pub record HasNoRings (s : Shape) : Type 0 where
   pub none : AreRings (corners_of corners s.rings (first_ring s.parts k) (first_ring s.parts (suc k)))
       (ends_of s.rings (first_ring s.parts k) (first_ring s.parts (suc k))) → ⊥
 
--- what an error of a shape says is so
-abbrev pub ErrorIs : Shape → ℕ → ℕ → CoverError → Type 0
-ErrorIs s level work errors.Memory = Unit {0}
-ErrorIs s level work (errors.Fault f) = ⊥
-ErrorIs s level work (errors.NoInside k) = IsFirstOther s.parts k
-ErrorIs s level work errors.NoMap = HasNoPlace s ⊎ HasNoRings s
-ErrorIs s level work errors.TooManyCells = IsTooMuch s level work
+-- what an error of a shape says is so, if `TakesMore` says which shapes take more work than is allowed
+abbrev pub ErrorIs : (Shape → Type 0) → Shape → CoverError → Type 0
+ErrorIs TakesMore s errors.Memory = Unit {0}
+ErrorIs TakesMore s (errors.Fault f) = ⊥
+ErrorIs TakesMore s (errors.NoInside k) = IsFirstOther s.parts k
+ErrorIs TakesMore s errors.NoMap = HasNoPlace s ⊎ HasNoRings s
+ErrorIs TakesMore s errors.TooManyCells = TakesMore s
+
+-- no shape takes more: coverings of few cells end by themselves
+abbrev pub Never : Shape → Type 0
+Never s = ⊥
 
 -- what an error of bytes says is so, if `Is` says which shapes they stand for, and `HasFault` their first fault
-abbrev pub ErrorOf : (Shape → Type 0) → (Fault → Type 0) → ℕ → ℕ → CoverError → Type 0
-ErrorOf Is HasFault level work errors.Memory = Unit {0}
-ErrorOf Is HasFault level work (errors.Fault f) = HasFault f
-ErrorOf Is HasFault level work e = (s : Shape) × Is s × ErrorIs s level work e
+abbrev pub ErrorOf : (Shape → Type 0) → (Fault → Type 0) → (Shape → Type 0) → CoverError → Type 0
+ErrorOf Is HasFault TakesMore errors.Memory = Unit {0}
+ErrorOf Is HasFault TakesMore (errors.Fault f) = HasFault f
+ErrorOf Is HasFault TakesMore e = (s : Shape) × Is s × ErrorIs TakesMore s e
 
 -- the cells are those of coverings of the shape that the bytes of WKB stand for
 abbrev pub CoversWkb : List ℕ → ℕ → List ℕ → List ℕ → Type 0
 CoversWkb bytes level outer inner = (s : Shape) × (wkb bytes ≡ Ok s) × AreCoverings s level outer inner
 
+-- the cells are those of coverings by few cells of that shape
+abbrev pub CoversWkbUpTo : List ℕ → ℕ → ℕ → List ℕ → List ℕ → Type 0
+CoversWkbUpTo bytes deepest most outer inner =
+    (s : Shape) × (wkb bytes ≡ Ok s) × AreFewCoverings s deepest most outer inner
+
 -- the same of a text of GeoJSON
 abbrev pub CoversGeoJson : List ℕ → ℕ → List ℕ → List ℕ → Type 0
 CoversGeoJson bytes level outer inner = (s : Shape) × IsGeoJson bytes (Ok s) × AreCoverings s level outer inner
 
+-- the same by few cells
+abbrev pub CoversGeoJsonUpTo : List ℕ → ℕ → ℕ → List ℕ → List ℕ → Type 0
+CoversGeoJsonUpTo bytes deepest most outer inner =
+    (s : Shape) × IsGeoJson bytes (Ok s) × AreFewCoverings s deepest most outer inner
+
 -- what an error of bytes of WKB says is so
 abbrev pub WkbErrorIs : List ℕ → ℕ → ℕ → CoverError → Type 0
-WkbErrorIs bytes level work e = ErrorOf (λ s. wkb bytes ≡ Ok s) (λ f. wkb bytes ≡ Err f) level work e
+WkbErrorIs bytes level work e =
+    ErrorOf (λ s. wkb bytes ≡ Ok s) (λ f. wkb bytes ≡ Err f) (IsTooMuch level work) e
+
+-- the same for coverings by few cells
+abbrev pub WkbUpToErrorIs : List ℕ → CoverError → Type 0
+WkbUpToErrorIs bytes e = ErrorOf (λ s. wkb bytes ≡ Ok s) (λ f. wkb bytes ≡ Err f) Never e
 
 -- the same of a text of GeoJSON
 abbrev pub GeoJsonErrorIs : List ℕ → ℕ → ℕ → CoverError → Type 0
 GeoJsonErrorIs bytes level work e =
-    ErrorOf (λ s. IsGeoJson bytes (Ok s)) (HasGeoJsonFault bytes) level work e
+    ErrorOf (λ s. IsGeoJson bytes (Ok s)) (HasGeoJsonFault bytes) (IsTooMuch level work) e
+
+-- and by few cells
+abbrev pub GeoJsonUpToErrorIs : List ℕ → CoverError → Type 0
+GeoJsonUpToErrorIs bytes e = ErrorOf (λ s. IsGeoJson bytes (Ok s)) (HasGeoJsonFault bytes) Never e

@@ -1,10 +1,10 @@
 -- How much work the walks over cells take, level by level.
 use Rattle.std.specs.Prelude.{ℕ, ◌+◌, ◌*◌, ◌<◌, ◌≤◌, List, [], ◌∷◌, length}
 use Rattle.s2map.specs.Cells.{AreMet}
+use Rattle.s2map.specs.declared.TheConstants.{BOX_WORK}
 use Rattle.s2map.specs.declared.place.MapEdge.{MapEdge}
 use Rattle.s2shape.specs.Reading.{Shape}
 use Rattle.s2written.specs.Maps.{IsMapOf}
-use Rattle.s2written.specs.declared.TheConstants.{BOX_WORK}
 
 -- lists of cells that edges meet, of one level after another: the last list is of the faces, the first of the deepest
 abbrev pub AreLevels : List (List MapEdge) → List (List ℕ) → Type 0
@@ -30,7 +30,7 @@ pub record TakesMore (map : List (List MapEdge)) (positions level work : ℕ) : 
   pub much : work < (positions + BOX_WORK) * asked_by_all met
 
 -- so would those for a shape
-pub record IsTooMuch (s : Shape) (level work : ℕ) : Type 0 where
+pub record IsTooMuch (level work : ℕ) (s : Shape) : Type 0 where
   pub map : List (List MapEdge)
   pub is_map : IsMapOf s map
   pub more : TakesMore map (length s.positions) level work

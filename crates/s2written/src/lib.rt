@@ -15,10 +15,8 @@ mod map;
 mod read;
 mod walk;
 
-pub use covering::{Coverings, cover};
+pub use covering::{Coverings, cover, cover_up_to};
 pub use fault::{CoverError, GeodesicError};
 pub use geodesic::cover_geodesic;
 pub use read::{cover_geodesic_geojson, cover_geodesic_wkb, cover_geojson, cover_wkb};
-
-/// The work for the box of a cell: it takes about the time of this many comparisons of a cell with an edge.
-pub const BOX_WORK: u64 = 100;
+pub use read::{cover_geojson_up_to, cover_wkb_up_to};

@@ -8,7 +8,7 @@ ghost use Rattle.s2map.specs.Rings.{AreRings, FaultMeans};
 ghost use Rattle.s2map.specs.declared.place.Place.{Place};
 ghost use Rattle.s2polygon.specs.Rings.{start_of};
 ghost use Rattle.s2shape.specs.Reading.{shape_seen};
-ghost use Rattle.s2written.specs.Faults.{ErrorIs, IsFirstOther};
+ghost use Rattle.s2written.specs.Faults.{ErrorIs, IsFirstOther, Never};
 ghost use Rattle.s2written.specs.Maps.{ArePlacesOf, IsMapOf, IsPlaceOf, IsPolygon, corners_of, edges_of, ends_of};
 ghost use Rattle.s2written.specs.Maps.{between as items_between};
 ghost use Rattle.s2written.specs.declared.fault.CoverError.TheVariants.{Memory, NoMap};
@@ -86,7 +86,7 @@ pub(crate) fn place_of(position: Position) -> Option<Place>
 /// The places of all positions.
 fn places_of(alloc: Global, shape: &Shape) -> Result<Vec<Place>, CoverError>
     ensures places { IfOk result (λ corners. ArePlacesOf (shape_seen shape.now).positions corners.items) }
-    ensures fault { (level work : ℕ) → IfErr result (ErrorIs (shape_seen shape.now) level work) }
+    ensures fault { IfErr result (ErrorIs Never (shape_seen shape.now)) }
 {
     let mut corners = Vec::with_capacity(alloc, shape.positions.len())?;
     for i in 0..shape.positions.len() {
@@ -171,7 +171,7 @@ fn part_of(
 pub(crate) fn map_of(alloc: Global, shape: &Shape) -> Result<MapShape, CoverError>
     requires { All IsPolygon (shape_seen shape.now).parts }
     ensures map { IfOk result (IsMapOf (shape_seen shape.now)) }
-    ensures fault { (level work : ℕ) → IfErr result (ErrorIs (shape_seen shape.now) level work) }
+    ensures fault { IfErr result (ErrorIs Never (shape_seen shape.now)) }
 {
     let corners = places_of(alloc, shape)?;
     let mut map = MapShape::new(alloc);

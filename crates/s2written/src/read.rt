@@ -2,9 +2,10 @@
 ghost use Rattle.std.specs.Prelude.{◌≤◌, IfErr, IfOk};
 ghost use Rattle.s2written.specs.Geodesics.{CoversGeodesicGeoJson, CoversGeodesicWkb, GeodesicGeoJsonErrorIs};
 ghost use Rattle.s2written.specs.Geodesics.{GeodesicWkbErrorIs};
-ghost use Rattle.s2written.specs.Faults.{CoversGeoJson, CoversWkb, GeoJsonErrorIs, WkbErrorIs};
+ghost use Rattle.s2written.specs.Faults.{CoversGeoJson, CoversGeoJsonUpTo, CoversWkb, CoversWkbUpTo};
+ghost use Rattle.s2written.specs.Faults.{GeoJsonErrorIs, GeoJsonUpToErrorIs, WkbErrorIs, WkbUpToErrorIs};
 
-use crate::covering::{Coverings, cover};
+use crate::covering::{Coverings, cover, cover_up_to};
 use crate::fault::{CoverError, GeodesicError};
 use crate::geodesic::cover_geodesic;
 use s2cell::GREATEST_LEVEL;
@@ -39,6 +40,45 @@ pub fn cover_geojson(
 {
     match read_geojson(alloc, text) {
         Ok(shape) => cover(alloc, &shape, level, work),
+        Err(ShapeError::Memory) => Err(CoverError::Memory),
+        Err(ShapeError::Fault(fault)) => Err(CoverError::Fault(fault)),
+    }
+}
+
+/// The coverings by few cells of the shape that bytes of WKB or EWKB stand for, as those of `cover_up_to`, whose errors
+/// it has. Before these comes `Fault` with the first fault of the bytes, as `s2shape::read_wkb` finds it.
+pub fn cover_wkb_up_to(
+    alloc: Global,
+    bytes: &[u8],
+    deepest: u8,
+    most: usize,
+) -> Result<Coverings, CoverError>
+    requires level { deepest ≤ GREATEST_LEVEL }
+    requires most { most ≤ MOST_COVERING }
+    ensures covers { IfOk result (λ c. CoversWkbUpTo bytes.now deepest most c.outer.cells c.inner.cells) }
+    ensures fault { IfErr result (WkbUpToErrorIs bytes.now) }
+{
+    match read_wkb(alloc, bytes) {
+        Ok(shape) => cover_up_to(alloc, &shape, deepest, most),
+        Err(ShapeError::Memory) => Err(CoverError::Memory),
+        Err(ShapeError::Fault(fault)) => Err(CoverError::Fault(fault)),
+    }
+}
+
+/// The same of a text of GeoJSON, as `s2shape::read_geojson` reads it.
+pub fn cover_geojson_up_to(
+    alloc: Global,
+    text: &[u8],
+    deepest: u8,
+    most: usize,
+) -> Result<Coverings, CoverError>
+    requires level { deepest ≤ GREATEST_LEVEL }
+    requires most { most ≤ MOST_COVERING }
+    ensures covers { IfOk result (λ c. CoversGeoJsonUpTo text.now deepest most c.outer.cells c.inner.cells) }
+    ensures fault { IfErr result (GeoJsonUpToErrorIs text.now) }
+{
+    match read_geojson(alloc, text) {
+        Ok(shape) => cover_up_to(alloc, &shape, deepest, most),
         Err(ShapeError::Memory) => Err(CoverError::Memory),
         Err(ShapeError::Fault(fault)) => Err(CoverError::Fault(fault)),
     }

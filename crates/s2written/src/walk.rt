@@ -5,10 +5,9 @@ ghost use Rattle.s2written.specs.Coverings.{HasNoneOutside, MissesNone};
 ghost use Rattle.s2written.specs.Walks.{TakesMore};
 ghost use Rattle.s2written.specs.declared.fault.CoverError.TheVariants.{Memory, TooManyCells};
 
-use crate::BOX_WORK;
 use crate::fault::CoverError;
 use s2cell::GREATEST_LEVEL;
-use s2map::{MapCovering, MapShape};
+use s2map::{BOX_WORK, MapCovering, MapShape};
 use std::alloc::Global;
 
 /// The cells of two coverings down to a level.

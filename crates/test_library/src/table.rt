@@ -149,6 +149,9 @@ fn answer_on_values(
     if written::answer(alloc, name, words, found)? {
         return Ok(true);
     }
+    if written::answer_up_to(alloc, name, words, found)? {
+        return Ok(true);
+    }
     if written::answer_geodesic(alloc, name, words, found)? {
         return Ok(true);
     }

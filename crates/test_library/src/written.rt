@@ -5,7 +5,7 @@ use s2cell::{CellId, GREATEST_LEVEL};
 use s2cover::MOST_COVERING;
 use s2written::{
     CoverError, Coverings, GeodesicError, cover_geodesic_geojson, cover_geodesic_wkb,
-    cover_geojson, cover_wkb,
+    cover_geojson, cover_geojson_up_to, cover_wkb, cover_wkb_up_to,
 };
 use std::alloc::{AllocError, Global};
 use test_table::{add_line, bytes_of};
@@ -33,6 +33,34 @@ pub fn answer(
         cover_wkb(alloc, &bytes_of(alloc, bytes)?, level, work)
     } else {
         cover_geojson(alloc, bytes.as_bytes(), level, work)
+    };
+    add_covered(alloc, found, covered, CellId::from_token(leaf.as_bytes()))?;
+    Ok(true)
+}
+
+/// Makes a call `cover_wkb_up_to DEEPEST MOST LEAF / BYTES` or `cover_geojson_up_to DEEPEST MOST LEAF / TEXT`, and adds
+/// the same. False for the name of another call.
+pub fn answer_up_to(
+    alloc: Global,
+    name: &str,
+    words: &str,
+    found: &mut Vec<u8>,
+) -> Result<bool, AllocError> {
+    let (question, bytes) = cut(words);
+    let [deepest, most, ..] = numbers_of(question);
+    let deepest = small(deepest);
+    if name != "cover_wkb_up_to" && name != "cover_geojson_up_to" {
+        return Ok(false);
+    }
+    if deepest > GREATEST_LEVEL || most > MOST_COVERING as u64 {
+        add_line(found, "out of range")?;
+        return Ok(true);
+    }
+    let leaf = question.split_whitespace().last().unwrap_or("");
+    let covered = if name == "cover_wkb_up_to" {
+        cover_wkb_up_to(alloc, &bytes_of(alloc, bytes)?, deepest, most as usize)
+    } else {
+        cover_geojson_up_to(alloc, bytes.as_bytes(), deepest, most as usize)
     };
     add_covered(alloc, found, covered, CellId::from_token(leaf.as_bytes()))?;
     Ok(true)

@@ -1,12 +1,15 @@
 use Rattle.std.proofs.lemmas.Result.{err_from_is_err_and}
 use Rattle.s2shape.specs.Reading.{shape_seen}
+use Rattle.s2written.proofs.Errors.{error_of_any}
 use Rattle.s2written.proofs.Leaves.{are_coverings}
+use Rattle.s2written.specs.Walks.{IsTooMuch}
 use Rattle.s2written.proofs.covering.cover.Goals as goal
 
 pub returns-in_err-map-clause-fault : goal.returns-in_err-map-clause-fault
 returns-in_err-map-clause-fault c =
     let p = err_from_is_err_and c.from_residual.result c.from_residual.ensures.1 in
-    rw (p.1, p.2) (c.in_err-map.ensures.fault c.args.level c.args.work)
+    rw (p.1, p.2)
+    (error_of_any (IsTooMuch c.args.level c.args.work) (shape_seen c.args.shape.now) _ c.in_err-map.ensures.fault)
 
 pub returns-clause-covers : goal.returns-clause-covers
 returns-clause-covers c =

@@ -7,9 +7,9 @@ use Rattle.s2written.proofs.map.map_of.Goals.{then-end-first+in_ok-part_of+in_ok
 use Rattle.s2written.proofs.map.map_of.Goals as goal
 
 pub returns-in_err-corners-clause-fault : goal.returns-in_err-corners-clause-fault
-returns-in_err-corners-clause-fault c level work =
+returns-in_err-corners-clause-fault c =
     let p = err_from_is_err_and c.from_residual.result c.from_residual.ensures.1 in
-    rw (p.1, p.2) (c.in_err-corners.ensures.fault level work)
+    rw (p.1, p.2) c.in_err-corners.ensures.fault
 
 pub part_of-requires : goal.part_of-requires
 part_of-requires c =
