@@ -18,5 +18,7 @@ mod walk;
 pub use covering::{Coverings, cover, cover_up_to};
 pub use fault::{CoverError, GeodesicError};
 pub use geodesic::cover_geodesic;
-pub use read::{cover_geodesic_geojson, cover_geodesic_wkb, cover_geojson, cover_wkb};
-pub use read::{cover_geojson_up_to, cover_wkb_up_to};
+pub use read::{
+    cover_geodesic_geojson, cover_geodesic_wkb, cover_geojson, cover_geojson_up_to, cover_wkb,
+    cover_wkb_up_to,
+};
