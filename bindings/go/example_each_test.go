@@ -496,8 +496,8 @@ func ExampleCoverGeodesicGeoJSON() {
 
 func ExampleCoverGeodesicWKB() {
 	outer, _, err := s2union.CoverGeodesicWKB([]byte{0, 0, 0, 0, 6, 0, 0, 0, 0}, 6, 1000)
-	fmt.Println(outer.IsEmpty(), err)
-	// Output: true <nil>
+	fmt.Println(outer.Len(), err)
+	// Output: 0 <nil>
 }
 
 func ExampleFaultName_String() {
