@@ -40,7 +40,8 @@ PROGRAMS = [
 
 
 def row(name, ours, other, note=""):
-    print(f"{name:64} {ours:16,.1f} {other:16,.1f} {other / ours:9.2f}{note}", flush=True)
+    times = other / ours if ours else float("inf")  # a program says 0.0 of less than it has digits for
+    print(f"{name:64} {ours:16,.1f} {other:16,.1f} {times:9.2f}{note}", flush=True)
 
 
 def beside(name, ours, other, units=1, same=lambda found: found):
