@@ -383,11 +383,13 @@ class Around(unittest.TestCase):
         corners = memoryview(array("q", 2**17 * POLYGON[0].tolist()))
         rings = memoryview(array("Q", [len(corners) // 3])), *POLYGON[2:]
         zeros = memoryview(array("d", bytes(8 * 2**18)))
+        shapes = {"text": memoryview(SQUARE), "wkb": memoryview(TRIANGLE)}
         others = {"pairs": (ZONES, zeros, zeros, 1), "contains": (xs, xs), "compare": (xs, xs),
                   "file_contains": data[:1] * 2, "file_intersects": data,
+                  **{name: ("", 1, shapes[given], 12, 2**24) for name, given in READERS},
                   **dict.fromkeys(("polygon_outer", "polygon_inner"), ("", 1, corners, *rings, 2, 9)),
                   **dict.fromkeys(("polygon_outer_up_to", "polygon_inner_up_to"), ("", 1, corners, *rings, 0, 2, 9))}
-        large = [xs, ys, points, degrees, zeros, corners, *data, words["bounds"], words["text"]]
+        large = [xs, ys, points, degrees, zeros, corners, *data, *shapes.values(), words["bounds"], words["text"]]
         quick = {"contains_cell", "intersects_cell", "cells_at", "file_count", "file_cell", "file_contains_cell",
                  "file_intersects_cell", "from_token", "from_debug"}
         ticks, read, released, ends = [0], [], [], threading.Event()
