@@ -214,7 +214,7 @@ class BesideSqlite(MariadbServer):
 
     def test_texts_and_bytes(self):
         """Those of tests/model/maps.py, in the file that S2UNION_MAPS names: an error is NULL and a warning."""
-        asked = list(maps.asked())
+        asked = [row for row in maps.asked() if (row.data[:1] in (b"\0", b"\1")) == (row.call == "wkb")]  # as it reads
         warnings = "SHOW WARNINGS; "  # a statement without a table keeps those of the one before, if it has none
         calls = [f"SELECT hex({name}({shown(row.data)}, {row.level})); {warnings if row.error else ''}SELECT '--';"
                  for row in asked for name in MAPS]
