@@ -341,7 +341,7 @@ int main() {
   }
   {
     // [PolygonInteriorCoveringUpTo]
-    check(CellUnion::PolygonInteriorCoveringUpTo(triangle, 0, 4, 8).size() == 4);
+    check(CellUnion::PolygonInteriorCoveringUpTo(triangle, 0, 4, 8).size() == 7);
     // [PolygonInteriorCoveringUpTo]
   }
   {
