@@ -147,7 +147,7 @@ impl Polygon<'_> {
     /// # use s2union::*;
     /// let corners = [(10, 1, 1), (10, 9, 1), (10, 1, 9)].map(|(x, y, z)| Direction { x, y, z });
     /// let polygon = Polygon { corners: &corners, ends: &[3], outside: CellId::from_face_ij(3, 0, 0)?, margin: 0 };
-    /// assert_eq!(polygon.inner_up_to(0, 4, 4)?.len(), 1);
+    /// assert_eq!(polygon.inner_up_to(0, 4, 4)?.len(), 4);
     /// # Ok::<(), Error>(())
     /// ```
     pub fn inner_up_to(&self, least: u32, deepest: u32, cells: usize) -> Result<Vec<CellId>, Error> {
