@@ -1,6 +1,6 @@
 #!/usr/bin/env python3
 """Prints texts of GeoJSON and bytes of WKB with the coverings that the library makes of them, for the tests of all
-languages. What it says of each is first compared with a plain reader, and with plain places here, or with those of
+languages. First it compares each covering with a plain reader, and with plain places here, or with those of
 model.geodesics.
 
 A line is the name of a call, such as 'map_geojson' or 'geodesic_wkb', the bytes in hexadecimal, a level, and a bound of

@@ -1,5 +1,5 @@
 """The edges of edges.py and the questions of vectors.py, asked of the module for Python, and of files by UnionFile.
-What a method answers that only forwards to its call is asked as its row in tools/methods.toml says.
+A method that only forwards to its call is asked as its row in tools/methods.toml says.
 """
 
 import contextlib

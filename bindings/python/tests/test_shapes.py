@@ -21,7 +21,7 @@ def place_of(error):
 
 
 def answer(call, data, level, most):
-    """What a call answers, as the rows have it, with this much work or so many cells; the message of an error has its
+    """What a call answers, as the rows have it, with this bound of work or of cells; the message of an error has its
     place."""
     try:
         return [" ".join(f"{cell:x}" for cell in union) for union in CALLS[call](data, level, most)]

@@ -1118,8 +1118,8 @@ int32_t s2u_polygon_coverings_up_to(const s2u_direction* corners, size_t n, cons
  * cross and nest, and a ring that goes over the date line has longitudes beyond 180. A place is inside a shape if it is
  * inside one of its polygons, which may overlap. The two poles themselves are left out of all this.
  *
- * Edges of the calls with `geodesic` in their names are the short ways on the sphere instead, as in S2. What is proved
- * of these is said there.
+ * Edges of the calls with `geodesic` in their names are the short ways on the sphere instead, as in S2. Their comments
+ * say what is proved of them.
  *
  * Both coverings are normalized, and no cell is deeper than the level. Each leaf that only the outer one has lies in a
  * cell of the level whose box on the map meets an edge. Geometries are polygons and collections of them; an empty one

@@ -1,4 +1,4 @@
--- What an error says where no shape takes too much work, it says of any bound of the work.
+-- An error of a call that bounds no work says the same under any bound of the work.
 use Rattle.s2shape.specs.Reading.{Shape}
 use Rattle.s2written.specs.Faults.{ErrorIs, Never}
 use Rattle.s2written.specs.declared.fault.CoverError.{CoverError}

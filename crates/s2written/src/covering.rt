@@ -76,8 +76,8 @@ pub fn cover(alloc: Global, shape: &Shape, level: u8, work: u64) -> Result<Cover
 }
 
 /// The coverings of a shape of polygons by at most `most` cells each, or 6 in the outer one, none of them deeper than
-/// the level `deepest`. What is so of those of `cover` is so of them, but cells that edges may go through are of any
-/// level.
+/// the level `deepest`. No place inside is missing from the outer one, and no place outside is in the inner one, as of
+/// `cover`; but cells that edges may go through are of any level.
 ///
 /// Cells are split, level by level, for work of at most 2^20 + 32 (edges + `most`) in each: a cell takes 1 for each
 /// edge that meets its box, and `BOX_WORK`. With more the outer covering is coarser, and the inner one has fewer cells,
