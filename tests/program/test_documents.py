@@ -340,8 +340,8 @@ class Documents(unittest.TestCase):
         self.assertEqual(set(model.COMMANDS) - shown, set())
 
     def test_the_first_command(self):
-        shown = re.compile(r"printf '(.*?)\\n' \| \./s2calc run\b.*?The first prints `(.*?)`", re.S)
-        script, answer = shown.search(self.texts["README.md"]).groups()
+        shown = re.compile(r"printf '(.*?)\\n' \| bin/s2calc run\n\nThe last prints `(.*?)`")
+        script, answer = shown.search(self.texts["docs/INSTALL.md"]).groups()
         self.assertEqual(ran("run", script=script.encode())[1].decode(), answer + "\n")
 
     def a_script_of_regions(self):

@@ -57,8 +57,7 @@ by_name() { # NAME: a program of the page, in a package that has ours
 step "$page" by_name ""
 step "$page: points and GeoJSON" by_name " geo"
 first_lines() {
-  lines_of js 'import {load} from "s2union"; import {box, fromLngLat} from "s2union/geo";' "" \
-    "$work/program/first.mjs" && first_says node "$work/program/first.mjs"
+  lines_of js "" "" "$work/program/first.mjs" && first_says node "$work/program/first.mjs"
 }
 step "README.md" first_lines
 served() {
