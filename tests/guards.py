@@ -117,6 +117,8 @@ MISTAKES = [
             ended_by("\n[`settled`](../crates/s2union_c/src/polygons.rt)\n")),
     Mistake("a crate on the layer of one that it uses", pages.wrong_layers, "docs/ARCHITECTURE.md",
             swapped("| 9 | [`s2union_c`]", "| 8 | [`s2union_c`]")),
+    Mistake("a crate of the kit that no page names", pages.unnamed_crates, "crates.txt",
+            swapped("s2draw: s2cell itoa", "s2draw: s2cell itoa regex")),
     Mistake("another kit on a page", pages.other_kits, "docs/PROOF.md", ended_by(f"\n`{'rattle-kit-'}0`\n")),
     Mistake("another logic on a page", pages.other_kits, "docs/INSTALL.md", ended_by("\nThe logic `0`.\n")),
     Mistake("a contract that no source has", pages.changed_contracts, "docs/HEADLINE.md",

@@ -11,7 +11,7 @@ from pathlib import Path
 
 ROOT = Path(__file__).resolve().parents[2]
 CELLS = ("s2cell", "s2list", "s2union", "s2file", "s2cover", "s2room")  # cells, sets and files
-OF_SHAPES = ("s2shape", "s2map", "s2geodesic", "s2written")  # from bytes of GeoJSON and WKB to coverings
+SHAPES = ("s2geodesic", "s2map", "s2shape", "s2written")  # from bytes of GeoJSON and WKB to coverings
 NUMBER = re.compile(r"(?<![\w#.])\d[\d,]*\d(?!\w)")
 BESIDE_TEXT = re.compile(r"^```.*?^```\n|\]\([^)]*\)|^\d+\. ", re.S | re.M)  # code, links, numbers of items
 UNCOUNTED = {"docs/HEADLINE.md": {"30", "64"}}  # 6 · 4^30 leaves, and reads up to 2^64
@@ -93,12 +93,13 @@ def figures():
         (proof, r"a plain model on (N) random scripts", just(scripts)),
         (proof, r"(N) lines for the library alone", about(cells + to_c)),
         (proof, r"for the library alone, (N) with polygons", about(cells + to_c + polygons)),
+        (proof, r"with polygons, (N) with degrees", about(cells + to_c + polygons + lines_of_specs("s2degrees", *SHAPES))),
         ("docs/MUTANTS.md", r"the others there, some (N)", about(texts.count("\n## ") - texts.count("\ngate: always"))),
         ("README.md", r"\[six crates\]\(\S+\), (N) \|", about(cells)),
         ("README.md", r"\[specs\]\(crates/s2union_c/specs\), (N) \|", about(to_c)),
         ("README.md", r"\[specs\]\(crates/s2polygon/specs\), (N) \|", about(polygons)),
         ("README.md", r"\[specs\]\(crates/s2degrees/specs\), (N) \|", about(lines_of_specs("s2degrees"))),
-        ("README.md", r"\[four crates\]\(\S+\), (N) \|", about(lines_of_specs(*OF_SHAPES))),
+        ("README.md", r"\[four crates\]\(\S+\), (N) \|", about(lines_of_specs(*SHAPES))),
         ("README.md", r"\[statement\]\(\S+\), (N) \|", about(lines_of_statement())),
         ("README.md", r"that (N) functions of the C library and the kit", just(call)),
     ]

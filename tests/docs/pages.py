@@ -8,8 +8,9 @@ crate uses only those of lower layers there; each language has what docs/FROM_S2
 docs/HEADLINE.md and others are what they count (tests/docs/figures.py); docs/TROUBLESHOOTING.md has each error that the
 sources make, and no others; docs/CONCEPTS.md has the edges and numbers of cells of all levels;
 bindings/mariadb/README.md lists the functions of install.sql; docs/README.md leads to each page for users; README.md
-has fewer than 10,000 bytes; a page that names the kit names the one of the file KIT; CHANGELOG.md says nothing twice;
-what a page names in code is in the release, or is said to come with the next one (tests/docs/released.py);
+has fewer than 10,000 bytes; a page that names the kit names the one of the file KIT; docs/PROOF.md names each crate of
+the kit that is used; CHANGELOG.md says nothing twice; what a page names in code is in the release, or is said to come
+with the next one (tests/docs/released.py);
 each part that a text names after `tests/run` is one, and has beside it the Debian packages that its script installs;
 each command of tools/, bench/ and bindings/ prints its usage with --help, and does nothing else; and what is a command,
 a file whose name has no ending and which names its interpreter, is executable, and no other file is. The last line is
@@ -368,13 +369,25 @@ def lost_in_packages():
     return len(LINK.findall(text)), wanted
 
 
+def uses():
+    """Each crate of crates.txt, with those that it uses."""
+    lines = (line.partition(":")[::2] for line in (ROOT / "crates.txt").read_text().splitlines())
+    return {words.split()[0]: used.split() for words, used in lines}
+
+
 def wrong_layers():
     """The crates in the table of docs/ARCHITECTURE.md, and those that use one of their own layer or a higher one."""
     page = (ROOT / "docs" / "ARCHITECTURE.md").read_text()
     layers = {name: int(layer) for layer, name in re.findall(r"^\| (\d+) \| \[`(\w+)`\]", page, re.M)}
-    uses = [line.partition(":")[::2] for line in (ROOT / "crates.txt").read_text().splitlines()]
-    return len(layers), [f"{words.split()[0]} uses {used}" for words, libraries in uses for used in libraries.split()
-                         if layers.get(words.split()[0], 99) <= layers.get(used, 0)]
+    return len(layers), [f"{name} uses {used}" for name, libraries in uses().items() for used in libraries
+                         if layers.get(name, 99) <= layers.get(used, 0)]
+
+
+def unnamed_crates():
+    """How many of the kit's crates `crates.txt` names, and those that docs/PROOF.md doesn't say it rests on."""
+    ported = {name for libraries in uses().values() for name in libraries} - uses().keys()
+    said = re.search(r"with its ported crates (.*?)\)", (ROOT / "docs" / "PROOF.md").read_text())[1]
+    return len(ported), sorted(ported - set(re.findall(r"`(\w+)`", said)))
 
 
 def changed_contracts():
@@ -397,6 +410,7 @@ CHECKS = {
     "another kit": other_kits,
     "no line of the statement in a package": lost_in_packages,
     "a crate that uses one of no lower layer": wrong_layers,
+    "a crate of the kit that docs/PROOF.md doesn't name": unnamed_crates,
     "a contract that isn't in the sources": changed_contracts,
     "CHANGELOG.md says twice": said_twice,
     "not in the release, without 'since' and the next version": unreleased,
