@@ -1126,13 +1126,13 @@ int32_t s2u_polygon_coverings_up_to(const s2u_direction* corners, size_t n, cons
  * has empty coverings. A shape with a point or a line has no inside to speak of: S2U_FAULT_NO_INSIDE.
  *
  * `work` bounds the time that any bytes can take. The search goes over the cells that meet edges, level by level, and a
- * cell takes 100 and 1 more for each position of the shape. If all cells of the levels together take more, the answer
+ * cell takes 200 and 1 more for each position of the shape. If all cells of the levels together take more, the answer
  * is S2U_MANY, before memory for the cells of the next level is taken. Memory is some hundred bytes for each position
  * and for each cell.
  * @{ */
 
-/** A `work` for callers that have no better one: a second for a shape of a country, and eight for any text. Of texts
- * of strangers 2^24 is enough for a country at level 10, and takes half a second. @since 1.5 */
+/** A `work` for callers that have no better one: a second for a shape of a country, and five for any text. Of texts
+ * of strangers 2^24 is enough for a country at level 10, and takes a third of a second. @since 1.5 */
 #define S2U_MAP_WORK (UINT64_C(1) << 28)
 
 /** The outer and the inner covering of the polygons in bytes of WKB: of those as they are written, edges straight on

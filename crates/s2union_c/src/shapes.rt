@@ -42,7 +42,7 @@ pub struct ShapeFault {
 ///
 /// The errors, in the order of the checks: `BAD_ARGUMENT` of a level above 30. `BAD_SHAPE` of the first fault of the
 /// bytes, and then of a part that is a point or a line, whose place `fault` tells. `TOO_MANY` of a walk over cells that
-/// takes more than `work`: a cell that is asked takes 100, and 1 for each position. `NO_ROOM` comes last. `NO_MEMORY`
+/// takes more than `work`: a cell that is asked takes 200, and 1 for each position. `NO_ROOM` comes last. `NO_MEMORY`
 /// may come at any time after the first. No other error than `BAD_SHAPE` writes `fault`.
 #[unsafe(no_mangle)]
 pub extern "C" fn s2u_map_wkb(

@@ -1,10 +1,10 @@
 -- How much work the walks over cells take, level by level.
 use Rattle.std.specs.Prelude.{ℕ, ◌+◌, ◌*◌, ◌<◌, ◌≤◌, List, [], ◌∷◌, length}
 use Rattle.s2map.specs.Cells.{AreMet}
-use Rattle.s2map.specs.declared.TheConstants.{BOX_WORK}
 use Rattle.s2map.specs.declared.place.MapEdge.{MapEdge}
 use Rattle.s2shape.specs.Reading.{Shape}
 use Rattle.s2written.specs.Maps.{IsMapOf}
+use Rattle.s2written.specs.declared.TheConstants.{CELL_WORK}
 
 -- lists of cells that edges meet, of one level after another: the last list is of the faces, the first of the deepest
 abbrev pub AreLevels : List (List MapEdge) → List (List ℕ) → Type 0
@@ -22,12 +22,12 @@ asked_by_all [] = 6
 asked_by_all (u ∷ us) = asked_by_all us + asked_next (u ∷ us)
 
 -- the walks down to the level would take more than `work`: for each cell that is asked one comparison with each edge,
--- of which there are as many as positions, and BOX_WORK for its box
+-- of which there are as many as positions, and CELL_WORK for its box
 pub record TakesMore (map : List (List MapEdge)) (positions level work : ℕ) : Type 0 where
   pub met : List (List ℕ)
   pub levels : AreLevels map met
   pub above : length met ≤ level
-  pub much : work < (positions + BOX_WORK) * asked_by_all met
+  pub much : work < (positions + CELL_WORK) * asked_by_all met
 
 -- so would those for a shape
 pub record IsTooMuch (level work : ℕ) (s : Shape) : Type 0 where

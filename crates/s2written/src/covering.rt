@@ -62,7 +62,7 @@ fn map_inside(alloc: Global, shape: &Shape) -> Result<MapShape, CoverError>
 /// rings may run in either direction, and polygons may overlap.
 ///
 /// The errors, in the order of the checks: `NoInside` with the first part that is a point or a line, `NoMap`, and
-/// `TooManyCells`: a cell that is asked takes the work of one comparison for each position, and `BOX_WORK`. It comes
+/// `TooManyCells`: a cell that is asked takes the work of one comparison for each position, and `CELL_WORK`. It comes
 /// before memory is taken for the cells of a level. S2: `S2RegionCoverer::GetCovering` and `GetInteriorCovering` with
 /// one level, in floating point, of edges that are geodesics.
 pub fn cover(alloc: Global, shape: &Shape, level: u8, work: u64) -> Result<Coverings, CoverError>
@@ -80,8 +80,8 @@ pub fn cover(alloc: Global, shape: &Shape, level: u8, work: u64) -> Result<Cover
 /// `cover`; but cells that edges may go through are of any level.
 ///
 /// Cells are split, level by level, for work of at most 2^20 + 32 (edges + `most`) in each: a cell takes 1 for each
-/// edge that meets its box, and `BOX_WORK`. With more the outer covering is coarser, and the inner one has fewer cells,
-/// which no error tells (`AreFewCoverings` says how near they come).
+/// edge that meets its box, and `s2map::BOX_WORK`. With more the outer covering is coarser, and the inner one has fewer
+/// cells, which no error tells (`AreFewCoverings` says how near they come).
 ///
 /// The errors, in the order of the checks: `NoInside` with the first part that is a point or a line, and `NoMap`. S2:
 /// `S2RegionCoverer::GetCovering` and `GetInteriorCovering` with `max_cells` and `max_level`, in floating point, of

@@ -22,3 +22,6 @@ pub use read::{
     cover_geodesic_geojson, cover_geodesic_wkb, cover_geojson, cover_geojson_up_to, cover_wkb,
     cover_wkb_up_to,
 };
+
+/// The work for a cell that a walk asks: its box takes about the time of this many comparisons of a cell with an edge.
+pub const CELL_WORK: u64 = 200;

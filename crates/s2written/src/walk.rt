@@ -5,9 +5,10 @@ ghost use Rattle.s2written.specs.Coverings.{HasNoneOutside, MissesNone};
 ghost use Rattle.s2written.specs.Walks.{TakesMore};
 ghost use Rattle.s2written.specs.declared.fault.CoverError.TheVariants.{Memory, TooManyCells};
 
+use crate::CELL_WORK;
 use crate::fault::CoverError;
 use s2cell::GREATEST_LEVEL;
-use s2map::{BOX_WORK, MapCovering, MapShape};
+use s2map::{MapCovering, MapShape};
 use std::alloc::Global;
 
 /// The cells of two coverings down to a level.
@@ -28,7 +29,7 @@ pub(crate) fn walk(
     ensures fault { IfErr result (λ e. (e ≡ Memory) ⊎ ((e ≡ TooManyCells)
         × TakesMore map.now positions level work)) }
 {
-    let each = (positions as u64).saturating_add(BOX_WORK);
+    let each = (positions as u64).saturating_add(CELL_WORK);
     let mut asked = 6u64;
     let mut asked_by_all = 6u64;
     for above in 0..level {
