@@ -153,7 +153,7 @@ def of_commands(table, page):
 LIMITS = {"LONGEST_LINE": "s2script/src/limits.rt", "MOST_FILE": "s2file/src/union_file.rt",
           "SESSION_CHANGES": "s2edit/src/lib.rt", "MOST_LISTED": "s2calc/src/limits.rt",
           "MOST_REGISTER": "s2edit/src/lib.rt", "MOST_STATES": "s2edit/src/lib.rt",
-          "MOST_COVERING": "s2cover/src/lib.rt"}
+          "MOST_COVERING": "s2cover/src/lib.rt", "MOST_FEW": "s2union_c/src/shapes.rt"}
 
 
 def limits(read):
@@ -176,6 +176,8 @@ def of_limits(of):
     return [
         Place("crates/s2union_c/include/s2union.h", r"^#define S2U_MOST_COVERING (?P<value>\d+)",
               {"": {"value": of["MOST_COVERING"]}}),
+        Place("crates/s2union_c/include/s2union.h", r"^#define S2U_MOST_FEW (?P<value>\d+)",
+              {"": {"value": of["MOST_FEW"]}}),
         Place("tests/model/calculator.py", r"^(?P<name>[A-Z_]+) = (?P<value>[\d_]+)$",
               {own: {"value": f"{of[name]:_}" if of[name] >= 10_000 else of[name]} for own, name in (
                   ("LONGEST_LINE", "LONGEST_LINE"), ("MOST_IN_A_FILE", "MOST_FILE"),

@@ -72,7 +72,8 @@ class R(languages.Language):
 
     def usual(self, name, method):
         """What an argument is if it isn't given."""
-        return {"most": " = 1e6", "work": " = 2^28" if declared.is_of_shape(method.call) else ""}.get(name, "")
+        is_of_shape, is_few = declared.is_of_shape(method.call), method.call.name.endswith("_up_to")
+        return {"most": "" if is_few else " = 1e6", "work": " = 2^28" if is_of_shape else ""}.get(name, "")
 
     def head(self, method):
         return ", ".join(f"{name}{self.usual(name, method)}" for name, _ in self.parameters(method))

@@ -72,8 +72,12 @@ int32_t s2u_level(uint64_t id);
 int32_t s2u_levels(const uint64_t* ids, size_t n, uint8_t* out, size_t room, size_t* bad);
 int32_t s2u_map_geojson(const char* text, size_t n, uint32_t level, uint64_t work, uint64_t* out, size_t room, size_t*
   len, size_t* outer, s2u_shape_fault* fault);
+int32_t s2u_map_geojson_up_to(const char* text, size_t n, uint32_t deepest, size_t most, uint64_t* out, size_t room,
+  size_t* len, size_t* outer, s2u_shape_fault* fault);
 int32_t s2u_map_wkb(const uint8_t* wkb, size_t n, uint32_t level, uint64_t work, uint64_t* out, size_t room, size_t*
   len, size_t* outer, s2u_shape_fault* fault);
+int32_t s2u_map_wkb_up_to(const uint8_t* wkb, size_t n, uint32_t deepest, size_t most, uint64_t* out, size_t room,
+  size_t* len, size_t* outer, s2u_shape_fault* fault);
 uint64_t s2u_next(uint64_t id);
 int32_t s2u_normalise(uint64_t* ids, size_t n, size_t* len);
 int32_t s2u_outer(const s2u_rect* bounds, uint32_t level, size_t most, uint64_t* out, size_t room, size_t* len);

@@ -486,6 +486,19 @@ func ExampleCoverWKB() {
 	// s2union: bytes are missing: byte 5, part 0, ring 0, position 0
 }
 
+func ExampleCoverGeoJSONUpTo() {
+	square := `{"type": "Polygon", "coordinates": [[[0,0], [20,0], [20,20], [0,20], [0,0]]]}`
+	outer, inner, err := s2union.CoverGeoJSONUpTo([]byte(square), 30, 8)
+	fmt.Println(outer.Len() <= 8, inner.Len() <= 8, outer.Contains(inner), err)
+	// Output: true true true <nil>
+}
+
+func ExampleCoverWKBUpTo() {
+	outer, _, err := s2union.CoverWKBUpTo([]byte{0, 0, 0, 0, 6, 0, 0, 0, 0}, 30, 8)
+	fmt.Println(outer.Len(), err)
+	// Output: 0 <nil>
+}
+
 func ExampleCoverGeodesicGeoJSON() {
 	square := `{"type": "Polygon", "coordinates": [[[0,0], [20,0], [20,20], [0,20], [0,0]]]}`
 	outer, inner, err := s2union.CoverGeodesicGeoJSON([]byte(square), 6, 1000)

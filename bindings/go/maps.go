@@ -32,6 +32,37 @@ func CoverWKB(wkb []byte, level int, work uint64) (outer, inner CellUnion, err e
 	return mapped(roomOfMapWkb(), call)
 }
 
+// MostFew is the most cells that count of a covering by CoverGeoJSONUpTo or CoverWKBUpTo. Since 1.5.
+const MostFew = C.S2U_MOST_FEW
+
+// CoverGeoJSONUpTo is the outer and the inner covering of the polygons in a text of GeoJSON by few cells: at most
+// `most` each, or 6 in the outer one if that is more, none of them deeper than a level, 0 to 30. Above MostFew, `most`
+// counts as MostFew. Proved of both is what is proved of those of CoverGeoJSON. ErrArgument: the level is out of range,
+// or `most` below 0. ErrShape, in a ShapeError: the text has a fault, or a part of the shape is a point or a line.
+// ErrMemory. Since 1.5.
+func CoverGeoJSONUpTo(text []byte, deepest, most int) (outer, inner CellUnion, err error) {
+	if most < 0 {
+		return CellUnion{}, CellUnion{}, ErrArgument
+	}
+	call := func(out *C.uint64_t, room C.size_t, n, first *C.size_t, fault *C.s2u_shape_fault) C.int32_t {
+		at, size := pointerToText(text)
+		return C.s2u_map_geojson_up_to(at, size, narrowed(deepest), C.size_t(most), out, room, n, first, fault)
+	}
+	return mapped(roomOfMapGeojsonUpTo(), call)
+}
+
+// CoverWKBUpTo is the same of bytes of WKB or EWKB, in either order of bytes. Since 1.5.
+func CoverWKBUpTo(wkb []byte, deepest, most int) (outer, inner CellUnion, err error) {
+	if most < 0 {
+		return CellUnion{}, CellUnion{}, ErrArgument
+	}
+	call := func(out *C.uint64_t, room C.size_t, n, first *C.size_t, fault *C.s2u_shape_fault) C.int32_t {
+		at, size := pointerToBytes(wkb)
+		return C.s2u_map_wkb_up_to(at, size, narrowed(deepest), C.size_t(most), out, room, n, first, fault)
+	}
+	return mapped(roomOfMapWkbUpTo(), call)
+}
+
 // CoverGeodesicGeoJSON is the outer and the inner covering of the polygons in a text of GeoJSON, whose edges are
 // geodesics, the short ways on the sphere: the cells of a level, 0 to 30. Proved: no leaf that a polygon touches or has
 // inside is missing from the outer covering, and each leaf of the inner one lies inside a polygon. ErrArgument: the

@@ -27,6 +27,12 @@ var mapCalls = map[string]func([]byte, int, uint64) (s2union.CellUnion, s2union.
 	"geodesic_wkb": func(data []byte, level int, most uint64) (s2union.CellUnion, s2union.CellUnion, error) {
 		return s2union.CoverGeodesicWKB(data, level, int(most))
 	},
+	"map_geojson_up_to": func(data []byte, level int, most uint64) (s2union.CellUnion, s2union.CellUnion, error) {
+		return s2union.CoverGeoJSONUpTo(data, level, int(most))
+	},
+	"map_wkb_up_to": func(data []byte, level int, most uint64) (s2union.CellUnion, s2union.CellUnion, error) {
+		return s2union.CoverWKBUpTo(data, level, int(most))
+	},
 }
 
 // TestMaps asks the texts and bytes of tests/model/maps.py, in the file that S2UNION_MAPS names.

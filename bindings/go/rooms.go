@@ -41,6 +41,10 @@ func roomOfMapGeojson() int { return 4096 }
 
 func roomOfMapWkb() int { return 4096 }
 
+func roomOfMapGeojsonUpTo() int { return 1024 }
+
+func roomOfMapWkbUpTo() int { return 1024 }
+
 func roomOfGeodesicGeojson() int { return 4096 }
 
 func roomOfGeodesicWkb() int { return 4096 }

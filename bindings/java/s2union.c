@@ -305,6 +305,12 @@ static int32_t map_of(jint call, mapping* it) {
                              &it->fault);
     case MAP_WKB:
       return s2u_map_wkb(it->given, it->size, it->level, it->most, it->out, it->room, &it->len, &it->outer, &it->fault);
+    case MAP_GEOJSON_UP_TO:
+      return s2u_map_geojson_up_to(it->given, it->size, it->level, (size_t)it->most, it->out, it->room, &it->len,
+                                   &it->outer, &it->fault);
+    case MAP_WKB_UP_TO:
+      return s2u_map_wkb_up_to(it->given, it->size, it->level, (size_t)it->most, it->out, it->room, &it->len,
+                               &it->outer, &it->fault);
     case GEODESIC_GEOJSON:
       return s2u_geodesic_geojson(it->given, it->size, it->level, (size_t)it->most, it->out, it->room, &it->len,
                                   &it->outer, &it->fault);

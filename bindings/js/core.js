@@ -67,6 +67,8 @@ const ROOMS = {
   s2u_file_ancestors: (n) => Math.floor(n / 4) + 30,
   s2u_map_geojson: () => 4096,
   s2u_map_wkb: () => 4096,
+  s2u_map_geojson_up_to: () => 1024,
+  s2u_map_wkb_up_to: () => 1024,
   s2u_geodesic_geojson: () => 4096,
   s2u_geodesic_wkb: () => 4096,
 };

@@ -3,9 +3,10 @@
 languages. First it compares each covering with a plain reader, and with plain places here, or with those of
 model.geodesics.
 
-A line is the name of a call, such as 'map_geojson' or 'geodesic_wkb', the bytes in hexadecimal, a level, and a bound of
-work or of cells, with tabs between them, and then the cells of the outer and of the inner covering, in hexadecimal; or
-an error: '!argument', '!many', or '!' and the name of a fault with its byte, part, ring and position.
+A line is the name of a call, such as 'map_geojson', 'map_wkb_up_to' or 'geodesic_wkb', the bytes in hexadecimal, a
+level, and a bound of work or of cells, with tabs between them, and then the cells of the outer and of the inner
+covering, in hexadecimal; or an error: '!argument', '!many', or '!' and the name of a fault with its byte, part, ring
+and position.
 `python3 -m model.maps FILE` also compares each country of a file of GeoJSON. The library is the libs2union.so.1 that
 the system finds.
 """
@@ -33,6 +34,7 @@ KINDS = "point", "line", "polygon"
 STATUSES = {-5: "!argument", -6: "!many"}
 WORK = 1 << 28
 CELLS = 20_000
+MOST_FEW = 10_000  # more cells count as that many
 TURN, QUARTER = 360 * 10**15, 90 * 10**15
 random = Random(20261201)
 
@@ -345,6 +347,21 @@ def is_near(polygons, place, level):
     return any(is_by(a, b, turn) for edges in polygons for a, b in edges for turn in range(-3, 4))
 
 
+def level_of(cell):
+    """The level of a cell."""
+    return 30 - ((cell & -cell).bit_length() - 1) // 2
+
+
+def compare_few(rings_of_each, deepest, most, outer, inner):
+    """What is wrong with two coverings by few cells. Where there may be many, they are as those of one level."""
+    counted = min(most, MOST_FEW)
+    if len(outer) > max(counted, 6) or len(inner) > counted:
+        yield f"{len(outer)} cells, and {len(inner)}"
+    if any(level_of(cell) > deepest for cell in outer + inner):
+        yield "a cell is deeper"
+    yield from compare(rings_of_each, deepest if most > MOST_FEW else 0, outer, inner)
+
+
 def compare(rings_of_each, level, outer, inner):
     """What is wrong with two coverings, place by place."""
     polygons = [edges_of(rings) for rings in rings_of_each]
@@ -395,18 +412,26 @@ def found(library, call, data, level, most):
     except Wrong as wrong:
         polygons, wanted = [], wrong.args
     told = (NAMES[fault.name - 1], fault.byte, fault.part, fault.ring, fault.position) if status == -16 else None
-    judge = geodesics.compare if call.startswith("geodesic") else compare
+    if call.endswith("up_to"):
+        judged = compare_few([] if told else polygons, level, most, outer, inner)
+    else:
+        judge = geodesics.compare if call.startswith("geodesic") else compare
+        judged = judge([] if told else polygons, level, outer, inner)
     wrong = [] if is_wanted(call, told, wanted, polygons) else [f"{told}, not {wanted}"]
-    wrong += judge([] if told else polygons, level, outer, inner)
+    wrong += judged
     if wrong or status not in (0, -16):
         sys.exit(f"{call} {data[:400]} at level {level}: status {status}, {wrong[:3]}")
     return ["!" + " ".join(map(str, told))] if told else [" ".join(f"{cell:x}" for cell in own)
                                                           for own in (outer, inner)]
 
 
-def say(library, form, data, level, work=WORK, cells=CELLS):
-    for call, most in ((f"map_{form}", work), (f"geodesic_{form}", cells)):
-        print(call, data.hex(), level, most, *found(library, call, data, level, most), sep="\t")
+def say_one(library, call, data, level, most):
+    print(call, data.hex(), level, most, *found(library, call, data, level, most), sep="\t")
+
+
+def say(library, form, data, level, work=WORK, cells=CELLS, few=8):
+    for call, most in ((f"map_{form}", work), (f"geodesic_{form}", cells), (f"map_{form}_up_to", few)):
+        say_one(library, call, data, level, most)
 
 
 # ---- what is asked
@@ -486,8 +511,9 @@ def rows(library):
     for k, polygons in enumerate(own):
         for call, data in (("wkb", wkb_of(polygons, "<>"[k % 2])), ("geojson", geojson_of(polygons).encode())):
             say(library, call, data, (0, 3, 5, 6, 7)[k % 5])
-            say(library, call, data, 5, 10 ** (k % 7), 3 ** (k % 7))
+            say(library, call, data, 5, 10 ** (k % 7), 3 ** (k % 7), 2**20)
             say(library, call, data, 31)
+            say_one(library, f"map_{call}_up_to", data, 30, (0, 1, 6, 20, 100, 1000)[k % 6])
     say(library, "geojson", geojson_of([[star(2, 48, 0.001, 12)]]).encode(), 18)
     for _ in range(400):
         polygons = random.choice([each for each in own if each and each[0]])
@@ -516,7 +542,7 @@ def asked():
     texts = dict(re.findall(r'case S2U_FAULT_(\w+):\s+return "(.*?)";', HEADER.read_text("utf-8")))
     for line in Path(os.environ["S2UNION_MAPS"]).read_text("utf-8").splitlines():
         call, data, level, work, *answer = line.split("\t")
-        if not call.startswith("map_") or int(work) < WORK and answer == ["!many"]:
+        if call not in ("map_wkb", "map_geojson") or int(work) < WORK and answer == ["!many"]:
             continue
         cells, error = [[int(cell, 16) for cell in words.split()] for words in answer if words[:1] != "!"], ""
         if answer[0] == "!argument":

@@ -66,7 +66,11 @@
   ASK(levels, (xs, nx, bytes, bytes_room, &len), SEE(bytes) SEE(len)) \
   ASK(map_geojson, (geojson, geojson_size, coarse, shape_work, out, out_room, &len, &count, &shape_fault), SEE(out) \
     SEE(len) SEE(count) SEE(shape_fault)) \
+  ASK(map_geojson_up_to, (geojson, geojson_size, deepest, most, out, out_room, &len, &count, &shape_fault), SEE(out) \
+    SEE(len) SEE(count) SEE(shape_fault)) \
   ASK(map_wkb, (wkb, wkb_size, coarse, shape_work, out, out_room, &len, &count, &shape_fault), SEE(out) SEE(len) \
+    SEE(count) SEE(shape_fault)) \
+  ASK(map_wkb_up_to, (wkb, wkb_size, deepest, most, out, out_room, &len, &count, &shape_fault), SEE(out) SEE(len) \
     SEE(count) SEE(shape_fault)) \
   ASK(next, (id), ) \
   ASK(normalise, (ids, ids_room, &len), SEE(ids) SEE(len)) \

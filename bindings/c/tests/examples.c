@@ -403,6 +403,27 @@ int main(void) {
     /* [s2u_map_geojson] */
   }
   {
+    /* [s2u_map_wkb_up_to] */
+    const uint8_t no_polygons[] = {0, 0, 0, 0, 6, 0, 0, 0, 0};
+    uint64_t out[1];
+    size_t len, outer;
+    s2u_shape_fault fault;
+    check(s2u_map_wkb_up_to(no_polygons, 9, 30, 8, out, 1, &len, &outer, &fault) == S2U_OK && len == 0 && outer == 0);
+    check(s2u_map_wkb_up_to(no_polygons, 7, 30, 8, out, 1, &len, &outer, &fault) == S2U_SHAPE &&
+          fault.name == S2U_FAULT_TRUNCATED && fault.byte == 5);
+    /* [s2u_map_wkb_up_to] */
+  }
+  {
+    /* [s2u_map_geojson_up_to] */
+    const char square[] = "{\"type\":\"Polygon\",\"coordinates\":[[[0,0],[20,0],[20,20],[0,20],[0,0]]]}";
+    uint64_t out[16];
+    size_t len, outer;
+    s2u_shape_fault fault;
+    check(s2u_map_geojson_up_to(square, sizeof square - 1, 30, 8, out, 16, &len, &outer, &fault) == S2U_OK);
+    check(outer <= 8 && len - outer <= 8 && s2u_contains(out, outer, out + outer, len - outer) == 1);
+    /* [s2u_map_geojson_up_to] */
+  }
+  {
     /* [s2u_geodesic_wkb] */
     const uint8_t none[] = {0, 0, 0, 0, 6, 0, 0, 0, 0}; /* a multipolygon of no polygon */
     uint64_t out[8];

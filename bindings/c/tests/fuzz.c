@@ -451,7 +451,8 @@ static void shapes(void) {
   }
   for (; kind % 2 && begun < n && begun < sizeof ring - 1; begun++) text[begun] = ring[begun];
   for (begun = 0; kind % 2 && begun < n && begun < sizeof head; begun++) bytes[begun] = head[begun];
-  for (int call = 0; call < 4; call++) {
+  size_t few = work % 40;
+  for (int call = 0; call < 6; call++) {
     size_t len = 77, outer = 77;
     s2u_shape_fault fault = {99, 99, 99, 99, 99};
     uint64_t* out = fresh();
@@ -460,10 +461,14 @@ static void shapes(void) {
         call == 0   ? s2u_map_geojson(given, n, level, work, out, room, &len, &outer, &fault)
         : call == 1 ? s2u_map_wkb(given, n, level, work, out, room, &len, &outer, &fault)
         : call == 2 ? s2u_geodesic_geojson(given, n, level, work % 999, out, room, &len, &outer, &fault)
-                    : s2u_geodesic_wkb(given, n, level, work % 999, out, room, &len, &outer, &fault);
+        : call == 3 ? s2u_geodesic_wkb(given, n, level, work % 999, out, room, &len, &outer, &fault)
+        : call == 4 ? s2u_map_geojson_up_to(given, n, level, few, out, room, &len, &outer, &fault)
+                    : s2u_map_wkb_up_to(given, n, level, few, out, room, &len, &outer, &fault);
     MUST(level > 30 ? status == S2U_ARGUMENT
-                    : status == S2U_OK || status == S2U_ROOM || status == S2U_MANY || status == S2U_SHAPE);
-    seen(35 + call, status, status == S2U_SHAPE ? fault.name : len);
+                    : status == S2U_OK || status == S2U_ROOM || (status == S2U_MANY && call < 4) ||
+                          status == S2U_SHAPE);
+    MUST(call < 4 || status != S2U_OK || (outer <= (few < 6 ? 6 : few) && len - outer <= few));
+    seen((call < 4 ? 35 : 37) + call, status, status == S2U_SHAPE ? fault.name : len);
     left_alone(status, len);
     MUST(outer <= len && (status != S2U_ROOM || len > room) && (status >= S2U_ROOM || len == 0));
     MUST(status != S2U_SHAPE ? fault.name == 99 && fault.position == 99

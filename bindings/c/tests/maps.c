@@ -17,13 +17,16 @@ CALL_OF(map_wkb)
 CALL_OF(map_geojson)
 CALL_OF(geodesic_wkb)
 CALL_OF(geodesic_geojson)
+CALL_OF(map_wkb_up_to)
+CALL_OF(map_geojson_up_to)
 
 static map_call* call_of(const char* name) {
   static const struct {
     const char* name;
     map_call* call;
   } calls[] = {{"map_wkb", map_wkb}, {"map_geojson", map_geojson}, {"geodesic_wkb", geodesic_wkb},
-               {"geodesic_geojson", geodesic_geojson}};
+               {"geodesic_geojson", geodesic_geojson}, {"map_wkb_up_to", map_wkb_up_to},
+               {"map_geojson_up_to", map_geojson_up_to}};
   for (size_t k = 0; k < sizeof calls / sizeof *calls; k++)
     if (!strcmp(name, calls[k].name)) return calls[k].call;
   return NULL;
@@ -127,6 +130,8 @@ static void much(void) {
   CHECK(s2u_map_geojson(text, n, 30, UINT64_C(1) << 24, NULL, 0, &len, &outer, &fault) == S2U_MANY && len == 0);
   CHECK(s2u_map_geojson(text, n, 30, 0, NULL, 0, &len, &outer, &fault) == S2U_MANY && len == 0);
   CHECK(s2u_map_geojson(text, n, 2, S2U_MAP_WORK, NULL, 0, &len, &outer, &fault) == S2U_ROOM && len > 0);
+  CHECK(s2u_map_geojson_up_to(text, n, 30, SIZE_MAX, NULL, 0, &len, &outer, &fault) == S2U_ROOM);
+  CHECK(outer <= S2U_MOST_FEW && len - outer <= S2U_MOST_FEW);
   CHECK(s2u_map_geojson(text, n - 1, 2, S2U_MAP_WORK, NULL, 0, &len, &outer, &fault) == S2U_SHAPE);
   CHECK(is_fault(&fault, S2U_FAULT_JSON, 0, 0, 0, 0) && len == 0 && outer == 0);
   uint8_t* bytes = (uint8_t*)text;

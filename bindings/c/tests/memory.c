@@ -85,6 +85,16 @@ static int32_t geodesic_wkb(void) {
   triangle_to(wkb);
   return s2u_geodesic_wkb(wkb, sizeof wkb, 7, 1000, out, ROOM, &len, &outer, &fault);
 }
+static int32_t map_geojson_up_to(void) {
+  size_t outer;
+  return s2u_map_geojson_up_to(triangle, sizeof triangle - 1, 30, 20, out, ROOM, &len, &outer, &fault);
+}
+static int32_t map_wkb_up_to(void) {
+  uint8_t wkb[TRIANGLE];
+  size_t outer;
+  triangle_to(wkb);
+  return s2u_map_wkb_up_to(wkb, sizeof wkb, 30, 20, out, ROOM, &len, &outer, &fault);
+}
 static int32_t encode(void) { return s2u_encode(xs, nx, bytes, sizeof bytes, &len); }
 static int32_t decode(void) { return s2u_decode(file, nfile, out, ROOM, &len); }
 static int32_t decode_mixed(void) { return s2u_decode(mixed, sizeof mixed, out, N, &len); }
@@ -150,6 +160,7 @@ int main(void) {
                {"polygon_coverings_up_to", polygon_coverings_up_to, 0},
                {"map_geojson", map_geojson, 0}, {"map_wkb", map_wkb, 0},
                {"geodesic_geojson", geodesic_geojson, 0}, {"geodesic_wkb", geodesic_wkb, 0},
+               {"map_geojson_up_to", map_geojson_up_to, 0}, {"map_wkb_up_to", map_wkb_up_to, 0},
                {"encode", encode, 1}, {"decode of a union", decode, 1}, {"decode in any order", decode_mixed, 1},
                {"decode in little room", decode_in_little_room, 0}};
   nx = random_union(xs, N, 6, 12);

@@ -628,6 +628,10 @@ static void shapes() {
   CHECK(curved.outer.Contains(curved.inner) && !curved.inner.empty());
   CHECK(Union::CoverGeodesicWkb(empty, 6, 9).outer.empty());
   REFUSES(S2U_MANY, Union::CoverGeodesicGeoJson(square, 6, 9, nullptr, status));
+  const s2union::CoveringsOf<Id> few = Union::CoverGeoJsonUpTo(square, 30, 8);
+  CHECK(few.outer.size() <= 8 && few.inner.size() <= 8 && few.outer.Contains(made.inner));
+  CHECK(made.outer.Contains(few.inner) && Union::CoverWkbUpTo(empty, 30, 8).outer.empty());
+  REFUSES(S2U_ARGUMENT, Union::CoverGeoJsonUpTo(square, 31, 8, nullptr, status));
   REFUSES(S2U_ARGUMENT, Union::CoverGeoJson(square, 31, S2U_MAP_WORK, nullptr, status));
   REFUSES(S2U_ARGUMENT, Union::CoverWkb(empty, -1, S2U_MAP_WORK, nullptr, status));
   REFUSES(S2U_MANY, Union::CoverGeoJson(square, 6, 100, &fault, status));

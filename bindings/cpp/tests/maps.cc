@@ -55,6 +55,8 @@ static Coverings Covered(const std::vector<std::string>& row, s2u_shape_fault* f
   const size_t most = std::stoull(row[3]);  // work, or cells
   if (row[0] == "map_wkb") return CellUnion::CoverWkb(bytes, level, most, fault, status);
   if (row[0] == "map_geojson") return CellUnion::CoverGeoJson(bytes, level, most, fault, status);
+  if (row[0] == "map_wkb_up_to") return CellUnion::CoverWkbUpTo(bytes, level, most, fault, status);
+  if (row[0] == "map_geojson_up_to") return CellUnion::CoverGeoJsonUpTo(bytes, level, most, fault, status);
   if (row[0] == "geodesic_wkb") return CellUnion::CoverGeodesicWkb(bytes, level, most, fault, status);
   return CellUnion::CoverGeodesicGeoJson(bytes, level, most, fault, status);
 }

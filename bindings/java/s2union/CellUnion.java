@@ -114,6 +114,21 @@ public final class CellUnion implements Comparable<CellUnion> {
     return Calls.mapped(Calls.MAP_WKB, wkb, level, work);
   }
 
+  // comment: map_geojson_up_to
+  public static RegionCoverer.Coverings coverGeoJsonUpTo(String text, int deepest, int most) {
+    return coverGeoJsonUpTo(text.getBytes(StandardCharsets.UTF_8), deepest, most);
+  }
+
+  // comment: map_geojson_up_to
+  public static RegionCoverer.Coverings coverGeoJsonUpTo(byte[] text, int deepest, int most) {
+    return Calls.mapped(Calls.MAP_GEOJSON_UP_TO, text, deepest, Calls.within(most, Integer.MAX_VALUE));
+  }
+
+  // comment: map_wkb_up_to
+  public static RegionCoverer.Coverings coverWkbUpTo(byte[] wkb, int deepest, int most) {
+    return Calls.mapped(Calls.MAP_WKB_UP_TO, wkb, deepest, Calls.within(most, Integer.MAX_VALUE));
+  }
+
   // comment: geodesic_geojson
   public static RegionCoverer.Coverings coverGeodesicGeoJson(String text, int level, int most) {
     return coverGeodesicGeoJson(text.getBytes(StandardCharsets.UTF_8), level, most);

@@ -39,8 +39,8 @@ record EachCall(Method method, Object of, Object[] given) {
   /** A shape, in the form that the call takes, and few levels. */
   private static Object[] ofShape(Method method) {
     Object text = method.getParameterTypes()[0] == String.class ? SQUARE : SQUARE.getBytes(StandardCharsets.UTF_8);
-    boolean isWkb = method.getName().endsWith("Wkb");
-    Object most = method.getName().contains("Geodesic") ? (Object) 1000 : CellUnion.MAP_WORK;
+    boolean isWkb = method.getName().contains("Wkb");
+    Object most = method.getParameterTypes()[2] == int.class ? (Object) 1000 : CellUnion.MAP_WORK;
     return new Object[] {isWkb ? bytesOf(0, 0, 9, 0, 9, 9, 0, 9, 0, 0) : text, 2, most};
   }
 

@@ -27,8 +27,12 @@ final class Maps extends Checks {
     int cells = (int) most;
     if (call.equals("map_wkb")) return CellUnion.coverWkb(data, level, most);
     if (call.equals("geodesic_wkb")) return CellUnion.coverGeodesicWkb(data, level, cells);
+    if (call.equals("map_wkb_up_to")) return CellUnion.coverWkbUpTo(data, level, cells);
     String text = new String(data, StandardCharsets.UTF_8);
     boolean isText = Arrays.equals(text.getBytes(StandardCharsets.UTF_8), data);
+    if (call.equals("map_geojson_up_to")) {
+      return isText ? CellUnion.coverGeoJsonUpTo(text, level, cells) : CellUnion.coverGeoJsonUpTo(data, level, cells);
+    }
     if (call.equals("map_geojson")) {
       return isText ? CellUnion.coverGeoJson(text, level, most) : CellUnion.coverGeoJson(data, level, most);
     }

@@ -9,7 +9,7 @@ const s2 = await import(pathToFileURL(path));
 await s2.load();
 
 const CALLS = {map_geojson: s2.coverGeoJson, map_wkb: s2.coverWkb, geodesic_geojson: s2.coverGeodesicGeoJson,
-  geodesic_wkb: s2.coverGeodesicWkb};
+  geodesic_wkb: s2.coverGeodesicWkb, map_geojson_up_to: s2.coverGeoJsonUpTo, map_wkb_up_to: s2.coverWkbUpTo};
 const inWords = (union) => Array.from(union, (cell) => cell.toString(16)).join(" ");
 
 /** The text that these bytes are, or the bytes. */
@@ -25,7 +25,7 @@ function textOf(bytes) {
 function formsOf(call, bytes) {
   const room = Uint8Array.of(7, ...bytes, 7);
   const forms = [bytes, bytes.slice().buffer, room.subarray(1, 1 + bytes.length), new DataView(bytes.buffer)];
-  return call.endsWith("geojson") ? [...forms, textOf(bytes)] : forms;
+  return call.includes("geojson") ? [...forms, textOf(bytes)] : forms;
 }
 
 /** What a call answers, as the texts have it; the message of an error has its place. */

@@ -37,7 +37,7 @@ def forms_of(call, data):
     """The same bytes in each form that a call takes."""
     yield from (data, bytearray(data), memoryview(data), memoryview(b"." + data)[1:], array("B", data))
     try:
-        yield data.decode("utf-8") if call.endswith("geojson") else data
+        yield data.decode("utf-8") if "geojson" in call else data
     except UnicodeDecodeError:
         pass  # it is no str
 
@@ -69,6 +69,9 @@ def test_what_is_refused():
     for level, work in ((31, 1), (-1, 1), (6, -1), (6, 2**64)):
         with pytest.raises(s2union.OutOfRangeError):
             s2union.cover_geojson(SQUARE, level, work)
+    for deepest, most in ((31, 1), (-1, 1), (6, -1), (6, 2**64)):
+        with pytest.raises(s2union.OutOfRangeError):
+            s2union.cover_geojson_up_to(SQUARE, deepest, most)
     with pytest.raises(s2union.TooManyCellsError, match="^too many cells: level 9, work 100$"):
         s2union.cover_geojson(SQUARE, 9, 100)
     with pytest.raises(s2union.ShapeError, match="^the text is not UTF-8: "):

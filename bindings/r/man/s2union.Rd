@@ -23,8 +23,9 @@ s2u_pairs(zones, longitude, latitude, borders = FALSE)
 \item{cells}{an \code{s2_cell} vector. The answer for \code{NA} is \code{NA}.}
 \item{cell}{an \code{s2_cell} vector of length 1, or a region of one cell.}
 \item{level}{a level, 0 to 30; of neighbors the cell's own or a deeper one, its own if it is \code{NULL}.}
-\item{text}{tokens, with blanks, commas or line ends between them, or in several texts. For \code{s2u_map_geojson}
-and \code{s2u_geodesic_geojson}, since 1.5, GeoJSON, in one text or several lines, or as a raw vector of UTF-8.}
+\item{text}{tokens, with blanks, commas or line ends between them, or in several texts. For \code{s2u_map_geojson},
+\code{s2u_map_geojson_up_to} and \code{s2u_geodesic_geojson}, since 1.5, GeoJSON, in one text or several lines, or as
+a raw vector of UTF-8.}
 % arguments: all
 \item{bytes, other}{a raw vector: a union file, as \code{s2u_encode} and S2's own \code{S2CellUnion::Encode} write it.}
 \item{longitude, latitude}{degrees, from -540 to 540 and from -90 to 90. The leaf of \code{NA} or \code{NaN} is
@@ -72,9 +73,8 @@ too long for so few positions), \code{S2U_COVER_OUTSIDE} (no place is outside), 
 positions of geodesic edges lie opposite each other); their \code{ring} and \code{place} count from 1.
 \code{S2U_COVER_OPTION}: an option is out of range. An error of \code{s2u_zones} has the number of the shape as
 \code{zone}.
-Of \code{s2u_map_geojson}, \code{s2u_geodesic_geojson} and those of WKB, since 1.5: \code{S2U_SHAPE}, and a class
-with the name of the fault,
-such as \code{S2U_FAULT_OPEN}, with the \code{part}, the \code{ring} and the \code{place} there, and of WKB the
+Of \code{s2u_map_geojson}, \code{s2u_map_geojson_up_to}, \code{s2u_geodesic_geojson} and those of WKB, since 1.5:
+\code{S2U_SHAPE}, and a class with the name of the fault, such as \code{S2U_FAULT_OPEN}, with the \code{part}, the \code{ring} and the \code{place} there, and of WKB the
 \code{byte}, from 1 on; or \code{S2U_MANY}, if the search would take more than \code{work}.
 Of WKB, with \code{place} that of the byte: \code{S2U_COVER_WKB} (it is none), \code{S2U_COVER_TYPE} (curves
 or surfaces), \code{S2U_COVER_SRID} (no degrees), \code{S2U_COVER_DEEP} (collections in more than 32 others). An

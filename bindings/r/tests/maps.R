@@ -24,14 +24,15 @@ answer <- function(ask, given, line) tryCatch({
 }, s2union_error = fault)
 
 asked <- list(map_wkb = s2u_map_wkb, map_geojson = s2u_map_geojson, geodesic_wkb = s2u_geodesic_wkb,
-              geodesic_geojson = s2u_geodesic_geojson)
+              geodesic_geojson = s2u_geodesic_geojson, map_wkb_up_to = s2u_map_wkb_up_to,
+              map_geojson_up_to = s2u_map_geojson_up_to)
 passed <- failed <- 0
 for (line in strsplit(paste0(readLines(commandArgs(TRUE)), "\t."), "\t")) {
   given <- bytes(line[2])
   wanted <- line[5:(length(line) - 1)]
   ask <- asked[[line[1]]]
   said <- list(answer(ask, given, line))
-  if (grepl("geojson$", line[1]) && !any(given == 0) && validUTF8(rawToChar(given))) { # also as a text
+  if (grepl("geojson", line[1]) && !any(given == 0) && validUTF8(rawToChar(given))) { # also as a text
     text <- rawToChar(given)
     Encoding(text) <- "UTF-8"
     said <- c(said, list(answer(ask, text, line)))

@@ -40,6 +40,28 @@ pub fn cover_wkb(wkb: &[u8], level: u32, work: u64) -> Result<(CellUnion, CellUn
     both(rooms::map_wkb(), |out, len, outer, fault| calls::map_wkb(wkb, level, work, out, len, outer, fault))
 }
 
+/// The most cells that count of a covering by [`cover_geojson_up_to`] or [`cover_wkb_up_to`]. Since 1.5.
+pub const MOST_FEW: usize = calls::MOST_FEW;
+
+// comment: map_geojson_up_to
+pub fn cover_geojson_up_to(
+    text: impl AsRef<[u8]>,
+    deepest: u32,
+    most: usize,
+) -> Result<(CellUnion, CellUnion), Error> {
+    let text = text.as_ref();
+    both(rooms::map_geojson_up_to(), |out, len, outer, fault| {
+        calls::map_geojson_up_to(text, deepest, most, out, len, outer, fault)
+    })
+}
+
+// comment: map_wkb_up_to
+pub fn cover_wkb_up_to(wkb: &[u8], deepest: u32, most: usize) -> Result<(CellUnion, CellUnion), Error> {
+    both(rooms::map_wkb_up_to(), |out, len, outer, fault| {
+        calls::map_wkb_up_to(wkb, deepest, most, out, len, outer, fault)
+    })
+}
+
 // comment: geodesic_geojson
 pub fn cover_geodesic_geojson(
     text: impl AsRef<[u8]>,

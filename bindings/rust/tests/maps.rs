@@ -1,7 +1,8 @@
 //! The texts and bytes of tests/model/maps.py, in the file that S2UNION_MAPS names, with their answers.
 use std::{env, fs};
 
-use s2union::{cover_geodesic_geojson, cover_geodesic_wkb, cover_geojson, cover_wkb, CellUnion, Error};
+use s2union::{cover_geodesic_geojson, cover_geodesic_wkb, cover_geojson, cover_geojson_up_to, cover_wkb};
+use s2union::{cover_wkb_up_to, CellUnion, Error};
 
 #[test]
 fn maps() {
@@ -16,6 +17,8 @@ fn maps() {
         let found = match fields[0] {
             "map_wkb" => cover_wkb(&bytes, level, most),
             "map_geojson" => cover_geojson(&bytes, level, most),
+            "map_wkb_up_to" => cover_wkb_up_to(&bytes, level, most as usize),
+            "map_geojson_up_to" => cover_geojson_up_to(&bytes, level, most as usize),
             "geodesic_wkb" => cover_geodesic_wkb(&bytes, level, most as usize),
             _ => cover_geodesic_geojson(&bytes, level, most as usize),
         };

@@ -1129,11 +1129,20 @@ int32_t s2u_polygon_coverings_up_to(const s2u_direction* corners, size_t n, cons
  * cell takes 200 and 1 more for each position of the shape. If all cells of the levels together take more, the answer
  * is S2U_MANY, before memory for the cells of the next level is taken. Memory is some hundred bytes for each position
  * and for each cell.
+ *
+ * The calls with `up_to` in their names make coverings by few cells, and need no `work`. In each covering cells are
+ * split for work of at most 2^20 + 32 (edges + `most`), where a cell that is split takes 100, and 1 for each edge that
+ * meets a box of it. With more the outer covering is coarser, and the inner one has fewer cells, which no status tells.
+ * More than S2U_MOST_FEW cells count as that many. So the worst text of 64 KB that was tried, one triangle 2,182 times,
+ * takes 3 seconds and 250 MB.
  * @{ */
 
 /** A `work` for callers that have no better one: a second for a shape of a country, and five for any text. Of texts
  * of strangers 2^24 is enough for a country at level 10, and takes a third of a second. @since 1.5 */
 #define S2U_MAP_WORK (UINT64_C(1) << 28)
+
+/** The most cells that count of a covering of a shape by few cells. @since 1.5 */
+#define S2U_MOST_FEW 10000
 
 /** The outer and the inner covering of the polygons in bytes of WKB: of those as they are written, edges straight on
  * the map.
@@ -1179,6 +1188,52 @@ int32_t s2u_map_wkb(const uint8_t* wkb, size_t n, uint32_t level, uint64_t work,
  */
 int32_t s2u_map_geojson(const char* text, size_t n, uint32_t level, uint64_t work, uint64_t* out, size_t room,
                         size_t* len, size_t* outer, s2u_shape_fault* fault);
+
+/** The outer and the inner covering of the polygons in bytes of WKB, by few cells: those of s2u_map_wkb, whose cells
+ * that edges meet are of any level down to `deepest`.
+ * The outer one has at most `most` cells, or 6 if that is more, and the inner one at most `most`. What s2u_map_wkb
+ * says of places is so of them. Level by level, cells that edges meet are split as long as their parts fit: in the
+ * outer one those first that have the fewest, in the inner one those that have the most.
+ * @param wkb,n WKB or EWKB at any address, in either order of bytes, and how many bytes it has
+ * @param deepest 0 (a face) to 30 (a leaf): the deepest level of a cell
+ * @param most the most cells of each covering, of which S2U_MOST_FEW are the most that count
+ * @param out,room,len the cells of the outer covering and then those of the inner one, how many cells there is room
+ *   for, and how many both have
+ * @param outer how many of them are the outer covering's
+ * @param fault of S2U_SHAPE the fault and its place; no other answer touches it
+ * @return S2U_OK
+ * @retval S2U_ROOM room is too small; len says what is needed, and outer how many of those are outer's
+ * @retval S2U_MEMORY out of memory; nothing has changed
+ * @retval S2U_ARGUMENT the level is above 30
+ * @retval S2U_SHAPE the bytes have a fault, or a part of the shape is a point or a line
+ * @s2{S2RegionCoverer::GetCovering} and `GetInteriorCovering`, with max_level and max_cells
+ * @since 1.5
+ * @snippet examples.c s2u_map_wkb_up_to
+ */
+int32_t s2u_map_wkb_up_to(const uint8_t* wkb, size_t n, uint32_t deepest, size_t most, uint64_t* out, size_t room,
+                          size_t* len, size_t* outer, s2u_shape_fault* fault);
+
+/** The outer and the inner covering of the polygons in a text of GeoJSON, by few cells: those of s2u_map_geojson, whose
+ * cells that edges meet are of any level down to `deepest`.
+ * The rest is as for s2u_map_wkb_up_to. The text is a geometry, a feature, or a collection of either.
+ * @param text,n the text in UTF-8, and how many bytes it has
+ * @param deepest 0 (a face) to 30 (a leaf): the deepest level of a cell
+ * @param most the most cells of each covering, of which S2U_MOST_FEW are the most that count
+ * @param out,room,len the cells of the outer covering and then those of the inner one, how many cells there is room
+ *   for, and how many both have
+ * @param outer how many of them are the outer covering's
+ * @param fault of S2U_SHAPE the fault and its place; no other answer touches it
+ * @return S2U_OK
+ * @retval S2U_ROOM room is too small; len says what is needed, and outer how many of those are outer's
+ * @retval S2U_MEMORY out of memory; nothing has changed
+ * @retval S2U_ARGUMENT the level is above 30
+ * @retval S2U_SHAPE the text has a fault, or a part of the shape is a point or a line
+ * @s2{S2RegionCoverer::GetCovering} and `GetInteriorCovering`, with max_level and max_cells
+ * @since 1.5
+ * @snippet examples.c s2u_map_geojson_up_to
+ */
+int32_t s2u_map_geojson_up_to(const char* text, size_t n, uint32_t deepest, size_t most, uint64_t* out, size_t room,
+                              size_t* len, size_t* outer, s2u_shape_fault* fault);
 
 /** The outer and the inner covering of the polygons in bytes of WKB, with edges that are geodesics: the cells of a
  * level. No leaf that a polygon touches or has inside is missing from the outer one, and each leaf of the inner one

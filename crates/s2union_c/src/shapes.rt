@@ -3,7 +3,8 @@ ghost use Rattle.std.specs.Prelude.{◌≡◌, ◌≤◌, ◌++◌, ◌⊎◌, l
 ghost use Rattle.s2union_c.specs.Results.{Made, Refused};
 ghost use Rattle.s2union_c.specs.Shapes.{MadeBoth, Tells, TellsGeodesic, TellsWhy, TellsWhyGeodesic, number_of_name};
 ghost use Rattle.s2union_c.specs.Status.{bad_argument};
-ghost use Rattle.s2written.specs.Faults.{CoversGeoJson, CoversWkb, GeoJsonErrorIs, WkbErrorIs};
+ghost use Rattle.s2written.specs.Faults.{CoversGeoJson, CoversGeoJsonUpTo, CoversWkb, CoversWkbUpTo};
+ghost use Rattle.s2written.specs.Faults.{GeoJsonErrorIs, GeoJsonUpToErrorIs, WkbErrorIs, WkbUpToErrorIs};
 ghost use Rattle.s2written.specs.Geodesics.{CoversGeodesicGeoJson, CoversGeodesicWkb, GeodesicGeoJsonErrorIs};
 ghost use Rattle.s2written.specs.Geodesics.{GeodesicWkbErrorIs};
 
@@ -13,7 +14,7 @@ use s2cover::MOST_COVERING;
 use s2shape::FaultName;
 use s2written::{
     CoverError, Coverings, GeodesicError, cover_geodesic_geojson, cover_geodesic_wkb,
-    cover_geojson, cover_wkb,
+    cover_geojson, cover_geojson_up_to, cover_wkb, cover_wkb_up_to,
 };
 use std::alloc::Global;
 
@@ -96,6 +97,74 @@ pub extern "C" fn s2u_map_geojson(
         return BAD_ARGUMENT;
     }
     match cover_geojson(alloc, text, level as u8, work) {
+        Ok(coverings) => put_both(&coverings, out, len, outer),
+        Err(error) => tell(error, fault),
+    }
+}
+
+/// The most cells of a covering by few cells that count, so that no text takes much time and memory.
+pub const MOST_FEW: usize = 10_000;
+
+/// The outer and the inner covering of the shape in bytes of WKB or EWKB by few cells: at most `most` each, or 6 in the
+/// outer one if that is more, none of them deeper than the level `deepest`. More than `MOST_FEW` cells count as that
+/// many. The coverings are written as by `s2u_map_wkb`, and what is so of the places of those is so of these.
+///
+/// The errors are those of `s2u_map_wkb` but `TOO_MANY`: with too many edges for so many cells the coverings are
+/// coarser, which no error tells.
+#[unsafe(no_mangle)]
+pub extern "C" fn s2u_map_wkb_up_to(
+    alloc: Global,
+    wkb: &[u8],
+    deepest: u32,
+    most: usize,
+    out: &mut [u64],
+    len: &mut usize,
+    outer: &mut usize,
+    fault: &mut ShapeFault,
+) -> i32
+    ensures made { deepest ≤ 30
+        → (MadeBoth result (CoversWkbUpTo wkb.now deepest (min most MOST_FEW)) out.old out.new len.new outer.new
+        × (fault.new ≡ fault.old))
+        ⊎ TellsWhy result (WkbUpToErrorIs wkb.now) out.old out.new len.new outer.new fault.old fault.new }
+    ensures argument { (deepest ≤ 30 → ⊥) → Refused result bad_argument out.old out.new len.new × (outer.new ≡ 0)
+        × (fault.new ≡ fault.old) }
+{
+    *len = 0;
+    *outer = 0;
+    if deepest > 30 {
+        return BAD_ARGUMENT;
+    }
+    match cover_wkb_up_to(alloc, wkb, deepest as u8, most.min(MOST_FEW)) {
+        Ok(coverings) => put_both(&coverings, out, len, outer),
+        Err(error) => tell(error, fault),
+    }
+}
+
+/// The same of the shape in a text of GeoJSON: a geometry, a feature, or a collection of either.
+#[unsafe(no_mangle)]
+pub extern "C" fn s2u_map_geojson_up_to(
+    alloc: Global,
+    text: &[u8],
+    deepest: u32,
+    most: usize,
+    out: &mut [u64],
+    len: &mut usize,
+    outer: &mut usize,
+    fault: &mut ShapeFault,
+) -> i32
+    ensures made { deepest ≤ 30
+        → (MadeBoth result (CoversGeoJsonUpTo text.now deepest (min most MOST_FEW)) out.old out.new len.new outer.new
+        × (fault.new ≡ fault.old))
+        ⊎ TellsWhy result (GeoJsonUpToErrorIs text.now) out.old out.new len.new outer.new fault.old fault.new }
+    ensures argument { (deepest ≤ 30 → ⊥) → Refused result bad_argument out.old out.new len.new × (outer.new ≡ 0)
+        × (fault.new ≡ fault.old) }
+{
+    *len = 0;
+    *outer = 0;
+    if deepest > 30 {
+        return BAD_ARGUMENT;
+    }
+    match cover_geojson_up_to(alloc, text, deepest as u8, most.min(MOST_FEW)) {
         Ok(coverings) => put_both(&coverings, out, len, outer),
         Err(error) => tell(error, fault),
     }
