@@ -30,6 +30,23 @@ extern "C"
  * such call, which answers it. What `asked` has must last as long. On other systems than Linux nothing is asked. */
 const s2u_heap_asked* s2u_heap_ask(const s2u_heap_asked* asked);
 
+/* Of a host with a heap of its own, a bound of the work of calls that have none: a covering of geodesic edges takes
+ * memory for the edges at each cell that it looks into. The bytes that it takes are counted, with those that it gives
+ * back. By S2U_HOST_WORK of them it has worked for five to ten seconds, whatever the shape is. */
+#define S2U_HOST_WORK (UINT64_C(1) << 29)
+
+#ifdef __cplusplus
+extern "C" {
+#endif
+/* How many bytes this thread's next call may take; UINT64_MAX if nobody counts. */
+void s2u_host_bound(uint64_t bytes);
+
+/* Ends the bound. Answers the status of the call, which is S2U_MANY if it got no memory beyond that. */
+int32_t s2u_host_bounded(int32_t status);
+#ifdef __cplusplus
+}
+#endif
+
 /* The cell that a text names, by its token or its debug text. */
 static inline int32_t s2u_host_cell_of_text(const char* text, size_t n, uint64_t* cell) {
   return memchr(text, '/', n) ? s2u_from_debug(text, n, cell) : s2u_from_token(text, n, cell);
@@ -51,10 +68,27 @@ static inline int s2u_host_has_doubled(size_t n, size_t settled) {
 #endif
 
 #ifdef S2U_HOST_TAKE
+static __thread uint64_t s2u_host_left = UINT64_MAX; /* of what was allowed; 0 if a call has got no more */
+
+void s2u_host_bound(uint64_t bytes) { s2u_host_left = bytes; }
+
+int32_t s2u_host_bounded(int32_t status) {
+  int is_over = s2u_host_left == 0;
+  s2u_host_left = UINT64_MAX;
+  return is_over && status == S2U_MEMORY ? S2U_MANY : status;
+}
+
+static inline int s2u_host_is_over(size_t size) {
+  if (s2u_host_left == UINT64_MAX) return 0;
+  s2u_host_left = size < s2u_host_left ? s2u_host_left - size : 0;
+  return s2u_host_left == 0;
+}
+
 /* The library needs multiples of 16. The byte before a block says how much was skipped. */
 s2u_block s2u_heap_take(size_t size, size_t align) {
   static uint64_t nowhere[2];
-  uint8_t* raw = size > SIZE_MAX - S2U_HOST_ALIGNMENT ? NULL : S2U_HOST_TAKE(size + S2U_HOST_ALIGNMENT);
+  int is_none = size > SIZE_MAX - S2U_HOST_ALIGNMENT || s2u_host_is_over(size);
+  uint8_t* raw = is_none ? NULL : S2U_HOST_TAKE(size + S2U_HOST_ALIGNMENT);
   (void)align;
   if (!raw) return (s2u_block){0, nowhere};
   size_t skip = S2U_HOST_ALIGNMENT - (uintptr_t)raw % S2U_HOST_ALIGNMENT;

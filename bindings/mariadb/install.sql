@@ -31,6 +31,8 @@ CREATE FUNCTION s2_covering RETURNS STRING SONAME 's2union_mariadb.so';
 CREATE FUNCTION s2_interior RETURNS STRING SONAME 's2union_mariadb.so';
 CREATE FUNCTION s2_map_outer RETURNS STRING SONAME 's2union_mariadb.so';
 CREATE FUNCTION s2_map_inner RETURNS STRING SONAME 's2union_mariadb.so';
+CREATE FUNCTION s2_geodesic_outer RETURNS STRING SONAME 's2union_mariadb.so';
+CREATE FUNCTION s2_geodesic_inner RETURNS STRING SONAME 's2union_mariadb.so';
 CREATE FUNCTION s2_neighbors RETURNS STRING SONAME 's2union_mariadb.so';
 CREATE FUNCTION s2_expanded RETURNS STRING SONAME 's2union_mariadb.so';
 CREATE FUNCTION s2_bounds RETURNS STRING SONAME 's2union_mariadb.so';

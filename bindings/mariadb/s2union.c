@@ -2,26 +2,31 @@
  * BIGINT. README.md says what each does. An argument of a wrong type is an error of the statement. A wrong value
  * answers NULL, since a user function can't end a statement once it has begun. */
 #include <mysql.h>
-#include <s2union_host.h>
+#include <stdint.h>
 #include <stdio.h>
 #include <stdlib.h>
 #include <string.h>
 
 /* Whether KILL or a limit of time has ended this thread's statement, as MariaDB says to its plugins; MySQL doesn't.
- * While a covering is made, the library asks it before it takes memory, and the headers ask in their loops. */
+ * While a covering is made, it is asked before the library gets memory, and the headers ask in their loops. */
 extern void* _current_thd(void) __attribute__((weak));
 extern int thd_killed(const void* thd) __attribute__((weak));
 extern void my_error(unsigned number, unsigned long flags, ...) __attribute__((weak));
 /* How its own functions warn of a value for which they answer NULL. */
 extern void my_printf_error(unsigned number, const char* form, unsigned long flags, ...) __attribute__((weak));
 enum { QUERY_INTERRUPTED = 1317, NO_GEOMETRY = 1416, AS_WARNING = 2048 };
-static int is_killed(void* of) {
-  const void* thd = of;
-  if (_current_thd && thd_killed && my_error) thd = _current_thd();
+static int is_killed(void) {
+  const void* thd = _current_thd && thd_killed && my_error ? _current_thd() : NULL;
   return thd && thd_killed(thd);
 }
-static const s2u_heap_asked killed = {is_killed, NULL};
-#define S2U_IS_CANCELLED() is_killed(NULL)
+static __thread int is_covering;
+static void* taken(size_t size) { return is_covering && is_killed() ? NULL : malloc(size); }
+#define S2U_HOST_TAKE(size) taken(size)
+#define S2U_HOST_GIVE_BACK(at) free(at)
+#pragma GCC visibility push(hidden)
+#include <s2union_host.h>
+#pragma GCC visibility pop
+#define S2U_IS_CANCELLED() is_killed()
 #include <s2union_cover.h>
 
 typedef char flag; /* where the server hears whether the answer is NULL */
@@ -337,7 +342,7 @@ MAKER(s2_complement, "l", S2U_MOST_COMPLEMENT(a->n), s2u_complement(LIST_OF(0), 
 
 /* Whether a call had no error. If it was ended with the statement, that is an error, for NULL would be an answer. */
 static int is_made(int32_t status) {
-  if (status == S2U_MEMORY && is_killed(NULL)) my_error(QUERY_INTERRUPTED, 0);
+  if (status == S2U_MEMORY && is_killed()) my_error(QUERY_INTERRUPTED, 0);
   return status == S2U_OK;
 }
 
@@ -352,10 +357,10 @@ static uint8_t* covering_of(const argument* a, unsigned count, int is_outer, siz
   const s2u_cover_options options = {count > 1 ? a[1].number : 200, 0, count > 2 ? a[2].number : 30, S2U_COVER_MAP, 0};
   s2u_cover_cells cells;
   s2u_cover_fault fault;
-  s2u_heap_ask(&killed);
+  is_covering = 1;
   int32_t status = s2u_cover_wkb(a->bytes, a->size, &options, is_outer ? &cells : NULL, is_outer ? NULL : &cells,
                                  &fault);
-  s2u_heap_ask(NULL);
+  is_covering = 0;
   return file_with(status, &cells, len);
 }
 
@@ -371,26 +376,29 @@ typedef struct {
 } mapped;
 typedef int32_t mapper(const argument* a, uint64_t* out, size_t room, mapped* m);
 
-#define SHAPE_MAKER(name, f, ...)                                                                   \
+#define SHAPE_MAKER(name, bytes_taken, f, ...)                                                      \
   static int32_t name(const argument* a, uint64_t* out, size_t room, mapped* m) {                    \
     int is_wkb = a->size > 0 && a->bytes[0] < 2;                                                     \
-    return is_wkb ? f##_wkb(a->bytes, a->size, __VA_ARGS__, out, room, &m->n, &m->outer, &m->fault)  \
-                  : f##_geojson((const char*)a->bytes, a->size, __VA_ARGS__, out, room, &m->n, &m->outer, &m->fault); \
+    s2u_host_bound(bytes_taken);                                                                     \
+    return s2u_host_bounded(                                                                         \
+      is_wkb ? f##_wkb(a->bytes, a->size, __VA_ARGS__, out, room, &m->n, &m->outer, &m->fault)       \
+             : f##_geojson((const char*)a->bytes, a->size, __VA_ARGS__, out, room, &m->n, &m->outer, &m->fault)); \
   }
-SHAPE_MAKER(on_map, s2u_map, a[1].number, S2U_MAP_WORK)
+SHAPE_MAKER(on_map, UINT64_MAX, s2u_map, a[1].number, S2U_MAP_WORK)
+SHAPE_MAKER(on_sphere, S2U_HOST_WORK, s2u_geodesic, a[1].number, S2U_MOST_COVERING)
 
 /* Both coverings; the caller frees `out`. */
 static int32_t made_by(mapper* make, const argument* a, uint64_t** out, mapped* m) {
   enum { FIRST_ROOM = 4096 };
   int32_t status = S2U_ROOM;
   size_t room = FIRST_ROOM;
-  s2u_heap_ask(&killed);
+  is_covering = 1;
   for (int turn = 0; turn < 2 && status == S2U_ROOM; turn++, room = m->n) {
     free(*out);
     *out = malloc(8 * room);
     status = *out ? make(a, *out, room, m) : S2U_MEMORY;
   }
-  s2u_heap_ask(NULL);
+  is_covering = 0;
   return status;
 }
 
@@ -417,6 +425,8 @@ static uint8_t* one_of_both(mapper* make, const argument* a, int is_outer, size_
 
 KEEPER(s2_map_outer, "sn", LONGEST, one_of_both(on_map, a, 1, &len))
 KEEPER(s2_map_inner, "sn", LONGEST, one_of_both(on_map, a, 0, &len))
+KEEPER(s2_geodesic_outer, "sn", LONGEST, one_of_both(on_sphere, a, 1, &len))
+KEEPER(s2_geodesic_inner, "sn", LONGEST, one_of_both(on_sphere, a, 0, &len))
 
 /* ---- cells around a cell, of its own level if no other is named, and around a union; the box of a union */
 

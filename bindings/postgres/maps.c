@@ -26,7 +26,8 @@ static Shape geojson_argument(FunctionCallInfo fcinfo) {
   return (Shape){at, at == own ? n : strlen(at), true};
 }
 
-/* A call that makes both coverings, the outer one's cells first, with what it says of them. */
+/* A call that makes both coverings, the outer one's cells first, with what it says of them. It takes at most so many
+ * bytes. */
 typedef struct Mapped {
   size_t n, outer;
   s2u_shape_fault fault;
@@ -34,16 +35,19 @@ typedef struct Mapped {
 
 typedef int32_t mapper(FunctionCallInfo fcinfo, const Shape* s, uint64_t* out, size_t room, Mapped* m);
 
-#define MAPPER(name, f, ...) \
+#define MAPPER(name, bytes_taken, f, ...) \
   static int32_t name(FunctionCallInfo fcinfo, const Shape* s, uint64_t* out, size_t room, Mapped* m) { \
-    return s->is_text ? f##_geojson(s->at, s->n, __VA_ARGS__, out, room, &m->n, &m->outer, &m->fault) \
-                      : f##_wkb((const uint8_t*)s->at, s->n, __VA_ARGS__, out, room, &m->n, &m->outer, &m->fault); \
+    s2u_host_bound(bytes_taken); \
+    return s2u_host_bounded( \
+      s->is_text ? f##_geojson(s->at, s->n, __VA_ARGS__, out, room, &m->n, &m->outer, &m->fault) \
+                 : f##_wkb((const uint8_t*)s->at, s->n, __VA_ARGS__, out, room, &m->n, &m->outer, &m->fault)); \
   }
-MAPPER(on_map, s2u_map, (uint32_t)PG_GETARG_INT32(1), S2U_MAP_WORK)
+MAPPER(on_map, UINT64_MAX, s2u_map, (uint32_t)PG_GETARG_INT32(1), S2U_MAP_WORK)
+MAPPER(on_sphere, S2U_HOST_WORK, s2u_geodesic, (uint32_t)PG_GETARG_INT32(1), S2U_MOST_COVERING)
 
 static void refuse_shape(const Shape* s, const s2u_shape_fault* fault) {
   int code = s->is_text ? ERRCODE_INVALID_TEXT_REPRESENTATION : ERRCODE_INVALID_BINARY_REPRESENTATION;
-  ereport(ERROR, errcode(fault->name == S2U_FAULT_NO_INSIDE ? ERRCODE_INVALID_PARAMETER_VALUE : code),
+  ereport(ERROR, errcode(fault->name >= S2U_FAULT_NO_INSIDE ? ERRCODE_INVALID_PARAMETER_VALUE : code),
           errmsg("s2union: %s: byte %zu, part %zu, ring %zu, position %zu", s2u_fault_text(fault->name), fault->byte,
                  fault->part, fault->ring, fault->position),
           fault->name == S2U_FAULT_JSON ? errhint("A text is GeoJSON. WKB has the type bytea.") : 0);
@@ -72,3 +76,7 @@ FUNCTION(s2union_map_outer_of_wkb, covering_of(fcinfo, on_map, wkb_argument(fcin
 FUNCTION(s2union_map_inner_of_wkb, covering_of(fcinfo, on_map, wkb_argument(fcinfo), false))
 FUNCTION(s2union_map_outer_of_geojson, covering_of(fcinfo, on_map, geojson_argument(fcinfo), true))
 FUNCTION(s2union_map_inner_of_geojson, covering_of(fcinfo, on_map, geojson_argument(fcinfo), false))
+FUNCTION(s2union_geodesic_outer_of_wkb, covering_of(fcinfo, on_sphere, wkb_argument(fcinfo), true))
+FUNCTION(s2union_geodesic_inner_of_wkb, covering_of(fcinfo, on_sphere, wkb_argument(fcinfo), false))
+FUNCTION(s2union_geodesic_outer_of_geojson, covering_of(fcinfo, on_sphere, geojson_argument(fcinfo), true))
+FUNCTION(s2union_geodesic_inner_of_geojson, covering_of(fcinfo, on_sphere, geojson_argument(fcinfo), false))

@@ -35,3 +35,37 @@ LANGUAGE C IMMUTABLE STRICT PARALLEL SAFE COST 10000;
 COMMENT ON FUNCTION s2_map_inner(text, integer)
   IS 'a union that lies in polygons in WKB or GeoJSON, as they are written. Proved; since 1.5. Errors: those of '
   's2_map_outer';
+
+CREATE FUNCTION s2_geodesic_outer(shape bytea, level integer)
+RETURNS s2union
+AS 'MODULE_PATHNAME', 's2union_geodesic_outer_of_wkb'
+LANGUAGE C IMMUTABLE STRICT PARALLEL SAFE COST 10000;
+COMMENT ON FUNCTION s2_geodesic_outer(bytea, integer)
+  IS 'a union that contains polygons in WKB or GeoJSON, whose edges are geodesics, the shortest ways on the sphere: '
+  'cells of a level, and larger ones for four of them. Proved; since 1.5. Errors: those of s2_map_outer, an edge of'
+  ' 128 degrees or more, corners that are too far apart';
+
+CREATE FUNCTION s2_geodesic_outer(shape text, level integer)
+RETURNS s2union
+AS 'MODULE_PATHNAME', 's2union_geodesic_outer_of_geojson'
+LANGUAGE C IMMUTABLE STRICT PARALLEL SAFE COST 10000;
+COMMENT ON FUNCTION s2_geodesic_outer(text, integer)
+  IS 'a union that contains polygons in WKB or GeoJSON, whose edges are geodesics, the shortest ways on the sphere: '
+  'cells of a level, and larger ones for four of them. Proved; since 1.5. Errors: those of s2_map_outer, an edge of'
+  ' 128 degrees or more, corners that are too far apart';
+
+CREATE FUNCTION s2_geodesic_inner(shape bytea, level integer)
+RETURNS s2union
+AS 'MODULE_PATHNAME', 's2union_geodesic_inner_of_wkb'
+LANGUAGE C IMMUTABLE STRICT PARALLEL SAFE COST 10000;
+COMMENT ON FUNCTION s2_geodesic_inner(bytea, integer)
+  IS 'a union that lies in polygons in WKB or GeoJSON, whose edges are geodesics. Proved; since 1.5. Errors: those of '
+  's2_geodesic_outer';
+
+CREATE FUNCTION s2_geodesic_inner(shape text, level integer)
+RETURNS s2union
+AS 'MODULE_PATHNAME', 's2union_geodesic_inner_of_geojson'
+LANGUAGE C IMMUTABLE STRICT PARALLEL SAFE COST 10000;
+COMMENT ON FUNCTION s2_geodesic_inner(text, integer)
+  IS 'a union that lies in polygons in WKB or GeoJSON, whose edges are geodesics. Proved; since 1.5. Errors: those of '
+  's2_geodesic_outer';

@@ -62,6 +62,36 @@ RETURN s2_map_inner(ST_AsBinary(s2_degrees(shape)), level);
 COMMENT ON FUNCTION s2_map_inner(geometry, integer)
   IS 'a union that lies in the polygons as they are written. Errors: those of s2_map_outer';
 
+CREATE OR REPLACE FUNCTION s2_geodesic_outer(shape geography, level integer)
+RETURNS s2union
+LANGUAGE SQL IMMUTABLE STRICT PARALLEL SAFE
+RETURN s2_geodesic_outer(ST_AsBinary(s2_degrees(shape::geometry)), level);
+COMMENT ON FUNCTION s2_geodesic_outer(geography, integer)
+  IS 'a union that contains the polygons, proved from their WKB on, whose edges are geodesics. Errors: an edge of 128 '
+  'degrees or more, corners that are too far apart, those of s2_map_outer';
+
+CREATE OR REPLACE FUNCTION s2_geodesic_outer(shape geometry, level integer)
+RETURNS s2union
+LANGUAGE SQL IMMUTABLE STRICT PARALLEL SAFE
+RETURN s2_geodesic_outer(ST_AsBinary(s2_degrees(shape)), level);
+COMMENT ON FUNCTION s2_geodesic_outer(geometry, integer)
+  IS 'a union that contains the polygons, proved from their WKB on, whose edges are geodesics. Errors: an edge of 128 '
+  'degrees or more, corners that are too far apart, those of s2_map_outer';
+
+CREATE OR REPLACE FUNCTION s2_geodesic_inner(shape geography, level integer)
+RETURNS s2union
+LANGUAGE SQL IMMUTABLE STRICT PARALLEL SAFE
+RETURN s2_geodesic_inner(ST_AsBinary(s2_degrees(shape::geometry)), level);
+COMMENT ON FUNCTION s2_geodesic_inner(geography, integer)
+  IS 'a union that lies in the polygons, whose edges are geodesics. Errors: those of s2_geodesic_outer';
+
+CREATE OR REPLACE FUNCTION s2_geodesic_inner(shape geometry, level integer)
+RETURNS s2union
+LANGUAGE SQL IMMUTABLE STRICT PARALLEL SAFE
+RETURN s2_geodesic_inner(ST_AsBinary(s2_degrees(shape)), level);
+COMMENT ON FUNCTION s2_geodesic_inner(geometry, integer)
+  IS 'a union that lies in the polygons, whose edges are geodesics. Errors: those of s2_geodesic_outer';
+
 CREATE OR REPLACE FUNCTION s2_geometry(region s2union)
 RETURNS geometry
 LANGUAGE SQL IMMUTABLE STRICT PARALLEL SAFE

@@ -55,6 +55,13 @@ static const char* const listed[][4] = {
   {"s2_map_inner", "shape, level",
    "a union that lies in polygons in WKB or GeoJSON, as they are written. Proved; since 1.5. Errors: "
    "those of s2_map_outer", "s2union"},
+  {"s2_geodesic_outer", "shape, level",
+   "a union that contains polygons in WKB or GeoJSON, whose edges are geodesics, the shortest ways on "
+   "the sphere: cells of a level, and larger ones for four of them. Proved; since 1.5. Errors: those of "
+   "s2_map_outer, an edge of 128 degrees or more, corners that are too far apart", "s2union"},
+  {"s2_geodesic_inner", "shape, level",
+   "a union that lies in polygons in WKB or GeoJSON, whose edges are geodesics. Proved; since 1.5. "
+   "Errors: those of s2_geodesic_outer", "s2union"},
   {"s2_range", "first, last",
    "all leaves from the first of one cell to the last of another. Errors: a last leaf before the first, "
    "an invalid cell", "s2union"},

@@ -264,14 +264,17 @@ COVERS(_in, LIST(a[0]), RECT(a + 1), a[6].number, S2U_MOST_COVERING)
 MAKER(make_ancestors, s2u_ancestors, LIST(a[0]))
 MAKER(make_part, s2u_intersection, LIST(a[0]), &a[1].cell, 1)
 
-/* The cells of both coverings of a shape, the outer ones first. */
-#define SHAPE_MAKER(name, f, ...) \
+/* The cells of both coverings of a shape, the outer ones first, by a call that takes at most so many bytes. */
+#define SHAPE_MAKER(name, bytes_taken, f, ...) \
   static int32_t name(const argument* a, uint64_t* out, size_t room, size_t* n) { \
     mapped* m = a->mapped; \
-    return a->is_text ? f##_geojson((const char*)a->bytes, a->n, __VA_ARGS__, out, room, n, &m->outer, &m->fault) \
-                      : f##_wkb(a->bytes, a->n, __VA_ARGS__, out, room, n, &m->outer, &m->fault); \
+    s2u_host_bound(bytes_taken); \
+    return s2u_host_bounded( \
+      a->is_text ? f##_geojson((const char*)a->bytes, a->n, __VA_ARGS__, out, room, n, &m->outer, &m->fault) \
+                 : f##_wkb(a->bytes, a->n, __VA_ARGS__, out, room, n, &m->outer, &m->fault)); \
   }
-SHAPE_MAKER(make_map, s2u_map, a[1].number, S2U_MAP_WORK)
+SHAPE_MAKER(make_map, UINT64_MAX, s2u_map, a[1].number, S2U_MAP_WORK)
+SHAPE_MAKER(make_geodesic, S2U_HOST_WORK, s2u_geodesic, a[1].number, S2U_MOST_COVERING)
 
 /* The list that a maker makes. The caller drops it, even after a refusal. */
 static int32_t list_made(maker* make, const argument* a, size_t room, block** list) {
@@ -404,7 +407,7 @@ static const function functions[] = {
   {"s2_level", "c", level}, {"s2_face", "c", face}, {"s2_parent", "cn", parent}, {"s2_child", "cn", child},
   {"s2_range_min", "c", range_min}, {"s2_range_max", "c", range_max}, {"s2_common_ancestor", "cc", common_ancestor},
   {"s2_leaf", "nnn", leaf}, {"s2_version", "", version}, {"s2_complement", "l", makes, .make = make_complement},
-  OF_SHAPE("s2_map", "sn", make_map),
+  OF_SHAPE("s2_map", "sn", make_map), OF_SHAPE("s2_geodesic", "sn", make_geodesic),
 };
 
 /* Every function comes through here: NULL if an argument is NULL, an error if the call refuses. */

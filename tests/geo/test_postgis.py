@@ -36,7 +36,9 @@ CALLS = [f"SELECT own.{call}" for call in (
     "s2_interior('POLYGON((2 48, 3 48, 3 49, 2 48))'::public.geometry, 9)", "s2_interior('POINT(2 48)', 9, 12)",
     "s2_coverings(public.ST_Point(2, 48))",
     "s2_map_outer('POLYGON((2 48, 3 48, 3 49, 2 48))'::public.geometry, 9)",
-    "s2_map_inner('POLYGON((2 48, 3 48, 3 49, 2 48))'::public.geometry, 9)", "s2_geometry('04')",
+    "s2_map_inner('POLYGON((2 48, 3 48, 3 49, 2 48))'::public.geometry, 9)",
+    "s2_geodesic_outer('POLYGON((2 48, 3 48, 3 49, 2 48))'::public.geography, 9)",
+    "s2_geodesic_inner('POLYGON((2 48, 3 48, 3 49, 2 48))'::public.geometry, 9)", "s2_geometry('04')",
     "s2_geometry('04', true)", "s2_geojson('04')", "s2_geojson('04', true)", "s2_envelope(1)",
     "s2_join_tiles(public.ST_Point(2, 48), 3)",
     "s2_has_degrees(public.ST_Point(2, 48))", "s2_has_degrees(public.ST_Point(2, 48, 3857))", "s2_has_degrees(4258)")]
@@ -81,11 +83,17 @@ class PostGIS(unittest.TestCase):
         and of one in another."""
         self.said("CREATE EXTENSION s2union_postgis CASCADE")
         square = "ST_MakeEnvelope(2, 48, 3, 49, {})"
-        for name in "s2_map_outer", "s2_map_inner":
+        for name in "s2_map_outer", "s2_map_inner", "s2_geodesic_outer", "s2_geodesic_inner":
             self.assertEqual(self.said(f"SELECT {name}({square.format(0)}, 8) = {name}(ST_AsEWKB(geom), 8), {name}"
                                        f"(geom, 8) = {name}(ST_AsGeoJSON(geom), 8), {name}(ST_Transform(geom, 4258), 8)"
                                        f" = {name}(geom, 8), {name}(NULL::geometry, 8) IS NULL"
                                        f" FROM (SELECT {square.format(4326)} AS geom) v"), ["t|t|t|t"])
+        for name in "s2_geodesic_outer", "s2_geodesic_inner":
+            self.assertEqual(self.said(f"SELECT {name}(geom::geography, 8) = {name}(geom, 8), {name}(geom, 8) ="
+                                       f" {name}(ST_Transform(geom, 4258)::geography, 8), {name}(NULL::geography, 8)"
+                                       f" IS NULL FROM (SELECT {square.format(4326)} AS geom) v"), ["t|t|t"])
+        self.assertIn("an edge is 128 degrees or longer: byte 0, part 0, ring 0, position 0",
+                      error_of("SELECT s2_geodesic_outer('POLYGON((-80 1, 80 1, 0 50, -80 1))'::geography, 8)"))
         self.assertIn("a point or a line has no inside: byte 0, part 0, ring 0, position 0",
                       error_of("SELECT s2_map_outer(ST_Point(2, 48), 8)"))
         self.assertIn("no point, line, polygon or collection of them: byte 0, part 0, ring 0, position 0",

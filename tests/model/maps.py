@@ -523,13 +523,17 @@ def rows(library):
         say(library, "geojson", geojson_of([[box(0, 0, 9, 9)], [closed(ring)]]).encode(), 4)
 
 
-# ---- what databases are asked, whose bound of work is always the usual one
+# ---- what databases are asked, whose bounds are always the usual ones
+
+USUAL = {"map": WORK, "geodesic": 10**6}
 
 
 class Asked(NamedTuple):
-    """A text or bytes, a level, and the cells of both coverings, or what an error says after the database's name."""
+    """What edges are, "map" or "geodesic", a text or bytes, a level, and the cells of both coverings, or what an error
+    says after the database's name."""
 
-    call: str
+    edges: str
+    form: str
     data: bytes
     level: int
     outer: list
@@ -538,11 +542,12 @@ class Asked(NamedTuple):
 
 
 def asked():
-    """What the file asks on the map that S2UNION_MAPS names, without what takes more than a smaller bound of work."""
+    """What the file asks that S2UNION_MAPS names, without what takes more than a bound that is less than the usual."""
     texts = dict(re.findall(r'case S2U_FAULT_(\w+):\s+return "(.*?)";', HEADER.read_text("utf-8")))
     for line in Path(os.environ["S2UNION_MAPS"]).read_text("utf-8").splitlines():
-        call, data, level, work, *answer = line.split("\t")
-        if call not in ("map_wkb", "map_geojson") or int(work) < WORK and answer == ["!many"]:
+        call, data, level, most, *answer = line.split("\t")
+        edges, form, *few = call.split("_", 2)
+        if few or int(most) < USUAL[edges] and answer == ["!many"]:
             continue
         cells, error = [[int(cell, 16) for cell in words.split()] for words in answer if words[:1] != "!"], ""
         if answer[0] == "!argument":
@@ -550,7 +555,7 @@ def asked():
         elif answer[0][:1] == "!":
             name, *places = answer[0][1:].split()
             error = f"{texts[name.upper()]}: byte {places[0]}, part {places[1]}, ring {places[2]}, position {places[3]}"
-        yield Asked(call.removeprefix("map_"), bytes.fromhex(data), int(level), *(cells or [[], []]), error)
+        yield Asked(edges, form, bytes.fromhex(data), int(level), *(cells or [[], []]), error)
 
 
 def main(*files):

@@ -5,6 +5,7 @@ import itertools
 import json
 import re
 import sqlite3
+import struct
 import subprocess
 import unittest
 from pathlib import Path
@@ -65,6 +66,7 @@ KINDS = {"files": ("longblob", FILES), "texts": ("longtext", TEXTS), "cells": ("
 UNION, CELL_OF, NUMBER, DEGREE = ("files", "texts", "cells"), ("texts", "cells"), ("numbers",), ("degrees", "numbers")
 SHAPE, COUNT, DEPTH, EITHER, COARSE_OF = ("shapes",), ("counts",), ("depths",), ("shapes", "geojson"), ("coarse",)
 ANY = tuple(KINDS)
+MAPS = ("s2_map_outer", "s2_map_inner", "s2_geodesic_outer", "s2_geodesic_inner")
 TAKES = {
     **dict.fromkeys(("s2_contains", "s2_intersects", "s2_union", "s2_intersection", "s2_difference",
                      "s2_symmetric_difference"), (UNION, UNION)),
@@ -73,13 +75,12 @@ TAKES = {
     **dict.fromkeys(("s2_level", "s2_face", "s2_range_min", "s2_range_max", "s2_cell", "s2_token", "s2_longitude",
                      "s2_latitude"), (CELL_OF,)),
     **dict.fromkeys(("s2_covering", "s2_interior"), (SHAPE, COUNT, DEPTH)),
-    **dict.fromkeys(("s2_map_outer", "s2_map_inner"), (EITHER, COARSE_OF)),
+    **dict.fromkeys(MAPS, (EITHER, COARSE_OF)),
     **dict.fromkeys(("s2_parent", "s2_child"), (CELL_OF, NUMBER)),
     "s2_neighbors": (CELL_OF, DEPTH), "s2_expanded": (UNION, NUMBER), "s2_bounds": (UNION,), "s2_area": (UNION,),
     "s2_common_ancestor": (CELL_OF, CELL_OF), "s2_leaf_at": (DEGREE, DEGREE), "s2_is_cell": (ANY,),
     "s2_is_union": (ANY,),
 }
-MAPS = ("s2_map_outer", "s2_map_inner")
 SHAPED = ("s2_covering", "s2_interior", *MAPS)
 LEAST = dict.fromkeys(("s2_covering", "s2_interior", "s2_neighbors"), 1)  # arguments, if some may be left out
 # SQLite has one function for a cell and for a region.
@@ -214,23 +215,24 @@ class BesideSqlite(MariadbServer):
 
     def test_texts_and_bytes(self):
         """Those of tests/model/maps.py, in the file that S2UNION_MAPS names: an error is NULL and a warning."""
-        asked = [row for row in maps.asked() if (row.data[:1] in (b"\0", b"\1")) == (row.call == "wkb")]  # as it reads
+        asked = [row for row in maps.asked() if (row.data[:1] in (b"\0", b"\1")) == (row.form == "wkb")]  # as it reads
         warnings = "SHOW WARNINGS; "  # a statement without a table keeps those of the one before, if it has none
-        calls = [f"SELECT hex({name}({shown(row.data)}, {row.level})); {warnings if row.error else ''}SELECT '--';"
-                 for row in asked for name in MAPS]
+        calls = [f"SELECT hex(s2_{row.edges}_{name}({shown(row.data)}, {row.level})); "
+                 f"{warnings if row.error else ''}SELECT '--';" for row in asked for name in ("outer", "inner")]
         said = self.ask("USE trial; " + "\n".join(calls)).split("\n--\n")
         wanted = [f"NULL\nWarning\t1416\ts2: {row.error}" if row.error else file(cells).hex().upper()
                   for row in asked for cells in (row.outer, row.inner)]
         for call, answer, right in zip(calls, said, [*wanted, ""], strict=False):
             self.assertEqual(answer, right, call[:400])
-        self.assertEqual((len(said), len(asked) > 600), (len(wanted) + 1, True))
+        self.assertEqual((len(said), len(asked) > 1200), (len(wanted) + 1, True))
 
     def test_a_warning_of_a_shape(self):
         """A column that is strict takes no such NULL, as of the server's own functions."""
-        said = self.ask(f"USE trial; SELECT s2_map_outer('{POLYGON}', 31), s2_map_inner(x'{SQUARE.hex()}', 30);"
-                        " SHOW WARNINGS").splitlines()
-        self.assertEqual(said, ["NULL\tNULL", "Warning\t1416\ts2: argument out of range",
-                                "Warning\t1416\ts2: too many cells"])
+        many = struct.pack("<B2I", 1, 6, 900) + 900 * SQUARE  # each of them has fewer cells than it may have
+        said = self.ask(f"USE trial; SELECT s2_map_outer('{POLYGON}', 31), s2_map_inner(x'{SQUARE.hex()}', 30),"
+                        f" s2_geodesic_inner(x'{many.hex()}', 18); SHOW WARNINGS").splitlines()
+        self.assertEqual(said, ["NULL\tNULL\tNULL", "Warning\t1416\ts2: argument out of range",
+                                "Warning\t1416\ts2: too many cells", "Warning\t1416\ts2: too many cells"])
         self.ask("USE trial; CREATE TABLE strict (region longblob)")
         self.assertIn("s2: the text is not JSON: byte 0, part 0, ring 0, position 0",
                       self.error("USE trial; INSERT INTO strict VALUES (s2_map_outer('x', 9))"))
@@ -298,7 +300,8 @@ class BesideSqlite(MariadbServer):
             INSERT INTO large VALUES (x'{file(many).hex()}', x'{file(many[::-1]).hex()}', '{words(many)}');""")
         for call in (f"length(s2_covering(x'{SQUARE.hex()}', 500))", f"s2_interior(x'{LINE.hex()}', 500)",
                      f"s2_covering(x'{SQUARE[:-1].hex()}')", f"length(s2_map_outer(x'{SQUARE.hex()}', 9))",
-                     f"s2_map_inner(x'{LINE.hex()}', 9)", "length(s2_union(u, w))", "length(s2_complement(u))",
+                     f"s2_map_inner(x'{LINE.hex()}', 9)", f"length(s2_geodesic_inner(x'{SQUARE.hex()}', 9))",
+                     "length(s2_union(u, w))", "length(s2_complement(u))",
                      "length(s2_tokens(u))", "length(s2_normalise(t))", "s2_contains(u, t)", "s2_contains(w, u)",
                      "s2_union(u, 'x')", "s2_count(w)", "s2_intersects_cell(t, 1)", "s2_bounds(u)", "s2_area(w)",
                      "s2_neighbors('1', 9)", "s2_neighbors('1', 30)", "s2_expanded(u, 30)"):

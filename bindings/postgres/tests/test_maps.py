@@ -9,7 +9,7 @@ from test_postgres import SESSION, STATE, TRY, Tests, ask, psql, seconds_of, tok
 PLACE = "byte 0, part 0, ring 0, position 0"
 SQUARE = '{"type": "Feature", "properties": {"name": "Zürich"}, "geometry": {"type": "Polygon", ' \
          '"coordinates": [[[2, 48], [3, 48], [3, 49], [2, 49], [2, 48]]]}}'
-NAMES = ("s2_map_outer", "s2_map_inner")
+NAMES = ("s2_map_outer", "s2_map_inner", "s2_geodesic_outer", "s2_geodesic_inner")
 
 
 def is_text(data):
@@ -23,16 +23,16 @@ def is_text(data):
 class Maps(Tests):
     def test_texts_and_bytes(self):
         rows = list(maps.asked())
-        self.assertGreater(len(rows), 600)
+        self.assertGreater(len(rows), 1200)
         calls, wanted = [], []
         for row in rows:
             shape = f"'\\x{row.data.hex()}'::bytea"
-            shape = f"convert_from({shape}, 'UTF8')" if row.call == "geojson" else shape
-            for name, cells in zip(NAMES, (row.outer, row.inner)):
+            shape = f"convert_from({shape}, 'UTF8')" if row.form == "geojson" else shape
+            for name, cells in (("outer", row.outer), ("inner", row.inner)):
                 said = f"error: s2union: {row.error}" if row.error else tokens(cells)
                 said += f": {row.level}" if row.level > 30 else ""
-                calls.append(f"{name}({shape}, {row.level})")
-                wanted.append(said if row.call == "wkb" or is_text(row.data) else "error: invalid byte sequence")
+                calls.append(f"s2_{row.edges}_{name}({shape}, {row.level})")
+                wanted.append(said if row.form == "wkb" or is_text(row.data) else "error: invalid byte sequence")
         for call, said, answer in zip(calls, wanted, ask(calls), strict=True):
             self.assertEqual(answer[:len(said)] if "byte sequence" in said else answer, said, call)
 
@@ -66,12 +66,15 @@ class Maps(Tests):
             (f"substr({point}, 2), 3", "22P03"), ("'[]', 3", "22P02"), (f"{point}, 3", "22023"), ("'{}', 31", "22023"),
             ("'{\"type\": \"Point\", \"coordinates\": [1, 2]}', 3", "22023"),
             (f"{wkb_of([(0, 0), (9, 2), (5, 8), (0, 0)])}, 30", "54000"))])
+        spread = "'{\"type\": \"Polygon\", \"coordinates\": [[[0, 0], [120, 0], [-120, 0], [0, 0]]]}'"
+        self.all_are([(f"state_of($s$SELECT s2_geodesic_inner({spread}, 3)$s$)", "22023")])
         with self.assertRaisesRegex(AssertionError, "HINT:  A text is GeoJSON. WKB has the type bytea."):
             psql(f"SELECT s2_map_outer('{point[1:-8]}', 3)")
 
     def test_more_cells_than_there_is_room_for_at_first(self):
         self.all_are([(f"(SELECT s2_count(o) + s2_count(i) > 4096 AND o @> i AND NOT i @> o FROM (SELECT "
-                       f"s2_map_outer({few}, 16) AS o, s2_map_inner({few}, 16) AS i) v)", "true")
+                       f"s2_{edges}_outer({few}, 16) AS o, s2_{edges}_inner({few}, 16) AS i) v)", "true")
+                      for edges in ("map", "geodesic")
                       for few in (wkb_of([(0, 0), (9, 2), (5, 8), (0, 0)]), f"'{SQUARE}'")])
 
     def test_a_database_of_another_encoding(self):
@@ -93,7 +96,15 @@ class Cancels(Tests):
     def test_one_shape(self):
         """The work is bounded, and a timeout ends it before."""
         ring = wkb_of([(0, 0), (30, 5), (40, 40), (10, 30), (-5, 20), (0, 0)])
-        for call in (f"s2_map_outer({ring}, 17)", f"s2_map_inner({ring}, 17)"):
+        for call in (f"s2_map_outer({ring}, 17)", f"s2_map_inner({ring}, 17)", f"s2_geodesic_outer({ring}, 19)"):
             took, said = seconds_of(f"SELECT {call}", 100)
             self.assertIn("due to statement timeout", said, call)
             self.assertLess(took, 1, call)
+
+    def test_many_polygons(self):
+        """Each has fewer cells than a covering may have. All of them together take too much memory."""
+        few = wkb_of([(0, 0), (9, 2), (5, 8), (0, 0)])
+        many = f"'\\x010600000052030000'::bytea || decode(repeat(encode({few}, 'hex'), 850), 'hex')"
+        self.all_are([(f"s2_geodesic_outer({many}, 15)", "error: s2union: too many cells: 15"),
+                      (f"s2_geodesic_outer({many}, 8) = s2_geodesic_outer({few}, 8)", "true"),
+                      (f"s2_count(s2_geodesic_outer({few}, 15)) > 5000", "true")])

@@ -1660,6 +1660,7 @@ class Guarded(Tests):
             f"SELECT s2_map_outer({wkb_of(triangle)}, 4)", f"SELECT s2_map_inner({wkb_of(triangle)}, 5)",
             """SELECT s2_map_outer('{"type": "Polygon", "coordinates": [[[0, 0], [9, 2], [5, 8], [0, 0]]]}', 4)""",
             f"SELECT s2_map_inner({wkb_of(triangle[1:])}, 4)", "SELECT s2_map_outer('[]', 4)",
+            f"SELECT s2_geodesic_outer({wkb_of(triangle)}, 4)", f"SELECT s2_geodesic_inner({wkb_of(triangle)}, 5)",
             "SELECT s2_token(s2_parent(s2_cell('1c'), 0)), s2_cell('04')::s2union", "SELECT indexed('gin')",
             "SELECT s2_longitude('04') + s2_latitude('1/0') + s2_latitude(s2_leaf_at(2.3522, 48.8566))",
             "SELECT s2_latitude('zz')", "SELECT s2_leaf_at(0, 91)",
@@ -1683,7 +1684,8 @@ class Guarded(Tests):
         """The call takes no other one, its error is that of the cancel, and then the session answers as before."""
         ring = [(0, 0), (30, 5), (40, 40), (10, 30), (-5, 20), (0, 0)]
         calls = [f"s2_covering({wkb_of(ring)}, 500)", f"s2_interior({wkb_of(ring)}, 500)",
-                 f"(s2_coverings({wkb_of(ring)}, 500)).interior", f"s2_map_inner({wkb_of(ring)}, 7)"]
+                 f"(s2_coverings({wkb_of(ring)}, 500)).interior", f"s2_map_inner({wkb_of(ring)}, 7)",
+                 f"s2_geodesic_inner({wkb_of(ring)}, 7)"]
         script = """SET client_min_messages = error; CREATE EXTENSION IF NOT EXISTS s2union_geo;
             CREATE FUNCTION pg_temp.cancelled(query text, OUT all_takes bigint, OUT wrong text) LANGUAGE plpgsql AS $$
             DECLARE answer text; again text; n bigint; takes bigint;

@@ -41,6 +41,7 @@ static const char* const queries[] = {
   "SELECT s2_map_outer('{\"type\": \"Polygon\", \"coordinates\": [[[0,0], [9,2], [5,8]]]}', 3)",
   "SELECT s2_map_inner(" SHAPE " || x'00', 3)",
   "SELECT s2_map_outer(" SHAPE ", 31)",
+  "SELECT hex(s2_geodesic_outer(" SHAPE ", 3)), s2_tokens(s2_geodesic_inner(" SHAPE ", 4))",
   "SELECT s2_longitude(s2_leaf_at(2.3522, 48.8566)), s2_latitude('1/0')",
   "SELECT s2_leaf_at('north', 0)",
   "SELECT hex(s2_covering(x'0101000000000000000000F03F0000000000000040', 8, 9))",

@@ -2,11 +2,13 @@
 S2UNION_MAPS names, and what is refused."""
 
 import sqlite3
+import struct
 
 from model import maps
 from model import unions as model
 from test_sqlite import EMPTY, TRIANGLE, Tests
 
+NAMES = ("s2_map_outer", "s2_map_inner", "s2_geodesic_outer", "s2_geodesic_inner")
 NO_POLYGONS = '{"type": "MultiPolygon", "coordinates": []}'
 
 
@@ -19,20 +21,20 @@ class Maps(Tests):
     def test_texts_and_bytes(self):
         rows = list(maps.asked())
         for row in rows:
-            shape = "?1" if row.call == "wkb" else "CAST(?1 AS TEXT)"
-            for name, cells in (("s2_map_outer", row.outer), ("s2_map_inner", row.inner)):
-                call = f"{name}({shape}, ?2)"
+            shape = "?1" if row.form == "wkb" else "CAST(?1 AS TEXT)"
+            for name, cells in (("outer", row.outer), ("inner", row.inner)):
+                call = f"s2_{row.edges}_{name}({shape}, ?2)"
                 if not row.error:
                     self.assertEqual(self.ask(call, row.data, row.level), model.file(cells), row)
                 elif row.level > 30:
                     self.assertTrue(self.error(call, row.data, row.level).startswith(f"s2: {row.error}: "), row)
                 else:
                     self.assertEqual(self.error(call, row.data, row.level), f"s2: {row.error}")
-        self.assertGreater(len(rows), 600)
+        self.assertGreater(len(rows), 1200)
 
     def test_what_is_refused(self):
         place = "byte 0, part 0, ring 0, position 0"
-        for name in "s2_map_outer", "s2_map_inner":
+        for name in NAMES:
             for shape, said in ((b"", "bytes are missing: " + place), ("", "the text is not JSON: " + place),
                                 ("\0", "the text is not JSON: " + place), ("{}", "an object without a type: " + place),
                                 (TRIANGLE.hex(), "the text is not JSON: " + place),
@@ -52,7 +54,16 @@ class Maps(Tests):
         self.refused("s2: bytes after the geometry: ", "s2_map_outer(?, 3)", TRIANGLE + b"\0")
 
     def test_more_cells_than_there_is_room_for_at_first(self):
-        outer, inner = (self.ask(f"s2_map_{name}(?, 13)", TRIANGLE) for name in ("outer", "inner"))
-        self.assertGreater((len(outer) + len(inner)) // 8, 5000)
-        self.assertEqual(self.ask("s2_contains(?1, ?2) + 2 * s2_contains(?2, ?1)", outer, inner), 1)
-        self.assertEqual(self.ask("s2_is_union(?) + s2_is_union(?)", outer, inner), 2)
+        for edges in "map", "geodesic":
+            outer, inner = (self.ask(f"s2_{edges}_{name}(?, 13)", TRIANGLE) for name in ("outer", "inner"))
+            self.assertGreater((len(outer) + len(inner)) // 8, 5000)
+            self.assertEqual(self.ask("s2_contains(?1, ?2) + 2 * s2_contains(?2, ?1)", outer, inner), 1)
+            self.assertEqual(self.ask("s2_is_union(?) + s2_is_union(?)", outer, inner), 2)
+
+    def test_many_polygons(self):
+        """Each has fewer cells than a covering may have. All of them together take too much memory."""
+        many = b"\1" + struct.pack("<2I", 6, 850) + 850 * TRIANGLE
+        self.assertGreater(len(self.ask("s2_geodesic_outer(?, 15)", TRIANGLE)), 50_000)
+        self.assertEqual(self.error("s2_geodesic_outer(?, 15)", many),
+                         f"s2: too many cells: a BLOB of length {len(many)}, 15")
+        self.assertEqual(self.ask("s2_geodesic_outer(?, 8)", many), self.ask("s2_geodesic_outer(?, 8)", TRIANGLE))

@@ -29,6 +29,7 @@ FUNCTIONS = {
     "s2_cell": "c", "s2_token": "c", "s2_debug": "c", "s2_level": "c", "s2_face": "c", "s2_parent": "cv",
     "s2_child": "ck", "s2_range_min": "c", "s2_range_max": "c", "s2_common_ancestor": "cc", "s2_leaf": "fnn",
     "s2_union_agg": "l", "s2_intersection_agg": "l", "s2_version": "", "s2_map_outer": "sv", "s2_map_inner": "sv",
+    "s2_geodesic_outer": "sv", "s2_geodesic_inner": "sv",
 }
 COVERINGS = ("s2_outer", "s2_inner")
 # A value that each kind of argument takes, and of each kind of number the first that is too great: lists, cells or
