@@ -41,7 +41,7 @@ extern "C" {
 /* How many bytes this thread's next call may take; UINT64_MAX if nobody counts. */
 void s2u_host_bound(uint64_t bytes);
 
-/* Ends the bound. Answers the status of the call, which is S2U_MANY if it got no memory beyond that. */
+/* Ends the bound. Answers the status of the call, or S2U_MANY if it got no memory beyond the bound, and ended so. */
 int32_t s2u_host_bounded(int32_t status);
 #ifdef __cplusplus
 }
@@ -75,7 +75,7 @@ void s2u_host_bound(uint64_t bytes) { s2u_host_left = bytes; }
 int32_t s2u_host_bounded(int32_t status) {
   int is_over = s2u_host_left == 0;
   s2u_host_left = UINT64_MAX;
-  return is_over && status == S2U_MEMORY ? S2U_MANY : status;
+  return is_over ? S2U_MANY : status;
 }
 
 static inline int s2u_host_is_over(size_t size) {

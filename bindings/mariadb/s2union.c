@@ -376,16 +376,17 @@ typedef struct {
 } mapped;
 typedef int32_t mapper(const argument* a, uint64_t* out, size_t room, mapped* m);
 
-#define SHAPE_MAKER(name, bytes_taken, f, ...)                                                      \
+#define SHAPE_MAKER(name, bytes_taken, f, e, ...)                                                   \
   static int32_t name(const argument* a, uint64_t* out, size_t room, mapped* m) {                    \
     int is_wkb = a->size > 0 && a->bytes[0] < 2;                                                     \
     s2u_host_bound(bytes_taken);                                                                     \
     return s2u_host_bounded(                                                                         \
-      is_wkb ? f##_wkb(a->bytes, a->size, __VA_ARGS__, out, room, &m->n, &m->outer, &m->fault)       \
-             : f##_geojson((const char*)a->bytes, a->size, __VA_ARGS__, out, room, &m->n, &m->outer, &m->fault)); \
+      is_wkb ? f##_wkb##e(a->bytes, a->size, __VA_ARGS__, out, room, &m->n, &m->outer, &m->fault)    \
+             : f##_geojson##e((const char*)a->bytes, a->size, __VA_ARGS__, out, room, &m->n, &m->outer, &m->fault)); \
   }
-SHAPE_MAKER(on_map, UINT64_MAX, s2u_map, a[1].number, S2U_MAP_WORK)
-SHAPE_MAKER(on_sphere, S2U_HOST_WORK, s2u_geodesic, a[1].number, S2U_MOST_COVERING)
+SHAPE_MAKER(on_map, UINT64_MAX, s2u_map, , a[1].number, S2U_MAP_WORK)
+SHAPE_MAKER(few_on_map, UINT64_MAX, s2u_map, _up_to, a[1].number, a[2].number)
+SHAPE_MAKER(on_sphere, S2U_HOST_WORK, s2u_geodesic, , a[1].number, S2U_MOST_COVERING)
 
 /* Both coverings; the caller frees `out`. */
 static int32_t made_by(mapper* make, const argument* a, uint64_t** out, mapped* m) {
@@ -416,15 +417,16 @@ static uint8_t* one_of_both(mapper* make, const argument* a, int is_outer, size_
   mapped m;
   uint64_t* out = NULL;
   uint8_t* file = NULL;
-  int32_t status = made_by(make, a, &out, &m);
+  int32_t status = a[2].number > S2U_MOST_COVERING ? S2U_ARGUMENT : made_by(make, a, &out, &m);
   warn(status, &m.fault);
   if (is_made(status)) file = is_outer ? file_of(out, m.outer, len) : file_of(out + m.outer, m.n - m.outer, len);
   free(out);
   return file;
 }
 
-KEEPER(s2_map_outer, "sn", LONGEST, one_of_both(on_map, a, 1, &len))
-KEEPER(s2_map_inner, "sn", LONGEST, one_of_both(on_map, a, 0, &len))
+#define ON_MAP args->arg_count > 2 ? few_on_map : on_map
+KEEPER(s2_map_outer, "snN", LONGEST, one_of_both(ON_MAP, a, 1, &len))
+KEEPER(s2_map_inner, "snN", LONGEST, one_of_both(ON_MAP, a, 0, &len))
 KEEPER(s2_geodesic_outer, "sn", LONGEST, one_of_both(on_sphere, a, 1, &len))
 KEEPER(s2_geodesic_inner, "sn", LONGEST, one_of_both(on_sphere, a, 0, &len))
 

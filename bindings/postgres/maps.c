@@ -35,15 +35,22 @@ typedef struct Mapped {
 
 typedef int32_t mapper(FunctionCallInfo fcinfo, const Shape* s, uint64_t* out, size_t room, Mapped* m);
 
-#define MAPPER(name, bytes_taken, f, ...) \
+#define MAPPER(name, bytes_taken, f, e, ...) \
   static int32_t name(FunctionCallInfo fcinfo, const Shape* s, uint64_t* out, size_t room, Mapped* m) { \
     s2u_host_bound(bytes_taken); \
     return s2u_host_bounded( \
-      s->is_text ? f##_geojson(s->at, s->n, __VA_ARGS__, out, room, &m->n, &m->outer, &m->fault) \
-                 : f##_wkb((const uint8_t*)s->at, s->n, __VA_ARGS__, out, room, &m->n, &m->outer, &m->fault)); \
+      s->is_text ? f##_geojson##e(s->at, s->n, __VA_ARGS__, out, room, &m->n, &m->outer, &m->fault) \
+                 : f##_wkb##e((const uint8_t*)s->at, s->n, __VA_ARGS__, out, room, &m->n, &m->outer, &m->fault)); \
   }
-MAPPER(on_map, UINT64_MAX, s2u_map, (uint32_t)PG_GETARG_INT32(1), S2U_MAP_WORK)
-MAPPER(on_sphere, S2U_HOST_WORK, s2u_geodesic, (uint32_t)PG_GETARG_INT32(1), S2U_MOST_COVERING)
+#define NUMBER(k) (uint32_t)PG_GETARG_INT32(k)
+MAPPER(by_level_on_map, UINT64_MAX, s2u_map, , NUMBER(1), S2U_MAP_WORK)
+MAPPER(by_few_on_map, UINT64_MAX, s2u_map, _up_to, NUMBER(1), NUMBER(2))
+MAPPER(on_sphere, S2U_HOST_WORK, s2u_geodesic, , NUMBER(1), S2U_MOST_COVERING)
+
+static int32_t on_map(FunctionCallInfo fcinfo, const Shape* s, uint64_t* out, size_t room, Mapped* m) {
+  if (PG_NARGS() == 2) return by_level_on_map(fcinfo, s, out, room, m);
+  return NUMBER(2) > S2U_MOST_COVERING ? S2U_ARGUMENT : by_few_on_map(fcinfo, s, out, room, m);
+}
 
 static void refuse_shape(const Shape* s, const s2u_shape_fault* fault) {
   int code = s->is_text ? ERRCODE_INVALID_TEXT_REPRESENTATION : ERRCODE_INVALID_BINARY_REPRESENTATION;

@@ -696,6 +696,42 @@ COMMENT ON FUNCTION s2_map_inner(text, integer)
   IS 'a union that lies in polygons in WKB or GeoJSON, as they are written. Proved; since 1.5. Errors: those of '
   's2_map_outer';
 
+CREATE FUNCTION s2_map_outer(shape bytea, max_level integer, max_cells integer)
+RETURNS s2union
+AS 'MODULE_PATHNAME', 's2union_map_outer_of_wkb'
+LANGUAGE C IMMUTABLE STRICT PARALLEL SAFE COST 10000;
+COMMENT ON FUNCTION s2_map_outer(bytea, integer, integer)
+  IS 'a union that contains polygons in WKB or GeoJSON, as they are written, by few cells: at most max_cells, or 6 if '
+  'that is more, of which 10,000 are the most that count, none deeper than max_level. Proved; since 1.5. Errors: a '
+  'fault of the bytes or of the text, a point or a line, a level outside 0 to 30, a number of cells outside 0 to '
+  '1,000,000';
+
+CREATE FUNCTION s2_map_outer(shape text, max_level integer, max_cells integer)
+RETURNS s2union
+AS 'MODULE_PATHNAME', 's2union_map_outer_of_geojson'
+LANGUAGE C IMMUTABLE STRICT PARALLEL SAFE COST 10000;
+COMMENT ON FUNCTION s2_map_outer(text, integer, integer)
+  IS 'a union that contains polygons in WKB or GeoJSON, as they are written, by few cells: at most max_cells, or 6 if '
+  'that is more, of which 10,000 are the most that count, none deeper than max_level. Proved; since 1.5. Errors: a '
+  'fault of the bytes or of the text, a point or a line, a level outside 0 to 30, a number of cells outside 0 to '
+  '1,000,000';
+
+CREATE FUNCTION s2_map_inner(shape bytea, max_level integer, max_cells integer)
+RETURNS s2union
+AS 'MODULE_PATHNAME', 's2union_map_inner_of_wkb'
+LANGUAGE C IMMUTABLE STRICT PARALLEL SAFE COST 10000;
+COMMENT ON FUNCTION s2_map_inner(bytea, integer, integer)
+  IS 'a union that lies in polygons in WKB or GeoJSON, as they are written, by at most max_cells cells, of which '
+  '10,000 are the most that count. Proved; since 1.5. Errors: those of s2_map_outer';
+
+CREATE FUNCTION s2_map_inner(shape text, max_level integer, max_cells integer)
+RETURNS s2union
+AS 'MODULE_PATHNAME', 's2union_map_inner_of_geojson'
+LANGUAGE C IMMUTABLE STRICT PARALLEL SAFE COST 10000;
+COMMENT ON FUNCTION s2_map_inner(text, integer, integer)
+  IS 'a union that lies in polygons in WKB or GeoJSON, as they are written, by at most max_cells cells, of which '
+  '10,000 are the most that count. Proved; since 1.5. Errors: those of s2_map_outer';
+
 CREATE FUNCTION s2_geodesic_outer(shape bytea, level integer)
 RETURNS s2union
 AS 'MODULE_PATHNAME', 's2union_geodesic_outer_of_wkb'

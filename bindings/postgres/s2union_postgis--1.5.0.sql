@@ -62,6 +62,21 @@ RETURN s2_map_inner(ST_AsBinary(s2_degrees(shape)), level);
 COMMENT ON FUNCTION s2_map_inner(geometry, integer)
   IS 'a union that lies in the polygons as they are written. Errors: those of s2_map_outer';
 
+CREATE OR REPLACE FUNCTION s2_map_outer(shape geometry, max_level integer, max_cells integer)
+RETURNS s2union
+LANGUAGE SQL IMMUTABLE STRICT PARALLEL SAFE
+RETURN s2_map_outer(ST_AsBinary(s2_degrees(shape)), max_level, max_cells);
+COMMENT ON FUNCTION s2_map_outer(geometry, integer, integer)
+  IS 'a union that contains the polygons as they are written, by few cells, proved from their WKB on. Errors: a point '
+  'or a line, an open ring, a level or a number of cells out of range';
+
+CREATE OR REPLACE FUNCTION s2_map_inner(shape geometry, max_level integer, max_cells integer)
+RETURNS s2union
+LANGUAGE SQL IMMUTABLE STRICT PARALLEL SAFE
+RETURN s2_map_inner(ST_AsBinary(s2_degrees(shape)), max_level, max_cells);
+COMMENT ON FUNCTION s2_map_inner(geometry, integer, integer)
+  IS 'a union that lies in the polygons as they are written, by few cells. Errors: those of s2_map_outer';
+
 CREATE OR REPLACE FUNCTION s2_geodesic_outer(shape geography, level integer)
 RETURNS s2union
 LANGUAGE SQL IMMUTABLE STRICT PARALLEL SAFE

@@ -55,6 +55,14 @@ static const char* const listed[][4] = {
   {"s2_map_inner", "shape, level",
    "a union that lies in polygons in WKB or GeoJSON, as they are written. Proved; since 1.5. Errors: "
    "those of s2_map_outer", "s2union"},
+  {"s2_map_outer", "shape, max_level, max_cells",
+   "a union that contains polygons in WKB or GeoJSON, as they are written, by few cells: at most "
+   "max_cells, or 6 if that is more, of which 10,000 are the most that count, none deeper than "
+   "max_level. Proved; since 1.5. Errors: a fault of the bytes or of the text, a point or a line, a "
+   "level outside 0 to 30, a number of cells outside 0 to 1,000,000", "s2union"},
+  {"s2_map_inner", "shape, max_level, max_cells",
+   "a union that lies in polygons in WKB or GeoJSON, as they are written, by at most max_cells cells, of"
+   " which 10,000 are the most that count. Proved; since 1.5. Errors: those of s2_map_outer", "s2union"},
   {"s2_geodesic_outer", "shape, level",
    "a union that contains polygons in WKB or GeoJSON, whose edges are geodesics, the shortest ways on "
    "the sphere: cells of a level, and larger ones for four of them. Proved; since 1.5. Errors: those of "

@@ -40,7 +40,7 @@ static const char* reason(int32_t status) {
   switch (status) {
     case NOT_A_UNION: return "a union is a BLOB, or cells in an INTEGER or a TEXT";
     case NOT_A_CELL: return "a cell is an INTEGER or a TEXT";
-    case NOT_A_NUMBER: return "a level, face or coordinate is an INTEGER";
+    case NOT_A_NUMBER: return "a level, face, coordinate or number of cells is an INTEGER";
     case NOT_A_SHAPE: return "a shape is a BLOB of WKB, or a TEXT of GeoJSON";
     case NO_FRAME: return "the frame of a window has to begin with UNBOUNDED PRECEDING";
     default: return s2u_status_text(status);
@@ -80,6 +80,11 @@ static int32_t number_of(sqlite3_value* v, uint32_t* number) {
   *number = (uint32_t)wide;
   if (sqlite3_value_type(v) != SQLITE_INTEGER) return NOT_A_NUMBER;
   return *number == wide ? S2U_OK : S2U_ARGUMENT;
+}
+
+static int32_t count_of(sqlite3_value* v, uint32_t* count) {
+  int32_t status = number_of(v, count);
+  return status == S2U_OK && *count > S2U_MOST_COVERING ? S2U_ARGUMENT : status;
 }
 
 /* Cells that are gathered, and normalized when they have doubled. */
@@ -230,7 +235,7 @@ static int32_t shape_argument(sqlite3_value* v, argument* a) {
 }
 
 /* The letters of arguments: a list, a file to be asked, a cell or a file to be asked, a cell, what may be a cell, a
- * number, a shape, or bytes. */
+ * number, how many cells there may be, a shape, or bytes. */
 static int32_t read_argument(sqlite3_context* c, char letter, sqlite3_value** v, int k, argument* a) {
   int type = sqlite3_value_type(v[k]);
   switch (letter) {
@@ -240,6 +245,7 @@ static int32_t read_argument(sqlite3_context* c, char letter, sqlite3_value** v,
     case 'c': return cell_of(v[k], &a->cell);
     case 'm': return a->number = (type = cell_of(v[k], &a->cell)) == S2U_OK, type == S2U_MEMORY ? type : S2U_OK;
     case 'n': return number_of(v[k], &a->number);
+    case 'k': return count_of(v[k], &a->number);
     case 's': return shape_argument(v[k], a);
     default: return type == SQLITE_BLOB ? bytes_of(v[k], &a->bytes, &a->n) : S2U_OK;
   }
@@ -265,16 +271,17 @@ MAKER(make_ancestors, s2u_ancestors, LIST(a[0]))
 MAKER(make_part, s2u_intersection, LIST(a[0]), &a[1].cell, 1)
 
 /* The cells of both coverings of a shape, the outer ones first, by a call that takes at most so many bytes. */
-#define SHAPE_MAKER(name, bytes_taken, f, ...) \
+#define SHAPE_MAKER(name, bytes_taken, f, e, ...) \
   static int32_t name(const argument* a, uint64_t* out, size_t room, size_t* n) { \
     mapped* m = a->mapped; \
     s2u_host_bound(bytes_taken); \
     return s2u_host_bounded( \
-      a->is_text ? f##_geojson((const char*)a->bytes, a->n, __VA_ARGS__, out, room, n, &m->outer, &m->fault) \
-                 : f##_wkb(a->bytes, a->n, __VA_ARGS__, out, room, n, &m->outer, &m->fault)); \
+      a->is_text ? f##_geojson##e((const char*)a->bytes, a->n, __VA_ARGS__, out, room, n, &m->outer, &m->fault) \
+                 : f##_wkb##e(a->bytes, a->n, __VA_ARGS__, out, room, n, &m->outer, &m->fault)); \
   }
-SHAPE_MAKER(make_map, UINT64_MAX, s2u_map, a[1].number, S2U_MAP_WORK)
-SHAPE_MAKER(make_geodesic, S2U_HOST_WORK, s2u_geodesic, a[1].number, S2U_MOST_COVERING)
+SHAPE_MAKER(make_map, UINT64_MAX, s2u_map, , a[1].number, S2U_MAP_WORK)
+SHAPE_MAKER(make_few_on_map, UINT64_MAX, s2u_map, _up_to, a[1].number, a[2].number)
+SHAPE_MAKER(make_geodesic, S2U_HOST_WORK, s2u_geodesic, , a[1].number, S2U_MOST_COVERING)
 
 /* The list that a maker makes. The caller drops it, even after a refusal. */
 static int32_t list_made(maker* make, const argument* a, size_t room, block** list) {
@@ -407,7 +414,8 @@ static const function functions[] = {
   {"s2_level", "c", level}, {"s2_face", "c", face}, {"s2_parent", "cn", parent}, {"s2_child", "cn", child},
   {"s2_range_min", "c", range_min}, {"s2_range_max", "c", range_max}, {"s2_common_ancestor", "cc", common_ancestor},
   {"s2_leaf", "nnn", leaf}, {"s2_version", "", version}, {"s2_complement", "l", makes, .make = make_complement},
-  OF_SHAPE("s2_map", "sn", make_map), OF_SHAPE("s2_geodesic", "sn", make_geodesic),
+  OF_SHAPE("s2_map", "sn", make_map), OF_SHAPE("s2_map", "snk", make_few_on_map),
+  OF_SHAPE("s2_geodesic", "sn", make_geodesic),
 };
 
 /* Every function comes through here: NULL if an argument is NULL, an error if the call refuses. */

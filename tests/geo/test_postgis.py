@@ -37,6 +37,7 @@ CALLS = [f"SELECT own.{call}" for call in (
     "s2_coverings(public.ST_Point(2, 48))",
     "s2_map_outer('POLYGON((2 48, 3 48, 3 49, 2 48))'::public.geometry, 9)",
     "s2_map_inner('POLYGON((2 48, 3 48, 3 49, 2 48))'::public.geometry, 9)",
+    "s2_map_outer('POLYGON((2 48, 3 48, 3 49, 2 48))'::public.geometry, 30, 8)",
     "s2_geodesic_outer('POLYGON((2 48, 3 48, 3 49, 2 48))'::public.geography, 9)",
     "s2_geodesic_inner('POLYGON((2 48, 3 48, 3 49, 2 48))'::public.geometry, 9)", "s2_geometry('04')",
     "s2_geometry('04', true)", "s2_geojson('04')", "s2_geojson('04', true)", "s2_envelope(1)",
@@ -88,6 +89,10 @@ class PostGIS(unittest.TestCase):
                                        f"(geom, 8) = {name}(ST_AsGeoJSON(geom), 8), {name}(ST_Transform(geom, 4258), 8)"
                                        f" = {name}(geom, 8), {name}(NULL::geometry, 8) IS NULL"
                                        f" FROM (SELECT {square.format(4326)} AS geom) v"), ["t|t|t|t"])
+        for name in "s2_map_outer", "s2_map_inner":
+            self.assertEqual(self.said(f"SELECT {name}(geom, 30, 8) = {name}(ST_AsEWKB(geom), 30, 8),"
+                                       f" s2_count({name}(geom, 30, 8)) FROM (SELECT {square.format(4326)} AS geom) v"),
+                             ["t|8"])
         for name in "s2_geodesic_outer", "s2_geodesic_inner":
             self.assertEqual(self.said(f"SELECT {name}(geom::geography, 8) = {name}(geom, 8), {name}(geom, 8) ="
                                        f" {name}(ST_Transform(geom, 4258)::geography, 8), {name}(NULL::geography, 8)"

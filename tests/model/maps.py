@@ -511,7 +511,7 @@ def rows(library):
     for k, polygons in enumerate(own):
         for call, data in (("wkb", wkb_of(polygons, "<>"[k % 2])), ("geojson", geojson_of(polygons).encode())):
             say(library, call, data, (0, 3, 5, 6, 7)[k % 5])
-            say(library, call, data, 5, 10 ** (k % 7), 3 ** (k % 7), 2**20)
+            say(library, call, data, 5, 10 ** (k % 7), 3 ** (k % 7), 10**6)
             say(library, call, data, 31)
             say_one(library, f"map_{call}_up_to", data, 30, (0, 1, 6, 20, 100, 1000)[k % 6])
     say(library, "geojson", geojson_of([[star(2, 48, 0.001, 12)]]).encode(), 18)
@@ -529,13 +529,13 @@ USUAL = {"map": WORK, "geodesic": 10**6}
 
 
 class Asked(NamedTuple):
-    """What edges are, "map" or "geodesic", a text or bytes, a level, and the cells of both coverings, or what an error
-    says after the database's name."""
+    """What edges are, "map" or "geodesic", a text or bytes, a level and maybe a number of few cells, and the cells of
+    both coverings, or what an error says after the database's name."""
 
     edges: str
     form: str
     data: bytes
-    level: int
+    numbers: tuple
     outer: list
     inner: list
     error: str
@@ -547,15 +547,16 @@ def asked():
     for line in Path(os.environ["S2UNION_MAPS"]).read_text("utf-8").splitlines():
         call, data, level, most, *answer = line.split("\t")
         edges, form, *few = call.split("_", 2)
-        if few or int(most) < USUAL[edges] and answer == ["!many"]:
+        if not few and int(most) < USUAL[edges] and answer == ["!many"]:
             continue
+        numbers = (int(level), int(most)) if few else (int(level),)
         cells, error = [[int(cell, 16) for cell in words.split()] for words in answer if words[:1] != "!"], ""
         if answer[0] == "!argument":
             error = "argument out of range"
         elif answer[0][:1] == "!":
             name, *places = answer[0][1:].split()
             error = f"{texts[name.upper()]}: byte {places[0]}, part {places[1]}, ring {places[2]}, position {places[3]}"
-        yield Asked(edges, form, bytes.fromhex(data), int(level), *(cells or [[], []]), error)
+        yield Asked(edges, form, bytes.fromhex(data), numbers, *(cells or [[], []]), error)
 
 
 def main(*files):

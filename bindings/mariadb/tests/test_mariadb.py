@@ -75,14 +75,15 @@ TAKES = {
     **dict.fromkeys(("s2_level", "s2_face", "s2_range_min", "s2_range_max", "s2_cell", "s2_token", "s2_longitude",
                      "s2_latitude"), (CELL_OF,)),
     **dict.fromkeys(("s2_covering", "s2_interior"), (SHAPE, COUNT, DEPTH)),
-    **dict.fromkeys(MAPS, (EITHER, COARSE_OF)),
+    **dict.fromkeys(MAPS[:2], (EITHER, COARSE_OF, COUNT)), **dict.fromkeys(MAPS[2:], (EITHER, COARSE_OF)),
     **dict.fromkeys(("s2_parent", "s2_child"), (CELL_OF, NUMBER)),
     "s2_neighbors": (CELL_OF, DEPTH), "s2_expanded": (UNION, NUMBER), "s2_bounds": (UNION,), "s2_area": (UNION,),
     "s2_common_ancestor": (CELL_OF, CELL_OF), "s2_leaf_at": (DEGREE, DEGREE), "s2_is_cell": (ANY,),
     "s2_is_union": (ANY,),
 }
 SHAPED = ("s2_covering", "s2_interior", *MAPS)
-LEAST = dict.fromkeys(("s2_covering", "s2_interior", "s2_neighbors"), 1)  # arguments, if some may be left out
+# Arguments, if some may be left out.
+LEAST = {**dict.fromkeys(("s2_covering", "s2_interior", "s2_neighbors"), 1), **dict.fromkeys(MAPS[:2], 2)}
 # SQLite has one function for a cell and for a region.
 BESIDE = {"s2_contains_cell": "s2_contains", "s2_intersects_cell": "s2_intersects"}
 TEXTS_OF = {"s2_union", "s2_intersection", "s2_difference", "s2_symmetric_difference", "s2_complement", "s2_normalise",
@@ -217,14 +218,14 @@ class BesideSqlite(MariadbServer):
         """Those of tests/model/maps.py, in the file that S2UNION_MAPS names: an error is NULL and a warning."""
         asked = [row for row in maps.asked() if (row.data[:1] in (b"\0", b"\1")) == (row.form == "wkb")]  # as it reads
         warnings = "SHOW WARNINGS; "  # a statement without a table keeps those of the one before, if it has none
-        calls = [f"SELECT hex(s2_{row.edges}_{name}({shown(row.data)}, {row.level})); "
+        calls = [f"SELECT hex(s2_{row.edges}_{name}({shown(row.data)}, {', '.join(map(str, row.numbers))})); "
                  f"{warnings if row.error else ''}SELECT '--';" for row in asked for name in ("outer", "inner")]
         said = self.ask("USE trial; " + "\n".join(calls)).split("\n--\n")
         wanted = [f"NULL\nWarning\t1416\ts2: {row.error}" if row.error else file(cells).hex().upper()
                   for row in asked for cells in (row.outer, row.inner)]
         for call, answer, right in zip(calls, said, [*wanted, ""], strict=False):
             self.assertEqual(answer, right, call[:400])
-        self.assertEqual((len(said), len(asked) > 1200), (len(wanted) + 1, True))
+        self.assertEqual((len(said), len(asked) > 2000), (len(wanted) + 1, True))
 
     def test_a_warning_of_a_shape(self):
         """A column that is strict takes no such NULL, as of the server's own functions."""

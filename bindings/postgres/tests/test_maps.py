@@ -23,15 +23,16 @@ def is_text(data):
 class Maps(Tests):
     def test_texts_and_bytes(self):
         rows = list(maps.asked())
-        self.assertGreater(len(rows), 1200)
+        self.assertGreater(len(rows), 2000)
         calls, wanted = [], []
         for row in rows:
             shape = f"'\\x{row.data.hex()}'::bytea"
             shape = f"convert_from({shape}, 'UTF8')" if row.form == "geojson" else shape
             for name, cells in (("outer", row.outer), ("inner", row.inner)):
                 said = f"error: s2union: {row.error}" if row.error else tokens(cells)
-                said += f": {row.level}" if row.level > 30 else ""
-                calls.append(f"s2_{row.edges}_{name}({shape}, {row.level})")
+                numbers = ", ".join(map(str, row.numbers))
+                said += f": {numbers}" if row.numbers[0] > 30 else ""
+                calls.append(f"s2_{row.edges}_{name}({shape}, {numbers})")
                 wanted.append(said if row.form == "wkb" or is_text(row.data) else "error: invalid byte sequence")
         for call, said, answer in zip(calls, wanted, ask(calls), strict=True):
             self.assertEqual(answer[:len(said)] if "byte sequence" in said else answer, said, call)
@@ -52,6 +53,14 @@ class Maps(Tests):
         nothing = '\'{"type": "MultiPolygon", "coordinates": []}\''
         self.all_are([(f"{name}({shape}, {level}) = ''", "true") for name in NAMES for level in (0, 30)
                       for shape in (nothing, "'\\x010600000000000000'::bytea")])
+
+    def test_a_number_of_cells(self):
+        few = wkb_of([(0, 0), (9, 2), (5, 8), (0, 0)])
+        for name in "s2_map_outer", "s2_map_inner":
+            self.all_are([(f"{name}({few}, 9, {count})", f"error: s2union: argument out of range: 9, {count}")
+                          for count in (-1, 1_000_001)])
+            self.all_are([(f"{name}({few}, {numbers})", "null") for numbers in ("9, NULL", "NULL, 9")])
+            self.all_are([(f"{name}({few}, max_cells => 1000000, max_level => 7) = {name}({few}, 7)", "true")])
 
     def test_the_beginnings_of_bytes(self):
         few = wkb_of([(0, 0), (9, 2), (5, 8), (0, 0)])

@@ -23,14 +23,14 @@ class Maps(Tests):
         for row in rows:
             shape = "?1" if row.form == "wkb" else "CAST(?1 AS TEXT)"
             for name, cells in (("outer", row.outer), ("inner", row.inner)):
-                call = f"s2_{row.edges}_{name}({shape}, ?2)"
+                call = f"s2_{row.edges}_{name}({', '.join([shape, '?2', '?3'][:1 + len(row.numbers)])})"
                 if not row.error:
-                    self.assertEqual(self.ask(call, row.data, row.level), model.file(cells), row)
-                elif row.level > 30:
-                    self.assertTrue(self.error(call, row.data, row.level).startswith(f"s2: {row.error}: "), row)
+                    self.assertEqual(self.ask(call, row.data, *row.numbers), model.file(cells), row)
+                elif row.numbers[0] > 30:
+                    self.assertTrue(self.error(call, row.data, *row.numbers).startswith(f"s2: {row.error}: "), row)
                 else:
-                    self.assertEqual(self.error(call, row.data, row.level), f"s2: {row.error}")
-        self.assertGreater(len(rows), 1200)
+                    self.assertEqual(self.error(call, row.data, *row.numbers), f"s2: {row.error}")
+        self.assertGreater(len(rows), 2000)
 
     def test_what_is_refused(self):
         place = "byte 0, part 0, ring 0, position 0"
@@ -46,6 +46,14 @@ class Maps(Tests):
             self.assertEqual(self.error(f"{name}(?, 30)", TRIANGLE),
                              f"s2: too many cells: a BLOB of length {len(TRIANGLE)}, 30")
             self.assertEqual(self.ask(f"{name}(?, 30)", NO_POLYGONS), EMPTY)
+
+    def test_a_number_of_cells(self):
+        for name in "s2_map_outer", "s2_map_inner":
+            for count in -1, 1_000_001, 2**32 + 8:
+                self.assertEqual(self.error(f"{name}(?, 9, ?)", TRIANGLE, count), f"s2: argument out of range: {count}")
+            self.assertRegex(self.error(f"{name}(?, 9, 8.0)", TRIANGLE), "number of cells is an INTEGER: 8.0")
+            self.assertIsNone(self.ask(f"{name}(?, 9, NULL)", TRIANGLE))
+            self.assertEqual(self.ask(f"{name}(?, 7, 1000000)", TRIANGLE), self.ask(f"{name}(?, 7)", TRIANGLE))
 
     def test_each_beginning_of_bytes(self):
         for size in range(len(TRIANGLE)):

@@ -32,13 +32,14 @@ FUNCTIONS = {
     "s2_geodesic_outer": "sv", "s2_geodesic_inner": "sv",
 }
 COVERINGS = ("s2_outer", "s2_inner")
+MAPS = ("s2_map_outer", "s2_map_inner")
 # A value that each kind of argument takes, and of each kind of number the first that is too great: lists, cells or
-# lists, cells, bytes, shapes; levels, faces, children, places on a face, the modulus.
+# lists, cells, bytes, shapes; levels, faces, children, places on a face, the modulus, how many cells.
 TRIANGLE = b"\1" + struct.pack("<3I8d", 3, 1, 4, 0, 0, 9, 2, 5, 8, 0, 0)
 GOOD = {"l": "0c 14", "q": "0c", "c": "1c", "b": EMPTY, "s": TRIANGLE, "v": 1, "f": 1, "k": 1, "n": 1, "m": 1}
-TOO_GREAT = {"v": 31, "f": 6, "k": 4, "n": 2**30, "m": 4}
+TOO_GREAT = {"v": 31, "f": 6, "k": 4, "n": 2**30, "m": 4, "e": 1_000_001}
 NUMBERS = {"v": (-1, 31, 50, 2**31, 2**32, 2**32 + 5, -2**63), **{
-    letter: (-1, TOO_GREAT[letter], 2**31, 2**32, 2**32 + 1, 2**63 - 1) for letter in "fknm"}}
+    letter: (-1, TOO_GREAT[letter], 2**31, 2**32, 2**32 + 1, 2**63 - 1) for letter in "fknme"}}
 NO_CELLS = (0, 2, -1, -2**63, "", "X", "0/4", "6/", "1\0", "9" * 17)
 NO_LISTS = (0, 2, -1, "X", "0/4", "1 g", "1\0", "1\0 1")
 sqlite = ctypes.CDLL("libsqlite3.so.0")
@@ -62,6 +63,8 @@ def calls():
         yield name, "lv", ["0c 14", 3]
         yield name, "fnnnnv", [0, 5, 900, 7, 1000, 25]
         yield name, "lfnnnnv", ["0c 14", 0, 5, 900, 7, 1000, 25]
+    for name in MAPS:
+        yield name, "sve", [TRIANGLE, 9, 8]
 
 
 class Random(random_cells.Random):
@@ -656,7 +659,7 @@ class WhatIsRefused(Tests):
             for k, letter in enumerate(letters):
                 for wrong in {"l": (1.5,), "q": (1.5,), "c": (1.5, EMPTY), "b": (), "s": (1, 1.5)}.get(
                         letter, (1.0, "1", b"1")):
-                    what = "a level, face or coordinate is" if letter in NUMBERS else "a union is"
+                    what = "a level, face, coordinate or number of cells is" if letter in NUMBERS else "a union is"
                     what = {"c": "a cell is", "s": "a shape is"}.get(letter, what)
                     marks = ", ".join("?" * len(values))
                     self.refused(f"s2: {what}", f"{name}({marks})", *values[:k], wrong, *values[k + 1 :])
@@ -677,7 +680,7 @@ class WhatIsRefused(Tests):
             ("s2: not a cell: '04 it''s'", "s2_count(?)", "04 it's"),
             ("s2: not a cell: '" + 40 * "é" + "'", "s2_count(?)", 50 * "é"),
             ("s2: a cell is an INTEGER or a TEXT: 1.5", "s2_parent(?, 3)", 1.5),
-            ("s2: a level, face or coordinate is an INTEGER: 'x'", "s2_parent('1', ?)", "x"),
+            ("s2: a level, face, coordinate or number of cells is an INTEGER: 'x'", "s2_parent('1', ?)", "x"),
             ("s2: argument out of range: '3', '1'", "s2_range(?, ?)", "3", "1"),
             ("s2: argument out of range: '1', 31", "s2_outer(?, ?)", "1", 31),
             ("s2: union file: bytes are missing: a BLOB of length 3", "s2_leaves(?)", b"\x01\0\0"),
