@@ -1,5 +1,6 @@
 -- s2union_geo 1.4.1: exact joins that give no right away and stay exact. CREATE EXTENSION runs it after
--- s2union_geo--1.3--1.4.sql. README.md says what each function does, in the words of its comment.
+-- s2union_geo--1.3--1.4.sql. README.md says what each function does, in the words of its comment. The Makefile puts it
+-- into the update from 1.4.1 too, for 1.5 has cured what stands here.
 
 \echo Use "ALTER EXTENSION s2union_geo UPDATE" to load this file. \quit
 
@@ -16,7 +17,7 @@ END;
 
 -- ---- what s2_join_table and s2_join_drop share
 
-CREATE FUNCTION s2union_join_locked(zones regclass, mode text)
+CREATE OR REPLACE FUNCTION s2union_join_locked(zones regclass, mode text)
 RETURNS pg_class
 LANGUAGE plpgsql STRICT
 SET search_path = pg_catalog, pg_temp
@@ -26,6 +27,10 @@ DECLARE
 BEGIN
   EXECUTE format('LOCK TABLE ONLY %s IN %s MODE', zones, mode);
   SELECT * INTO it FROM pg_class WHERE oid = zones;
+  IF NOT EXISTS (SELECT FROM pg_locks AS l WHERE l.pid = pg_backend_pid() AND l.relation = zones
+      AND l.mode = replace(initcap($2), ' ', '') || 'Lock') THEN
+    RAISE 's2union: table % has another name than a moment ago', zones USING ERRCODE = 'object_in_use';
+  END IF;
   IF NOT pg_has_role(it.relowner, 'USAGE') THEN
     RAISE 's2union: must be owner of table %', zones USING ERRCODE = 'insufficient_privilege';
   END IF;
@@ -37,7 +42,7 @@ COMMENT ON FUNCTION s2union_join_locked(regclass, text)
 
 -- The comment tells what is made, if somebody who may have made it has set it. A function of 1.4.0 has none, but asks
 -- the tiles or is the triggers'. The triggers know the name that the table had.
-CREATE FUNCTION s2union_join_made(zones regclass, OUT place integer, OUT object text)
+CREATE OR REPLACE FUNCTION s2union_join_made(zones regclass, OUT place integer, OUT object text)
 RETURNS SETOF record
 LANGUAGE SQL STABLE STRICT
 SET search_path = pg_catalog, pg_temp
@@ -75,7 +80,8 @@ COMMENT ON FUNCTION s2union_join_made(regclass)
 -- ---- the tiles of a table
 
 -- All that it makes is the owner's of the zones, so a dump has it, and the triggers have no rights but his. The caller,
--- perhaps a superuser, runs no code of the owner: no value is cast, and tiles with code of their own are refused.
+-- perhaps a superuser, runs no code of the owner: no value is cast, tiles with code of their own are refused, and
+-- nothing is looked at before it is locked. A type may get another name at any time, so the columns' are compared last.
 CREATE OR REPLACE FUNCTION s2_join_table(zones regclass, shape name DEFAULT 'geom', level integer DEFAULT NULL,
   max_cells integer DEFAULT 50)
 RETURNS regclass
@@ -85,21 +91,16 @@ SET client_min_messages = warning
 SET row_security = off
 AS $$
 DECLARE
-  base text := (SELECT extnamespace::regnamespace FROM pg_extension WHERE extname = 's2union');
-  geo text := (SELECT extnamespace::regnamespace FROM pg_extension WHERE extname = 's2union_geo');
+  base text; geo text; own text; gis text; -- schemas: the extensions', that of the function that takes it, PostGIS's
   it pg_class; -- the zones
-  kind regtype := (SELECT atttypid FROM pg_attribute WHERE attrelid = zones AND attname = shape AND attnum > 0);
-  own text := (SELECT n.oid::regnamespace FROM pg_depend JOIN pg_extension AS e ON e.oid = refobjid -- that takes it
-    JOIN pg_proc AS p ON p.oid = objid JOIN pg_namespace AS n ON n.oid = pronamespace
-    WHERE deptype = 'e' AND refclassid = 'pg_extension'::regclass AND classid = 'pg_proc'::regclass
-      AND extname IN ('s2union_geo', 's2union_postgis') AND proname = 's2_join_tiles' AND proargtypes[0] = kind);
-  gis text := (SELECT typnamespace::regnamespace FROM pg_type WHERE oid = kind); -- where a geometry has its functions
-  wkb text := format(CASE kind WHEN 'bytea'::regtype THEN 'z.%3$I' ELSE '%s.ST_AsBinary(%s.s2_degrees(z.%3$I))' END,
-    gis, own, shape); -- of a zone
+  kind regtype; -- of a shape
+  wkb text; -- of a zone
   space text; table_name text; tiles text; finder text; follower text; key text; cutter text; remark text; role text;
   made text[]; -- by an earlier call
   keys text; typed text; columns text; of_zones text; of_tiles text; of_row text; old_row text; new_row text;
   same_tiles text; same_zone text; -- have the key of a row
+  kinds oid[]; -- of the key
+  is_there boolean; -- whether there are tiles
   is_own boolean; -- no key has a type of another role
   deep integer := level;
   wide numeric; -- how many leaves a zone is wide, on average
@@ -116,10 +117,30 @@ BEGIN
     RAISE 's2union: a transaction of this isolation may not see all rows of table %', zones
       USING ERRCODE = 'active_sql_transaction', HINT = 'Call s2_join_table at the level READ COMMITTED.';
   END IF;
+
+  -- what nobody changes until the transaction ends: names of schemas, which a superuser can lock, zones, and tiles
+  IF (SELECT rolsuper FROM pg_roles WHERE rolname = current_user) THEN
+    PERFORM FROM pg_namespace FOR SHARE;
+  END IF;
+  base := (SELECT extnamespace::regnamespace FROM pg_extension WHERE extname = 's2union');
+  geo := (SELECT extnamespace::regnamespace FROM pg_extension WHERE extname = 's2union_geo');
   EXECUTE format('SELECT * FROM %s.s2union_join_locked($1, $2)', geo) INTO it USING zones, 'SHARE ROW EXCLUSIVE';
+  space := it.relnamespace::regnamespace;
+  tiles := format('%s.%I', space, it.relname || '_tiles');
+  EXECUTE format('SELECT FROM %s.s2union_join_locked($1, $2)', geo) USING to_regclass(tiles), 'ACCESS EXCLUSIVE';
+  is_there := to_regclass(tiles) IS NOT NULL;
   EXECUTE format('SELECT array_agg(object) FROM %s.s2union_join_made($1)', geo) INTO made USING zones;
 
-  -- the zones
+  -- the zones; whoever made an extension may put functions into it, but a superuser owns what it has itself
+  kind := (SELECT atttypid FROM pg_attribute WHERE attrelid = zones AND attname = shape AND attnum > 0);
+  own := (SELECT n.oid::regnamespace FROM pg_depend JOIN pg_extension AS e ON e.oid = refobjid
+    JOIN pg_proc AS p ON p.oid = objid JOIN pg_namespace AS n ON n.oid = pronamespace
+    JOIN pg_roles AS r ON r.oid = proowner AND rolsuper
+    WHERE deptype = 'e' AND refclassid = 'pg_extension'::regclass AND classid = 'pg_proc'::regclass
+      AND extname IN ('s2union_geo', 's2union_postgis') AND proname = 's2_join_tiles' AND proargtypes[0] = kind);
+  gis := (SELECT typnamespace::regnamespace FROM pg_type WHERE oid = kind);
+  wkb := format(CASE kind WHEN 'bytea'::regtype THEN 'z.%3$I' ELSE '%s.ST_AsBinary(%s.s2_degrees(z.%3$I))' END,
+    gis, own, shape);
   IF it.relkind = 'p' OR EXISTS (SELECT FROM pg_inherits WHERE inhparent = zones) THEN
     RAISE 's2union: table % has rows in other tables', zones USING ERRCODE = 'wrong_object_type',
       HINT = 'Call s2_join_table for each of its partitions, or of the tables that inherit from it.';
@@ -144,8 +165,8 @@ BEGIN
     string_agg(format('NEW.%I', attname), ', ' ORDER BY place),
     string_agg(format('t.%I OPERATOR(%s.%s) k.%1$I', attname, oprnamespace::regnamespace, oprname), ' AND '),
     string_agg(format('z.%I OPERATOR(%s.%s) (zone).%1$I', attname, oprnamespace::regnamespace, oprname), ' AND '),
-    bool_and(typowner = it.relowner OR rolsuper)
-    INTO keys, typed, of_zones, of_tiles, of_row, old_row, new_row, same_tiles, same_zone, is_own
+    bool_and(typowner = it.relowner OR rolsuper), array_agg(atttypid ORDER BY place)
+    INTO keys, typed, of_zones, of_tiles, of_row, old_row, new_row, same_tiles, same_zone, is_own, kinds
     FROM pg_index, unnest(indkey::int2[], indclass::oid[]) WITH ORDINALITY AS k (number, class, place)
       JOIN pg_attribute ON attnum = number JOIN pg_type AS y ON y.oid = atttypid JOIN pg_roles AS r ON r.oid = typowner
       JOIN pg_opclass AS c ON c.oid = class JOIN pg_amop ON amopfamily = opcfamily AND amoplefttype = opcintype
@@ -166,11 +187,9 @@ BEGIN
   END IF;
 
   -- what has the names already
-  space := it.relnamespace::regnamespace;
   role := it.relowner::regrole;
   table_name := format('%s.%I', space, it.relname);
   remark := format('made by s2_join_table of %s', table_name);
-  tiles := format('%s.%I', space, it.relname || '_tiles');
   finder := format('%s.%I', space, it.relname || '_at');
   follower := format('%s.%I()', space, it.relname || '_follow');
   key := format('%s.%I', space, it.relname || '_key');
@@ -194,7 +213,7 @@ BEGIN
         HINT = 'Rename it, or drop it.';
     END IF;
   END LOOP;
-  IF to_regclass(tiles) IS NOT NULL AND format('TABLE %s', to_regclass(tiles)) <> ALL (made) IS NOT FALSE THEN
+  IF is_there AND format('TABLE %s', to_regclass(tiles)) <> ALL (made) IS NOT FALSE THEN
     RAISE 's2union: table % is there, and not made by s2_join_table', tiles USING ERRCODE = 'duplicate_table',
       HINT = 'Rename it, or drop it.';
   END IF;
@@ -218,7 +237,7 @@ BEGIN
       shape, table_name) INTO wide;
     deep := least(greatest(round(30 - log(2, coalesce(wide, 4194304) / 3)), 1), 20);
   END IF;
-  IF to_regclass(tiles) IS NULL THEN
+  IF NOT is_there THEN
     EXECUTE format('CREATE %s TABLE %s (%s)', CASE it.relpersistence WHEN 'u' THEN 'UNLOGGED' END, tiles, columns);
     EXECUTE format('ALTER TABLE %s ALTER tile SET NOT NULL, ALTER part SET NOT NULL, ALTER sure SET NOT NULL', tiles);
     EXECUTE format('ALTER TABLE %s ADD PRIMARY KEY (tile, %s)', tiles, keys);
@@ -226,6 +245,10 @@ BEGIN
   END IF;
   EXECUTE format('ALTER TABLE %s OWNER TO %s', tiles, role);
   EXECUTE format('COMMENT ON TABLE %s IS %L', tiles, remark);
+  IF kinds <> (SELECT (array_agg(atttypid ORDER BY attnum))[:cardinality(kinds)] FROM pg_attribute
+      WHERE attrelid = to_regclass(tiles) AND attnum > 0 AND NOT attisdropped) THEN
+    RAISE 's2union: the key of table % has another type than a moment ago', zones USING ERRCODE = 'object_in_use';
+  END IF;
   EXECUTE format('TRUNCATE %s', tiles);
   EXECUTE format('INSERT INTO %s SELECT %s, t.* FROM ONLY %s AS z, %s.s2_join_tiles(%s, %s, %s) AS t', tiles,
     of_zones, table_name, geo, wkb, deep, max_cells);
@@ -313,7 +336,7 @@ COMMENT ON FUNCTION s2_join_table(regclass, name, integer, integer)
   'ZONES_at(place) too. Triggers keep the tiles in step. Errors: no primary key, partitions or heirs, a table or '
   'function of such a name that it didn''t make, another type, a number out of range, those of s2_covering';
 
-CREATE FUNCTION s2_join_drop(zones regclass)
+CREATE OR REPLACE FUNCTION s2_join_drop(zones regclass)
 RETURNS void
 LANGUAGE plpgsql STRICT
 SET search_path = pg_catalog, pg_temp

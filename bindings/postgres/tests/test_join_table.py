@@ -6,6 +6,7 @@ import os
 import random
 import re
 import subprocess
+import time
 import unittest
 
 from model.changes import random_changes
@@ -169,6 +170,46 @@ class Rights(Joined):
                 if "TRIGGER" not in code else "")
             ask(f"GRANT ALL ON SCHEMA maps TO keeper; SET ROLE keeper; {code}")
             self.assert_refused("SELECT s2_join_table('maps.zones', 'shape')", f"s2_join_table did not make|{said}")
+
+    def meanwhile(self, change, also=""):
+        """What a call of a superuser's says that has begun before a change of the owner's ends, and what `also` says
+        before that."""
+        owner, caller, other = Session(), Session(), Session()
+        owner.say(f"SET ROLE keeper; BEGIN; {change};")
+        caller.begin("SELECT s2_join_table('maps.zones', 'shape');")
+        end = time.monotonic() + 60
+        while ask("SELECT count(*) FROM pg_locks WHERE NOT granted") == ["0"] and time.monotonic() < end:
+            pass
+        said = other.say(also)
+        owner.say("COMMIT;")
+        said += caller.ends()
+        for session in owner, caller, other:
+            session.close()
+        self.assertEqual(ask(SUPERUSERS), ["postgres"])
+        return " ".join(said)
+
+    def test_the_owner_gains_nothing_while_a_superuser_calls(self):
+        """He changes the tiles, the zones, or what has their name, when the call has begun."""
+        sprung = TRAP.format("maps").replace("guest", "keeper")
+        for change, said in (
+                (f"{sprung} CREATE FUNCTION maps.run() RETURNS trigger LANGUAGE plpgsql AS"
+                 " 'BEGIN PERFORM maps.sprung(NULL); RETURN NEW; END'; CREATE TRIGGER run BEFORE INSERT"
+                 " ON maps.zones_tiles FOR EACH ROW EXECUTE FUNCTION maps.run()", "has triggers"),
+                (f"{sprung} CREATE FUNCTION maps.of(maps.trap) RETURNS bytea LANGUAGE SQL AS 'SELECT CASE WHEN"
+                 " maps.sprung($1) > 0 THEN NULL::bytea END'; CREATE CAST (maps.trap AS bytea) WITH FUNCTION"
+                 " maps.of(maps.trap) AS IMPLICIT; SELECT s2_join_drop('maps.zones');"
+                 " ALTER TABLE maps.zones ALTER shape TYPE maps.trap USING ROW(1)", "is of type maps.trap"),
+                ("ALTER TABLE maps.zones RENAME TO old; CREATE TABLE maps.zones (LIKE maps.old INCLUDING ALL)",
+                 "table maps.old has another name than a moment ago")):
+            self.setUp()
+            self.zones()
+            self.assertIn(said, self.meanwhile(change))
+
+    def test_no_schema_gets_another_name_while_a_superuser_calls(self):
+        self.zones()
+        said = self.meanwhile("LOCK TABLE maps.zones",
+                              "SET lock_timeout = '1s'; ALTER SCHEMA maps RENAME TO other;")
+        self.assertRegex(said, "lock timeout.*maps.zones_tiles")
 
     def test_nothing_of_the_callers_path_is_called(self):
         """Functions and operators that fit better than PostgreSQL's own and the extension's."""

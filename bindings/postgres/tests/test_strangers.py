@@ -143,6 +143,23 @@ class Strangers(unittest.TestCase):
         self.as_stranger("CREATE EXTENSION s2union_geo SCHEMA trap;")
         self.assertEqual(psql("SELECT trap.s2_longitude('1'::text)", "strange"), ["0"])
 
+    def test_what_he_has_put_into_the_extension_is_no_part_of_it(self):
+        """A superuser joins his table, whose shapes have a type of his and functions named as the extension's."""
+        self.as_stranger("CREATE EXTENSION s2union; CREATE EXTENSION s2union_geo;" + TRAP + """
+            CREATE TYPE trap.kind AS (shape bytea);
+            CREATE FUNCTION trap.s2_join_tiles(trap.kind, integer, integer) RETURNS void LANGUAGE sql AS 'SELECT';
+            ALTER EXTENSION s2union_geo ADD FUNCTION trap.s2_join_tiles(trap.kind, integer, integer);
+            CREATE FUNCTION trap.s2_covering(trap.kind, integer, integer) RETURNS public.s2union
+                LANGUAGE sql AS 'SELECT trap.taken(); SELECT ''1''::public.s2union';
+            CREATE FUNCTION trap.s2_degrees(trap.kind) RETURNS trap.kind LANGUAGE sql AS
+                'SELECT trap.taken(); SELECT $1';
+            CREATE FUNCTION trap.st_asbinary(trap.kind) RETURNS bytea LANGUAGE sql RETURN NULL::bytea;
+            CREATE TABLE trap.zones (id integer PRIMARY KEY, geom trap.kind);
+            INSERT INTO trap.zones VALUES (1, ROW(NULL));
+        """)
+        self.assertIn("is of type trap.kind", error_of("SELECT public.s2_join_table('trap.zones')"))
+        self.has_no_rights()
+
 
 class Paths(unittest.TestCase):
     """Schemas in the path of the caller."""
