@@ -499,6 +499,7 @@ ASKED = {
     "cut file": ("short: cut", 2),
     "more file": ("trailing: more", 2),
     "missing file": ("file: missing: No such file or directory", 2),
+    "face denormalise 30 1 face": ("memory: the lists are too long", 2),
     "face denormalise 31 1 face": ("usage: 31 is not a number from 0 to 30", 2),
     "face united last face": ("usage: s2union-check --help has the forms", 2),
 }

@@ -73,11 +73,33 @@ let rectangle words =
   | [ face; i0; i1; j0; j1 ] when Z.leq i0 i1 && Z.leq j0 j1 -> Checker.rectangle face i0 i1 j0 j1
   | _ -> raise (Wrong ("usage", String.concat " " words ^ " is not a rectangle"))
 
+let words text = List.filter (fun word -> word <> "") (String.split_on_char ' ' text)
+
+(* How many cells are made of one. They lie on the stack, whose end is no exception of OCaml if it comes in C: a cell
+   has 64 bytes of it. *)
+let most_of_one () =
+  let rec of_lines limits =
+    match words (input_line limits) with
+    | "Max" :: "stack" :: "size" :: "unlimited" :: _ -> max_int
+    | "Max" :: "stack" :: "size" :: soft :: _ -> int_of_string soft / 64
+    | _ -> of_lines limits
+  in
+  try
+    let limits = open_in "/proc/self/limits" in
+    Fun.protect ~finally:(fun () -> close_in limits) (fun () -> of_lines limits)
+  with Sys_error _ | End_of_file -> 100_000
+
 let cut least modulus a out =
+  let least = level 0 30 least and modulus = level 1 3 modulus and most = most_of_one () in
+  let is_many cell =
+    let own = Checker.level_of cell in
+    Z.pow (Z.of_int 4) (Z.to_int (Z.sub (Checker.cut_level own least modulus) own)) |> Z.lt (Z.of_int most)
+  in
   Option.iter (fun n -> raise (not_a_cell n)) (Checker.first_wrong a);
+  if List.compare_length_with a most > 0 || List.exists is_many a then raise Stack_overflow;
   Option.map
     (fun place -> "the cell at index " ^ Z.to_string place ^ " is another one")
-    (Checker.first_uncut (level 0 30 least) (level 1 3 modulus) a out)
+    (Checker.first_uncut least modulus a out)
 
 (* ---- questions about files *)
 let bytes_of path =
@@ -122,7 +144,6 @@ let asked = function
   | _ -> raise (Wrong ("usage", "s2union-check --help has the forms"))
 
 (* ---- questions in lines *)
-let words text = List.filter (fun word -> word <> "") (String.split_on_char ' ' text)
 let cells text = List.map Z.of_string (words text)
 
 let asked_in line =
