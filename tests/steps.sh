@@ -143,9 +143,9 @@ shapes() { # $work/shapes: shapes in degrees, with the coverings that the module
     /usr/bin/python3 -m model.shapes >"$work/shapes"
 }
 
-maps() { # $work/map-texts: texts of GeoJSON and bytes of WKB with their coverings, compared with plain places
+maps() { # [--compared]: $work/map-texts: texts of GeoJSON and bytes of WKB with their coverings
   LD_LIBRARY_PATH=$work/usr/lib PYTHONDONTWRITEBYTECODE=1 PYTHONPATH=$top/tests \
-    /usr/bin/python3 -m model.maps >"$work/map-texts"
+    /usr/bin/python3 -m model.maps "$@" >"$work/map-texts"
 }
 
 need_compiler() { # what tools/page makes a module with

@@ -1,7 +1,7 @@
 #!/usr/bin/env python3
 """Prints texts of GeoJSON and bytes of WKB with the coverings that the library makes of them, for the tests of all
-languages. First it compares each covering with a plain reader, and with plain places here, or with those of
-model.geodesics.
+languages. With --compared, as the part `c` has it, each is first compared with a plain reader, and with plain places
+here, or with those of model.geodesics; the lines are the same.
 
 A line is the name of a call, such as 'map_geojson', 'map_wkb_up_to' or 'geodesic_wkb', the bytes in hexadecimal, a
 level, and a bound of work or of cells, with tabs between them, and then the cells of the outer and of the inner
@@ -11,6 +11,7 @@ and position.
 the system finds.
 """
 import ctypes
+import functools
 import json
 import math
 import os
@@ -36,7 +37,7 @@ WORK = 1 << 28
 CELLS = 20_000
 MOST_FEW = 10_000  # more cells count as that many
 TURN, QUARTER = 360 * 10**15, 90 * 10**15
-random = Random(20261201)
+random, places = Random(20261201), Random(20261203)  # of what is asked, and of where it is compared
 
 # ---- a plain reader
 
@@ -320,11 +321,11 @@ def some_places(polygons):
     """Places at the corners and edges, a little beside them, and anywhere."""
     edges = [edge for own in polygons for edge in own]
     for _ in range(200 if edges else 0):
-        a, b = random.choice(edges)
-        part, near = Fraction(random.randrange(101), 100), 10 ** random.randrange(9, 17)
-        yield tuple(int(p + part * (q - p)) + random.randrange(-near, near + 1) for p, q in zip(a, b))
+        a, b = places.choice(edges)
+        part, near = Fraction(places.randrange(101), 100), 10 ** places.randrange(9, 17)
+        yield tuple(int(p + part * (q - p)) + places.randrange(-near, near + 1) for p, q in zip(a, b))
     for _ in range(100):
-        yield random.randrange(-TURN, TURN), random.randrange(-QUARTER, QUARTER)
+        yield places.randrange(-TURN, TURN), places.randrange(-QUARTER, QUARTER)
 
 
 def has(cells, leaf):
@@ -402,36 +403,41 @@ def is_wanted(call, told, wanted, polygons):
     return (byte, ring, position) == (0, 0, 0) and geodesics.first_fault(polygons, (name, part))
 
 
-def found(library, call, data, level, most):
-    """The words of the answer, once it is the one that the plain reader and plain places give."""
-    status, outer, inner, fault = answer_of(library, call, data, level, most)
-    if status in STATUSES:
-        return [STATUSES[status]]
+def differences(call, data, level, most, told, outer, inner):
+    """What is wrong with a fault, or with two coverings if there is none, by the plain reader and plain places."""
     try:
         polygons, wanted = polygons_of(call, data), None
     except Wrong as wrong:
         polygons, wanted = [], wrong.args
-    told = (NAMES[fault.name - 1], fault.byte, fault.part, fault.ring, fault.position) if status == -16 else None
     if call.endswith("up_to"):
         judged = compare_few([] if told else polygons, level, most, outer, inner)
     else:
         judge = geodesics.compare if call.startswith("geodesic") else compare
         judged = judge([] if told else polygons, level, outer, inner)
     wrong = [] if is_wanted(call, told, wanted, polygons) else [f"{told}, not {wanted}"]
-    wrong += judged
+    return [*wrong, *judged]
+
+
+def found(library, is_compared, call, data, level, most):
+    """The words of the answer; if it is compared, once it is right."""
+    status, outer, inner, fault = answer_of(library, call, data, level, most)
+    if status in STATUSES:
+        return [STATUSES[status]]
+    told = (NAMES[fault.name - 1], fault.byte, fault.part, fault.ring, fault.position) if status == -16 else None
+    wrong = differences(call, data, level, most, told, outer, inner) if is_compared else []
     if wrong or status not in (0, -16):
         sys.exit(f"{call} {data[:400]} at level {level}: status {status}, {wrong[:3]}")
     return ["!" + " ".join(map(str, told))] if told else [" ".join(f"{cell:x}" for cell in own)
                                                           for own in (outer, inner)]
 
 
-def say_one(library, call, data, level, most):
-    print(call, data.hex(), level, most, *found(library, call, data, level, most), sep="\t")
+def say_one(answer, call, data, level, most):
+    print(call, data.hex(), level, most, *answer(call, data, level, most), sep="\t")
 
 
-def say(library, form, data, level, work=WORK, cells=CELLS, few=8):
+def say(answer, form, data, level, work=WORK, cells=CELLS, few=8):
     for call, most in ((f"map_{form}", work), (f"geodesic_{form}", cells), (f"map_{form}_up_to", few)):
-        say_one(library, call, data, level, most)
+        say_one(answer, call, data, level, most)
 
 
 # ---- what is asked
@@ -504,23 +510,23 @@ def mutated(data):
     return bytes(own)
 
 
-def rows(library):
+def rows(answer):
     for k, (call, data) in enumerate(known()):
-        say(library, call, data, k % 7)
+        say(answer, call, data, k % 7)
     own = list(shapes())
     for k, polygons in enumerate(own):
         for call, data in (("wkb", wkb_of(polygons, "<>"[k % 2])), ("geojson", geojson_of(polygons).encode())):
-            say(library, call, data, (0, 3, 5, 6, 7)[k % 5])
-            say(library, call, data, 5, 10 ** (k % 7), 3 ** (k % 7), 10**6)
-            say(library, call, data, 31)
-            say_one(library, f"map_{call}_up_to", data, 30, (0, 1, 6, 20, 100, 1000)[k % 6])
-    say(library, "geojson", geojson_of([[star(2, 48, 0.001, 12)]]).encode(), 18)
+            say(answer, call, data, (0, 3, 5, 6, 7)[k % 5])
+            say(answer, call, data, 5, 10 ** (k % 7), 3 ** (k % 7), 10**6)
+            say(answer, call, data, 31)
+            say_one(answer, f"map_{call}_up_to", data, 30, (0, 1, 6, 20, 100, 1000)[k % 6])
+    say(answer, "geojson", geojson_of([[star(2, 48, 0.001, 12)]]).encode(), 18)
     for _ in range(400):
         polygons = random.choice([each for each in own if each and each[0]])
         data = random.choice([wkb_of(polygons), geojson_of(polygons).encode()])
-        say(library, "wkb" if data[0] < 2 else "geojson", mutated(data), random.randrange(5))
+        say(answer, "wkb" if data[0] < 2 else "geojson", mutated(data), random.randrange(5))
     for ring in ([(-80, 1), (80, 1), (0, 50)], [(0, 0), (120, 0), (-120, 0)], [(-60, 9), (60, 9), (0, 80)]):
-        say(library, "geojson", geojson_of([[box(0, 0, 9, 9)], [closed(ring)]]).encode(), 4)
+        say(answer, "geojson", geojson_of([[box(0, 0, 9, 9)], [closed(ring)]]).encode(), 4)
 
 
 # ---- what databases are asked, whose bounds are always the usual ones
@@ -561,15 +567,15 @@ def asked():
 
 def main(*files):
     library = ctypes.CDLL("libs2union.so.1")
-    if not files:
-        rows(library)
+    if files in ((), ("--compared",)):
+        return rows(functools.partial(found, library, bool(files)))
     for file in files:
         features = json.loads(Path(file).read_text("utf-8"))["features"]
         for feature in features:
             for call, data in (("geojson", json.dumps(feature).encode()),
                                ("wkb", wkb_of(polygons_of("geojson", json.dumps(feature).encode())))):
-                found(library, f"map_{call}", data, 8, WORK)
-                found(library, f"geodesic_{call}", data, 8, CELLS)
+                found(library, True, f"map_{call}", data, 8, WORK)
+                found(library, True, f"geodesic_{call}", data, 8, CELLS)
         print(f"{4 * len(features)} passed, 0 failed")
 
 

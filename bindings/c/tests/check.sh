@@ -73,7 +73,7 @@ covered() { # shapes in degrees
     program shapes "$static" -fsanitize=address,undefined -fno-sanitize-recover "$work/refuse.o"
 }
 step "coverings of shapes in degrees, and under the sanitizers" covered
-step "texts and bytes of shapes, beside a plain reader and plain places" maps
+step "texts and bytes of shapes, beside a plain reader and plain places" maps --compared
 mapped() { # each in every room, and under the sanitizers
   program maps "$static" <"$work/map-texts" &&
     program maps "$static" -fsanitize=address,undefined -fno-sanitize-recover <"$work/map-texts"
