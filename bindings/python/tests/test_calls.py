@@ -51,7 +51,7 @@ SQUARE = b'{"type": "Polygon", "coordinates": [[[0, 0], [2, 0], [2, 2], [0, 2], 
 TYPES = (Path(calls.__file__).parent / "_library.pyi").read_text()
 READERS = re.findall(r"^def (\w+)\(__what: str, __room: int, __(text|wkb): List,", TYPES, re.M)  # of shapes
 OTHERS = {"from_debug": ("0/2",), "neighbors": (CELL, 4),
-          **{name: ("", 1, SQUARE if given == "text" else TRIANGLE, 9, 2**24) for name, given in READERS},
+          **{name: ("", 1, SQUARE if given == "text" else TRIANGLE, 2, 2**24) for name, given in READERS},
           "pairs": (ZONES, memoryview(array("d", [1.5, 9, 1])), memoryview(array("d", [0.5, 9, 1])), 1),
           **dict.fromkeys(("file_contains", "file_intersects"), (FILE, FILE)),
           **dict.fromkeys(("polygon_outer", "polygon_inner"), ("", 1, *POLYGON, 3, 99)),
@@ -297,14 +297,14 @@ class Releasing(Indexed):
 
 
 class LeftBehind(unittest.TestCase):
-    """No call keeps memory or a reference, whether it answers or refuses: not 8 bytes of each of 2,000 calls."""
+    """No call keeps memory or a reference, whether it answers or refuses: not 8 bytes of each of 400 calls."""
 
     def grown(self, call):
-        for _ in range(200):
+        for _ in range(40):
             call()
         gc.collect()
         before = tracemalloc.get_traced_memory()[0]
-        for _ in range(2000):
+        for _ in range(400):
             call()
         gc.collect()
         return tracemalloc.get_traced_memory()[0] - before
@@ -315,10 +315,10 @@ class LeftBehind(unittest.TestCase):
             for name, given in TAKEN.items():
                 call = getattr(calls, name)
                 for words in (given, [Indexed(it) if type(it) is int else it for it in given]):
-                    self.assertLess(self.grown(lambda: call(*words)), 16000, name)
+                    self.assertLess(self.grown(lambda: call(*words)), 3200, name)
             for name, words in REFUSED.items():
                 self.assertTrue(is_refused(name, words), name)
-                self.assertLess(self.grown(lambda: is_refused(name, words)), 16000, name)
+                self.assertLess(self.grown(lambda: is_refused(name, words)), 3200, name)
         finally:
             tracemalloc.stop()
 
@@ -328,10 +328,10 @@ class LeftBehind(unittest.TestCase):
                 within = [it for word in words if isinstance(word, list) for it in word]
                 watched = [*words, *within, None, True, calls, calls.is_cell]
                 before = [sys.getrefcount(word) for word in watched]
-                for _ in range(1000):
+                for _ in range(400):
                     is_refused(name, words)
                 for word, were in zip(watched, before):
-                    self.assertLess(abs(sys.getrefcount(word) - were), 500, (name, word))
+                    self.assertLess(abs(sys.getrefcount(word) - were), 200, (name, word))
 
 
 @unittest.skipUnless("S2UNION_REFUSE" in os.environ, "tests/refuse.c is not loaded before the C library")
