@@ -6,8 +6,8 @@ sqlite3, without its user's settings, or python3); --script prints it. A block t
 out where that isn't; --only runs those of one MODULE alone. --released leaves out those that come with a later version
 than dist/ has: the paragraph before says since which. S2UNION_FIRST and S2UNION_SHARD are the folders of the sockets
 /run/first and /run/shard.
-documented.py --shell PAGE UNTIL: the commands after the prompts of the ```text blocks, as far as the heading UNTIL, in
-one folder, which has docs/ and the calculator that S2CALC names.
+documented.py --shell PAGE UNTIL [WORD]: the commands after the prompts of the ```text blocks, as far as the heading
+UNTIL, in one folder, which has docs/ and the calculator that S2CALC names; those that have the WORD are left out.
 The last line is 'N passed, M failed'.
 """
 
@@ -60,11 +60,12 @@ def ended(count, failed):
     return failed != 0 or not count
 
 
-def in_shell(page, until):
+def in_shell(page, until, left_out=None):
     with tempfile.TemporaryDirectory() as room:
         furnish(room)
         text = text_of(page).partition(f"\n{until}\n")[0]
-        return ended(*counted([(command, wanted, output(command, room)) for command, wanted in commands(text)]))
+        return ended(*counted([(command, wanted, output(command, room)) for command, wanted in commands(text)
+                               if not left_out or left_out not in command]))
 
 
 def main(arguments):

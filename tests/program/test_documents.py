@@ -263,8 +263,16 @@ def test_transcripts(script, answers, tmp_path):
     assert ran("run", script=script.encode(), cwd=tmp_path)[1].decode() == answers
 
 
-# Calls that show their answers, with what a call leads into, if it does: those of all pages but the two that need maps,
-# which the tests of Python and tests/geo run.
+def test_the_first_part_of_the_tutorial():
+    """All but its step in Python, which the tests of Python run."""
+    words = [sys.executable, "tests/docs/documented.py", "--shell", "docs/TUTORIAL.md", "## Part 2: an hour", "python3"]
+    done = subprocess.run(words, cwd=TOP, env={**os.environ, "S2CALC": LAUNCHER, "S2CALC_PROGRAM": PROGRAM},
+                          capture_output=True, text=True, timeout=SECONDS)
+    assert (done.returncode, done.stdout) == (0, "6 passed, 0 failed\n"), done.stdout
+
+
+# Calls that show their answers, with what a call leads into, if it does: those of all pages but the tutorial, and the
+# one that needs maps, which tests/geo runs.
 CALLS = [(*words.partition(" | ")[::2], text)
          for page in PAGES if page not in ("docs/TUTORIAL.md", "docs/GEO.md")
          for words, text in re.findall(r"```text\n\$ \./s2calc ([^<\n]*)\n(.*?)```", text_of(page), re.S)]

@@ -88,11 +88,10 @@ for name in README.md docs/COOKBOOK.md; do
   step "$name" python "$top/tests/docs/documented.py" --python "$top/$name"
   step "$name, by the release" released "$name"
 done
-tutorial() { # its first part, which needs no other package
-  python "$top/tests/docs/documented.py" --shell "$top/docs/TUTORIAL.md" "## Part 2: an hour"
+tutorial() { # the step of its first part in Python; the part `program` runs those with s2calc, by the proved program
+  S2CALC=/dev/null python "$top/tests/docs/documented.py" --shell "$top/docs/TUTORIAL.md" "## Part 2: an hour" s2calc
 }
-export S2CALC=${S2CALC:-$top/s2calc} S2CALC_QUIET=1
-step "with s2calc: docs/TUTORIAL.md, Part 1" tutorial
+step "docs/TUTORIAL.md, Part 1, in Python" tutorial
 step "s2union_geo, points, polygons and maps" python -m pytest test_geo.py
 step "maps for a notebook" python -m pytest test_maps.py
 step "signals inside a call" python -m pytest test_signals.py
