@@ -64,7 +64,7 @@ sanitized() ( # the module in C with the sanitizers, and what C itself gives for
   export PYTHONMALLOC=malloc ASAN_OPTIONS=detect_leaks=0
   LD_PRELOAD="$(gcc -print-file-name=libasan.so) $(gcc -print-file-name=libubsan.so)" \
     S2UNION_LIBRARY=$work/usr/lib/libs2union.so.1 timeout 7200 /usr/bin/python3 -m pytest test_calls.py test_edges.py \
-      --deselect test_calls.py::LeftBehind::test_memory # which counts Python's own memory, as above
+      -k "not test_memory" # which counts Python's own memory, as above
 )
 step "the same, and the edges, under the sanitizers" sanitized
 step "laws of sets, by hypothesis" python -m pytest test_laws.py

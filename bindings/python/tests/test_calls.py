@@ -430,8 +430,8 @@ class Around(unittest.TestCase):
     def test_a_file_that_another_thread_closes(self):
         """Whoever asks it gets the answer, or the ValueError of a closed file, and whoever closes it the BufferError of
         one that is read, whenever that is."""
-        union = Union(range(1, 3200001, 8))
-        cells = array("Q", range(1, 200001, 2))
+        union = Union(range(1, 800001, 8))
+        cells = array("Q", range(1, 50001, 2))
         with tempfile.TemporaryDirectory() as folder:
             path, other = Path(folder, "many"), Union.from_tokens("04")
             path.write_bytes(union.to_bytes())
@@ -440,7 +440,7 @@ class Around(unittest.TestCase):
                     "contains_cells": lambda it: it.contains_cells(cells), "leaf_count": UnionFile.leaf_count,
                     "union": UnionFile.union, "ancestors": UnionFile.ancestors, "contains": lambda it: it.contains(it),
                     "intersects": lambda it: one.intersects(it), "in": lambda it: 1 in it, "len": len,
-                    "cells": lambda it: it[399_990:], "pickle": lambda it: pickle.loads(pickle.dumps(it)).union(),
+                    "cells": lambda it: it[99_990:], "pickle": lambda it: pickle.loads(pickle.dumps(it)).union(),
                 }
                 answers = {name: question(file) for name, question in asked.items()}
             for name, question in asked.items():
