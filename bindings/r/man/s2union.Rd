@@ -75,7 +75,8 @@ positions of geodesic edges lie opposite each other); their \code{ring} and \cod
 \code{zone}.
 Of \code{s2u_map_geojson}, \code{s2u_map_geojson_up_to}, \code{s2u_geodesic_geojson} and those of WKB, since 1.5:
 \code{S2U_SHAPE}, and a class with the name of the fault, such as \code{S2U_FAULT_OPEN}, with the \code{part}, the
-\code{ring} and the \code{place} there, and of WKB the \code{byte}, from 1 on; or \code{S2U_MANY}, if the search would take more than \code{work}.
+\code{ring} and the \code{place} there, and of WKB the \code{byte}, from 1 on; or \code{S2U_MANY},
+if the search would take more than \code{work}.
 Of WKB, with \code{place} that of the byte: \code{S2U_COVER_WKB} (it is none), \code{S2U_COVER_TYPE} (curves
 or surfaces), \code{S2U_COVER_SRID} (no degrees), \code{S2U_COVER_DEEP} (collections in more than 32 others). An
 argument of another type is a simple error.}
