@@ -82,24 +82,6 @@ static inline double remainder(double x, double y) {
   return x < 0 ? -left : left;
 }
 
-/* Merges sorted runs, whose length doubles. It is always inlined, so that no function is called by its address. */
-__attribute__((always_inline)) static inline void qsort(void* at, size_t count, size_t size,
-                                                       int (*order)(const void*, const void*)) {
-  char *from = (char*)at, *to = (char*)malloc(count * size), *other = to;
-  for (size_t run = 1; run < count; run *= 2) {
-    for (size_t begin = 0; begin < count; begin += 2 * run) {
-      size_t middle = begin + run < count ? begin + run : count, end = middle + run < count ? middle + run : count;
-      size_t left = begin, right = middle;
-      for (size_t k = begin; k < end; k++) {
-        int is_right = left == middle || (right < end && order(from + size * right, from + size * left) < 0);
-        memcpy(to + size * k, from + size * (is_right ? right++ : left++), size);
-      }
-    }
-    char* sorted = to;
-    to = from, from = sorted;
-  }
-  if (from != (char*)at) memcpy(at, from, count * size);
-  free(other);
-}
+#include "sort.h"
 
 #endif

@@ -30,11 +30,14 @@ void heap_free(void* at);
 #define calloc heap_calloc
 #define realloc heap_realloc
 #define free heap_free
+#define qsort heap_qsort
+#include "sort.h"
 #include "module.c"
 #undef malloc
 #undef calloc
 #undef realloc
 #undef free
+#undef qsort
 
 static void is(int holds, const char* what) {
   if (!holds && failed < 9) printf("FAILED: %s\n", what);
@@ -142,6 +145,27 @@ static int has_zones(size_t left) {
   return added == 2 && status == S2U_OK;
 }
 
+static int by_number(const void* a, const void* b) {
+  uint32_t x = *(const uint32_t*)a, y = *(const uint32_t*)b;
+  return (x > y) - (x < y);
+}
+
+/* Numbers are brought to the order of C's own library, where there is memory and where there is none. */
+static void sorts(void) {
+  static uint32_t own[3000], wanted[3000];
+  s2js_begin(BEGIN);
+  for (size_t turn = 0; turn < 200; turn++) {
+    size_t count = turn < 20 ? turn : any() % 3000, most = 1 + any() % 5000;
+    for (size_t k = 0; k < count; k++) own[k] = wanted[k] = (uint32_t)(any() % most);
+    most_pages = turn % 2 ? PAGES : 0;
+    if (!most_pages) page_count = BEGIN / 65536;
+    heap_qsort(own, count, sizeof *own, by_number);
+    qsort(wanted, count, sizeof *wanted, by_number);
+    is(memcmp(own, wanted, count * sizeof *own) == 0, "sorted");
+  }
+  most_pages = PAGES;
+}
+
 static void zones(void) {
   size_t left = 0;
   most_pages = 2;
@@ -154,6 +178,7 @@ int main(void) {
   void* at = mmap((void*)(uintptr_t)BEGIN, PAGES * 65536, PROT_READ | PROT_WRITE,
                   MAP_PRIVATE | MAP_ANONYMOUS | MAP_FIXED_NOREPLACE, -1, 0);
   if (at != (void*)(uintptr_t)BEGIN) return perror("mmap"), 2;
+  sorts();
   zones();
   s2js_begin(BEGIN + 3);
   uint64_t end = end_of_all();
