@@ -67,8 +67,8 @@ func CoverWKBUpTo(wkb []byte, deepest, most int) (outer, inner CellUnion, err er
 // geodesics, the short ways on the sphere: the cells of a level, 0 to 30. Proved: no leaf that a polygon touches or has
 // inside is missing from the outer covering, and each leaf of the inner one lies inside a polygon. ErrArgument: the
 // level is out of range, or `most` below 0. ErrShape, in a ShapeError: the text has a fault, a part of the shape is a
-// point or a line, or the corners of a polygon are too far apart. ErrMany: a covering of a polygon has more cells than
-// `most`, or its edges touch too many. ErrMemory. Since 1.5.
+// point or a line, or the corners of a polygon are too far apart. ErrMany: the coverings of all polygons together have
+// more cells than `most`, or the edges of one touch too many. ErrMemory. Since 1.5.
 func CoverGeodesicGeoJSON(text []byte, level, most int) (outer, inner CellUnion, err error) {
 	if most < 0 {
 		return CellUnion{}, CellUnion{}, ErrArgument

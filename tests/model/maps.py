@@ -414,6 +414,8 @@ def differences(call, data, level, most, told, outer, inner):
     else:
         judge = geodesics.compare if call.startswith("geodesic") else compare
         judged = judge([] if told else polygons, level, outer, inner)
+    if call.startswith("geodesic") and max(len(outer), len(inner)) > most:
+        judged = [*judged, f"{len(outer)} and {len(inner)} cells, where {most} are allowed"]
     wrong = [] if is_wanted(call, told, wanted, polygons) else [f"{told}, not {wanted}"]
     return [*wrong, *judged]
 

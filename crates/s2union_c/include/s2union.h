@@ -1241,10 +1241,12 @@ int32_t s2u_map_geojson_up_to(const char* text, size_t n, uint32_t deepest, size
  *
  * Leaves within 2.34 leaves of an edge, 2 centimeters, count as touched, which pays for the rounding of corners. What
  * lies opposite all corners of a polygon is outside of it, so its rings may run in either direction. Each polygon is
- * covered by itself, and may have `most` cells in each covering, so that of texts of strangers it should be small.
+ * covered by itself. All of them together may have `most` cells in their outer coverings, and as many in their inner
+ * ones, where a cell of two polygons counts twice.
  * @param wkb,n WKB or EWKB at any address, in either order of bytes, and how many bytes it has
  * @param level 0 (a face) to 30 (a leaf): the level of the cells, before four that make their parent are replaced by it
- * @param most the most cells of a covering of one polygon, of which S2U_MOST_COVERING are the most that count
+ * @param most the most cells of the outer coverings of all polygons together, and of their inner ones, of which
+ *   S2U_MOST_COVERING are the most that count
  * @param out,room,len the cells of the outer covering and then those of the inner one, how many cells there is room
  *   for, and how many both have
  * @param outer how many of them are the outer covering's
@@ -1255,7 +1257,8 @@ int32_t s2u_map_geojson_up_to(const char* text, size_t n, uint32_t deepest, size
  * @retval S2U_ARGUMENT the level is above 30
  * @retval S2U_SHAPE the bytes have a fault, a part of the shape is a point or a line, or the corners of a polygon are
  *   too far apart for geodesic edges
- * @retval S2U_MANY a covering of a polygon has more than most cells, or its edges touch too many of the level
+ * @retval S2U_MANY the outer coverings of all polygons have together more than most cells, or the inner ones have, or
+ *   the edges of a polygon touch too many of the level
  * @s2{S2RegionCoverer::GetCovering} and `GetInteriorCovering` of an `S2Polygon`, with one level
  * @since 1.5
  * @snippet examples.c s2u_geodesic_wkb
@@ -1267,7 +1270,8 @@ int32_t s2u_geodesic_wkb(const uint8_t* wkb, size_t n, uint32_t level, size_t mo
  * level. The rest is as for s2u_geodesic_wkb. The text is a geometry, a feature, or a collection of either.
  * @param text,n the text in UTF-8, and how many bytes it has
  * @param level 0 (a face) to 30 (a leaf): the level of the cells, before four that make their parent are replaced by it
- * @param most the most cells of a covering of one polygon, of which S2U_MOST_COVERING are the most that count
+ * @param most the most cells of the outer coverings of all polygons together, and of their inner ones, of which
+ *   S2U_MOST_COVERING are the most that count
  * @param out,room,len the cells of the outer covering and then those of the inner one, how many cells there is room
  *   for, and how many both have
  * @param outer how many of them are the outer covering's
@@ -1278,7 +1282,8 @@ int32_t s2u_geodesic_wkb(const uint8_t* wkb, size_t n, uint32_t level, size_t mo
  * @retval S2U_ARGUMENT the level is above 30
  * @retval S2U_SHAPE the text has a fault, a part of the shape is a point or a line, or the corners of a polygon are too
  *   far apart for geodesic edges
- * @retval S2U_MANY a covering of a polygon has more than most cells, or its edges touch too many of the level
+ * @retval S2U_MANY the outer coverings of all polygons have together more than most cells, or the inner ones have, or
+ *   the edges of a polygon touch too many of the level
  * @s2{S2RegionCoverer::GetCovering} and `GetInteriorCovering` of an `S2Polygon`, with one level
  * @since 1.5
  * @snippet examples.c s2u_geodesic_geojson

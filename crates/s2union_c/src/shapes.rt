@@ -176,9 +176,9 @@ pub extern "C" fn s2u_map_geojson_up_to(
 ///
 /// The errors, in the order of the checks: `BAD_ARGUMENT` of a level above 30. `BAD_SHAPE` of the first fault of the
 /// bytes, then of a part that is a point or a line, and then of one whose corners are too far apart, or with an edge of
-/// 128 degrees or more. `TOO_MANY` of a polygon whose coverings have more than `most` cells or than `MOST_COVERING`, or
-/// whose edges touch too many of the level. `NO_ROOM` comes last. `NO_MEMORY` may come at any time after the first. No
-/// other error than `BAD_SHAPE` writes `fault`.
+/// 128 degrees or more. `TOO_MANY` of polygons whose outer coverings have together more than `most` cells or than
+/// `MOST_COVERING`, or whose inner ones have, and of one whose edges touch too many of the level. `NO_ROOM` comes last.
+/// `NO_MEMORY` may come at any time after the first. No other error than `BAD_SHAPE` writes `fault`.
 #[unsafe(no_mangle)]
 pub extern "C" fn s2u_geodesic_wkb(
     alloc: Global,
@@ -190,7 +190,7 @@ pub extern "C" fn s2u_geodesic_wkb(
     outer: &mut usize,
     fault: &mut ShapeFault,
 ) -> i32
-    ensures made { level ≤ 30 → (MadeBoth result (CoversGeodesicWkb wkb.now level)
+    ensures made { level ≤ 30 → (MadeBoth result (CoversGeodesicWkb wkb.now level (min most MOST_COVERING))
         out.old out.new len.new outer.new × (fault.new ≡ fault.old))
         ⊎ TellsWhyGeodesic result (GeodesicWkbErrorIs wkb.now level (min most MOST_COVERING))
         out.old out.new len.new outer.new fault.old fault.new }
@@ -220,7 +220,7 @@ pub extern "C" fn s2u_geodesic_geojson(
     outer: &mut usize,
     fault: &mut ShapeFault,
 ) -> i32
-    ensures made { level ≤ 30 → (MadeBoth result (CoversGeodesicGeoJson text.now level)
+    ensures made { level ≤ 30 → (MadeBoth result (CoversGeodesicGeoJson text.now level (min most MOST_COVERING))
         out.old out.new len.new outer.new × (fault.new ≡ fault.old))
         ⊎ TellsWhyGeodesic result (GeodesicGeoJsonErrorIs text.now level (min most MOST_COVERING))
         out.old out.new len.new outer.new fault.old fault.new }

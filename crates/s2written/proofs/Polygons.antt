@@ -1,22 +1,29 @@
 -- The polygons of a shape, part by part, and the leaves of their coverings.
-use Rattle.std.proofs.Common.{◌≡◌, refl, sym, ap, ap₂, ◌∙◌, subst, ℕ, suc, ◌+◌, ◌<◌, ◌==◌, arith, append-nil, eqb-true}
+use Rattle.std.proofs.Common.{◌≡◌, refl, sym, ap, ap₂, ◌∙◌, subst, ℕ, suc, ◌+◌, ◌-◌, ◌<◌, ◌==◌, arith, append-nil}
+use Rattle.std.proofs.Common.{eqb-true}
 use Rattle.std.proofs.Common.{inr, Bool, cond, true, false, ◌||◌, List, [], ◌∷◌, ◌++◌, get_or, length, take}
 use Rattle.std.proofs.lemmas.Bool.{eqb-false}
-use Rattle.std.proofs.lemmas.List.{take_more}
+use Rattle.std.proofs.lemmas.List.{length-append, take_more}
+use Rattle.std.proofs.lemmas.List.Elements.{All-contains_itself, All-weaker}
 use Rattle.std.proofs.lemmas.List.Folds.{list_any-append}
-use Rattle.std.specs.List.{AllZip, list_any}
+use Rattle.std.proofs.lemmas.List.Sums.{sum_by_more, sum_by-take-le}
+use Rattle.std.specs.List.{AllZip, list_any, sum_by}
+use Rattle.std.specs.Prelude.{Contains}
 use Rattle.s2cell.specs.Cell.{covers}
 use Rattle.s2cell.specs.declared.TheConstants.{LEAVES}
 use Rattle.s2geodesic.specs.Halves.{AreSpread}
 use Rattle.s2geodesic.specs.Rounded.{AreTrue, IsPolygonOf, true_polygon}
-use Rattle.s2list.specs.Union.{has_leaf}
+use Rattle.s2list.proofs.Normal.{one_normal_form}
+use Rattle.s2list.specs.Union.{IsNormalForm, has_leaf}
 use Rattle.s2map.specs.declared.place.Place.{Place}
 use Rattle.s2polygon.specs.Directions.{Point}
 use Rattle.s2polygon.specs.Leaves.{Region, inner_leaf, outer_leaf}
 use Rattle.s2shape.specs.Reading.{Shape}
 use Rattle.s2written.proofs.Corners.{true_part}
 use Rattle.s2written.proofs.Maps.{zip_push}
-use Rattle.s2written.specs.Geodesics.{AreCornersOf, AreNone, GeodesicErrorIs, HasLongEdge, HasPart}
+use Rattle.s2written.specs.Faults.{Never}
+use Rattle.s2written.specs.Geodesics.{AreCornersOf, AreNone, GeodesicErrorIs, HasLongEdge, HasPart, HaveMore}
+use Rattle.s2written.specs.Geodesics.{HaveTogether}
 use Rattle.s2written.specs.Geodesics.{ArePolygonsOf, AreTrueCorners, IsPolygonOfSpan, IsRoundedCorner, Span, any_inner}
 use Rattle.s2written.specs.Geodesics.{any_outer, spans, true_polygons}
 use Rattle.s2written.specs.Maps.{corners_of, ends_of, first_ring}
@@ -121,6 +128,38 @@ module _ (f : Region → ℕ → Bool) (rs : List Region) (i : ℕ) (r : Region)
         by false true e g t = any_more x ∙ or_last (list_any (λ r. f r x) (take i rs)) (f r x) (k x g)
         by false false e g t = cc
 
+-- ---- how many cells the coverings have, polygon by polygon
+pub have_together : (f : Region → ℕ → Bool) (form : Region → List ℕ) → ((r : Region) → IsNormalForm (f r) (form r))
+    → (rs : List Region) (n : ℕ) → n ≡ sum_by (λ r. length (form r)) rs → HaveTogether f rs n
+have_together f form are rs n h = record {
+  form = form;
+  are_forms = All-weaker (Contains rs) (λ r. IsNormalForm (f r) (form r)) (λ r c. are r) rs (All-contains_itself rs);
+  count = h;
+}
+
+module _ (f : Region → ℕ → Bool) (form : Region → List ℕ) (are : (r : Region) → IsNormalForm (f r) (form r))
+    (rs : List Region) (i : ℕ) (r : Region) (l : i < length rs) (read : r ≡ get_or rs i r) where
+  sum_more : sum_by (λ r. length (form r)) (take (i + 1) rs)
+      ≡ sum_by (λ r. length (form r)) (take i rs) + length (form r)
+  sum_more =
+      sum_by_more (λ r. length (form r)) rs i r l
+      ∙ ap (λ (y : Region). sum_by (λ r. length (form r)) (take i rs) + length (form y)) (sym read)
+
+  pub count_more : (cells own : List ℕ) → length cells ≡ sum_by (λ r. length (form r)) (take i rs)
+      → IsNormalForm (f r) own → length (cells ++ own) ≡ sum_by (λ r. length (form r)) (take (i + 1) rs)
+  count_more cells own h n =
+      let same = ap (λ (u : List ℕ). length u) (one_normal_form (f r) own (form r) n (are r)) in
+      let more = sum_more in
+      omega (arith, h, same, more, length-append cells own)
+
+  pub have_more : (max n : ℕ) → n ≡ sum_by (λ r. length (form r)) (take i rs)
+      → ((u : List ℕ) → IsNormalForm (f r) u → max - n < length u) → HaveMore f max rs
+  have_more max n h many =
+      let own = many (form r) (are r) in
+      let more = sum_more in
+      let all = sum_by-take-le (λ r. length (form r)) rs (i + 1) in
+      (sum_by (λ r. length (form r)) rs, have_together f form are rs _ refl, omega (arith, h, own, more, all))
+
 -- ---- true polygons
 abbrev pub KeepsOuter : Type 0
 KeepsOuter =
@@ -180,16 +219,16 @@ module _ (s : Shape) (k : ℕ) (places : List Place) (corners : List Point) (fir
             (subst (λ (n : ℕ). P (corners_of corners rings n end) (ends_of rings n end)) f h));
       }
 
-  pub part_error : (level max : ℕ) (error : GeodesicError)
+  pub part_error : (error : GeodesicError)
       → PartErrorIs (corners_of corners rings first end) (ends_of rings first end) k error
-      → GeodesicErrorIs s level max error
-  part_error level max errors.Memory h = tt
-  part_error level max (errors.Fault fault) h = absurd h
-  part_error level max (errors.NoInside i) h = absurd h
-  part_error level max errors.NoMap h = inr (k, has_part AreNone h)
-  part_error level max (errors.LongEdge i) h =
+      → GeodesicErrorIs Never s error
+  part_error errors.Memory h = tt
+  part_error (errors.Fault fault) h = absurd h
+  part_error (errors.NoInside i) h = absurd h
+  part_error errors.NoMap h = inr (k, has_part AreNone h)
+  part_error (errors.LongEdge i) h =
       subst (λ (j : ℕ). HasPart s j HasLongEdge) (sym h.0) (has_part HasLongEdge h.1)
-  part_error level max (errors.Spread i) h =
+  part_error (errors.Spread i) h =
       subst (λ (j : ℕ). HasPart s j (λ corners ends. AreSpread corners)) (sym h.0)
       (has_part (λ corners ends. AreSpread corners) h.1)
-  part_error level max errors.TooManyCells h = absurd h
+  part_error errors.TooManyCells h = absurd h

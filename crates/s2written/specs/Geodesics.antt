@@ -1,16 +1,15 @@
 -- Coverings of a shape that was written, whose edges are geodesics: the short ways on the sphere.
 use Rattle.std.specs.Prelude.{◌≡◌, ◌⊎◌, ℕ, zero, suc, ◌*◌, ◌<◌, ◌≤◌, ◌==◌, ℤ, pos, ◌-ℤ◌, ◌*ℤ◌, unsigned_abs, cond}
 use Rattle.std.specs.Prelude.{List, [], ◌∷◌, ◌++◌, All, Bool, Contains, length, Ok, Err, true}
-use Rattle.std.specs.List.{AllZip, list_any}
+use Rattle.std.specs.List.{AllZip, list_any, sum_by}
 use Rattle.s2cell.specs.declared.TheConstants.{LEAVES}
-use Rattle.s2cover.specs.Coverings.{TooManyMeans, inner_set, outer_set}
-use Rattle.s2cover.specs.declared.region.CoverFault.TheVariants.{TooMany}
+use Rattle.s2cover.specs.Coverings.{inner_set, outer_set}
 use Rattle.s2degrees.specs.Degrees.{IsCosine, IsSine}
 use Rattle.s2degrees.specs.Directions.{IsDirectionOf}
 use Rattle.s2geodesic.specs.Halves.{AreSpread}
 use Rattle.s2geodesic.specs.Rounded.{FaultMeans, IsLongEdge, IsPolygonOf, true_polygon}
 use Rattle.s2geodesic.specs.declared.fault.GeodesicFault.TheVariants.{Rings as OfRings}
-use Rattle.s2list.specs.Union.{IsLocal, has_leaf}
+use Rattle.s2list.specs.Union.{IsLocal, IsNormalForm, has_leaf}
 use Rattle.s2map.specs.declared.place.Place.{Place}
 use Rattle.s2polygon.specs.Counts.{IsTooFine}
 use Rattle.s2polygon.specs.Directions.{Point}
@@ -117,10 +116,24 @@ any_outer_set polygons level x = list_any (λ r. outer_set (outer_leaf r) level 
 abbrev pub any_inner_set : List Region → ℕ → ℕ → Bool
 any_inner_set polygons level x = list_any (λ r. inner_set (inner_leaf r) level x) polygons
 
+-- the normal forms of a set of each of the polygons have `n` cells together
+pub record HaveTogether (set : Region → ℕ → Bool) (polygons : List Region) (n : ℕ) : Type 0 where
+  pub form : Region → List ℕ
+  pub are_forms : All (λ r. IsNormalForm (set r) (form r)) polygons
+  pub count : n ≡ sum_by (λ r. length (form r)) polygons
+
+-- they have at most `max`
+abbrev pub HaveAtMost : (Region → ℕ → Bool) → ℕ → List Region → Type 0
+HaveAtMost set max polygons = (n : ℕ) × HaveTogether set polygons n × (n ≤ max)
+
+-- they have more than `max`
+abbrev pub HaveMore : (Region → ℕ → Bool) → ℕ → List Region → Type 0
+HaveMore set max polygons = (n : ℕ) × HaveTogether set polygons n × (max < n)
+
 -- `outer` is an outer covering of a shape of polygons, and `inner` an inner one, both of the level and normalized. No
 -- leaf that a true polygon touches or has inside is missing from the outer one, and each leaf of the inner one lies
--- inside a true polygon and isn't touched by it
-pub record AreGeodesicCoverings (s : Shape) (level : ℕ) (outer inner : List ℕ) : Type 0 where
+-- inside a true polygon and isn't touched by it. The coverings of all polygons have together at most `max` cells each
+pub record AreGeodesicCoverings (s : Shape) (level max : ℕ) (outer inner : List ℕ) : Type 0 where
   pub alone : All IsPolygon s.parts
   pub places : List Place
   pub corners : List Point
@@ -129,6 +142,8 @@ pub record AreGeodesicCoverings (s : Shape) (level : ℕ) (outer inner : List �
   pub are_polygons : ArePolygonsOf corners s (length s.parts) polygons
   pub outer_is : (x : ℕ) → has_leaf outer x ≡ any_outer_set polygons level x
   pub inner_is : (x : ℕ) → has_leaf inner x ≡ any_inner_set polygons level x
+  pub outer_few : HaveAtMost (λ r. outer_set (outer_leaf r) level) max polygons
+  pub inner_few : HaveAtMost (λ r. inner_set (inner_leaf r) level) max polygons
   pub misses_none : (moved : List Point) (x : ℕ) → AreTrueCorners places moved → x < LEAVES
       → any_outer (true_polygons moved s.rings (spans s.parts (length s.parts)) polygons) x ≡ true
       → has_leaf outer x ≡ true
@@ -156,59 +171,60 @@ AreNone corners ends = (fault : PolygonFault) × FaultMeans corners ends (OfRing
 abbrev pub HasLongEdge : List Point → List ℕ → Type 0
 HasLongEdge corners ends = (i : ℕ) × IsLongEdge corners ends i
 
--- the covering of the polygon has more than `max` cells, or its edges touch too many of the level
-abbrev pub HasTooMany : ℕ → ℕ → Region → Type 0
-HasTooMany level max r =
-    TooManyMeans (outer_set (outer_leaf r) level) max TooMany
-    ⊎ TooManyMeans (inner_set (inner_leaf r) level) max TooMany ⊎ IsTooFine r level
-
--- so it is of one of the polygons
-pub record HasOne (polygons : List Region) (P : Region → Type 0) : Type 0 where
+-- the edges of one of the polygons touch too many cells of the level
+pub record IsOneTooFine (level : ℕ) (polygons : List Region) : Type 0 where
   pub polygon : Region
   pub one : Contains polygons polygon
-  pub is : P polygon
+  pub fine : IsTooFine polygon level
 
--- so it is of a polygon of the shape
-pub record HasPolygon (s : Shape) (P : Region → Type 0) : Type 0 where
+-- the outer coverings of the polygons have together more than `max` cells, or the inner ones have, or the edges of one
+-- touch too many of the level
+abbrev pub HaveTooMany : ℕ → ℕ → List Region → Type 0
+HaveTooMany level max polygons =
+    HaveMore (λ r. outer_set (outer_leaf r) level) max polygons
+    ⊎ HaveMore (λ r. inner_set (inner_leaf r) level) max polygons ⊎ IsOneTooFine level polygons
+
+-- so it is of the polygons of the shape
+pub record HasTooMany (level max : ℕ) (s : Shape) : Type 0 where
   pub places : List Place
   pub corners : List Point
   pub are_corners : AreCornersOf s.positions places corners
   pub polygons : List Region
   pub are_polygons : ArePolygonsOf corners s (length s.parts) polygons
-  pub has : HasOne polygons P
+  pub too_many : HaveTooMany level max polygons
 
--- what an error of a shape says is so
-abbrev pub GeodesicErrorIs : Shape → ℕ → ℕ → GeodesicError → Type 0
-GeodesicErrorIs s level max errors.Memory = Unit {0}
-GeodesicErrorIs s level max (errors.Fault f) = ⊥
-GeodesicErrorIs s level max (errors.NoInside k) = IsFirstOther s.parts k
-GeodesicErrorIs s level max errors.NoMap = HasNoPlace s ⊎ ((k : ℕ) × HasPart s k AreNone)
-GeodesicErrorIs s level max (errors.LongEdge k) = HasPart s k HasLongEdge
-GeodesicErrorIs s level max (errors.Spread k) = HasPart s k (λ corners ends. AreSpread corners)
-GeodesicErrorIs s level max errors.TooManyCells = HasPolygon s (HasTooMany level max)
+-- what an error of a shape says is so, if `TakesMore` says which shapes take more cells than are allowed
+abbrev pub GeodesicErrorIs : (Shape → Type 0) → Shape → GeodesicError → Type 0
+GeodesicErrorIs TakesMore s errors.Memory = Unit {0}
+GeodesicErrorIs TakesMore s (errors.Fault f) = ⊥
+GeodesicErrorIs TakesMore s (errors.NoInside k) = IsFirstOther s.parts k
+GeodesicErrorIs TakesMore s errors.NoMap = HasNoPlace s ⊎ ((k : ℕ) × HasPart s k AreNone)
+GeodesicErrorIs TakesMore s (errors.LongEdge k) = HasPart s k HasLongEdge
+GeodesicErrorIs TakesMore s (errors.Spread k) = HasPart s k (λ corners ends. AreSpread corners)
+GeodesicErrorIs TakesMore s errors.TooManyCells = TakesMore s
 
 -- what an error of bytes says is so, if `Is` says which shapes they stand for, and `HasFault` their first fault
-abbrev pub GeodesicErrorOf : (Shape → Type 0) → (Fault → Type 0) → ℕ → ℕ → GeodesicError → Type 0
-GeodesicErrorOf Is HasFault level max errors.Memory = Unit {0}
-GeodesicErrorOf Is HasFault level max (errors.Fault f) = HasFault f
-GeodesicErrorOf Is HasFault level max e = (s : Shape) × Is s × GeodesicErrorIs s level max e
+abbrev pub GeodesicErrorOf : (Shape → Type 0) → (Fault → Type 0) → (Shape → Type 0) → GeodesicError → Type 0
+GeodesicErrorOf Is HasFault TakesMore errors.Memory = Unit {0}
+GeodesicErrorOf Is HasFault TakesMore (errors.Fault f) = HasFault f
+GeodesicErrorOf Is HasFault TakesMore e = (s : Shape) × Is s × GeodesicErrorIs TakesMore s e
 
 -- the cells are those of coverings of the shape that the bytes of WKB stand for
-abbrev pub CoversGeodesicWkb : List ℕ → ℕ → List ℕ → List ℕ → Type 0
-CoversGeodesicWkb bytes level outer inner =
-    (s : Shape) × (wkb bytes ≡ Ok s) × AreGeodesicCoverings s level outer inner
+abbrev pub CoversGeodesicWkb : List ℕ → ℕ → ℕ → List ℕ → List ℕ → Type 0
+CoversGeodesicWkb bytes level max outer inner =
+    (s : Shape) × (wkb bytes ≡ Ok s) × AreGeodesicCoverings s level max outer inner
 
 -- the same of a text of GeoJSON
-abbrev pub CoversGeodesicGeoJson : List ℕ → ℕ → List ℕ → List ℕ → Type 0
-CoversGeodesicGeoJson bytes level outer inner =
-    (s : Shape) × IsGeoJson bytes (Ok s) × AreGeodesicCoverings s level outer inner
+abbrev pub CoversGeodesicGeoJson : List ℕ → ℕ → ℕ → List ℕ → List ℕ → Type 0
+CoversGeodesicGeoJson bytes level max outer inner =
+    (s : Shape) × IsGeoJson bytes (Ok s) × AreGeodesicCoverings s level max outer inner
 
 -- what an error of bytes of WKB says is so
 abbrev pub GeodesicWkbErrorIs : List ℕ → ℕ → ℕ → GeodesicError → Type 0
 GeodesicWkbErrorIs bytes level max e =
-    GeodesicErrorOf (λ s. wkb bytes ≡ Ok s) (λ f. wkb bytes ≡ Err f) level max e
+    GeodesicErrorOf (λ s. wkb bytes ≡ Ok s) (λ f. wkb bytes ≡ Err f) (HasTooMany level max) e
 
 -- the same of a text of GeoJSON
 abbrev pub GeodesicGeoJsonErrorIs : List ℕ → ℕ → ℕ → GeodesicError → Type 0
 GeodesicGeoJsonErrorIs bytes level max e =
-    GeodesicErrorOf (λ s. IsGeoJson bytes (Ok s)) (HasGeoJsonFault bytes) level max e
+    GeodesicErrorOf (λ s. IsGeoJson bytes (Ok s)) (HasGeoJsonFault bytes) (HasTooMany level max) e

@@ -49,7 +49,8 @@ pub enum GeodesicError {
     /// The corners of this part, counted from 0, are too far apart: no half of the sphere that is tried has all.
     #[error("no half of the sphere has all corners of a polygon")]
     Spread(usize),
-    /// A polygon's covering has more cells than allowed, or its edges touch too many cells of the level.
+    /// The coverings of all polygons have together more cells than allowed, or the edges of one touch too many of the
+    /// level.
     #[error("too many cells")]
     TooManyCells,
 }

@@ -1,14 +1,17 @@
 //! Coverings of shapes whose edges are geodesics.
 ghost use Rattle.std.specs.Prelude.{◌≡◌, ◌⊎◌, ◌≤◌, ◌<◌, ℕ, IfErr, IfOk, List, length, true};
 ghost use Rattle.s2cell.specs.declared.TheConstants.{LEAVES};
+ghost use Rattle.s2cover.specs.Coverings.{inner_set, outer_set};
 ghost use Rattle.s2degrees.specs.Directions.{IsDirectionOf};
 ghost use Rattle.s2geodesic.specs.Rounded.{FaultMeans, IsPolygonOf};
 ghost use Rattle.s2list.specs.Union.{has_leaf};
 ghost use Rattle.s2map.specs.Map.{IsMapPlace};
 ghost use Rattle.s2polygon.specs.Directions.{Point};
+ghost use Rattle.s2polygon.specs.Leaves.{inner_leaf, outer_leaf};
 ghost use Rattle.s2shape.specs.Reading.{shape_seen};
-ghost use Rattle.s2written.specs.Geodesics.{AreGeodesicCoverings, ArePolygonsOf, GeodesicErrorIs, HasOne};
-ghost use Rattle.s2written.specs.Geodesics.{HasTooMany};
+ghost use Rattle.s2written.specs.Faults.{Never};
+ghost use Rattle.s2written.specs.Geodesics.{AreGeodesicCoverings, ArePolygonsOf, GeodesicErrorIs, HasTooMany};
+ghost use Rattle.s2written.specs.Geodesics.{HaveAtMost, HaveTooMany};
 ghost use Rattle.s2written.specs.Geodesics.{any_inner, any_inner_set, any_outer, any_outer_set};
 ghost use Rattle.s2written.specs.Maps.{corners_of, ends_of};
 ghost use Rattle.s2written.specs.Working.Corners.{HasCorners, PartErrorIs};
@@ -42,7 +45,7 @@ fn direction(place: Place) -> Direction
 /// The directions of all positions.
 fn directions_of(alloc: Global, shape: &Shape) -> Result<Vec<Direction>, GeodesicError>
     ensures corners { IfOk result (λ corners. HasCorners (shape_seen shape.now).positions corners.items) }
-    ensures fault { (level max : ℕ) → IfErr result (GeodesicErrorIs (shape_seen shape.now) level max) }
+    ensures fault { IfErr result (GeodesicErrorIs Never (shape_seen shape.now)) }
 {
     let mut corners = Vec::with_capacity(alloc, shape.positions.len())?;
     for i in 0..shape.positions.len() {
@@ -98,7 +101,7 @@ fn polygons_of(
     requires { HasCorners (shape_seen shape.now).positions corners.now }
     ensures polygons { IfOk result (λ polygons. ArePolygonsOf corners.now (shape_seen shape.now)
         (length shape.now.parts.items) polygons.items) }
-    ensures fault { (level max : ℕ) → IfErr result (GeodesicErrorIs (shape_seen shape.now) level max) }
+    ensures fault { IfErr result (GeodesicErrorIs Never (shape_seen shape.now)) }
 {
     let mut polygons = Vec::new(alloc);
     let mut first = 0;
@@ -112,7 +115,7 @@ fn polygons_of(
     Ok(polygons)
 }
 
-/// The cells of the outer coverings of all polygons.
+/// The cells of the outer coverings of all polygons, at most `max` together.
 fn outer_of(
     alloc: Global,
     polygons: &[Polygon],
@@ -124,13 +127,13 @@ fn outer_of(
     ensures leaves { IfOk result (λ u. (x : ℕ) → has_leaf u.items x ≡ any_outer_set polygons.now level x) }
     ensures missed { IfOk result (λ u. (x : ℕ) → x < LEAVES → any_outer polygons.now x ≡ true
         → has_leaf u.items x ≡ true) }
-    ensures fault { IfErr result (λ e. (e ≡ Memory) ⊎ ((e ≡ TooManyCells)
-        × HasOne polygons.now (HasTooMany level max))) }
+    ensures few { IfOk result (λ _. HaveAtMost (λ r. outer_set (outer_leaf r) level) max polygons.now) }
+    ensures fault { IfErr result (λ e. (e ≡ Memory) ⊎ ((e ≡ TooManyCells) × HaveTooMany level max polygons.now)) }
 {
     let mut cells = Vec::new(alloc);
     for i in 0..polygons.len() {
         let polygon = &polygons[i];
-        match polygon.outer(alloc, level, max) {
+        match polygon.outer(alloc, level, max - cells.len()) {
             Ok(covering) => cells.extend_from_slice(covering.cells())?,
             Err(CoverFault::TooMany) => return Err(GeodesicError::TooManyCells),
             Err(CoverFault::Memory) => return Err(GeodesicError::Memory),
@@ -139,7 +142,7 @@ fn outer_of(
     Ok(cells)
 }
 
-/// The cells of the inner coverings of all polygons.
+/// The cells of the inner coverings of all polygons, at most `max` together.
 fn inner_of(
     alloc: Global,
     polygons: &[Polygon],
@@ -150,13 +153,13 @@ fn inner_of(
     requires max { max ≤ MOST_COVERING }
     ensures leaves { IfOk result (λ u. (x : ℕ) → has_leaf u.items x ≡ any_inner_set polygons.now level x) }
     ensures proper { IfOk result (λ u. (x : ℕ) → has_leaf u.items x ≡ true → any_inner polygons.now x ≡ true) }
-    ensures fault { IfErr result (λ e. (e ≡ Memory) ⊎ ((e ≡ TooManyCells)
-        × HasOne polygons.now (HasTooMany level max))) }
+    ensures few { IfOk result (λ _. HaveAtMost (λ r. inner_set (inner_leaf r) level) max polygons.now) }
+    ensures fault { IfErr result (λ e. (e ≡ Memory) ⊎ ((e ≡ TooManyCells) × HaveTooMany level max polygons.now)) }
 {
     let mut cells = Vec::new(alloc);
     for i in 0..polygons.len() {
         let polygon = &polygons[i];
-        match polygon.inner(alloc, level, max) {
+        match polygon.inner(alloc, level, max - cells.len()) {
             Ok(covering) => cells.extend_from_slice(covering.cells())?,
             Err(CoverFault::TooMany) => return Err(GeodesicError::TooManyCells),
             Err(CoverFault::Memory) => return Err(GeodesicError::Memory),
@@ -175,9 +178,10 @@ fn inner_of(
 /// (`s2geodesic::outside_of`). Each polygon is covered by itself, and the coverings are united.
 ///
 /// The errors, in the order of the checks: `NoInside` with the first part that is a point or a line, `NoMap`,
-/// `LongEdge` and `Spread` with the first part that has them, and `TooManyCells` if the covering of a polygon has more
-/// than `max` cells or its edges touch too many of the level. `Memory` may come whenever memory is taken. It takes the
-/// time of the coverings of each polygon. S2: `S2RegionCoverer` of an `S2Polygon` with one level, in floating point.
+/// `LongEdge` and `Spread` with the first part that has them, and `TooManyCells` if the outer coverings of all polygons
+/// have together more than `max` cells, or the inner ones, or if the edges of one touch too many of the level. `Memory`
+/// may come whenever memory is taken. It takes the time of the coverings of each polygon. S2: `S2RegionCoverer` of an
+/// `S2Polygon` with one level, in floating point.
 pub fn cover_geodesic(
     alloc: Global,
     shape: &Shape,
@@ -186,8 +190,9 @@ pub fn cover_geodesic(
 ) -> Result<Coverings, GeodesicError>
     requires level { level ≤ GREATEST_LEVEL }
     requires max { max ≤ MOST_COVERING }
-    ensures covers { IfOk result (λ c. AreGeodesicCoverings (shape_seen shape.now) level c.outer.cells c.inner.cells) }
-    ensures fault { IfErr result (GeodesicErrorIs (shape_seen shape.now) level max) }
+    ensures covers { IfOk result (λ c. AreGeodesicCoverings (shape_seen shape.now) level max c.outer.cells
+        c.inner.cells) }
+    ensures fault { IfErr result (GeodesicErrorIs (HasTooMany level max) (shape_seen shape.now)) }
 {
     law_of_true_corners();
     if let Some(k) = first_other(&shape.parts) {

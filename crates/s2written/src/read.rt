@@ -94,7 +94,7 @@ pub fn cover_geodesic_wkb(
 ) -> Result<Coverings, GeodesicError>
     requires level { level ≤ GREATEST_LEVEL }
     requires max { max ≤ MOST_COVERING }
-    ensures covers { IfOk result (λ c. CoversGeodesicWkb bytes.now level c.outer.cells c.inner.cells) }
+    ensures covers { IfOk result (λ c. CoversGeodesicWkb bytes.now level max c.outer.cells c.inner.cells) }
     ensures fault { IfErr result (GeodesicWkbErrorIs bytes.now level max) }
 {
     match read_wkb(alloc, bytes) {
@@ -113,7 +113,7 @@ pub fn cover_geodesic_geojson(
 ) -> Result<Coverings, GeodesicError>
     requires level { level ≤ GREATEST_LEVEL }
     requires max { max ≤ MOST_COVERING }
-    ensures covers { IfOk result (λ c. CoversGeodesicGeoJson text.now level c.outer.cells c.inner.cells) }
+    ensures covers { IfOk result (λ c. CoversGeodesicGeoJson text.now level max c.outer.cells c.inner.cells) }
     ensures fault { IfErr result (GeodesicGeoJsonErrorIs text.now level max) }
 {
     match read_geojson(alloc, text) {

@@ -1,22 +1,28 @@
 use Rattle.std.proofs.Common.{◌≡◌, ◌∙◌, ℕ, ◌<◌, All, length, subst, sym, true}
 use Rattle.std.proofs.lemmas.Result.{err_from_is_err_and}
 use Rattle.s2cell.specs.declared.TheConstants.{LEAVES}
+use Rattle.s2cover.specs.Coverings.{inner_set, outer_set}
 use Rattle.s2list.specs.Union.{has_leaf}
+use Rattle.s2polygon.specs.Leaves.{inner_leaf, outer_leaf}
 use Rattle.s2shape.specs.Reading.{shape_seen}
+use Rattle.s2written.proofs.Errors.{geodesic_error_of_any}
 use Rattle.s2written.proofs.Polygons.{true_inner, true_outer}
-use Rattle.s2written.specs.Geodesics.{ArePolygonsOf, any_inner, any_inner_set, any_outer, any_outer_set, spans}
+use Rattle.s2written.specs.Geodesics.{ArePolygonsOf, HasTooMany, HaveAtMost, any_inner, any_inner_set, any_outer}
+use Rattle.s2written.specs.Geodesics.{any_outer_set, spans}
 use Rattle.s2written.specs.Maps.{IsPolygon}
 use Rattle.s2written.proofs.geodesic.cover_geodesic.Goals as goal
 
 pub returns-in_err-corners-clause-fault : goal.returns-in_err-corners-clause-fault
 returns-in_err-corners-clause-fault c =
     let p = err_from_is_err_and c.from_residual.result c.from_residual.ensures.1 in
-    rw (p.1, p.2) (c.in_err-corners.ensures.fault c.args.level c.args.max)
+    rw (p.1, p.2) (geodesic_error_of_any (HasTooMany c.args.level c.args.max) (shape_seen c.args.shape.now) _
+    c.in_err-corners.ensures.fault)
 
 pub returns-in_err-polygons-clause-fault : goal.returns-in_err-polygons-clause-fault
 returns-in_err-polygons-clause-fault c =
     let p = err_from_is_err_and c.from_residual-in_err-polygons.result c.from_residual-in_err-polygons.ensures.1 in
-    rw (p.1, p.2) (c.in_err-polygons.ensures.fault c.args.level c.args.max)
+    rw (p.1, p.2) (geodesic_error_of_any (HasTooMany c.args.level c.args.max) (shape_seen c.args.shape.now) _
+    c.in_err-polygons.ensures.fault)
 
 pub returns-clause-covers : goal.returns-clause-covers
 returns-clause-covers c =
@@ -47,6 +53,10 @@ returns-clause-covers c =
       are_polygons = are;
       outer_is = λ x. c.normalise.ensures.leaves x ∙ leaves x;
       inner_is = λ x. c.normalise-2.ensures.leaves x ∙ filled x;
+      outer_few = subst (HaveAtMost (λ r. outer_set (outer_leaf r) level) c.args.max) c.deref-3.ensures.value
+          c.in_ok-outer.ensures.few;
+      inner_few = subst (HaveAtMost (λ r. inner_set (inner_leaf r) level) c.args.max) c.deref-4.ensures.value
+          c.in_ok-inner.ensures.few;
       misses_none = λ moved x t l is. c.normalise.ensures.leaves x ∙ missed x l
           (true_outer h.0 corners moved s.rings h.1.rounded t x l c.law_of_true_corners.ensures.outer ss polygons are
           is);

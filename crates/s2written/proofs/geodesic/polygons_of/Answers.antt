@@ -9,15 +9,15 @@ use Rattle.s2written.proofs.geodesic.polygons_of.Goals.{then-end-first+in_ok-pol
 use Rattle.s2written.proofs.geodesic.polygons_of.Goals as goal
 
 pub returns-in_err-polygon_at-clause-fault : goal.returns-in_err-polygon_at-clause-fault
-returns-in_err-polygon_at-clause-fault c level max =
+returns-in_err-polygon_at-clause-fault c =
     let p = err_from_is_err_and c.from_residual.result c.from_residual.ensures.1 in
     let parts = c.args.shape.now.parts.items in
     let n = c.len-k-end.ensures in
     let l : c.loop-k.k < length parts = omega (arith, n) in
     let at = ends_at parts c.loop-k.k c.index.result.now l c.index.ensures in
     rw (p.1, p.2) (part_error (shape_seen c.args.shape.now) c.loop-k.k c.requires.0 c.args.corners.now c.loop-k.first
-    c.index.result.now.end c.deref.result.now l c.requires.1 c.loop-k.invariant.first at c.deref.ensures.value level max
-    _ c.in_err-polygon_at.ensures.fault)
+    c.index.result.now.end c.deref.result.now l c.requires.1 c.loop-k.invariant.first at c.deref.ensures.value _
+    c.in_err-polygon_at.ensures.fault)
 
 pub loop-k-preserved : goal.loop-k-preserved
 loop-k-preserved c =
