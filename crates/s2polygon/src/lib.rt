@@ -28,3 +28,4 @@ pub use counting::MOST_TOUCHED;
 pub use directions::{Direction, DirectionFault, Edge};
 pub use fault::PolygonFault;
 pub use polygon::{MOST_MARGIN, Polygon};
+pub use quadrant::{PolygonCell, Walked};

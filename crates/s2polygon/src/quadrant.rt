@@ -4,7 +4,7 @@ ghost use Rattle.std.specs.Prelude.{length};
 ghost use Rattle.s2cell.specs.Cell.{level_of};
 ghost use Rattle.s2cell.specs.Square.{IsPlacedCell};
 ghost use Rattle.s2polygon.specs.Counts.{edges_met};
-ghost use Rattle.s2polygon.specs.Leaves.{inner_leaf, outer_leaf};
+ghost use Rattle.s2polygon.specs.Leaves.{Region, inner_leaf, outer_leaf};
 ghost use Rattle.s2polygon.specs.Working.Descent.{IsRight, near_of};
 ghost use Rattle.s2polygon.specs.Working.Known.{IsKnown, part_by};
 ghost use Rattle.s2polygon.specs.Working.Sizes.{IsFramed};
@@ -16,6 +16,7 @@ use crate::polygon::Polygon;
 use s2cell::{CellId, GREATEST_LEVEL, PlacedCell};
 use s2cover::{Part, Quadrant, Quartered};
 use std::alloc::{AllocError, Global};
+use std::marker::Model;
 
 /// A cell of a polygon.
 #[derive(Drop)]
@@ -25,10 +26,25 @@ pub struct PolygonCell<'a> {
     known: Known,
 }
 
-/// A polygon that is walked down from the faces.
-#[derive(Clone, Copy)]
+/// A polygon that is walked down from the faces: `Polygon::walked`.
+#[derive(Drop)]
 pub struct Walked<'a> {
     pub(crate) polygon: &'a Polygon,
+}
+
+impl<'a> Model for Walked<'a> {
+    ghost Value = { Region };
+
+    ghost view = { λ w. w.polygon.now };
+}
+
+impl Polygon {
+    /// The polygon, to be walked down from the faces, as a `s2cover::Quartered`.
+    pub fn walked(&self) -> Walked<'_>
+        ensures { result ≡ self.now }
+    {
+        Walked { polygon: self }
+    }
 }
 
 /// What is known of a child with this square.
@@ -117,13 +133,13 @@ impl<'a> Quadrant for PolygonCell<'a> {
 }
 
 impl<'a> Quartered for Walked<'a> {
-    ghost outer = { λ w. outer_leaf w.polygon.now };
+    ghost outer = { outer_leaf };
 
-    ghost inner = { λ w. inner_leaf w.polygon.now };
+    ghost inner = { inner_leaf };
 
-    ghost work = { λ w. edges_met w.polygon.now };
+    ghost work = { edges_met };
 
-    ghost extent = { λ w. length w.polygon.now.edges };
+    ghost extent = { λ r. length r.edges };
 
     type At = PolygonCell<'a>;
 
