@@ -4,4 +4,5 @@ mod Errors
 mod Leaves
 mod Maps
 mod Polygons
+mod Remaining
 mod Walks

@@ -1,2 +1,3 @@
 -- What only private contracts and proofs need.
 pub mod Corners
+pub mod Remaining

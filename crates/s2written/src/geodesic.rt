@@ -43,7 +43,7 @@ fn direction(place: Place) -> Direction
 }
 
 /// The directions of all positions.
-fn directions_of(alloc: Global, shape: &Shape) -> Result<Vec<Direction>, GeodesicError>
+pub(crate) fn directions_of(alloc: Global, shape: &Shape) -> Result<Vec<Direction>, GeodesicError>
     ensures corners { IfOk result (λ corners. HasCorners (shape_seen shape.now).positions corners.items) }
     ensures fault { IfErr result (GeodesicErrorIs Never (shape_seen shape.now)) }
 {
@@ -93,7 +93,7 @@ fn polygon_at(
 }
 
 /// The polygons of a shape, part by part.
-fn polygons_of(
+pub(crate) fn polygons_of(
     alloc: Global,
     shape: &Shape,
     corners: &[Direction],

@@ -10,17 +10,20 @@
 
 mod covering;
 mod fault;
+mod few;
 mod geodesic;
 mod map;
 mod read;
+mod together;
 mod walk;
 
 pub use covering::{Coverings, cover, cover_up_to};
 pub use fault::{CoverError, GeodesicError};
+pub use few::cover_geodesic_up_to;
 pub use geodesic::cover_geodesic;
 pub use read::{
-    cover_geodesic_geojson, cover_geodesic_wkb, cover_geojson, cover_geojson_up_to, cover_wkb,
-    cover_wkb_up_to,
+    cover_geodesic_geojson, cover_geodesic_geojson_up_to, cover_geodesic_wkb,
+    cover_geodesic_wkb_up_to, cover_geojson, cover_geojson_up_to, cover_wkb, cover_wkb_up_to,
 };
 
 /// The work for a cell that a walk asks: its box takes about the time of this many comparisons of a cell with an edge.

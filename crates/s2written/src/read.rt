@@ -1,5 +1,7 @@
 //! Coverings of bytes of WKB and of texts of GeoJSON.
 ghost use Rattle.std.specs.Prelude.{◌≤◌, IfErr, IfOk};
+ghost use Rattle.s2written.specs.Few.{CoversGeodesicGeoJsonUpTo, CoversGeodesicWkbUpTo};
+ghost use Rattle.s2written.specs.Few.{GeodesicGeoJsonUpToErrorIs, GeodesicWkbUpToErrorIs};
 ghost use Rattle.s2written.specs.Geodesics.{CoversGeodesicGeoJson, CoversGeodesicWkb, GeodesicGeoJsonErrorIs};
 ghost use Rattle.s2written.specs.Geodesics.{GeodesicWkbErrorIs};
 ghost use Rattle.s2written.specs.Faults.{CoversGeoJson, CoversGeoJsonUpTo, CoversWkb, CoversWkbUpTo};
@@ -7,6 +9,7 @@ ghost use Rattle.s2written.specs.Faults.{GeoJsonErrorIs, GeoJsonUpToErrorIs, Wkb
 
 use crate::covering::{Coverings, cover, cover_up_to};
 use crate::fault::{CoverError, GeodesicError};
+use crate::few::cover_geodesic_up_to;
 use crate::geodesic::cover_geodesic;
 use s2cell::GREATEST_LEVEL;
 use s2cover::MOST_COVERING;
@@ -118,6 +121,46 @@ pub fn cover_geodesic_geojson(
 {
     match read_geojson(alloc, text) {
         Ok(shape) => cover_geodesic(alloc, &shape, level, max),
+        Err(ShapeError::Memory) => Err(GeodesicError::Memory),
+        Err(ShapeError::Fault(fault)) => Err(GeodesicError::Fault(fault)),
+    }
+}
+
+/// The coverings by few cells with geodesic edges of the shape that bytes of WKB or EWKB stand for, as those of
+/// `cover_geodesic_up_to`, whose errors it has. Before these comes `Fault` with the first fault of the bytes, as
+/// `s2shape::read_wkb` finds it.
+pub fn cover_geodesic_wkb_up_to(
+    alloc: Global,
+    bytes: &[u8],
+    deepest: u8,
+    most: usize,
+) -> Result<Coverings, GeodesicError>
+    requires level { deepest ≤ GREATEST_LEVEL }
+    requires most { most ≤ MOST_COVERING }
+    ensures covers { IfOk result (λ c. CoversGeodesicWkbUpTo bytes.now deepest most c.outer.cells c.inner.cells) }
+    ensures fault { IfErr result (GeodesicWkbUpToErrorIs bytes.now) }
+{
+    match read_wkb(alloc, bytes) {
+        Ok(shape) => cover_geodesic_up_to(alloc, &shape, deepest, most),
+        Err(ShapeError::Memory) => Err(GeodesicError::Memory),
+        Err(ShapeError::Fault(fault)) => Err(GeodesicError::Fault(fault)),
+    }
+}
+
+/// The same of a text of GeoJSON, as `s2shape::read_geojson` reads it.
+pub fn cover_geodesic_geojson_up_to(
+    alloc: Global,
+    text: &[u8],
+    deepest: u8,
+    most: usize,
+) -> Result<Coverings, GeodesicError>
+    requires level { deepest ≤ GREATEST_LEVEL }
+    requires most { most ≤ MOST_COVERING }
+    ensures covers { IfOk result (λ c. CoversGeodesicGeoJsonUpTo text.now deepest most c.outer.cells c.inner.cells) }
+    ensures fault { IfErr result (GeodesicGeoJsonUpToErrorIs text.now) }
+{
+    match read_geojson(alloc, text) {
+        Ok(shape) => cover_geodesic_up_to(alloc, &shape, deepest, most),
         Err(ShapeError::Memory) => Err(GeodesicError::Memory),
         Err(ShapeError::Fault(fault)) => Err(GeodesicError::Fault(fault)),
     }

@@ -4,8 +4,9 @@ use crate::texts::{cut, numbers_of, small};
 use s2cell::{CellId, GREATEST_LEVEL};
 use s2cover::MOST_COVERING;
 use s2written::{
-    CoverError, Coverings, GeodesicError, cover_geodesic_geojson, cover_geodesic_wkb,
-    cover_geojson, cover_geojson_up_to, cover_wkb, cover_wkb_up_to,
+    CoverError, Coverings, GeodesicError, cover_geodesic_geojson, cover_geodesic_geojson_up_to,
+    cover_geodesic_wkb, cover_geodesic_wkb_up_to, cover_geojson, cover_geojson_up_to, cover_wkb,
+    cover_wkb_up_to,
 };
 use std::alloc::{AllocError, Global};
 use test_table::{add_line, bytes_of};
@@ -85,8 +86,8 @@ fn add_covered(
     }
 }
 
-/// Makes a call `cover_geodesic_wkb LEVEL MAX LEAF / BYTES` or `cover_geodesic_geojson LEVEL MAX LEAF / TEXT`, and adds
-/// the same. False for the name of another call.
+/// Makes a call `cover_geodesic_wkb LEVEL MAX LEAF / BYTES` or `cover_geodesic_geojson LEVEL MAX LEAF / TEXT`, or the
+/// same with `_up_to` after the name, and adds the same. False for the name of another call.
 pub fn answer_geodesic(
     alloc: Global,
     name: &str,
@@ -96,7 +97,11 @@ pub fn answer_geodesic(
     let (question, bytes) = cut(words);
     let [level, max, ..] = numbers_of(question);
     let level = small(level);
-    if name != "cover_geodesic_wkb" && name != "cover_geodesic_geojson" {
+    let (form, is_few) = match name.strip_suffix("_up_to") {
+        Some(form) => (form, true),
+        None => (name, false),
+    };
+    if form != "cover_geodesic_wkb" && form != "cover_geodesic_geojson" {
         return Ok(false);
     }
     if level > GREATEST_LEVEL || max > MOST_COVERING as u64 {
@@ -104,10 +109,12 @@ pub fn answer_geodesic(
         return Ok(true);
     }
     let leaf = question.split_whitespace().last().unwrap_or("");
-    let covered = if name == "cover_geodesic_wkb" {
-        cover_geodesic_wkb(alloc, &bytes_of(alloc, bytes)?, level, max as usize)
-    } else {
-        cover_geodesic_geojson(alloc, bytes.as_bytes(), level, max as usize)
+    let max = max as usize;
+    let covered = match (form == "cover_geodesic_wkb", is_few) {
+        (true, false) => cover_geodesic_wkb(alloc, &bytes_of(alloc, bytes)?, level, max),
+        (true, true) => cover_geodesic_wkb_up_to(alloc, &bytes_of(alloc, bytes)?, level, max),
+        (false, false) => cover_geodesic_geojson(alloc, bytes.as_bytes(), level, max),
+        (false, true) => cover_geodesic_geojson_up_to(alloc, bytes.as_bytes(), level, max),
     };
     add_geodesic(alloc, found, covered, CellId::from_token(leaf.as_bytes()))?;
     Ok(true)
