@@ -139,11 +139,11 @@ class Compiled:
         return {name for name in found if name[0].islower()}
 
     def take(self, key, last):
-        """Gives what has this key its name in the module, with the last part behind it if that is another's."""
+        """Gives what has this key its name in the module, with the last part behind it if that is another's, or its
+        crate if this is another's too."""
         if key not in self.names:
-            name = key[1]
-            if self.taken.get(name, key) != key:
-                name = f"{name}_{last}"
+            names = key[1], f"{key[1]}_{last}", f"{key[1]}_of_{key[0].split('.')[1]}"
+            name = next((name for name in names if self.taken.get(name, key) == key), key[1])
             assert self.taken.get(name, key) == key, f"{key} and {self.taken[name]} would have one name"
             self.names[key], self.taken[name] = name, key
 
