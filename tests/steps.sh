@@ -148,6 +148,11 @@ maps() { # [--compared]: $work/map-texts: texts of GeoJSON and bytes of WKB with
     /usr/bin/python3 -m model.maps "$@" >"$work/map-texts"
 }
 
+readings() { # $work/readings: texts of GeoJSON and bytes of WKB with their shapes, compared with a plain reader
+  LD_LIBRARY_PATH=$work/usr/lib PYTHONDONTWRITEBYTECODE=1 PYTHONPATH=$top/tests \
+    /usr/bin/python3 -m model.readings >"$work/readings"
+}
+
 need_compiler() { # what tools/page makes a module with
   [ -z "${S2UNION_MODULE:-}" ] || return 0
   need wasm-opt binaryen

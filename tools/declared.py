@@ -16,7 +16,7 @@ C_TYPES = {"i64": "int64_t", "u8": "uint8_t", "u32": "uint32_t", "u64": "uint64_
            "f64": "double"}
 # The name of a list's length in C; of one that is written, `room`; of any other, `n`.
 LENGTHS = {"xs": "nx", "ys": "ny", "cells": "m", "ends": "lists", "work": "work_room", "outer": "outer_room",
-           "inner": "inner_room"}
+           "inner": "inner_room", "rings": "rings_room"}
 IN_PLACE = "ids"  # a list that is written under this name is read too
 SAID = re.compile(r"/\*\*((?:(?!\*/)[\s\S])*?)\*/\n(?:u?int\d+_t) s2u_(\w+)\([^()]*\);")
 STEPS = re.compile(r" ((?:N|Log n|N log n) steps\b[^.]*)\.")
@@ -184,10 +184,15 @@ def is_of_polygon(call):
 
 
 def is_of_shape(call):
-    """Whether a call reads a shape as users write it, and tells its fault."""
-    return any(it.kind == "ShapeFault" for it in call.arguments)
+    """Whether a call covers a shape as users write it, and tells its fault."""
+    return any(it.kind == "ShapeFault" for it in call.arguments) and not is_of_reading(call)
+
+
+def is_of_reading(call):
+    """Whether a call reads a shape as users write it to lists."""
+    return any(it.kind == "Ring" for it in call.arguments)
 
 
 def is_of_cover(call):
-    """Whether s2union_cover.h makes a call for all languages: it takes degrees, or makes two coverings."""
-    return any(it.kind == "f64" or it.name == "inner_len" for it in call.arguments)
+    """Whether s2union_cover.h makes a call for all: it takes degrees, makes two coverings, or reads a shape."""
+    return any(it.kind in ("f64", "Ring") or it.name == "inner_len" for it in call.arguments)

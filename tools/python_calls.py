@@ -229,6 +229,7 @@ TYPES_BY_HAND = {
     **dict.fromkeys(("outline", "boundary"), ("ids: List", "tuple[bytes, bytes, bytes]")),
     "coverings": ("positions: List, rings: List, options: Options, which: int", "Covered"),
     "coverings_of_wkb": ("wkb: List, options: Options, which: int", "Covered"),
+    "shape_of_geojson": ("text: List", "tuple[bytes, bytes]"),
     "coverings_of_circle": ("longitude: float, latitude: float, radius: float, options: Options, which: int",
                             "Covered"),
     "level_within": ("meters: float", "int"), "edge_neighbors": ("cell: SupportsIndex", "bytes"),

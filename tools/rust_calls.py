@@ -7,6 +7,9 @@ from layout import WIDTH
 from rooms import FIRST_ROOMS, room_in, room_lengths
 
 
+OF_SHAPES = ["Place", "Ring", "ShapeFault"]  # structures that no caller sees
+
+
 def argument_of(it):
     if it.is_list:
         is_made = it.is_written and it.name != IN_PLACE
@@ -73,12 +76,12 @@ def fault_names(header):
 def whole(top):
     table, header = calls(top), text_of(Path(top, HEADER))
     numbers = limits(header)[0]
-    kinds = sorted({it.kind for call in table for it in call.arguments} - {*C_TYPES, "ShapeFault"})
+    kinds = sorted({it.kind for call in table for it in call.arguments} - {*C_TYPES, *OF_SHAPES})
     lines = ["//! The calls of s2union.h over slices, made of its exports. Every call is total: a pointer goes",
              "//! with the length of what it points to, and nothing else is asked of it. Lists that a call writes need",
              "//! hold nothing before.",
              "#![allow(dead_code)]", "", "use std::mem::MaybeUninit;", "",
-             "use crate::maps::ShapeFault;", f"use crate::{{{', '.join(kinds)}}};", ""]
+             f"use crate::maps::{{{', '.join(OF_SHAPES)}}};", f"use crate::{{{', '.join(kinds)}}};", ""]
     for status in statuses(header):
         lines.append(f"pub const {status.name}: i32 = {status.number};")
     lines += [f"pub const {name}: usize = {number:_};" for name, number in numbers.items()]

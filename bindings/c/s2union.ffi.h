@@ -11,6 +11,8 @@ typedef struct { uint32_t face; uint32_t i; uint32_t j; uint32_t size; } s2u_squ
 typedef struct { uint32_t face; uint32_t i0; uint32_t i1; uint32_t j0; uint32_t j1; } s2u_rect;
 typedef struct { uint32_t face; uint32_t i; uint32_t j; } s2u_point;
 typedef struct { int64_t x; int64_t y; int64_t z; } s2u_direction;
+typedef struct { double longitude; double latitude; } s2u_place;
+typedef struct { uint64_t end; uint64_t polygon; } s2u_ring;
 typedef struct { size_t name; size_t byte; size_t part; size_t ring; size_t position; } s2u_shape_fault;
 int32_t s2u_ancestors(const uint64_t* ids, size_t n, uint64_t* out, size_t room, size_t* len);
 int32_t s2u_cell_contains(uint64_t whole, uint64_t part);
@@ -104,6 +106,10 @@ uint64_t s2u_range_max(uint64_t id);
 int32_t s2u_range_maxes(const uint64_t* ids, size_t n, uint64_t* out, size_t room, size_t* bad);
 uint64_t s2u_range_min(uint64_t id);
 int32_t s2u_range_mins(const uint64_t* ids, size_t n, uint64_t* out, size_t room, size_t* bad);
+int32_t s2u_shape_geojson(const char* text, size_t n, s2u_place* places, size_t room, size_t* len, s2u_ring* rings,
+  size_t rings_room, size_t* rings_len, s2u_shape_fault* fault);
+int32_t s2u_shape_wkb(const uint8_t* wkb, size_t n, s2u_place* places, size_t room, size_t* len, s2u_ring* rings, size_t
+  rings_room, size_t* rings_len, s2u_shape_fault* fault);
 uint64_t s2u_size(uint64_t id);
 int32_t s2u_square_of(uint64_t id, s2u_square* square);
 int32_t s2u_symmetric_difference(const uint64_t* xs, size_t nx, const uint64_t* ys, size_t ny, uint64_t* out, size_t

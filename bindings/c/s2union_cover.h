@@ -41,7 +41,8 @@ enum {
   S2U_COVER_WKB = -108,      /* the bytes are no WKB: at the byte */
   S2U_COVER_TYPE = -109,     /* the WKB has a type of geometry that has no covering: at the byte */
   S2U_COVER_SRID = -110,     /* the coordinates of the WKB are no degrees: its SRID is neither 0 nor 4326 */
-  S2U_COVER_DEEP = -111      /* the WKB has collections in more than 32 collections */
+  S2U_COVER_DEEP = -111,     /* the WKB has collections in more than 32 collections */
+  S2U_COVER_GEOJSON = -112   /* the text is no GeoJSON of polygons, lines and points: after the ring and the position */
 };
 
 /* Edges; the last are geodesic, with the inside on their left. */
@@ -64,10 +65,7 @@ enum { S2U_COVER_MAP = 0, S2U_COVER_GEODESIC = 1, S2U_COVER_LEFT = 2 };
 #define S2U_COVER_STEP (S2U_GEO_PI / 16) /* radians: no piece is longer, in longitude or in latitude */
 
 /* A ring of a polygon, or a line. Rings of one polygon have its number, and stand next to each other. */
-typedef struct s2u_cover_ring {
-  uint64_t end; /* how many positions there are up to its end */
-  uint64_t polygon;
-} s2u_cover_ring;
+typedef s2u_ring s2u_cover_ring;
 
 typedef struct s2u_cover_shape {
   const double* positions; /* longitude, latitude, longitude, latitude, .. */
@@ -88,6 +86,8 @@ typedef struct s2u_cover_options {
 typedef struct s2u_cover_fault {
   uint64_t ring;
   uint64_t position; /* in the ring; or a byte of WKB */
+  uint64_t name;     /* which fault of a text or of bytes, such as S2U_FAULT_TWICE, or 0 */
+  uint64_t part;     /* how many points, lines and polygons of the text or the bytes come before it */
 } s2u_cover_fault;
 
 /* Cells in memory of malloc. */
@@ -109,6 +109,7 @@ static inline const char* s2u_cover_status_text(int32_t status) {
     case S2U_COVER_TYPE: return "the WKB has a geometry that is no point, line, polygon or collection of them";
     case S2U_COVER_SRID: return "the WKB has an SRID that is not 4326";
     case S2U_COVER_DEEP: return "the WKB has too many collections in each other";
+    case S2U_COVER_GEOJSON: return "the text is no GeoJSON of polygons, lines and points";
     default: return s2u_status_text(status);
   }
 }
@@ -2206,173 +2207,100 @@ static inline int32_t s2u_cover(const s2u_cover_shape* shape, const s2u_cover_op
   return S2U_IS_CANCELLED() ? S2U_MEMORY : status; /* what wasn't done may have looked like another error */
 }
 
-/* ---- WKB
- *
- * Points, lines, polygons and collections of them, in either order of bytes, by the OGC's types and those of PostGIS;
- * Z and M are passed over. Each count is compared with the bytes that are left before anything is taken for it. */
-
-enum { S2U_COVER_DEEPEST = 32 };
+/* ---- texts and bytes of shapes, which the proved calls read */
 
 typedef struct s2u_cover_reader {
-  const uint8_t* bytes;
-  size_t at, size;
-  int is_little;
-  uint64_t polygons;
   s2u_cover_list positions, rings; /* of two doubles, and of s2u_cover_ring */
 } s2u_cover_reader;
-
-static inline size_t s2u_cover_left(const s2u_cover_reader* reader) { return reader->size - reader->at; }
-
-/* A whole number of some bytes, which are there. */
-static inline uint64_t s2u_cover_read(s2u_cover_reader* reader, size_t size) {
-  uint64_t number = 0;
-  for (size_t k = 0; k < size; k++)
-    number = number << 8 | reader->bytes[reader->at + (reader->is_little ? size - 1 - k : k)];
-  reader->at += size;
-  return number;
-}
-
-/* How many elements follow, of at least some bytes each. */
-static inline int32_t s2u_cover_read_count(s2u_cover_reader* reader, size_t least, uint64_t* count) {
-  if (s2u_cover_left(reader) < 4) return S2U_COVER_WKB;
-  *count = s2u_cover_read(reader, 4);
-  if (*count <= s2u_cover_left(reader) / least) return S2U_OK;
-  reader->at -= 4;
-  return S2U_COVER_WKB;
-}
-
-/* A number of 8 bytes. */
-static inline double s2u_cover_number(const uint8_t* at, int is_little) {
-  uint64_t bits = 0;
-  double number;
-  if (is_little)
-    bits = (uint64_t)at[7] << 56 | (uint64_t)at[6] << 48 | (uint64_t)at[5] << 40 | (uint64_t)at[4] << 32 |
-           (uint64_t)at[3] << 24 | (uint64_t)at[2] << 16 | (uint64_t)at[1] << 8 | at[0];
-  else
-    for (int k = 0; k < 8; k++) bits = bits << 8 | at[k];
-  memcpy(&number, &bits, sizeof number);
-  return number;
-}
-
-/* A position of some numbers, of which the first two count. A point without numbers has NaN. */
-static inline int32_t s2u_cover_read_position(s2u_cover_reader* reader, size_t numbers, int is_point) {
-  const uint8_t* at = reader->bytes + reader->at;
-  if (s2u_cover_left(reader) < 8 * numbers) return S2U_COVER_WKB;
-  const double x = s2u_cover_number(at, reader->is_little), y = s2u_cover_number(at + 8, reader->is_little);
-  reader->at += 8 * numbers;
-  if (is_point && x != x && y != y) return S2U_OK;
-  double* to = (double*)s2u_cover_add(&reader->positions);
-  if (!to) return S2U_MEMORY;
-  to[0] = x, to[1] = y;
-  return S2U_OK;
-}
-
-static inline int32_t s2u_cover_end_positions(s2u_cover_reader* reader, uint64_t polygon) {
-  uint64_t begin = reader->rings.count ? ((s2u_cover_ring*)reader->rings.at)[reader->rings.count - 1].end : 0;
-  if (reader->positions.count == begin) return S2U_OK;
-  s2u_cover_ring* ring = (s2u_cover_ring*)s2u_cover_add(&reader->rings);
-  if (!ring) return S2U_MEMORY;
-  ring->end = reader->positions.count;
-  ring->polygon = polygon;
-  return S2U_OK;
-}
-
-static inline int32_t s2u_cover_read_line(s2u_cover_reader* reader, size_t numbers, uint64_t polygon) {
-  uint64_t count;
-  int32_t status = s2u_cover_read_count(reader, 8 * numbers, &count);
-  if (status == S2U_OK && reader->positions.room - reader->positions.count < count &&
-      !s2u_cover_take(&reader->positions, s2u_cover_more(&reader->positions, (size_t)count)))
-    return S2U_MEMORY;
-  for (uint64_t k = 0; status == S2U_OK && k < count; k++) status = s2u_cover_read_position(reader, numbers, 0);
-  return status == S2U_OK ? s2u_cover_end_positions(reader, polygon) : status;
-}
-
-static inline int32_t s2u_cover_read_polygon(s2u_cover_reader* reader, size_t numbers) {
-  uint64_t count, polygon = reader->polygons++;
-  int32_t status = s2u_cover_read_count(reader, 4, &count);
-  for (uint64_t k = 0; status == S2U_OK && k < count; k++) status = s2u_cover_read_line(reader, numbers, polygon);
-  return status;
-}
-
-enum { S2U_COVER_OF_POINT = 1, S2U_COVER_OF_LINE = 2, S2U_COVER_OF_POLYGON = 3, S2U_COVER_OF_ANY = 7 };
-
-/* The kind of the geometry that follows, and how many numbers its positions have. */
-static inline int32_t s2u_cover_read_type(s2u_cover_reader* reader, uint64_t* kind, size_t* numbers) {
-  size_t begin = reader->at;
-  if (s2u_cover_left(reader) < 5 || reader->bytes[begin] > 1) return S2U_COVER_WKB;
-  reader->is_little = reader->bytes[reader->at++];
-  uint64_t type = s2u_cover_read(reader, 4), of_ogc = (type & 0xfffffff) / 1000, flags = type >> 28;
-  *kind = (type & 0xfffffff) % 1000;
-  *numbers = 2 + ((flags & 8) || of_ogc == 1 || of_ogc == 3) + ((flags & 4) || of_ogc == 2 || of_ogc == 3);
-  if (of_ogc > 3 || *kind < 1 || *kind > 7 || (flags & 1)) {
-    reader->at = begin;
-    return S2U_COVER_TYPE;
-  }
-  if (!(flags & 2)) return S2U_OK;
-  if (s2u_cover_left(reader) < 4) return S2U_COVER_WKB;
-  uint64_t srid = s2u_cover_read(reader, 4);
-  if (srid == 0 || srid == 4326) return S2U_OK;
-  reader->at = begin;
-  return S2U_COVER_SRID;
-}
-
-/* Reads a geometry that may be of some kind, and those in it. */
-static inline int32_t s2u_cover_read_geometry(s2u_cover_reader* reader, uint64_t wanted, int depth) {
-  uint64_t kind, count;
-  size_t numbers, begin = reader->at;
-  int32_t status = s2u_cover_read_type(reader, &kind, &numbers);
-  if (status == S2U_OK && wanted != S2U_COVER_OF_ANY && kind != wanted) {
-    reader->at = begin;
-    return S2U_COVER_WKB;
-  }
-  if (status != S2U_OK) return status;
-  if (depth > S2U_COVER_DEEPEST) return S2U_COVER_DEEP;
-  if (kind == S2U_COVER_OF_POINT) {
-    status = s2u_cover_read_position(reader, numbers, 1);
-    return status == S2U_OK ? s2u_cover_end_positions(reader, S2U_COVER_LINE) : status;
-  }
-  if (kind == S2U_COVER_OF_LINE) return s2u_cover_read_line(reader, numbers, S2U_COVER_LINE);
-  if (kind == S2U_COVER_OF_POLYGON) return s2u_cover_read_polygon(reader, numbers);
-  status = s2u_cover_read_count(reader, 9, &count);
-  for (uint64_t k = 0; status == S2U_OK && k < count; k++)
-    status = s2u_cover_read_geometry(reader, kind == S2U_COVER_OF_ANY ? kind : kind - 3, depth + 1);
-  return status;
-}
-
-/* The shape that WKB has, in memory of malloc: s2u_cover_close frees it, also after an error. No shape is a polygon
- * without rings. */
-static inline int32_t s2u_cover_open_wkb(const uint8_t* bytes, size_t size, s2u_cover_reader* reader,
-                                       s2u_cover_shape* shape, s2u_cover_fault* fault) {
-  memset(reader, 0, sizeof *reader);
-  memset(fault, 0, sizeof *fault);
-  reader->bytes = bytes, reader->size = size;
-  reader->positions = s2u_cover_list_of(2 * sizeof(double));
-  reader->rings = s2u_cover_list_of(sizeof(s2u_cover_ring));
-  int32_t status = s2u_cover_read_geometry(reader, S2U_COVER_OF_ANY, 0);
-  if (status == S2U_OK && s2u_cover_left(reader) > 0) status = S2U_COVER_WKB;
-  shape->positions = (const double*)reader->positions.at;
-  shape->rings = (const s2u_cover_ring*)reader->rings.at;
-  shape->count = status == S2U_OK ? reader->rings.count : 0;
-  fault->position = reader->at;
-  return status;
-}
 
 static inline void s2u_cover_close(s2u_cover_reader* reader) {
   free(reader->positions.at);
   free(reader->rings.at);
 }
 
-static inline int32_t s2u_cover_wkb(const uint8_t* bytes, size_t size, const s2u_cover_options* options,
-                                        s2u_cover_cells* outer, s2u_cover_cells* inner, s2u_cover_fault* fault) {
+/* The status of a fault of bytes, or else of a text. */
+static inline int32_t s2u_cover_status_of(size_t fault, int is_text) {
+  switch (fault) {
+    case S2U_FAULT_NOT_FINITE:
+    case S2U_FAULT_RANGE: return S2U_COVER_NUMBER;
+    case S2U_FAULT_FEW: return S2U_COVER_FEW;
+    case S2U_FAULT_OPEN: return S2U_COVER_OPEN;
+    case S2U_FAULT_TYPE:
+    case S2U_FAULT_UNCOVERED: return is_text ? S2U_COVER_GEOJSON : S2U_COVER_TYPE;
+    case S2U_FAULT_SRID: return S2U_COVER_SRID;
+    case S2U_FAULT_DEEP: return is_text ? S2U_COVER_GEOJSON : S2U_COVER_DEEP;
+    default: return is_text ? S2U_COVER_GEOJSON : S2U_COVER_WKB;
+  }
+}
+
+/* Whether a status is about a byte of WKB. */
+static inline int s2u_cover_is_of_byte(int32_t status) {
+  return status == S2U_COVER_WKB || status == S2U_COVER_TYPE || status == S2U_COVER_SRID || status == S2U_COVER_DEEP;
+}
+
+/* Whether there is memory for this many elements, or for one if they are none; there is none before. */
+static inline int s2u_cover_begin_list(s2u_cover_list* list, size_t unit, size_t count) {
+  *list = s2u_cover_list_of(unit);
+  return s2u_cover_take(list, count ? count : 1);
+}
+
+/* The shape in a text of GeoJSON or in bytes of WKB, in memory of malloc: s2u_cover_close frees it, also after an
+ * error. Its fault is about a byte of WKB if s2u_cover_is_of_byte, and else about a ring and a position. */
+static inline int32_t s2u_cover_open(const void* at, size_t size, int is_text, s2u_cover_reader* reader,
+                                     s2u_cover_shape* shape, s2u_cover_fault* fault) {
+  size_t most = is_text ? S2U_MOST_SHAPE_GEOJSON(size) : S2U_MOST_SHAPE_WKB(size), count = 0, rings = 0;
+  s2u_shape_fault first = {0, 0, 0, 0, 0};
+  memset(fault, 0, sizeof *fault);
+  shape->positions = NULL, shape->rings = NULL, shape->count = 0;
+  int is_there = s2u_cover_begin_list(&reader->positions, 2 * sizeof(double), most);
+  if (!s2u_cover_begin_list(&reader->rings, sizeof(s2u_cover_ring), most) || !is_there) return S2U_MEMORY;
+  s2u_place* places = (s2u_place*)(void*)reader->positions.at;
+  s2u_cover_ring* ends = (s2u_cover_ring*)(void*)reader->rings.at;
+  int32_t status = is_text
+      ? s2u_shape_geojson((const char*)at, size, places, reader->positions.room, &count, ends, reader->rings.room,
+                          &rings, &first)
+      : s2u_shape_wkb((const uint8_t*)at, size, places, reader->positions.room, &count, ends, reader->rings.room,
+                      &rings, &first);
+  if (status != S2U_OK) count = rings = 0;
+  reader->positions.count = count, reader->rings.count = rings;
+  shape->positions = (const double*)(void*)reader->positions.at;
+  shape->rings = (const s2u_cover_ring*)(void*)reader->rings.at;
+  shape->count = rings;
+  if (status != S2U_SHAPE) return status;
+  status = s2u_cover_status_of(first.name, is_text);
+  int is_of_byte = s2u_cover_is_of_byte(status);
+  fault->ring = is_of_byte ? 0 : first.ring, fault->position = is_of_byte ? first.byte : first.position;
+  fault->name = first.name, fault->part = first.part;
+  return status;
+}
+
+static inline int32_t s2u_cover_open_wkb(const uint8_t* bytes, size_t size, s2u_cover_reader* reader,
+                                         s2u_cover_shape* shape, s2u_cover_fault* fault) {
+  return s2u_cover_open(bytes, size, 0, reader, shape, fault);
+}
+
+/* Covers the shape in a text of GeoJSON or in bytes of WKB. */
+static inline int32_t s2u_cover_read(const void* at, size_t size, int is_text, const s2u_cover_options* options,
+                                     s2u_cover_cells* outer, s2u_cover_cells* inner, s2u_cover_fault* fault) {
   s2u_cover_reader reader;
   s2u_cover_shape shape;
   s2u_cover_cells none = {NULL, 0};
   if (outer) *outer = none;
   if (inner) *inner = none;
-  int32_t status = s2u_cover_open_wkb(bytes, size, &reader, &shape, fault);
+  int32_t status = s2u_cover_open(at, size, is_text, &reader, &shape, fault);
   if (status == S2U_OK) status = s2u_cover(&shape, options, outer, inner, fault);
   s2u_cover_close(&reader);
   return status;
+}
+
+static inline int32_t s2u_cover_wkb(const uint8_t* bytes, size_t size, const s2u_cover_options* options,
+                                        s2u_cover_cells* outer, s2u_cover_cells* inner, s2u_cover_fault* fault) {
+  return s2u_cover_read(bytes, size, 0, options, outer, inner, fault);
+}
+
+static inline int32_t s2u_cover_geojson(const char* text, size_t size, const s2u_cover_options* options,
+                                        s2u_cover_cells* outer, s2u_cover_cells* inner, s2u_cover_fault* fault) {
+  return s2u_cover_read(text, size, 1, options, outer, inner, fault);
 }
 
 /* ---- boxes, circles and corridors */

@@ -562,6 +562,16 @@ static inline int32_t s2u_join_add_shape(s2u_join_zones* it, const s2u_cover_sha
   return status;
 }
 
+/* The same of a text of GeoJSON. Its errors are those of reading it too. */
+static inline int32_t s2u_join_add_geojson(s2u_join_zones* it, const char* text, size_t size, s2u_cover_fault* fault) {
+  s2u_cover_reader reader;
+  s2u_cover_shape shape;
+  int32_t status = s2u_cover_open(text, size, 1, &reader, &shape, fault);
+  if (status == S2U_OK) status = s2u_join_add_shape(it, &shape, fault);
+  s2u_cover_close(&reader);
+  return status;
+}
+
 /* The same of a box, as s2u_cover_box has it. */
 static inline int32_t s2u_join_add_box(s2u_join_zones* it, double west, double south, double east, double north,
                                        s2u_cover_fault* fault) {

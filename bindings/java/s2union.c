@@ -216,6 +216,7 @@ static int32_t covered(jint call, covering* it) {
   switch (call) {
     case COVER: return s2u_cover(&shape, options, it->outer, it->inner, &it->fault);
     case COVER_WKB: return s2u_cover_wkb(it->given, it->size, options, it->outer, it->inner, &it->fault);
+    case COVER_GEOJSON: return s2u_cover_geojson(it->given, it->size, options, it->outer, it->inner, &it->fault);
     case COVER_CIRCLE: return s2u_cover_circle(n[0], n[1], n[2], options, it->outer, it->inner, &it->fault);
     case COVER_BOX: return s2u_cover_box(n[0], n[1], n[2], n[3], options, it->outer, it->inner, &it->fault);
     default: return S2U_ARGUMENT;
@@ -251,25 +252,29 @@ static int32_t cover_for(JNIEnv* env, jint call, covering* it, const jlong* numb
   return status;
 }
 
-/* Takes the arrays of a shape from Java: bytes of WKB, or numbers, which are positions with rings, each of which is two
+/* Whether a shape is bytes of WKB or a text. */
+static int is_of_bytes(jint call) { return call == COVER_WKB || call == COVER_GEOJSON; }
+
+/* Takes the arrays of a shape from Java: bytes of WKB or of a text, or numbers, which are positions with rings, each of which is two
  * numbers, or a circle or a box. Whether they are there. */
 static int take_shape(JNIEnv* env, jint call, jarray given, jlongArray rings, covering* it) {
   it->size = (size_t)(*env)->GetArrayLength(env, given);
-  it->given = call == COVER_WKB ? (void*)(*env)->GetByteArrayElements(env, given, NULL)
+  it->given = is_of_bytes(call) ? (void*)(*env)->GetByteArrayElements(env, given, NULL)
                                 : (void*)(*env)->GetDoubleArrayElements(env, given, NULL);
   it->rings = (s2u_cover_ring*)(void*)(*env)->GetLongArrayElements(env, rings, NULL);
   it->count = (size_t)(*env)->GetArrayLength(env, rings) / 2;
   return it->given != NULL && it->rings != NULL;
 }
 
-/* Gives them back. `at` gets the ring and the position of a fault. */
+/* Gives them back. `at` gets the ring and the position of a fault, its name and its part. */
 static void give_shape_back(JNIEnv* env, jint call, jarray given, jlongArray rings, const covering* it, int32_t status,
                             jlongArray at) {
   if (it->rings != NULL) (*env)->ReleaseLongArrayElements(env, rings, (jlong*)(void*)it->rings, JNI_ABORT);
-  if (it->given != NULL && call == COVER_WKB) (*env)->ReleaseByteArrayElements(env, given, it->given, JNI_ABORT);
+  if (it->given != NULL && is_of_bytes(call)) (*env)->ReleaseByteArrayElements(env, given, it->given, JNI_ABORT);
   else if (it->given != NULL) (*env)->ReleaseDoubleArrayElements(env, given, it->given, JNI_ABORT);
-  jlong place[] = {(jlong)it->fault.ring, (jlong)it->fault.position};
-  if (status != S2U_OK && status != S2U_MEMORY) (*env)->SetLongArrayRegion(env, at, 0, 2, place);
+  const s2u_cover_fault* fault = &it->fault;
+  jlong place[] = {(jlong)fault->ring, (jlong)fault->position, (jlong)fault->name, (jlong)fault->part};
+  if (status != S2U_OK && status != S2U_MEMORY) (*env)->SetLongArrayRegion(env, at, 0, 4, place);
 }
 
 CALL(jint, cover)(JNIEnv* env, jclass of, jint call, jint wanted, jarray given, jlongArray rings, jlongArray options,
@@ -376,6 +381,7 @@ CALL(jint, addZone)(JNIEnv* env, jclass of, jlong to, jint call, jarray given, j
     const double* n = it.given;
     const s2u_cover_shape shape = {n, it.rings, it.count};
     if (call == COVER_WKB) status = s2u_join_add_wkb(zones, it.given, it.size, &it.fault);
+    else if (call == COVER_GEOJSON) status = s2u_join_add_geojson(zones, it.given, it.size, &it.fault);
     else if (call == COVER_BOX) status = s2u_join_add_box(zones, n[0], n[1], n[2], n[3], &it.fault);
     else status = call == COVER ? s2u_join_add_shape(zones, &shape, &it.fault) : S2U_ARGUMENT;
   }

@@ -107,6 +107,10 @@ function faultOf([number, byte, part, ring, position]) {
   return {name: Object.keys(SHAPE_FAULTS)[number - 1] ?? "OTHER", byte, part, ring, position};
 }
 
+/** A status of s2union_cover.h, and its fault: the ring, the position, the name of what can't be read, and the part. */
+const faultIn = (status, [ring, position, number, part]) =>
+  ({status, ring, position, fault: number ? faultOf([number]).name : "", part});
+
 const faultText = ({name, byte, part, ring, position}) =>
   `${SHAPE_FAULTS[name] ?? "unknown fault"}: byte ${byte}, part ${part}, ring ${ring}, position ${position}`;
 
@@ -394,9 +398,9 @@ class Core {
    * it has the bit 2. Or the status of its fault, and where that is.
    */
   coveredBy(name, lists, ...numbers) {
-    const [words, [made, end]] = this.passed(lists, [48, 0]);
+    const [words, [made, end]] = this.passed(lists, [64, 0]);
     const status = this.taking(end, name, ...words, ...numbers, BigInt(made));
-    if (status < 0) return {status, ring: Number(this.number(made + 32)), position: Number(this.number(made + 40))};
+    if (status < 0) return faultIn(status, [32, 40, 48, 56].map((at) => Number(this.number(made + at))));
     const [outer, inner] = this.listsAt(made, BigUint64Array, BigUint64Array);
     return {status, outer, inner};
   }
@@ -460,7 +464,7 @@ class Core {
     return made;
   }
 
-  /** What a call of lists and numbers answers, with three numbers that it writes. Lists lie in the heap meanwhile. */
+  /** What a call of lists and numbers answers, with four numbers that it writes. Lists lie in the heap meanwhile. */
   askZones(name, lists, ...words) {
     const taken = [];
     const take = (size) => {
@@ -470,20 +474,20 @@ class Core {
       return at;
     };
     try {
-      const found = take(24);
+      const found = take(32);
       const given = lists.flatMap((list) => [take(list.byteLength), list.length].map(BigInt));
       lists.forEach((list, k) => this.copy(list, Number(given[2 * k])));
       const status = this.calls[name](...given, ...words, BigInt(found));
-      return [status, ...[0, 8, 16].map((at) => Number(this.number(found + at)))];
+      return [status, ...[0, 8, 16, 24].map((at) => Number(this.number(found + at)))];
     } finally {
       for (const at of taken) this.calls.s2js_give_back(BigInt(at));
     }
   }
 
-  /** Adds a zone of positions and rings, or of the bytes of WKB: its status, and where its fault is. */
-  addZone(lists) {
-    const [status, ring, position] = this.askZones(lists.length > 1 ? "s2js_add" : "s2js_add_wkb", lists);
-    return {status, ring, position};
+  /** Adds a zone by a call, of positions and rings or of bytes: its status, and where its fault is. */
+  addZone(name, lists) {
+    const [status, ...fault] = this.askZones(name, lists);
+    return faultIn(status, fault);
   }
 
   /** The pairs of places and zones; or the status of a fault, and its place. */

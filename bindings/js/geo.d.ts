@@ -43,10 +43,12 @@ export class ShapeError extends RangeError {
    * NUMBER: a position is out of range. FEW: a ring has fewer than four positions. OPEN: its last position is not its
    * first. PIECES: edges are too long for so few positions. OUTSIDE: no place is outside. OPPOSITE: two positions that
    * follow each other lie opposite each other. WKB, TYPE, SRID, DEEP: the bytes aren't WKB, have another type of
-   * geometry or another SRID than 4326, or collections in more than 32 collections.
+   * geometry or another SRID than 4326, or collections in more than 32 collections. GEOJSON: the text isn't GeoJSON.
    */
   readonly kind: "NUMBER" | "FEW" | "OPEN" | "PIECES" | "OUTSIDE" | "OPPOSITE" | "OPTION" | "WKB" | "TYPE" | "SRID" |
-    "DEEP";
+    "DEEP" | "GEOJSON";
+  /** Of a text or of bytes that can't be read the name of the first fault, such as TWICE, or else "". Since 1.5. */
+  readonly fault: string;
   /** The number of the ring or line among all of the shape. */
   readonly ring: number;
   /** The number of the position in it, or of the byte in WKB. */

@@ -57,7 +57,7 @@ export function toLngLat(cell) {
 
 /** GeoJSON, or the bytes of WKB: an object, a text, a view or a buffer. */
 function given(shape) {
-  if (typeof shape === "string") return shapeOf(JSON.parse(shape));
+  if (typeof shape === "string") return new Text(shape);
   if (shape instanceof ArrayBuffer) return new Uint8Array(shape);
   return ArrayBuffer.isView(shape) ? new Uint8Array(shape.buffer, shape.byteOffset, shape.byteLength) : shapeOf(shape);
 }
@@ -129,7 +129,7 @@ export class Zones {
 
   add(shape) {
     const zone = given(shape);
-    fine(this.#core, this.#core.addZone(listsOf(zone)), zone);
+    fine(this.#core, this.#core.addZone(...callOf("s2js_add", zone)), zone);
     return this.#count++;
   }
 

@@ -134,6 +134,13 @@ int32_t s2js_cover_wkb(const uint8_t* bytes, size_t size, uint64_t cells, uint32
                        s2js_if(which, S2JS_INNER, &made->inner), &made->fault);
 }
 
+int32_t s2js_cover_geojson(const char* text, size_t size, uint64_t cells, uint32_t least, uint32_t deepest,
+                           uint32_t edges, double margin, uint32_t which, s2js_coverings* made) {
+  s2u_cover_options options = s2js_options(cells, least, deepest, edges, margin);
+  return s2u_cover_geojson(text, size, &options, s2js_if(which, S2JS_OUTER, &made->outer),
+                           s2js_if(which, S2JS_INNER, &made->inner), &made->fault);
+}
+
 int32_t s2js_circle(double longitude, double latitude, double radius, uint64_t cells, uint32_t least, uint32_t deepest,
                     double margin, uint32_t which, s2js_coverings* made) {
   s2u_cover_options options = s2js_options(cells, least, deepest, S2U_COVER_GEODESIC, margin);
@@ -209,6 +216,10 @@ int32_t s2js_add(const double* positions, size_t numbers, const s2u_cover_ring* 
 
 int32_t s2js_add_wkb(const uint8_t* bytes, size_t size, s2u_cover_fault* fault) {
   return s2u_join_add_wkb(&s2js_made, bytes, size, fault);
+}
+
+int32_t s2js_add_geojson(const char* text, size_t size, s2u_cover_fault* fault) {
+  return s2u_join_add_geojson(&s2js_made, text, size, fault);
 }
 
 typedef struct s2js_found {

@@ -21,16 +21,24 @@ const PARTS = {FeatureCollection: "features", GeometryCollection: "geometries"};
 const MOST_POLYGONS = 200_000;
 /** The statuses of s2union_cover.h. */
 const SHAPE_KINDS = {[-101]: "NUMBER", [-102]: "FEW", [-103]: "OPEN", [-104]: "PIECES", [-105]: "OUTSIDE",
-  [-106]: "OPPOSITE", [-107]: "OPTION", [-108]: "WKB", [-109]: "TYPE", [-110]: "SRID", [-111]: "DEEP"};
+  [-106]: "OPPOSITE", [-107]: "OPTION", [-108]: "WKB", [-109]: "TYPE", [-110]: "SRID", [-111]: "DEEP",
+  [-112]: "GEOJSON"};
 const OF_POSITION = new Set(["NUMBER", "OPPOSITE"]);
 const OF_RING = new Set(["FEW", "OPEN"]);
 const OF_BYTE = new Set(["WKB", "TYPE", "SRID", "DEEP"]);
 
-/** What is wrong with a shape: its kind, and the ring or line and the position, or the byte of WKB. */
+/** What is wrong with a shape: its kind, the ring or line and the position, or the byte of WKB, and the fault's name. */
 class ShapeError extends RangeError {
-  constructor(kind, message, ring, position) {
+  constructor(kind, message, ring, position, fault = "") {
     super(message);
-    Object.assign(this, {kind, ring, position});
+    Object.assign(this, {kind, ring, position, fault});
+  }
+}
+
+/** A text of GeoJSON, which a proved call reads: its bytes. */
+class Text {
+  constructor(text) {
+    this.bytes = new TextEncoder().encode(text);
   }
 }
 
@@ -129,25 +137,31 @@ function shapeOf(geojson, isLoose = false) {
   return shape;
 }
 
-/** What the module takes of a shape, or of the bytes of WKB. */
-function listsOf(shape) {
-  return shape instanceof Uint8Array ? [shape] : [Float64Array.from(shape.numbers), BigUint64Array.from(shape.rings)];
+/** The call of the module that takes a shape, a text or the bytes of WKB, by how it begins, and what it takes. */
+function callOf(name, shape) {
+  if (shape instanceof Text) return [`${name}_geojson`, [shape.bytes]];
+  if (shape instanceof Uint8Array) return [`${name}_wkb`, [shape]];
+  return [name, [Float64Array.from(shape.numbers), BigUint64Array.from(shape.rings)]];
 }
 
-/** The coverings that are wanted of a shape, or of the bytes of WKB; an error has its ring and position. */
+/** The coverings that are wanted of a shape, a text or the bytes of WKB; an error has its ring and position. */
 function coveringsIn(core, shape, {cells, least, deepest, edges, margin}, which) {
-  const words = [BigInt(cells), least, deepest, edges, margin, which], lists = listsOf(shape);
-  return fine(core, core.coveredBy(lists.length > 1 ? "s2js_cover" : "s2js_cover_wkb", lists, ...words), shape);
+  const words = [BigInt(cells), least, deepest, edges, margin, which];
+  return fine(core, core.coveredBy(...callOf("s2js_cover", shape), ...words), shape);
 }
 
 /** What a call made, or the error that it has in its place. */
 function fine(core, made, shape) {
-  const {status, ring, position} = made;
+  const {status, ring, position, fault, part} = made;
   if (status >= 0) return made;
   const kind = SHAPE_KINDS[status];
   if (!kind) throw new Refusal(status, 0);
+  if (shape instanceof Text && fault) {
+    const place = `part ${part}, ring ${ring}, position ${position}`;
+    throw new ShapeError(kind, `the text is no GeoJSON: ${SHAPE_FAULTS[fault]}: ${place}`, ring, position, fault);
+  }
   throw new ShapeError(kind, saidOf(kind, core.textOf(status), shape?.names?.[ring] ?? `ring ${ring}`, position), ring,
-    position);
+    position, fault);
 }
 
 /** What is said of a fault: where it is, and what. */

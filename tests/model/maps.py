@@ -225,7 +225,13 @@ def value_of(text):
     def refuse(_):
         raise ValueError
 
-    return json.loads(text, parse_int=float, parse_constant=refuse, object_pairs_hook=members_of)
+    return of_text(json.loads(text, parse_int=float, parse_constant=refuse, object_pairs_hook=members_of))
+
+
+def of_text(value):
+    """The same value, if its texts can be written in UTF-8; half of a pair of surrogates, which can't, is an error."""
+    json.dumps(value, ensure_ascii=False).encode()
+    return value
 
 
 def read_geojson(data):
@@ -248,7 +254,7 @@ def read_geojson(data):
 
 def is_json(text):
     try:
-        json.loads(text)
+        of_text(json.loads(text))
     except ValueError:
         return False
     return True

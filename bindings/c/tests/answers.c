@@ -199,6 +199,9 @@ static uint32_t small;
 static s2u_square square;
 static s2u_direction direction;
 static s2u_shape_fault shape_fault;
+static s2u_place places[MOST];
+static s2u_ring shape_rings[MOST];
+static size_t places_room, shape_rings_room;
 
 static size_t drawn_room(size_t whole) {
   return below(8) ? whole : below(40);
@@ -207,6 +210,7 @@ static size_t drawn_room(size_t whole) {
 static void draw_rooms(void) {
   out_room = drawn_room(ROOM), more_room = drawn_room(ROOM), work_room = drawn_room(2 * MOST);
   bytes_room = drawn_room(sizeof bytes), text_room = drawn_room(sizeof text);
+  places_room = drawn_room(MOST), shape_rings_room = drawn_room(MOST);
 }
 
 /* All of it, so also what is behind the result and has to be as it was. */

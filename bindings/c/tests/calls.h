@@ -95,6 +95,10 @@
   ASK(range_maxes, (xs, nx, out, out_room, &len), SEE(out) SEE(len)) \
   ASK(range_min, (id), ) \
   ASK(range_mins, (xs, nx, out, out_room, &len), SEE(out) SEE(len)) \
+  ASK(shape_geojson, (geojson, geojson_size, places, places_room, &len, shape_rings, shape_rings_room, &count, \
+    &shape_fault), SEE(places) SEE(len) SEE(shape_rings) SEE(count) SEE(shape_fault)) \
+  ASK(shape_wkb, (wkb, wkb_size, places, places_room, &len, shape_rings, shape_rings_room, &count, &shape_fault), \
+    SEE(places) SEE(len) SEE(shape_rings) SEE(count) SEE(shape_fault)) \
   ASK(size, (id), ) \
   ASK(square_of, (id, &square), SEE(square)) \
   ASK(symmetric_difference, (xs, nx, ys, ny, out, out_room, &len), SEE(out) SEE(len)) \

@@ -424,6 +424,31 @@ int main(void) {
     /* [s2u_map_geojson_up_to] */
   }
   {
+    /* [s2u_shape_wkb] */
+    uint8_t point[21] = {1, 1, 0, 0, 0}; /* the point at 0 degrees east and 0 degrees north */
+    s2u_place places[S2U_MOST_SHAPE_WKB(sizeof point)];
+    s2u_ring rings[S2U_MOST_SHAPE_WKB(sizeof point)];
+    size_t len, rings_len;
+    s2u_shape_fault fault;
+    check(s2u_shape_wkb(point, 21, places, 1, &len, rings, 1, &rings_len, &fault) == S2U_OK && len == 1);
+    check(places[0].longitude == 0 && places[0].latitude == 0 && rings[0].end == 1 && rings[0].polygon == UINT64_MAX);
+    /* [s2u_shape_wkb] */
+  }
+  {
+    /* [s2u_shape_geojson] */
+    const char text[] = "{\"type\":\"Polygon\",\"coordinates\":[[[0,0],[20,0],[20,20],[0,20],[0,0]]]}";
+    const char twice[] = "{\"type\":\"Point\",\"type\":\"Point\",\"coordinates\":[0,0]}";
+    s2u_place places[S2U_MOST_SHAPE_GEOJSON(sizeof text)];
+    s2u_ring rings[S2U_MOST_SHAPE_GEOJSON(sizeof text)];
+    size_t len, rings_len;
+    s2u_shape_fault fault;
+    check(s2u_shape_geojson(text, sizeof text - 1, places, 5, &len, rings, 1, &rings_len, &fault) == S2U_OK);
+    check(len == 5 && places[2].longitude == 20 && rings_len == 1 && rings[0].end == 5 && rings[0].polygon == 0);
+    check(s2u_shape_geojson(twice, sizeof twice - 1, places, 5, &len, rings, 1, &rings_len, &fault) == S2U_SHAPE &&
+          fault.name == S2U_FAULT_TWICE);
+    /* [s2u_shape_geojson] */
+  }
+  {
     /* [s2u_geodesic_wkb] */
     const uint8_t none[] = {0, 0, 0, 0, 6, 0, 0, 0, 0}; /* a multipolygon of no polygon */
     uint64_t out[8];

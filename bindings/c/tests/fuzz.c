@@ -435,6 +435,28 @@ static void polygons(void) {
   both_coverings(n ? corners : NULL, n, rings ? ends : NULL, rings, outside, margin, least, deepest, most);
 }
 
+/* The lists of a shape in a text or in bytes: its places lie on the map, and its rings end one after the other. */
+static void read_lists(int is_text, const void* given, size_t n, size_t room) {
+  static s2u_place places[BYTES];
+  static s2u_ring rings[BYTES];
+  size_t len = 77, ends = 77, most = is_text ? S2U_MOST_SHAPE_GEOJSON(n) : S2U_MOST_SHAPE_WKB(n), begin = 0;
+  s2u_shape_fault fault = {99, 99, 99, 99, 99};
+  room = room > BYTES ? BYTES : room;
+  int32_t status = is_text ? s2u_shape_geojson(given, n, places, room, &len, rings, room, &ends, &fault)
+                           : s2u_shape_wkb(given, n, places, room, &len, rings, room, &ends, &fault);
+  MUST(status == S2U_OK || status == S2U_ROOM || status == S2U_SHAPE);
+  MUST(len <= most && ends <= len && (status == S2U_ROOM) == (len > room) && (status == S2U_OK || room < len || !len));
+  MUST((status == S2U_SHAPE) == (fault.name != 99) && (fault.name == 99 || fault.name <= S2U_FAULT_RANGE));
+  seen(39 + is_text, status, status == S2U_SHAPE ? fault.name : len);
+  if (status != S2U_OK) return;
+  for (size_t k = 0; k < len; k++)
+    MUST(places[k].longitude >= -540 && places[k].longitude <= 540 && places[k].latitude >= -90 &&
+         places[k].latitude <= 90);
+  for (size_t k = 0; k < ends; begin = rings[k++].end)
+    MUST(rings[k].end > begin && rings[k].end <= len && (rings[k].polygon == UINT64_MAX || rings[k].polygon <= n));
+  MUST(begin == len);
+}
+
 /* Coverings of the shape in any bytes; some begin as a ring does, and texts have few characters that GeoJSON lacks. */
 static void shapes(void) {
   static const char ring[] = "{\"type\":\"Polygon\",\"coordinates\":[[";
@@ -478,6 +500,8 @@ static void shapes(void) {
     MUST(len <= room && s2u_is_union(out, outer) == 1 && s2u_is_union(out + outer, len - outer) == 1);
     MUST(s2u_contains(out, outer, out + outer, len - outer) == 1);
   }
+  read_lists(1, n ? text : NULL, n, room);
+  read_lists(0, n ? bytes : NULL, n, room);
 }
 
 /* Any two doubles: their direction, if they are a place. */

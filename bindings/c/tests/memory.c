@@ -75,6 +75,17 @@ static int32_t map_wkb(void) {
   triangle_to(wkb);
   return s2u_map_wkb(wkb, sizeof wkb, 7, S2U_MAP_WORK, out, ROOM, &len, &outer, &fault);
 }
+static s2u_place places[8];
+static s2u_ring rings[8];
+static size_t rings_len;
+static int32_t shape_geojson(void) {
+  return s2u_shape_geojson(triangle, sizeof triangle - 1, places, 8, &len, rings, 8, &rings_len, &fault);
+}
+static int32_t shape_wkb(void) {
+  uint8_t wkb[TRIANGLE];
+  triangle_to(wkb);
+  return s2u_shape_wkb(wkb, sizeof wkb, places, 8, &len, rings, 8, &rings_len, &fault);
+}
 static int32_t geodesic_geojson(void) {
   size_t outer;
   return s2u_geodesic_geojson(triangle, sizeof triangle - 1, 7, 1000, out, ROOM, &len, &outer, &fault);
@@ -159,6 +170,7 @@ int main(void) {
                {"polygon_outer_up_to", polygon_outer_up_to, 0}, {"polygon_inner_up_to", polygon_inner_up_to, 0},
                {"polygon_coverings_up_to", polygon_coverings_up_to, 0},
                {"map_geojson", map_geojson, 0}, {"map_wkb", map_wkb, 0},
+               {"shape_geojson", shape_geojson, 0}, {"shape_wkb", shape_wkb, 0},
                {"geodesic_geojson", geodesic_geojson, 0}, {"geodesic_wkb", geodesic_wkb, 0},
                {"map_geojson_up_to", map_geojson_up_to, 0}, {"map_wkb_up_to", map_wkb_up_to, 0},
                {"encode", encode, 1}, {"decode of a union", decode, 1}, {"decode in any order", decode_mixed, 1},

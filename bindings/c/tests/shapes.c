@@ -730,7 +730,7 @@ static void refused(void) {
   if (comb) memcpy(comb + 2 * (LONG - 1), comb, 16);
   if (comb) CHECK(cover_ring(comb, LONG, USUAL).status == S2U_COVER_PIECES);
   free(comb);
-  for (int32_t status = S2U_COVER_DEEP; status <= S2U_COVER_NUMBER; status++)
+  for (int32_t status = S2U_COVER_GEOJSON; status <= S2U_COVER_NUMBER; status++)
     CHECK(strlen(s2u_cover_status_text(status)) > 9);
 }
 
@@ -845,7 +845,7 @@ static void wkb_refused(void) {
     size = 0;
     for (int k = 0; k < depth; k++) put_type(7), put(1, 4);
     put_type(7), put(0, 4);
-    CHECK(of_bytes(size, &cells, &fault) == (depth > S2U_COVER_DEEPEST ? S2U_COVER_DEEP : S2U_OK));
+    CHECK(of_bytes(size, &cells, &fault) == (depth > 32 ? S2U_COVER_DEEP : S2U_OK));
     s2u_cover_free(&cells);
   }
   written[0] = 2;

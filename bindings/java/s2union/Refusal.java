@@ -149,6 +149,7 @@ public final class Refusal extends IllegalArgumentException {
   /** The WKB has collections in more than 32 collections. */
   public static final int SHAPE_DEEP = -111;
 
+  private static final int NO_GEOJSON = -112;
   private static final long serialVersionUID = 1;
   /** The status of s2union.h. */
   private final int status;
@@ -194,6 +195,12 @@ public final class Refusal extends IllegalArgumentException {
     this.fault = null;
     this.offset = 0;
     this.part = 0;
+  }
+
+  /** Of a shape in degrees, by its ring, its position, and the name and the part of what can't be read. */
+  static Refusal ofShape(int status, long[] at) {
+    if (status != NO_GEOJSON) return new Refusal(status, at[0], at[1]);
+    return new Refusal(new long[] {at[2], 0, at[3], at[0], at[1]});
   }
 
   private static String whereOf(int status, long ring, long position) {

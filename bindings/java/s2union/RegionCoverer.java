@@ -215,10 +215,10 @@ public final class RegionCoverer {
     long most = maxCells != null ? maxCells : within == 0 ? USUAL : MOST;
     long[] options = {most, minLevel, maxLevel, edges.ordinal()};
     long[][] made = new long[2][];
-    long[] at = new long[2];
+    long[] at = new long[4];
     int status = Calls.cover(
         shape.call, wanted, shape.given, shape.rings, options, new double[] {margin, within}, made, at);
-    if (status <= Refusal.SHAPE_NUMBER) throw new Refusal(status, at[0], at[1]);
+    if (status <= Refusal.SHAPE_NUMBER) throw Refusal.ofShape(status, at);
     Calls.checked(status, 0);
     return made;
   }

@@ -1,5 +1,6 @@
 package s2union;
 
+import java.nio.charset.StandardCharsets;
 import java.util.Arrays;
 import java.util.stream.LongStream;
 import java.util.stream.Stream;
@@ -16,7 +17,7 @@ public final class Shape {
   private static final long LINE = -1;
 
   final int call;
-  /** Bytes of WKB, or numbers. */
+  /** Bytes of WKB or of a text, or numbers. */
   final Object given;
   /** Where each ring ends, in positions, and its polygon. */
   final long[] rings;
@@ -41,6 +42,22 @@ public final class Shape {
    */
   public static Shape wkb(byte[] bytes) {
     return new Shape(Calls.COVER_WKB, bytes.clone(), Calls.NONE);
+  }
+
+  /**
+   * The shape in a text of GeoJSON: a geometry, a feature, or a collection of either. Further coordinates are passed
+   * over, and so are members that say nothing of the shape.
+   *
+   * <pre>{@code
+   * new RegionCoverer().covering(Shape.geoJson("{\"type\": \"Point\", \"coordinates\": [2, 48]}")).size() // 1
+   * }</pre>
+   *
+   * @param text the text
+   * @return the shape
+   * @since 1.5
+   */
+  public static Shape geoJson(String text) {
+    return new Shape(Calls.COVER_GEOJSON, text.getBytes(StandardCharsets.UTF_8), Calls.NONE);
   }
 
   /**

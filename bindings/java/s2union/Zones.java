@@ -63,9 +63,9 @@ public final class Zones {
    * @since 1.5
    */
   public synchronized int add(Shape shape) {
-    long[] at = new long[2];
+    long[] at = new long[4];
     int status = Calls.addZone(made, shape.call, shape.given, shape.rings, at);
-    if (status <= Refusal.SHAPE_NUMBER) throw new Refusal(status, at[0], at[1]);
+    if (status <= Refusal.SHAPE_NUMBER) throw Refusal.ofShape(status, at);
     Calls.checked(status, 0);
     return count++;
   }

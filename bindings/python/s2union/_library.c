@@ -679,7 +679,7 @@ static PyMethodDef methods[] = {
   METHOD(bits, METH_O) METHOD(to_signed, METH_O) METHOD(list_of, METH_O) METHOD(number, METH_VARARGS)
   METHOD(refuse, METH_VARARGS) METHOD(leaf, METH_VARARGS) METHOD(leaves, METH_VARARGS) METHOD(middles, METH_O)
   METHOD(outline, METH_O) METHOD(boundary, METH_O) METHOD(area, METH_O)
-  METHOD(coverings, METH_VARARGS) METHOD(coverings_of_wkb, METH_VARARGS) METHOD(coverings_of_circle, METH_VARARGS)
+  METHOD(coverings, METH_VARARGS) METHOD(coverings_of_wkb, METH_VARARGS) METHOD(shape_of_geojson, METH_O) METHOD(coverings_of_circle, METH_VARARGS)
   METHOD(level_within, METH_O) METHOD(neighbors, METH_VARARGS) METHOD(edge_neighbors, METH_O)
   METHOD(vertex_neighbors, METH_VARARGS) METHOD(expanded, METH_VARARGS) METHOD(rect_bound, METH_O)
   METHOD(zones, METH_O) METHOD(pairs, METH_VARARGS)

@@ -21,6 +21,8 @@ static Calls there;
 #define s2u_polygon_outer_up_to there.s2u_polygon_outer_up_to
 #define s2u_polygon_inner_up_to there.s2u_polygon_inner_up_to
 #define s2u_polygon_coverings_up_to there.s2u_polygon_coverings_up_to
+#define s2u_shape_geojson there.s2u_shape_geojson
+#define s2u_shape_wkb there.s2u_shape_wkb
 #include <s2union_join.h>
 #include <s2union_outline.h>
 #undef s2u_from_face_ij
@@ -40,6 +42,8 @@ static Calls there;
 #undef s2u_polygon_outer_up_to
 #undef s2u_polygon_inner_up_to
 #undef s2u_polygon_coverings_up_to
+#undef s2u_shape_geojson
+#undef s2u_shape_wkb
 
 static void use_places(const Calls* calls) { there = *calls; }
 
@@ -222,6 +226,29 @@ static PyObject* py_coverings_of_wkb(PyObject* module, PyObject* words) {
     return NULL;
   CANCELLABLE(it.status, s2u_cover_wkb(bytes.at, bytes.n, &options, outer, inner, &it.fault));
   return covered(&it);
+}
+
+/* The positions and the rings of a text of GeoJSON, as bytes. */
+static PyObject* py_shape_of_geojson(PyObject* module, PyObject* text) {
+  HELD List bytes = {0};
+  s2u_cover_reader reader;
+  s2u_cover_shape shape;
+  s2u_cover_fault fault;
+  PyObject* answer = NULL;
+  int32_t status;
+  (void)module;
+  if (!as_list(text, 1, &bytes)) return NULL;
+  CANCELLABLE(status, s2u_cover_open(bytes.at, bytes.n, 1, &reader, &shape, &fault));
+  if (status == S2U_OK)
+    answer = Py_BuildValue("(y#y#)", shape.positions, (Py_ssize_t)(2 * sizeof(double) * reader.positions.count),
+                           shape.rings, (Py_ssize_t)(sizeof(s2u_cover_ring) * shape.count));
+  else if (fault.name == 0)
+    refused(status, NULL);
+  else
+    raise_fault(&(s2u_shape_fault){(size_t)fault.name, 0, (size_t)fault.part, (size_t)fault.ring,
+                                   (size_t)fault.position});
+  s2u_cover_close(&reader);
+  return answer;
 }
 
 static PyObject* py_coverings_of_circle(PyObject* module, PyObject* words) {

@@ -8,7 +8,9 @@ import os
 import re
 from array import array
 from itertools import chain
-from typing import Any, Iterable, NamedTuple
+from typing import Any, Callable, Iterable, NamedTuple
+
+from s2union import ShapeError, _library
 
 from .interrupts import look
 from .places import MOST, NO_NUMBERS, number_of, range_of
@@ -21,23 +23,32 @@ PARTS = {"FeatureCollection": "features", "GeometryCollection": "geometries"}
 LINE = 2**64 - 1  # in the place of a polygon's number: a line or a point
 KINDS = {several + one for several in ("", "Multi") for one in ("Point", "LineString", "Polygon")}
 TYPES = {name.lower(): name for name in (*KINDS, *PARTS, "Feature")}
+NO_WKT = "WKT isn't taken, but shapely.wkt.loads makes a shape of it"
 IS_WKT = re.compile(rf"\s*(SRID=\d+;)?({'|'.join((*KINDS, 'GeometryCollection'))})\b", re.IGNORECASE).match
 
 
 class Shape(NamedTuple):
-    """The longitudes and latitudes of all positions; of each ring or line where it ends and its polygon; and what each
-    is called."""
+    """The longitudes and latitudes of all positions; and of each ring or line where it ends and its polygon."""
 
     positions: array[float]
     rings: array[int]
-    names: list[str]
 
-    def add(self, line: Any, polygon: int, name: str) -> None:
-        self.positions.extend(_positions_of(line, name))
-        self.rings.extend((len(self.positions) // 2, polygon))
-        self.names.append(name)
+    def add(self, line: Any, polygon: int) -> None:
+        self.rings.extend((0, polygon))
+        self.positions.extend(_positions_of(line, lambda: self.name(len(self.rings) // 2 - 1)))
+        self.rings[-2] = len(self.positions) // 2
+        self.look_at_size()
+
+    def look_at_size(self) -> None:
         if len(self.positions) > 2 * MOST_POSITIONS:
             raise ValueError(f"there are more than {MOST_POSITIONS} positions")
+
+    def name(self, ring: int) -> str:
+        """What a ring or a line is called."""
+        polygons = self.rings[1::2]
+        if polygons[ring] == LINE:
+            return f"line {ring}"
+        return f"polygon {polygons[ring]}, ring {ring - polygons.index(polygons[ring])}"
 
     def place(self, ring: int, position: int) -> list[float]:
         begin = self.rings[2 * ring - 2] if ring else 0
@@ -87,7 +98,7 @@ def parsed(text: str | bytes, name: str = "the text") -> Any:
         return json.loads(text)
     except (ValueError, RecursionError) as error:
         is_wkt = isinstance(text, str) and IS_WKT(text)
-        why = "WKT isn't taken, but shapely.wkt.loads makes a shape of it" if is_wkt else error
+        why = NO_WKT if is_wkt else error
         raise ValueError(f"{name} is no GeoJSON: {why}") from None
 
 
@@ -102,8 +113,10 @@ def shape_of(given: Any) -> Shape:
     been read as it is."""
     if isinstance(given, Shape):
         return given
-    found, polygons, parts = Shape(array("d"), array("Q"), []), 0, 0
-    waiting = [parsed(given) if isinstance(given, (str, bytes)) else given]
+    if isinstance(given, (str, bytes)):
+        return _shape_of_text(given)
+    found, polygons, parts = Shape(array("d"), array("Q")), 0, 0
+    waiting = [given]
     while waiting:
         look()
         if parts + len(waiting) > MOST_PARTS:
@@ -123,6 +136,22 @@ def shape_of(given: Any) -> Shape:
         else:
             raise ValueError(f"it is no shape: {kind[:99]!r}{_meant(kind)}")
     return found
+
+
+def _shape_of_text(given: str | bytes) -> Shape:
+    """The rings and lines of a text of GeoJSON, by the proved call."""
+    text = given.encode() if isinstance(given, str) else given
+    if len(text) > MOST_BYTES:
+        raise ValueError(f"the text has more than {MOST_BYTES} bytes")
+    try:
+        positions, rings = _library.shape_of_geojson(text)
+    except ShapeError:
+        if isinstance(given, str) and IS_WKT(given):
+            raise ValueError(f"the text is no GeoJSON: {NO_WKT}") from None
+        raise
+    shape = Shape(array("d", positions), array("Q", rings))
+    shape.look_at_size()
+    return shape
 
 
 def _said_without_type(it: Any) -> str:
@@ -157,14 +186,14 @@ def _add_geometry(shape: Shape, it: Any, kind: str, polygons: int) -> int:
     if not kind.endswith("Polygon"):
         for one in several:
             if not _is_empty(one):
-                shape.add([one] if kind.endswith("Point") else one, LINE, f"line {len(shape.names)}")
+                shape.add([one] if kind.endswith("Point") else one, LINE)
         return 0
     for k, rings in enumerate(several, polygons):
         look()
         if isinstance(rings, NO_LISTS) or not hasattr(rings, "__len__"):
             raise ValueError(f"polygon {k} has a list of rings")
-        for n, ring in enumerate(rings):
-            shape.add(ring, k, f"polygon {k}, ring {n}")
+        for ring in rings:
+            shape.add(ring, k)
     return len(several)
 
 
@@ -183,7 +212,7 @@ def _list_of(it: Any, name: str, kind: str) -> list[Any]:
     return list(parts)
 
 
-def _positions_of(line: Any, name: str) -> Iterable[float]:
+def _positions_of(line: Any, name: Callable[[], str]) -> Iterable[float]:
     """The longitudes and latitudes of a line, each position after the other."""
     try:
         if hasattr(line, "astype"):  # an array of numpy
@@ -202,17 +231,17 @@ def _positions_of(line: Any, name: str) -> Iterable[float]:
             raise ValueError
         return array("d", chain.from_iterable(position[:2] for position in line))
     except (TypeError, ValueError, OverflowError):
-        raise ValueError(f"{name}: a position is a longitude and a latitude") from None
+        raise ValueError(f"{name()}: a position is a longitude and a latitude") from None
 
 
 def said_of(shape: Shape | None, ring: int, position: int, text: str) -> str:
     """What is said of a fault: where it is, and the position."""
-    if shape is None or ring >= len(shape.names):
+    if shape is None or 2 * ring >= len(shape.rings):
         return text
     if text.startswith("a ring "):
-        return shape.names[ring] + text[len("a ring"):]
+        return shape.name(ring) + text[len("a ring"):]
     place = shape.place(ring, position)
     wrong = next((what for number, what in zip(place, MOST) if not abs(number) <= MOST[what]), None)
     if wrong is None:
-        return f"{shape.names[ring]}: {text}"
-    return f"{shape.names[ring]}: position {position} is out of range: {range_of(wrong)}: {place}"
+        return f"{shape.name(ring)}: {text}"
+    return f"{shape.name(ring)}: position {position} is out of range: {range_of(wrong)}: {place}"

@@ -23,6 +23,11 @@ int32_t s2union_rust_cover_wkb(const uint8_t* bytes, size_t size, const s2u_cove
   return s2u_cover_wkb(bytes, size, options, outer, inner, fault);
 }
 
+int32_t s2union_rust_cover_geojson(const uint8_t* text, size_t size, const s2u_cover_options* options,
+                                   s2u_cover_cells* outer, s2u_cover_cells* inner, s2u_cover_fault* fault) {
+  return s2u_cover_geojson((const char*)text, size, options, outer, inner, fault);
+}
+
 int32_t s2union_rust_cover_circle(double longitude, double latitude, double radius, const s2u_cover_options* options,
                                   s2u_cover_cells* outer, s2u_cover_cells* inner, s2u_cover_fault* fault) {
   return s2u_cover_circle(longitude, latitude, radius, options, outer, inner, fault);
@@ -91,6 +96,10 @@ int32_t s2union_rust_add(s2u_join_zones* it, const s2u_cover_shape* shape, s2u_c
 
 int32_t s2union_rust_add_wkb(s2u_join_zones* it, const uint8_t* bytes, size_t size, s2u_cover_fault* fault) {
   return s2u_join_add_wkb(it, bytes, size, fault);
+}
+
+int32_t s2union_rust_add_geojson(s2u_join_zones* it, const uint8_t* text, size_t size, s2u_cover_fault* fault) {
+  return s2u_join_add_geojson(it, (const char*)text, size, fault);
 }
 
 int32_t s2union_rust_add_box(s2u_join_zones* it, double west, double south, double east, double north,

@@ -4,10 +4,11 @@ use std::ffi::CStr;
 use std::os::raw::c_char;
 use std::{ptr, slice};
 
-use crate::calls;
+use crate::calls::{self, FaultName};
 use crate::cell::CellId;
 use crate::error::{Error, ShapeFault};
 use crate::lists::roomy;
+use crate::maps::Ring;
 use crate::union::CellUnion;
 
 /// A longitude, from -540 to 540 degrees, and a latitude, from -90 to 90: the longitude comes first.
@@ -34,6 +35,7 @@ pub struct Shape<'a>(pub(crate) Kind<'a>);
 #[derive(Clone, Debug, PartialEq)]
 pub(crate) enum Kind<'a> {
     Wkb(&'a [u8]),
+    GeoJson(&'a [u8]),
     Rings(Vec<Position>, Vec<Ring>),
     Circle(Position, f64),
     Rectangle([f64; 4]),
@@ -92,6 +94,21 @@ impl<'a> Shape<'a> {
     /// ```
     pub fn wkb(bytes: &'a [u8]) -> Shape<'a> {
         Shape(Kind::Wkb(bytes))
+    }
+
+    /// The shape in a text of GeoJSON, in UTF-8: a geometry, a feature, or a collection of either. Further coordinates
+    /// are passed over, and so are members that say nothing of the shape. Since 1.5.
+    ///
+    /// # Examples
+    ///
+    /// ```
+    /// # use s2union::*;
+    /// let way = Shape::geojson(r#"{"type": "LineString", "coordinates": [[1, 1], [2, 2]]}"#.as_bytes());
+    /// let coverer = RegionCoverer::default();
+    /// assert_eq!(coverer.covering(&way), coverer.covering(&Shape::lines(&[[[1.0, 1.0], [2.0, 2.0]]])));
+    /// ```
+    pub fn geojson(text: &'a [u8]) -> Shape<'a> {
+        Shape(Kind::GeoJson(text))
     }
 
     /// A polygon of rings, each of which ends with its first position. A place is inside if a way to it from outside
@@ -303,6 +320,9 @@ impl RegionCoverer {
                 Kind::Wkb(bytes) => {
                     s2union_rust_cover_wkb(bytes.as_ptr(), bytes.len(), &options, outer, inner, &mut fault)
                 }
+                Kind::GeoJson(text) => {
+                    s2union_rust_cover_geojson(text.as_ptr(), text.len(), &options, outer, inner, &mut fault)
+                }
                 Kind::Rings(positions, rings) => {
                     let shape =
                         Rings { positions: positions.as_ptr().cast(), rings: rings.as_ptr(), count: rings.len() };
@@ -469,11 +489,17 @@ fn leaf_at([longitude, latitude]: Position) -> Option<CellId> {
 
 /// The error of a status: of a shape with its place, if it has one.
 pub(crate) fn refused(status: i32, at: &Fault) -> Result<(), Error> {
+    let [part, ring, position] = [at.part, at.ring, at.position].map(|count| count as usize);
     match ShapeFault::of(status) {
-        Some(fault) => Err(Error::Shape { fault, ring: at.ring as usize, position: at.position as usize }),
+        Some(fault) => Err(Error::Shape { fault, ring, position }),
+        None if status == NO_GEOJSON => {
+            Err(Error::NoShape { fault: FaultName::of(at.name as usize), byte: 0, part, ring, position })
+        }
         None => Error::of(status, 0),
     }
 }
+
+const NO_GEOJSON: i32 = -112; // S2U_COVER_GEOJSON
 
 fn copied<T: Copy>(list: &[T]) -> Result<Vec<T>, Error> {
     let mut made = roomy(list.len())?;
@@ -496,13 +522,6 @@ fn pointer<T>(to: Option<&mut T>) -> *mut T {
 
 const LINE: u64 = u64::MAX; // in the place of a polygon's number
 
-#[derive(Clone, Copy, Debug, PartialEq)]
-#[repr(C)] // s2u_cover_ring
-pub(crate) struct Ring {
-    end: u64,
-    polygon: u64,
-}
-
 #[repr(C)] // s2u_cover_shape
 pub(crate) struct Rings {
     pub(crate) positions: *const f64,
@@ -524,6 +543,8 @@ struct Options {
 pub(crate) struct Fault {
     ring: u64,
     position: u64,
+    name: u64,
+    part: u64,
 }
 
 #[repr(C)] // s2u_cover_cells
@@ -598,6 +619,14 @@ extern "C" {
     ) -> i32;
     fn s2union_rust_cover_wkb(
         bytes: *const u8,
+        size: usize,
+        options: *const Options,
+        outer: *mut Cells,
+        inner: *mut Cells,
+        fault: *mut Fault,
+    ) -> i32;
+    fn s2union_rust_cover_geojson(
+        text: *const u8,
         size: usize,
         options: *const Options,
         outer: *mut Cells,

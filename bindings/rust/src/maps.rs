@@ -21,6 +21,21 @@ pub struct ShapeFault {
     pub position: usize,
 }
 
+/// A position of a shape that was read.
+#[repr(C)] // s2u_place
+pub struct Place {
+    pub longitude: f64,
+    pub latitude: f64,
+}
+
+/// A ring, a line or a point of a shape.
+#[derive(Clone, Copy, Debug, PartialEq)]
+#[repr(C)] // s2u_ring
+pub struct Ring {
+    pub end: u64,
+    pub polygon: u64,
+}
+
 impl ShapeFault {
     /// Its error, if there is a fault: no other error than that of a shape touches it.
     fn error(&self) -> Option<Error> {

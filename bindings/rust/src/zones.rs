@@ -67,6 +67,7 @@ impl Zones {
             let number = s2union_rust_count_zones(zones);
             let status = match &shape.0 {
                 Kind::Wkb(bytes) => s2union_rust_add_wkb(zones, bytes.as_ptr(), bytes.len(), &mut fault),
+                Kind::GeoJson(text) => s2union_rust_add_geojson(zones, text.as_ptr(), text.len(), &mut fault),
                 Kind::Rings(positions, rings) => {
                     let shape =
                         Rings { positions: positions.as_ptr().cast(), rings: rings.as_ptr(), count: rings.len() };
@@ -157,6 +158,7 @@ extern "C" {
     fn s2union_rust_count_zones(zones: *const c_void) -> usize;
     fn s2union_rust_add(zones: *mut c_void, shape: *const Rings, fault: *mut Fault) -> i32;
     fn s2union_rust_add_wkb(zones: *mut c_void, bytes: *const u8, size: usize, fault: *mut Fault) -> i32;
+    fn s2union_rust_add_geojson(zones: *mut c_void, text: *const u8, size: usize, fault: *mut Fault) -> i32;
     fn s2union_rust_add_box(zones: *mut c_void, west: f64, south: f64, east: f64, north: f64, fault: *mut Fault)
         -> i32;
     fn s2union_rust_pairs(

@@ -162,6 +162,18 @@ typedef struct s2u_shape_fault {
   size_t position; /**< how many positions of its ring or line come before it */
 } s2u_shape_fault;
 
+/** A position in degrees, as a shape that was read has it. @since 1.5 */
+typedef struct s2u_place {
+  double longitude; /**< -540 to 540 */
+  double latitude;  /**< -90 to 90 */
+} s2u_place;
+
+/** A ring of a polygon, a line, or a point. @since 1.5 */
+typedef struct s2u_ring {
+  uint64_t end;     /**< how many positions there are up to its end, of all rings */
+  uint64_t polygon; /**< how many points, lines and polygons come before its polygon; of a line and a point 2^64 - 1 */
+} s2u_ring;
+
 /* ---- the library ------------------------------------------------------------------------------------------------- */
 
 /** @name The library
@@ -1290,6 +1302,68 @@ int32_t s2u_geodesic_wkb(const uint8_t* wkb, size_t n, uint32_t level, size_t mo
  */
 int32_t s2u_geodesic_geojson(const char* text, size_t n, uint32_t level, size_t most, uint64_t* out, size_t room,
                              size_t* len, size_t* outer, s2u_shape_fault* fault);
+
+/** @} */
+
+/* ---- shapes that are read ---------------------------------------------------------------------------------------- */
+
+/** @name Shapes that are read
+ *
+ * The positions, rings and lines of a shape in a text of GeoJSON, or in bytes of WKB or EWKB: proved, from the first
+ * byte on. s2union_cover.h covers what they write. Each number is the nearest double. Further coordinates are passed
+ * over, and so are members that say nothing of the shape. A line without positions, a ring without any and a point
+ * without numbers are none.
+ *
+ * What is no such shape has a first fault. Of a text these are, in the order of the checks, those of the whole:
+ * S2U_FAULT_UTF8, S2U_FAULT_JSON (also of lists and objects in more than 128 others) and S2U_FAULT_TWICE; then, from
+ * the first value on, any other. Of bytes the fault that is nearest to the first byte counts.
+ *
+ * Time grows with the bytes; a text of n bytes takes as long as n log n at most, as its names are sorted. Memory is
+ * some dozen bytes for each byte of a text, and less than twice that of the result for WKB.
+ * @{ */
+
+/** The most positions of a shape in n bytes of WKB, which take 16 each, and the most rings and lines: each has one
+ * position or more. @since 1.5 */
+#define S2U_MOST_SHAPE_WKB(n) ((n) / 16)
+
+/** The most positions of a shape in a text of n bytes, of which `[0,0]` takes 5, and the most rings and lines.
+ * @since 1.5 */
+#define S2U_MOST_SHAPE_GEOJSON(n) ((n) / 5)
+
+/** The shape in bytes of WKB: its positions, and where its rings and lines end.
+ * At most S2U_MOST_SHAPE_WKB(n) of each.
+ * @param wkb,n WKB or EWKB at any address, in either order of bytes, and how many bytes it has
+ * @param places,room,len the positions, one ring after the other, how many there is room for, and how many they are
+ * @param rings,rings_room,rings_len the rings of polygons, the lines and the points, how many there is room for, and
+ *   how many they are
+ * @param fault of S2U_SHAPE the fault and its place; no other answer touches it
+ * @return S2U_OK
+ * @retval S2U_ROOM room or rings_room is too small; len and rings_len say what is needed, and nothing is written
+ * @retval S2U_MEMORY out of memory; nothing has changed
+ * @retval S2U_SHAPE the bytes have a fault
+ * @since 1.5
+ * @snippet examples.c s2u_shape_wkb
+ */
+int32_t s2u_shape_wkb(const uint8_t* wkb, size_t n, s2u_place* places, size_t room, size_t* len, s2u_ring* rings,
+                      size_t rings_room, size_t* rings_len, s2u_shape_fault* fault);
+
+/** The shape in a text of GeoJSON, a geometry, a feature, or a collection of either: its positions, and where its rings
+ * and lines end.
+ * At most S2U_MOST_SHAPE_GEOJSON(n) of each.
+ * @param text,n the text in UTF-8, and how many bytes it has
+ * @param places,room,len the positions, one ring after the other, how many there is room for, and how many they are
+ * @param rings,rings_room,rings_len the rings of polygons, the lines and the points, how many there is room for, and
+ *   how many they are
+ * @param fault of S2U_SHAPE the fault and its place; no other answer touches it
+ * @return S2U_OK
+ * @retval S2U_ROOM room or rings_room is too small; len and rings_len say what is needed, and nothing is written
+ * @retval S2U_MEMORY out of memory; nothing has changed
+ * @retval S2U_SHAPE the text has a fault
+ * @since 1.5
+ * @snippet examples.c s2u_shape_geojson
+ */
+int32_t s2u_shape_geojson(const char* text, size_t n, s2u_place* places, size_t room, size_t* len, s2u_ring* rings,
+                          size_t rings_room, size_t* rings_len, s2u_shape_fault* fault);
 
 /** @} */
 

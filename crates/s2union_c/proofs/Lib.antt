@@ -15,3 +15,4 @@ mod Naming
 mod Fields
 mod Firsts
 mod Both
+mod Shown

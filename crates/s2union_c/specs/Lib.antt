@@ -7,6 +7,7 @@ pub mod Laws
 pub mod ManyCells
 pub mod Order
 pub mod Polygons
+pub mod Reading
 pub mod Rectangles
 pub mod Results
 pub mod Shapes

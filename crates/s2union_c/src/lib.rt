@@ -16,6 +16,7 @@ mod many;
 mod many_cells;
 mod polygons;
 mod questions;
+mod reading;
 mod results;
 mod sets;
 mod shapes;

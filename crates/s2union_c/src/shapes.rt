@@ -258,7 +258,7 @@ fn put_both(coverings: &Coverings, out: &mut [u64], len: &mut usize, outer: &mut
 }
 
 /// The number of a name of a fault.
-fn number(name: FaultName) -> usize
+pub(crate) fn number(name: FaultName) -> usize
     ensures { result ≡ number_of_name name }
 {
     name as usize + 1

@@ -26,7 +26,6 @@ FILES = ("geo.c", "join.c", "outline.c", "cover.c")
 OF_ENTRY = {
     "join_beyond": ["-eva-split-return-function", "s2u_join_boxes_of:full"],
     "join_shorten": ["-eva-use-spec", "s2u_join_beyond"],
-    "join_read_line": ["-eva-split-return", "full"],
     "join_zone_has": ["-eva-use-spec", "s2u_join_slab", "-eva-slevel", "20000"],
     "join_arrange": ["-eva-alloc-builtin", "fresh", "-eva-split-return-function", "s2u_cover_take:full"],
     "outline_grown": ["-eva-alloc-builtin", "fresh", "-eva-split-return-function", "s2u_geo_grown:full"],
@@ -83,10 +82,6 @@ MISTAKES = (
             "s2u_cover_at(shape, begin), 16 * (size_t)count + 16);"),
     Mistake("a_ring_is_filled_up_to_five", "join_shorten", "s2union_join.h",
             "is_area && kept < 4; kept++", "is_area && kept < 5; kept++"),
-    Mistake("a_type_of_four_bytes", "join_read_type", "s2union_cover.h",
-            "if (s2u_cover_left(reader) < 5 ||", "if (s2u_cover_left(reader) < 4 ||"),
-    Mistake("a_position_that_is_not_there", "join_read_point", "s2union_cover.h",
-            "  if (s2u_cover_left(reader) < 8 * numbers) return S2U_COVER_WKB;\n", ""),
     Mistake("a_slab_before_the_first", "join_slab", "s2union_join.h",
             "  if (!isfinite(slab) || slab <= 0) return 0; /* of a box of no width it is no number */\n", ""),
     Mistake("a_slab_after_the_last", "join_zone_has", "s2union_join.h",

@@ -70,46 +70,6 @@ void join_shorten(void) { /* with any sides that positions are beyond: join_beyo
   s2u_join_shorten(&boxes, at, 4, 1, at);
 }
 
-enum { BYTES = 44 };
-static uint8_t wkb[BYTES];
-
-/* A reader of the last of the bytes, with room in its lists for all that they can hold. */
-static s2u_cover_reader any_reader(size_t size) {
-  static s2u_cover_ring read_rings[8];
-  s2u_cover_reader reader;
-  memset(&reader, 0, sizeof reader);
-  for (int k = 0; k < BYTES; k++) wkb[k] = (uint8_t)any_level;
-  reader.bytes = wkb + BYTES - size, reader.size = size, reader.is_little = any_level & 1;
-  reader.positions = s2u_cover_list_of(2 * sizeof(double)), reader.rings = s2u_cover_list_of(sizeof(s2u_cover_ring));
-  reader.positions.at = (char*)positions, reader.positions.room = POSITIONS;
-  reader.rings.at = (char*)read_rings, reader.rings.room = 8;
-  return reader;
-}
-
-void join_read_type(void) {
-  uint64_t kind;
-  size_t numbers;
-  for (size_t size = 0; size <= 9; size++) {
-    s2u_cover_reader reader = any_reader(size);
-    s2u_cover_read_type(&reader, &kind, &numbers);
-  }
-}
-
-void join_read_point(void) {
-  for (size_t size = 0; size <= BYTES; size += 4)
-    for (size_t numbers = 2; numbers <= 4; numbers++) {
-      s2u_cover_reader reader = any_reader(size);
-      s2u_cover_read_position(&reader, numbers, 1);
-    }
-}
-
-void join_read_line(void) { /* of up to two positions */
-  for (size_t size = 4; size <= 36; size += 16) {
-    s2u_cover_reader reader = any_reader(size);
-    s2u_cover_read_line(&reader, 2, any_level);
-  }
-}
-
 /* ---- a zone, and places */
 
 enum { EDGES = 9, SLABS = 3 };
