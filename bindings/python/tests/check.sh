@@ -49,6 +49,7 @@ fi
 step "what all languages are asked" python -m pytest test_questions.py
 step "the edges" python -m pytest test_edges.py
 step "texts and bytes of shapes" maps
+step "texts and bytes of shapes, beside a plain reader" readings
 step "coverings of texts and bytes" python -m pytest test_shapes.py
 without_memory() { # Python's memory is the C library's own
   gcc -std=c11 -O2 "${strict[@]}" -fPIC -shared "$top/tests/refuse.c" -o "$work/refuse.so" &&
@@ -93,6 +94,7 @@ tutorial() { # the step of its first part in Python; the part `program` runs tho
 }
 step "docs/TUTORIAL.md, Part 1, in Python" tutorial
 step "s2union_geo, points, polygons and maps" python -m pytest test_geo.py
+step "shapes of texts and bytes" python -m pytest test_readings.py
 step "maps for a notebook" python -m pytest test_maps.py
 step "signals inside a call" python -m pytest test_signals.py
 step "its index, and joins of files" python -m pytest test_index.py

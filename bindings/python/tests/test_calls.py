@@ -78,6 +78,7 @@ REFUSED = {
     "neighbors": (CELL, 0), "vertex_neighbors": (CELL, 1), "expanded": (CELLS, 30), "edge_neighbors": (2,),
     "complement": ("", 2**62, CELLS), "refuse": (-5, "what"), "token": (object(),),
     "map_geojson": ("what", 1, SQUARE[:-1], 3, 9), "map_wkb": ("what", 1, TRIANGLE, 30, 9),
+    "shape_of_geojson": (SQUARE[:-1],),
     "zones": ((TRIANGLE, TRIANGLE[:-1]),), "pairs": (ZONES, WORDS["longitudes"], WORDS["latitudes"], 1),
 }
 

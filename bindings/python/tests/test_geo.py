@@ -446,7 +446,8 @@ REFUSED = [
     (polygon([[0, 0], [10**400, 1], [1, 0], [0, 0]]), "a position is a longitude and a"),
     ({"type": "Circle", "coordinates": [0, 0]}, "it is no shape: 'Circle'"),
     ({"type": "Point", "coordinates": [0]}, "line 0: a position is a longitude and a latitude"),
-    ('{"type": "MultiPoint", "coordinates": [1, 2]}', "line 0: a position is a longitude and a latitude"),
+    ('{"type": "MultiPoint", "coordinates": [1, 2]}',
+     "a list of coordinates, geometries or features is missing: byte 0"),
     ({"type": "LineString", "coordinates": [0, 1]}, "line 0: a position is a longitude and a latitude"),
     ({"type": "MultiLineString", "coordinates": [{"x": 1}]}, "line 0: a position is a longitude and a latitude"),
     ({"type": "MultiLineString", "coordinates": [{}]}, "line 0: a position is a longitude and a latitude"),
@@ -463,11 +464,12 @@ REFUSED = [
     ({"type": []}, 'it is no shape: a dict whose "type" is no text'), ({}, 'it is no shape: a dict without "type"'),
     ({"type": "polygon", "coordinates": []}, r"it is no shape: 'polygon'; did you mean 'Polygon'\?"),
     ("POLYGON ((0 0, 1 0, 1 1, 0 0))", "the text is no GeoJSON: WKT isn't taken, but shapely.wkt.loads makes a shape"),
-    (" srid=4326;multipoint z (0 0 1)", "WKT isn't taken"), ("POLYGONS", "the text is no GeoJSON: Expecting value"),
-    (None, "it is no shape: NoneType"), ("{", "the text is no GeoJSON"),
-    ("[" * 100000, "the text is no GeoJSON"),
+    (" srid=4326;multipoint z (0 0 1)", "WKT isn't taken"), ("POLYGONS", "the text is not JSON"),
+    (None, "it is no shape: NoneType"), ("{", "the text is not JSON"),
+    ("[" * 100000, "the text is not JSON"),
     ({"type": "GeometryCollection", "geometries": ['{"type": "Point", "coordinates": [1, 2]}']}, "it is no shape: str"),
-    ('{"type": "Feature", "geometry": "{\\"type\\": \\"MultiPoint\\", \\"coordinates\\": []}"}', "it is no shape: str"),
+    ('{"type": "Feature", "geometry": "{\\"type\\": \\"MultiPoint\\", \\"coordinates\\": []}"}',
+     "an object without a type"),
 ]
 
 
