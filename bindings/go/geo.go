@@ -93,7 +93,7 @@ func (refusal *ShapeError) Error() string {
 // Unwrap answers the refusal. Since 1.4.
 func (refusal *ShapeError) Unwrap() error { return refusal.Refusal }
 
-func (refusal Error) isOfBytes() bool { return refusal <= ErrShapeWKB }
+func (refusal Error) isOfBytes() bool { return C.s2u_cover_is_of_byte(C.int32_t(refusal)) != 0 }
 
 // text says what a status means.
 func (refusal Error) text() string { return C.GoString(C.s2u_cover_status_text(C.int32_t(refusal))) }

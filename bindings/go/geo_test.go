@@ -324,66 +324,7 @@ func TestAMillionPositions(t *testing.T) {
 }
 
 func TestGeoJSON(t *testing.T) {
-	polygon := `[[[2,48],[3,48.0,7],[3,49],[ 2 , 49e0, "x" ],[2,48]]]`
 	line := []Position{{0, 0}, {-1.5, 2e1}}
-	lines := Shape{Lines: [][]Position{line}}
-	for text, want := range map[string]Shape{
-		`{"type":"Polygon","coordinates":` + polygon + `}`:                                                square,
-		`{"type":"MultiPolygon","coordinates":[` + polygon + `]}`:                                         square,
-		`{"type":"Feature","geometry":{"type":"Polygon","coordinates":` + polygon + `}, "id":1}`:          square,
-		`{"type":"FeatureCollection","features":[{"type":"Polygon","coordinates":` + polygon + `}]}`:      square,
-		`{"type":"GeometryCollection","geometries":[{"type":"Polygon","coordinates":` + polygon + `}]}`:   square,
-		`{"type":"LineString","coordinates":[[0,0],[-1.5,20]]}`:                                           lines,
-		`{"type":"MultiLineString","coordinates":[[[0,0],[-1.5,20]],[]]}`:                                 lines,
-		`{"type":"Point","coordinates":[-1.5,20]}`:                                                        {Points: line[1:]},
-		`{"type":"MultiPoint","coordinates":[[0,0],[-1.5,20]]}`:                                           {Points: line},
-		`{"type":"Point","coordinates":[]}`:                                                               {},
-		`{"type":"Point","coordinates": [ ] }`:                                                            {},
-		`{"type":"MultiPoint","coordinates":[[0,0],[],[-1.5,20],[ ]]}`:                                    {Points: line},
-		`{"type":"FeatureCollection","features":[]}`:                                                      {},
-		`{"type":"Feature","geometry":null}`:                                                              {},
-		`{"type":"Feature","properties":{"coordinates":7},"geometry":{"type":"Point","coordinates":[]}} `: {},
-		// Of two members with one name the last counts, and no other name for another.
-		`{"type":7,"type":"Point","coordinates":[],"coordinates":[-1.5,20],"COORDINATES":[]}`: {
-			Points: line[1:]},
-		`{"type":"Feature","geometry":{"coordinates":[9,9]},"geometry":{"type":"Point","coordinates":[]}}`: {},
-		`{"type":"Feature","geometry":[[{}],7],"geometry":null}`:                                           {},
-		`{"type":"FeatureCollection","features":[{"type":"Feature","geometry":{"type":"Point","coordinates":[9,9]}}],
-			"features":[{"type":"Feature"}]}`: {},
-		`{"type":"Point","coordinates":[-1.5,20],"geometry":1e999,"geometries":[[]],"features":{"type":[{}]}}`: {
-			Points: line[1:]},
-	} {
-		var shape Shape
-		err := json.Unmarshal([]byte(text), &shape)
-		check(t, err == nil && reflect.DeepEqual(shape, want), fmt.Sprint(text, shape, err))
-	}
-	for _, wrong := range []string{
-		`1`, `{}`, `[]`, `"x"`, `{"type":"Circle","coordinates":[]}`, `{"type":"Polygon"}`, `{"type":7}`,
-		`{"type":"Polygon","coordinates":null}`, `{"type":"Polygon","coordinates":[[0,1]]}`,
-		`{"type":"Polygon","coordinates":[[[0,"1"]]]}`, `{"type":"Polygon","coordinates":[[[0]]]}`,
-		`{"type":"Polygon","coordinates":[[[[0,1]]]]}`, `{"type":"Point","coordinates":[[0,1]]}`,
-		`{"type":"Point","coordinates":[null,1]}`, `{"type":"Point","coordinates":[0,true]}`,
-		`{"type":"Point","coordinates":[1e999,1]}`, `{"type":"Point","coordinates":{"x":1,"y":2}}`,
-		`{"type":"MultiPoint","coordinates":[[0,1],null]}`, `{"type":"GeometryCollection","geometries":[{"type":"x"}]}`,
-		`{"type":"FeatureCollection"}`, `{"type":"FeatureCollection","features":null}`,
-		`{"type":"FeatureCollection","geometries":[]}`, `{"type":"GeometryCollection","features":[]}`,
-		`{"type":"MultiLineString","coordinates":[null]}`, `{"type":"MultiPolygon","coordinates":[[],null]}`,
-		`{"type":"MultiPoint","coordinates":[[[]]]}`, `{"type":"LineString","coordinates":[[],[0,1]]}`,
-		`{"Type":"Point","coordinates":[0,1]}`, `{"type":"Point","Coordinates":[0,1]}`,
-		`{"type":"Point","coordinateſ":[0,1]}`, `{"type":"FeatureCollection","FEATURES":[]}`,
-		`{"type":"Point","type":null,"coordinates":[0,1]}`, `{"type":"Feature","geometry":[]}`,
-		`{"type":"Feature","geometry":{"type":"Point","coordinates":[0,1]},"geometry":{"type":"Point"}}`,
-		`{"type":"Feature","geometry":true}`, `{"type":"FeatureCollection","features":[1]}`,
-		`{"type":"FeatureCollection","features":[null]}`,
-		`{"type":"FeatureCollection","features":{}}`, `{"type":"FeatureCollection","features":[],"features":0}`,
-		`{"type":"GeometryCollection","geometries":` + strings.Repeat("[", 20000) + strings.Repeat("]", 20000) + `}`,
-	} {
-		shape := square
-		err := json.Unmarshal([]byte(wrong), &shape)
-		var syntax *json.SyntaxError
-		check(t, errors.Is(err, s2union.ErrGeoJSON) || errors.As(err, &syntax), fmt.Sprintf("%.99s: %v", wrong, err))
-		check(t, reflect.DeepEqual(shape, square), "it stays as it was")
-	}
 	for _, shape := range []Shape{square, {Lines: [][]Position{line}}, {Points: line}, {},
 		{Polygons: square.Polygons, Lines: [][]Position{line}, Points: line}} {
 		var again Shape
@@ -394,4 +335,64 @@ func TestGeoJSON(t *testing.T) {
 	check(t, square.UnmarshalJSON([]byte(" null\n")) == nil && square.Polygons != nil, "null and blanks")
 	_, err := json.Marshal(Shape{Points: []Position{{math.NaN(), 0}}})
 	check(t, err != nil, "no number")
+}
+
+// TestReadings asks the texts and bytes of tests/model/readings.py, in the file that S2UNION_READINGS names.
+func TestReadings(t *testing.T) {
+	asked := 0
+	for _, row := range linesOf(t, "S2UNION_READINGS") {
+		fields := strings.SplitN(row, "\t", 3)
+		data, _ := hex.DecodeString(fields[1])
+		want := append(fields[2:], "")[0]
+		shape, err := square, error(nil)
+		if fields[0] == "wkb" && (want == "" || want[0] != '!') {
+			continue // what a covering has is asked of WKB elsewhere
+		}
+		if fields[0] == "wkb" {
+			_, err = RegionCoverer{}.Covering(s2union.WKB(data))
+		} else if strings.TrimSpace(string(data)) != "null" {
+			err = shape.UnmarshalJSON(data)
+		}
+		check(t, readingOf(t, shape, err, fields[0] == "wkb", want), row)
+		asked++
+	}
+	check(t, asked > 400, fmt.Sprint(asked))
+}
+
+// readingOf is whether a shape is the one that is wanted, or an error is that of its fault.
+func readingOf(t *testing.T, shape Shape, err error, isWKB bool, want string) bool {
+	var wrong *s2union.ShapeError
+	if want == "" || want[0] != '!' {
+		return err == nil && reflect.DeepEqual(shape, wanted(want))
+	}
+	if !errors.As(err, &wrong) || isWKB {
+		return strings.HasPrefix(want, "!no_type") && err == nil || wrong != nil && wrong.Refusal <= s2union.ErrShapeNumber
+	}
+	check(t, errors.Is(err, s2union.ErrGeoJSON) && strings.Contains(err.Error(), wrong.Fault.String()), err.Error())
+	return reflect.DeepEqual(shape, square) && want == fmt.Sprint("!", faultNames[wrong.Fault-1], " 0 ", wrong.Part, " ",
+		wrong.Ring, " ", wrong.Position)
+}
+
+// wanted is the shape of a row: the number of a polygon or '-', and longitudes and latitudes, of each ring.
+func wanted(row string) (shape Shape) {
+	before := ""
+	for _, words := range strings.Fields(row) {
+		polygon, numbers, _ := strings.Cut(words, ":")
+		var line []Position
+		for each := strings.Split(numbers, ","); len(each) > 0; each = each[2:] {
+			line = append(line, Position{must(strconv.ParseFloat(each[0], 64)), must(strconv.ParseFloat(each[1], 64))})
+		}
+		switch {
+		case polygon == "-" && len(line) == 1:
+			shape.Points = append(shape.Points, line[0])
+		case polygon == "-":
+			shape.Lines = append(shape.Lines, line)
+		case polygon == before:
+			shape.Polygons[len(shape.Polygons)-1] = append(shape.Polygons[len(shape.Polygons)-1], line)
+		default:
+			shape.Polygons = append(shape.Polygons, [][]Position{line})
+		}
+		before = polygon
+	}
+	return shape
 }

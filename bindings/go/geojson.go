@@ -1,216 +1,79 @@
 package s2union
 
+// #include <s2union_cover.h>
+import "C"
+
 import (
 	"bytes"
 	"encoding/json"
 	"errors"
 	"fmt"
 	"strconv"
+	"unsafe"
 )
 
 // ErrGeoJSON is the refusal of a text that isn't GeoJSON of polygons, lines and points.
 var ErrGeoJSON = errors.New("s2union: not GeoJSON of polygons, lines and points")
 
-var errMissing = fmt.Errorf("%w: a list of coordinates or parts is missing", ErrGeoJSON)
+// geoJSONError says why a text isn't GeoJSON: an ErrGeoJSON with a ShapeError.
+type geoJSONError struct{ *ShapeError }
 
-// object is what GeoJSON asks of a value. One that is no object has no kind. encoding/json would take other names for
-// these, and of two members with one name make one.
-type object struct {
-	kind                 string
-	coordinates          json.RawMessage
-	geometry             *object
-	geometries, features []*object
+// Error says in a few words what was refused, and where. Since 1.5.
+func (err geoJSONError) Error() string {
+	return fmt.Sprintf("%v: %v: part %d, ring %d, position %d", ErrGeoJSON, err.Fault, err.Part, err.Ring, err.Position)
 }
 
-// UnmarshalJSON takes GeoJSON: a geometry, a feature, or a collection of them. If there is an error, which wraps
-// ErrGeoJSON, the shape stays as it was. Since 1.4.
+// Is answers whether it is an ErrGeoJSON, as which it counts. Since 1.5.
+func (err geoJSONError) Is(target error) bool { return target == ErrGeoJSON }
+
+// Unwrap answers the ShapeError. Since 1.5.
+func (err geoJSONError) Unwrap() error { return err.ShapeError }
+
+// UnmarshalJSON takes GeoJSON: a geometry, a feature, or a collection of them, in the order of its polygons, lines and
+// points; a line of one position is a point. A proved call reads it. If there is an error, which wraps ErrGeoJSON and
+// is a ShapeError with a fault, the shape stays as it was. Other errors are ErrMemory. Since 1.4.
 func (shape *Shape) UnmarshalJSON(text []byte) error {
-	var read Shape
-	err := json.Unmarshal(text, new(json.RawMessage))
-	if err == nil {
-		decoder := json.NewDecoder(bytes.NewReader(text))
-		decoder.UseNumber() // of any size
-		given := objectIn(decoder)
-		if given == nil {
-			return nil
-		}
-		err = read.add(given)
-	}
-	if err == nil {
-		*shape = read
-	} else if !errors.Is(err, ErrGeoJSON) {
-		err = fmt.Errorf("%w: %v", ErrGeoJSON, err)
-	}
-	return err
-}
-
-// objectIn reads the next value of a text that is JSON, where no step fails: nil for null. Of two members with one name
-// the last counts.
-func objectIn(text *json.Decoder) *object {
-	var given object
-	first, _ := text.Token()
-	if first == nil {
+	var reader C.s2u_cover_reader
+	var found C.s2u_cover_shape
+	var fault C.s2u_cover_fault
+	if string(bytes.TrimSpace(text)) == "null" {
 		return nil
 	}
-	if first != json.Delim('{') {
-		passOver(text, first)
-		return &given
+	at, n := pointerToBytes(text)
+	status := C.s2u_cover_open(unsafe.Pointer(at), n, 1, &reader, &found, &fault)
+	defer C.s2u_cover_close(&reader)
+	if status == C.S2U_MEMORY {
+		return ErrMemory
 	}
-	for text.More() {
-		switch name, _ := text.Token(); name {
-		case "type":
-			given.kind = stringIn(text)
-		case "coordinates":
-			given.coordinates = nil
-			_ = text.Decode(&given.coordinates)
-		case "geometry":
-			given.geometry = objectIn(text)
-		case "geometries":
-			given.geometries = objectsIn(text)
-		case "features":
-			given.features = objectsIn(text)
-		default:
-			_ = text.Decode(new(json.RawMessage))
-		}
+	if status != C.S2U_OK {
+		return geoJSONError{&ShapeError{Ring: int(fault.ring), Position: int(fault.position), Refusal: ErrShape,
+			Fault: FaultName(fault.name), Part: int(fault.part)}}
 	}
-	_, _ = text.Token()
-	return &given
+	positions := unsafe.Slice((*Position)(unsafe.Pointer(found.positions)), int(reader.positions.count))
+	*shape = shapeOf(append([]Position(nil), positions...), unsafe.Slice(found.rings, int(found.count)))
+	return nil
 }
 
-// objectsIn reads the next value: nil if it is no list.
-func objectsIn(text *json.Decoder) (list []*object) {
-	first, _ := text.Token()
-	if first != json.Delim('[') {
-		passOver(text, first)
-		return nil
-	}
-	for list = []*object{}; text.More(); {
-		list = append(list, objectIn(text))
-	}
-	_, _ = text.Token()
-	return list
-}
-
-func stringIn(text *json.Decoder) (found string) {
-	first, _ := text.Token()
-	passOver(text, first)
-	found, _ = first.(string)
-	return found
-}
-
-// passOver reads what is left of a list or an object whose first token was read.
-func passOver(text *json.Decoder, first json.Token) {
-	if first != json.Delim('[') && first != json.Delim('{') {
-		return
-	}
-	for text.More() {
-		if first == json.Delim('{') {
-			_, _ = text.Token()
-		}
-		_ = text.Decode(new(json.RawMessage))
-	}
-	_, _ = text.Token()
-}
-
-// add adds what an object has.
-func (shape *Shape) add(given *object) error {
-	switch given.kind {
-	case "Feature":
-		if given.geometry == nil {
-			return nil
-		}
-		return shape.add(given.geometry)
-	case "FeatureCollection":
-		return shape.addParts(given.features)
-	case "GeometryCollection":
-		return shape.addParts(given.geometries)
-	default:
-		return shape.addGeometry(given.kind, given.coordinates)
-	}
-}
-
-// addParts adds what the parts of a collection have, whose list may not be missing, and none of them.
-func (shape *Shape) addParts(parts []*object) (err error) {
-	if parts == nil {
-		return errMissing
-	}
-	for k := 0; k < len(parts) && err == nil; k++ {
-		if parts[k] == nil {
-			err = errMissing
-		} else {
-			err = shape.add(parts[k])
-		}
-	}
-	return err
-}
-
-func (shape *Shape) addGeometry(kind string, coordinates []byte) (err error) {
-	var polygon [][]Position
-	var line []Position
-	switch kind {
-	case "Polygon":
-		err = listIn(coordinates, &polygon)
-		shape.Polygons = append(shape.Polygons, polygon)
-	case "MultiPolygon":
-		var polygons [][][]Position
-		err = listsIn(coordinates, &polygons)
-		shape.Polygons = append(shape.Polygons, polygons...)
-	case "LineString":
-		err = listIn(coordinates, &line)
-		shape.addLines(line)
-	case "MultiLineString":
-		err = listsIn(coordinates, &polygon)
-		shape.addLines(polygon...)
-	case "MultiPoint":
-		var points []json.RawMessage
-		err = listIn(coordinates, &points)
-		for k := 0; k < len(points) && err == nil; k++ {
-			err = shape.addPoint(points[k])
-		}
-	case "Point":
-		err = shape.addPoint(coordinates)
-	default:
-		err = fmt.Errorf("%w: the type %.99q", ErrGeoJSON, kind)
-	}
-	return err
-}
-
-func (shape *Shape) addLines(lines ...[]Position) {
-	for _, line := range lines {
-		if len(line) > 0 {
+// shapeOf is the shape of rings, lines and points, whose positions stand one after the other.
+func shapeOf(positions []Position, rings []C.s2u_cover_ring) (shape Shape) {
+	begin := 0
+	for k, ring := range rings {
+		end := int(ring.end)
+		line := positions[begin:end:end]
+		begin = end
+		switch {
+		case ring.polygon == C.S2U_COVER_LINE && len(line) == 1:
+			shape.Points = append(shape.Points, line[0])
+		case ring.polygon == C.S2U_COVER_LINE:
 			shape.Lines = append(shape.Lines, line)
+		case k > 0 && rings[k-1].polygon == ring.polygon:
+			last := &shape.Polygons[len(shape.Polygons)-1]
+			*last = append(*last, line)
+		default:
+			shape.Polygons = append(shape.Polygons, [][]Position{line})
 		}
 	}
-}
-
-// addPoint adds a point. One without a number is empty.
-func (shape *Shape) addPoint(coordinates []byte) error {
-	var point Position
-	if string(bytes.Join(bytes.Fields(coordinates), nil)) == "[]" {
-		return nil
-	}
-	err := listIn(coordinates, &point)
-	shape.Points = append(shape.Points, point)
-	return err
-}
-
-// listIn reads the list of coordinates, which may not be missing.
-func listIn(coordinates []byte, list any) error {
-	if len(coordinates) == 0 || string(coordinates) == "null" {
-		return errMissing
-	}
-	return json.Unmarshal(coordinates, list)
-}
-
-// listsIn reads a list of lists, none of which may be missing either.
-func listsIn[T any](coordinates []byte, lists *[][]T) error {
-	err := listIn(coordinates, lists)
-	for k := 0; k < len(*lists) && err == nil; k++ {
-		if (*lists)[k] == nil {
-			err = errMissing
-		}
-	}
-	return err
+	return shape
 }
 
 // UnmarshalJSON takes a longitude and a latitude, and passes over what follows them. Since 1.4.

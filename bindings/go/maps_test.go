@@ -1,7 +1,6 @@
 package s2union_test
 
 import (
-	"bufio"
 	"encoding/hex"
 	"errors"
 	"fmt"
@@ -37,23 +36,25 @@ var mapCalls = map[string]func([]byte, int, uint64) (s2union.CellUnion, s2union.
 
 // TestMaps asks the texts and bytes of tests/model/maps.py, in the file that S2UNION_MAPS names.
 func TestMaps(t *testing.T) {
-	file, err := os.Open(os.Getenv("S2UNION_MAPS"))
-	if err != nil {
-		t.Skip("S2UNION_MAPS names no file")
-	}
-	defer file.Close()
-	lines := bufio.NewScanner(file)
-	lines.Buffer(nil, 1<<20)
-	asked := 0
-	for ; lines.Scan(); asked++ {
-		fields := strings.Split(lines.Text(), "\t")
+	rows := linesOf(t, "S2UNION_MAPS")
+	for _, row := range rows {
+		fields := strings.Split(row, "\t")
 		data, _ := hex.DecodeString(fields[1])
 		level, _ := strconv.Atoi(fields[2])
 		most, _ := strconv.ParseUint(fields[3], 10, 64)
 		outer, inner, err := mapCalls[fields[0]](data, level, most)
-		check(t, answerOf(outer, inner, err) == strings.Join(fields[4:], "\t"), lines.Text())
+		check(t, answerOf(outer, inner, err) == strings.Join(fields[4:], "\t"), row)
 	}
-	check(t, asked > 500, fmt.Sprint(asked, lines.Err()))
+	check(t, len(rows) > 500, fmt.Sprint(len(rows)))
+}
+
+// linesOf are the lines of the file that a variable of the environment names.
+func linesOf(t *testing.T, variable string) []string {
+	text, err := os.ReadFile(os.Getenv(variable))
+	if err != nil {
+		t.Skip(variable + " names no file")
+	}
+	return strings.Split(strings.TrimSuffix(string(text), "\n"), "\n")
 }
 
 func answerOf(outer, inner s2union.CellUnion, err error) string {

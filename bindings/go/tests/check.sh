@@ -11,6 +11,7 @@ page=bindings/go/README.md
 step "questions and edges" questions
 step "shapes in degrees" shapes
 step "texts and bytes of shapes" maps
+step "texts and bytes of shapes, beside a plain reader" readings
 export GOPATH=$work/go GOCACHE=$work/go-cache GOFLAGS=-mod=mod GOPROXY=off GOTOOLCHAIN=local
 path=$(sed -n 's/^module //p' "$top/bindings/go/go.mod")
 for_go() (
