@@ -107,9 +107,12 @@ function faultOf([number, byte, part, ring, position]) {
   return {name: Object.keys(SHAPE_FAULTS)[number - 1] ?? "OTHER", byte, part, ring, position};
 }
 
-/** A status of s2union_cover.h, and its fault: the ring, the position, the name of what can't be read, and the part. */
-const faultIn = (status, [ring, position, number, part]) =>
-  ({status, ring, position, fault: number ? faultOf([number]).name : "", part});
+/** A status of s2union_cover.h, and its fault: the ring, the position, the name of what can't be read, and its text. */
+function faultIn(status, [ring, position, number, part]) {
+  const fault = number ? faultOf([number]).name : "";
+  const said = `${SHAPE_FAULTS[fault]}: part ${part}, ring ${ring}, position ${position}`;
+  return {status, ring, position, fault, said};
+}
 
 const faultText = ({name, byte, part, ring, position}) =>
   `${SHAPE_FAULTS[name] ?? "unknown fault"}: byte ${byte}, part ${part}, ring ${ring}, position ${position}`;

@@ -68,7 +68,7 @@ export function toLngLat(cell: Cell): [number, number];
 /**
  * A covering: a union that contains all of a shape. S2: S2RegionCoverer::GetCovering. It takes time and memory by the
  * positions and the cells.
- * @throws ShapeError, RangeError, TypeError, SyntaxError, Error for what is no GeoJSON, Refusal -2, -6
+ * @throws ShapeError, RangeError, TypeError, Error for an object that is no GeoJSON, Refusal -2, -6
  */
 export function covering(shape: Shape, options?: CoveringOptions): CellUnion;
 /**
@@ -170,7 +170,7 @@ export class Zones {
   /**
    * Adds a zone. After an error the zones are as they were.
    * @returns its number, which is 0 for the first
-   * @throws ShapeError, SyntaxError, Error for what is no GeoJSON, Refusal -2
+   * @throws ShapeError, Error for an object that is no GeoJSON, Refusal -2
    */
   add(shape: Shape): number;
   /**

@@ -27,7 +27,7 @@ const OF_POSITION = new Set(["NUMBER", "OPPOSITE"]);
 const OF_RING = new Set(["FEW", "OPEN"]);
 const OF_BYTE = new Set(["WKB", "TYPE", "SRID", "DEEP"]);
 
-/** What is wrong with a shape: its kind, the ring or line and the position, or the byte of WKB, and the fault's name. */
+/** What is wrong with a shape: its kind, the ring or line and the position, or the byte of WKB, and a fault's name. */
 class ShapeError extends RangeError {
   constructor(kind, message, ring, position, fault = "") {
     super(message);
@@ -152,13 +152,12 @@ function coveringsIn(core, shape, {cells, least, deepest, edges, margin}, which)
 
 /** What a call made, or the error that it has in its place. */
 function fine(core, made, shape) {
-  const {status, ring, position, fault, part} = made;
+  const {status, ring, position, fault, said} = made;
   if (status >= 0) return made;
   const kind = SHAPE_KINDS[status];
   if (!kind) throw new Refusal(status, 0);
   if (shape instanceof Text && fault) {
-    const place = `part ${part}, ring ${ring}, position ${position}`;
-    throw new ShapeError(kind, `the text is no GeoJSON: ${SHAPE_FAULTS[fault]}: ${place}`, ring, position, fault);
+    throw new ShapeError(kind, `the text is no GeoJSON: ${said}`, ring, position, fault);
   }
   throw new ShapeError(kind, saidOf(kind, core.textOf(status), shape?.names?.[ring] ?? `ring ${ring}`, position), ring,
     position, fault);
