@@ -1,5 +1,5 @@
-/* qsort of the module for WebAssembly, by the malloc, free and memcpy that are declared before. All of it is inlined, so
- * that no function is called by its address. */
+/* qsort of the module for WebAssembly, by the malloc, free and memcpy that are declared before. All of it is inlined,
+ * so that no function is called by its address. */
 #ifndef S2UNION_SORT_H
 #define S2UNION_SORT_H
 
