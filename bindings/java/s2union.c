@@ -255,8 +255,8 @@ static int32_t cover_for(JNIEnv* env, jint call, covering* it, const jlong* numb
 /* Whether a shape is bytes of WKB or a text. */
 static int is_of_bytes(jint call) { return call == COVER_WKB || call == COVER_GEOJSON; }
 
-/* Takes the arrays of a shape from Java: bytes of WKB or of a text, or numbers, which are positions with rings, each of which is two
- * numbers, or a circle or a box. Whether they are there. */
+/* Takes the arrays of a shape from Java: bytes of WKB or of a text, or numbers, which are positions with rings, each of
+ * which is two numbers, or a circle or a box. Whether they are there. */
 static int take_shape(JNIEnv* env, jint call, jarray given, jlongArray rings, covering* it) {
   it->size = (size_t)(*env)->GetArrayLength(env, given);
   it->given = is_of_bytes(call) ? (void*)(*env)->GetByteArrayElements(env, given, NULL)

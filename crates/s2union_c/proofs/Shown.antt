@@ -1,5 +1,6 @@
 -- The positions and the rings of a shape, as they are written one after the other.
-use Rattle.std.proofs.Common.{◌≡◌, ◌∙◌, ℕ, zero, suc, ◌+◌, ◌-◌, ◌<◌, ◌≤◌, ◌⊎◌, List, [], ◌∷◌, ◌++◌, ap, sym, refl, arith}
+use Rattle.std.proofs.Common.{◌≡◌, ◌∙◌, ℕ, zero, suc, ◌+◌, ◌-◌, ◌<◌, ◌≤◌}
+use Rattle.std.proofs.Common.{◌⊎◌, List, [], ◌∷◌, ◌++◌, ap, sym, refl, arith}
 use Rattle.std.proofs.Common.{append_assoc, drop, get_or, length, map, take, if◌then◌else◌, inl, inr, Bool}
 use Rattle.std.specs.Prelude.{slice_set}
 use Rattle.std.proofs.lemmas.Bool.{le-ltb, lt-ltb}
@@ -8,7 +9,8 @@ use Rattle.std.proofs.Math.ListN.{drop_of_length-le}
 use Rattle.s2shape.specs.Reading.{Shape}
 use Rattle.s2shape.specs.declared.shape.Part.{Part}
 use Rattle.s2shape.specs.declared.shape.Position.{Position}
-use Rattle.s2union_c.specs.Reading.{HasNoRoomForShape, no_polygon, place_of, polygon_number, polygon_of_ring, rings_from}
+use Rattle.s2union_c.specs.Reading.{HasNoRoomForShape, no_polygon, place_of}
+use Rattle.s2union_c.specs.Reading.{polygon_number, polygon_of_ring, rings_from}
 use Rattle.s2union_c.specs.Status.{no_room}
 use Rattle.s2union_c.specs.declared.reading.Place.{Place}
 use Rattle.s2union_c.specs.declared.reading.Ring.{Ring}
@@ -42,7 +44,7 @@ places_next positions old out k d v lt room so_far is =
 ring_at : ℕ → List ℕ → List Part → ℕ → Ring
 ring_at first ends parts k = record { end = get_or ends k 0; polygon = polygon_of_ring (first + k) 0 parts }
 
-pub rings_length : (first : ℕ) (ends : List ℕ) (parts : List Part) → length (rings_from first ends parts) ≡ length ends
+rings_length : (first : ℕ) (ends : List ℕ) (parts : List Part) → length (rings_from first ends parts) ≡ length ends
 unfolding rings_from
 rings_length first [] parts = refl
 rings_length first (end ∷ ends) parts = ap suc (rings_length (suc first) ends parts)
