@@ -19,7 +19,7 @@ use Rattle.s2polygon.specs.Cells.{odd_of, square_of, widened}
 use Rattle.s2polygon.specs.Faces.{edges_on}
 use Rattle.s2polygon.specs.Leaves.{Region, inside, is_touched, outer_leaf, inner_leaf}
 use Rattle.s2polygon.specs.Tests.{meets_square}
-use Rattle.s2polygon.specs.Working.Known.{IsKnown, face_list, top_in}
+use Rattle.s2polygon.specs.Descents.{IsKnown, face_list, top_in}
 use Rattle.s2polygon.specs.declared.descent.Known.{Known}
 use Rattle.s2polygon.specs.declared.frames.FramedEdge.{FramedEdge}
 

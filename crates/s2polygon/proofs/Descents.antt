@@ -9,7 +9,8 @@ use Rattle.s2polygon.proofs.Tests.{leaves_out_near, child_list}
 use Rattle.s2polygon.specs.Cells.{odd_of, square_of, step_to, widened}
 use Rattle.s2polygon.specs.Parity.{is_odd_by, is_odd_along}
 use Rattle.s2polygon.specs.Tests.{meets_square}
-use Rattle.s2polygon.specs.Working.Descent.{Near, crosses_step_at, places_of, IsRight}
+use Rattle.s2polygon.specs.Descents.{Near, IsRight}
+use Rattle.s2polygon.specs.Working.Descent.{crosses_step_at, places_of}
 use Rattle.s2polygon.specs.Working.Holding.{Misses, LeavesOutWhatMisses}
 use Rattle.s2polygon.specs.declared.frames.FramedEdge.{FramedEdge}
 use Rattle.s2polygon.specs.declared.places.Square.{Square}

@@ -6,7 +6,7 @@ use Rattle.s2polygon.specs.Cells.{odd_of, step_to}
 use Rattle.s2polygon.specs.Faces.{edges_on, top_of}
 use Rattle.s2polygon.specs.Leaves.{Region, odd_at, inside}
 use Rattle.s2polygon.specs.Parity.{is_odd_along}
-use Rattle.s2polygon.specs.Working.Known.{top_in}
+use Rattle.s2polygon.specs.Descents.{top_in}
 use Rattle.s2polygon.specs.declared.frames.FramedEdge.{FramedEdge}
 
 -- ---- parities that are exchanged

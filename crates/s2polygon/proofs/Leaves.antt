@@ -2,7 +2,7 @@
 use Rattle.std.proofs.Common.{◌≡◌, sym, ap, ◌∙◌, ℕ, suc, ◌+◌, ◌-◌, ◌*◌, ◌/◌, ◌^◌, ◌≤◌, ◌<◌, Bool, List, arith}
 use Rattle.std.proofs.Common.{pow-add, pow-suc, div-one, div-mul-le_self, lt_of_mul-lt-mul_right}
 use Rattle.std.proofs.Math.Nat.{div-div-eq-div-mul, div-eq_of_lt}
-use Rattle.s2polygon.specs.Working.Descent.{IsRight, Near}
+use Rattle.s2polygon.specs.Descents.{IsRight, Near}
 use Rattle.s2polygon.specs.declared.frames.FramedEdge.{FramedEdge}
 
 pub in_range : (k x : ℕ) → k ≤ 30 → x < 2 ^ 30 → x / 2 ^ k < 2 ^ (30 - k)

@@ -15,7 +15,8 @@ use Rattle.s2polygon.specs.Frames.{framed}
 use Rattle.s2polygon.specs.Parity.{is_odd_by}
 use Rattle.s2polygon.specs.Tests.{meets_square}
 use Rattle.s2polygon.specs.Ways.{Piece, column, crosses, middle_of, row}
-use Rattle.s2polygon.specs.Working.Descent.{line_of, near_face}
+use Rattle.s2polygon.specs.Descents.{near_face}
+use Rattle.s2polygon.specs.Working.Descent.{line_of}
 use Rattle.s2polygon.specs.Working.Holding.{HoldsPiece}
 use Rattle.s2polygon.specs.declared.directions.Edge.{Edge}
 use Rattle.s2polygon.specs.declared.frames.FramedEdge.{FramedEdge}

@@ -8,7 +8,8 @@ use Rattle.s2polygon.proofs.Bare.{out_of_outer, out_of_inner, in_inner, in_outer
 use Rattle.s2polygon.proofs.Bare.{odd_outer, even_inner}
 use Rattle.s2polygon.proofs.Meetings.{no, yes}
 use Rattle.s2polygon.specs.Leaves.{Region, inner_leaf, outer_leaf}
-use Rattle.s2polygon.specs.Working.Known.{IsKnown, part_by}
+use Rattle.s2polygon.specs.Descents.{IsKnown}
+use Rattle.s2polygon.specs.Working.Known.{part_by}
 use Rattle.s2polygon.specs.declared.descent.Known.{Known}
 
 -- what a part says of a cell

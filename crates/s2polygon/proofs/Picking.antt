@@ -7,7 +7,8 @@ use Rattle.std.proofs.lemmas.List.Elements.{All-append, All-cons, All-get_or, Al
 use Rattle.s2polygon.proofs.Steps.{either_answer, odd_more}
 use Rattle.s2polygon.specs.Parity.{is_odd_by}
 use Rattle.s2polygon.specs.Tests.{meets_square}
-use Rattle.s2polygon.specs.Working.Descent.{crosses_step_at, no_edge, picked}
+use Rattle.s2polygon.specs.Descents.{no_edge, picked}
+use Rattle.s2polygon.specs.Working.Descent.{crosses_step_at}
 use Rattle.s2polygon.specs.declared.frames.FramedEdge.{FramedEdge}
 use Rattle.s2polygon.specs.declared.places.Square.{Square}
 use Rattle.s2polygon.specs.declared.places.Step.{Step}

@@ -11,9 +11,9 @@ use Rattle.s2polygon.specs.Cells.{odd_of, square_of, widened}
 use Rattle.s2polygon.specs.Faces.{edges_on, top_of}
 use Rattle.s2polygon.specs.Leaves.{Region, inside, odd_at}
 use Rattle.s2polygon.specs.Tests.{meets_square}
-use Rattle.s2polygon.specs.Working.Descent.{near_face}
+use Rattle.s2polygon.specs.Descents.{near_face, top_in}
 use Rattle.s2polygon.specs.Working.Known.{AreLists, IsPolygon, answer_at, answers_of, exchanged_by}
-use Rattle.s2polygon.specs.Working.Known.{parities_of, top_in}
+use Rattle.s2polygon.specs.Working.Known.{parities_of}
 use Rattle.s2polygon.specs.Working.Sizes.{IsFramed}
 use Rattle.s2polygon.specs.declared.directions.Edge.{Edge}
 use Rattle.s2polygon.specs.declared.faces.Tops.{Tops}

@@ -13,8 +13,7 @@ use Rattle.s2polygon.specs.Counts.{edges_met}
 use Rattle.s2polygon.specs.Faces.{edges_on}
 use Rattle.s2polygon.specs.Tests.{meets_square}
 use Rattle.s2polygon.specs.Leaves.{Region}
-use Rattle.s2polygon.specs.Working.Descent.{IsRight, near_of, no_edge}
-use Rattle.s2polygon.specs.Working.Known.{IsKnown, face_list, top_in}
+use Rattle.s2polygon.specs.Descents.{IsKnown, IsRight, face_list, near_of, no_edge, top_in}
 use Rattle.s2polygon.specs.declared.descent.Known.{Known}
 
 abbrev pub IsKnownOf : Region → PlacedCell → Known → Type 0

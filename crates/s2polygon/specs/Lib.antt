@@ -1,6 +1,7 @@
 pub mod Cells
 pub mod Counts
 pub mod Crosses
+pub mod Descents
 pub mod Directions
 pub mod Faces
 pub mod Frames

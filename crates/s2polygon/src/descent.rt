@@ -3,7 +3,8 @@ ghost use Rattle.std.specs.Prelude.{◌≡◌, ℕ, suc, ◌-◌, ◌/◌, ◌<�
 ghost use Rattle.std.specs.Prelude.{cond, filter, get_or, length};
 ghost use Rattle.s2polygon.specs.Parity.{is_odd_by};
 ghost use Rattle.s2polygon.specs.Tests.{meets_square};
-ghost use Rattle.s2polygon.specs.Working.Descent.{IsRight, crosses_step_at, near_face, near_of, no_edge, picked};
+ghost use Rattle.s2polygon.specs.Descents.{IsRight, near_face, near_of, no_edge, picked};
+ghost use Rattle.s2polygon.specs.Working.Descent.{crosses_step_at};
 ghost use Rattle.s2polygon.specs.Working.Sizes.{HasPlaces, IsFramed, IsOfPlaces};
 ghost use Rattle.s2polygon.specs.declared.frames.FramedEdge.{FramedEdge};
 

@@ -3,7 +3,7 @@ ghost use Rattle.std.specs.Prelude.{◌≡◌, ◌<◌, ◌≤◌, ◌^◌, IfOk
 ghost use Rattle.s2polygon.specs.Faces.{edges_on};
 ghost use Rattle.s2polygon.specs.Frames.{framed};
 ghost use Rattle.s2polygon.specs.Tests.{meets_square};
-ghost use Rattle.s2polygon.specs.Working.Descent.{near_face};
+ghost use Rattle.s2polygon.specs.Descents.{near_face};
 ghost use Rattle.s2polygon.specs.Working.Known.{AreLists, list_of};
 ghost use Rattle.s2polygon.specs.Working.Sizes.{IsOfPlaces};
 

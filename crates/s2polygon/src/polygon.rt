@@ -5,8 +5,7 @@ ghost use Rattle.s2polygon.specs.Cells.{odd_of};
 ghost use Rattle.s2polygon.specs.Faces.{edges_on};
 ghost use Rattle.s2polygon.specs.Leaves.{inside};
 ghost use Rattle.s2polygon.specs.Rings.{AreRings, FaultMeans, rings_edges};
-ghost use Rattle.s2polygon.specs.Working.Descent.{IsRight, near_face, near_of};
-ghost use Rattle.s2polygon.specs.Working.Known.{face_list, top_in};
+ghost use Rattle.s2polygon.specs.Descents.{IsRight, face_list, near_face, near_of, top_in};
 ghost use Rattle.s2polygon.specs.Working.Sizes.{IsFramed};
 ghost use Rattle.s2polygon.specs.declared.frames.FramedEdge.{FramedEdge};
 

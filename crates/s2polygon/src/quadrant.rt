@@ -5,8 +5,8 @@ ghost use Rattle.s2cell.specs.Cell.{level_of};
 ghost use Rattle.s2cell.specs.Square.{IsPlacedCell};
 ghost use Rattle.s2polygon.specs.Counts.{edges_met};
 ghost use Rattle.s2polygon.specs.Leaves.{Region, inner_leaf, outer_leaf};
-ghost use Rattle.s2polygon.specs.Working.Descent.{IsRight, near_of};
-ghost use Rattle.s2polygon.specs.Working.Known.{IsKnown, part_by};
+ghost use Rattle.s2polygon.specs.Descents.{IsKnown, IsRight, near_of};
+ghost use Rattle.s2polygon.specs.Working.Known.{part_by};
 ghost use Rattle.s2polygon.specs.Working.Sizes.{IsFramed};
 ghost use Rattle.s2polygon.specs.declared.frames.FramedEdge.{FramedEdge};
 

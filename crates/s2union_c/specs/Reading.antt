@@ -49,6 +49,7 @@ rings_from first (end ∷ ends) parts =
 abbrev pub places_of : Shape → List Place
 places_of s = map place_of s.positions
 
+-- the rings and lines of a shape, with their ends and polygons
 abbrev pub rings_of : Shape → List Ring
 rings_of s = rings_from 0 s.rings s.parts
 

@@ -1,12 +1,8 @@
 -- Regions taken together.
 use Rattle.std.specs.Prelude.{ℕ, ◌-◌, ◌^◌, ◌≤◌, Bool, Contains, List, min}
-use Rattle.std.specs.List.{list_any, sum_by}
+use Rattle.std.specs.List.{sum_by}
 use Rattle.s2cover.specs.Coverings.{LiesOutside}
 use Rattle.s2list.specs.Union.{LiesIn}
-
--- the leaf `x` is in the set of one of the regions
-abbrev pub any_has : {A : Type 0} → (A → ℕ → Bool) → List A → ℕ → Bool
-any_has set parts x = list_any (λ part. set part x) parts
 
 -- the sizes of all, of which 2^64 - 1 are the most that count
 abbrev pub size_of_all : {A : Type 0} → (A → ℕ) → List A → ℕ

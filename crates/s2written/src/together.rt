@@ -3,8 +3,8 @@ ghost use Rattle.std.specs.Prelude.{◌≡◌, ◌<◌, ◌++◌, ◌∷◌, ◌
 ghost use Rattle.s2cell.specs.Cell.{IsCell, child_of, face_of, level_of};
 ghost use Rattle.s2list.specs.Union.{LiesIn};
 ghost use Rattle.s2cover.specs.Coverings.{LiesOutside};
-ghost use Rattle.s2written.specs.Several.{CrossesOne, any_has, size_of_all};
-ghost use Rattle.s2written.specs.Working.Remaining.{Remain};
+ghost use Rattle.s2written.specs.Several.{CrossesOne, size_of_all};
+ghost use Rattle.s2written.specs.Working.Remaining.{Remain, any_has};
 
 use s2cell::{CellId, GREATEST_LEVEL, PlacedCell};
 use s2cover::{Part, Quadrant, Quartered, RoughRegion};

@@ -1,23 +1,17 @@
 -- What is known of a cell of a polygon.
-use Rattle.std.specs.Prelude.{◌≡◌, ℕ, zero, suc, ◌-◌, ◌/◌, ◌<◌, ◌≤◌, ◌^◌, Bool, true, false, List, All, length}
 use Rattle.std.specs.Bool.{xor}
-use Rattle.s2cell.specs.Cell.{IsCell, level_of}
-use Rattle.s2cell.specs.Square.{IsSquareOf}
+use Rattle.std.specs.Prelude.{◌≡◌, ℕ, suc, Bool, List, zero, ◌<◌, ◌≤◌, ◌^◌, true, false, All}
 use Rattle.s2cover.specs.declared.region.Part.{Part}
 use Rattle.s2cover.specs.declared.region.Part.TheVariants.{Out, In, Cross}
 use Rattle.s2polygon.specs.Faces.{edges_on, top_of}
-use Rattle.s2polygon.specs.Leaves.{Region, odd_at}
-use Rattle.s2polygon.specs.Working.Descent.{IsRight, near_face, near_of}
+use Rattle.s2polygon.specs.Leaves.{Region}
+use Rattle.s2polygon.specs.Descents.{IsKnown, near_face, top_in}
 use Rattle.s2polygon.specs.Working.Sizes.{IsFramed}
 use Rattle.s2polygon.specs.declared.descent.Known.{Known}
 use Rattle.s2polygon.specs.declared.directions.Edge.{Edge}
 use Rattle.s2polygon.specs.declared.faces.Tops.{Tops}
 use Rattle.s2polygon.specs.declared.frames.FramedEdge.{FramedEdge}
 use Rattle.s2polygon.specs.declared.lists.Lists.{Lists}
-
--- whether the middle of a face lies inside
-abbrev pub top_in : Region → ℕ → Bool
-top_in r f = xor (top_of r.edges f) (odd_at r.edges r.outside)
 
 -- the answer for face `f`
 abbrev pub answer_at : Tops → ℕ → Bool
@@ -64,10 +58,6 @@ AreLists es margin lists = (f : ℕ) → f < 6 → list_of lists f ≡ near_face
 abbrev pub AreFramed : Lists → Type 0
 AreFramed lists = (f : ℕ) → f < 6 → All IsFramed (list_of lists f)
 
--- the list of face `f` of a polygon
-abbrev pub face_list : Region → ℕ → List FramedEdge
-face_list r f = near_face r.margin (edges_on f r.edges)
-
 -- what a polygon carries is right: which middles of faces lie inside, the lists of its faces, and a margin that is
 -- small enough
 pub record IsPolygon (r : Region) (tops : Tops) (lists : Lists) : Type 0 where
@@ -80,14 +70,6 @@ abbrev pub part_by : Bool → Bool → Part
 part_by false odd = Cross
 part_by true true = In
 part_by true false = Out
-
--- of the cell `c` with this square it is known whether its middle lies inside, and which edges meet it
-pub record IsKnown (r : Region) (c face i j size : ℕ) (known : Known) : Type 0 where
-  pub cell : IsCell c
-  pub square : IsSquareOf c face i j size
-  pub right : IsRight r.margin (top_in r face) (edges_on face r.edges) (level_of c) (30 - level_of c) (i / size)
-      (j / size) (near_of (face_list r face) known)
-  pub within : All (λ n. n < length (face_list r face)) known.edges.items
 
 -- the same, at the square that the cell has
 pub record IsKnownCell (r : Region) (c : ℕ) (known : Known) : Type 0 where

@@ -1,5 +1,10 @@
--- What remains of a list.
-use Rattle.std.specs.Prelude.{◌≡◌, ◌⊎◌, List, [], ◌∷◌}
+-- Regions taken together, and what remains of a list.
+use Rattle.std.specs.List.{list_any}
+use Rattle.std.specs.Prelude.{◌≡◌, ◌⊎◌, ℕ, Bool, List, [], ◌∷◌}
+
+-- the leaf `x` is in the set of one of the regions
+abbrev pub any_has : {A : Type 0} → (A → ℕ → Bool) → List A → ℕ → Bool
+any_has set parts x = list_any (λ part. set part x) parts
 
 -- `ys` has, in their order, what belongs to some items of `xs`, and the others are gone
 abbrev pub Remain : {A B : Type 0} → (A → Type 0) → (A → B → Type 0) → List A → List B → Type 0

@@ -1,6 +1,6 @@
 use Rattle.std.proofs.Common.{arith, ap, sym, subst, ℕ, List, All, length, ◌<◌}
 use Rattle.std.proofs.lemmas.Result.{err_from_is_err_and}
-use Rattle.s2polygon.specs.Working.Descent.{near_of, picked}
+use Rattle.s2polygon.specs.Descents.{near_of, picked}
 use Rattle.s2polygon.proofs.Descents.{odd_below, met_below}
 use Rattle.s2polygon.proofs.descent.descend.Goals as goal
 

@@ -1,7 +1,7 @@
 use Rattle.std.proofs.Common.{arith, ◌-◌}
 use Rattle.std.proofs.lemmas.Result.{err_from_is_err_and}
 use Rattle.s2polygon.proofs.Leaves.{in_range, start, one_down, arrived}
-use Rattle.s2polygon.specs.Working.Descent.{near_of}
+use Rattle.s2polygon.specs.Descents.{near_of}
 use Rattle.s2polygon.proofs.descent.descend_to.Goals as goal
 
 pub loop-k-init : goal.loop-k-init

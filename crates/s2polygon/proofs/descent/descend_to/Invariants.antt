@@ -1,5 +1,5 @@
 use Rattle.std.proofs.Common.{◌<◌, ◌≤◌, ◌/◌, ◌-◌, ◌^◌, Bool, List, All, length}
-use Rattle.s2polygon.specs.Working.Descent.{IsRight, near_of}
+use Rattle.s2polygon.specs.Descents.{IsRight, near_of}
 use Rattle.s2polygon.specs.declared.frames.FramedEdge.{FramedEdge}
 use Rattle.s2polygon.proofs.descent.descend_to.Given as goal
 

@@ -1,7 +1,7 @@
 use Rattle.std.proofs.Common.{arith}
 use Rattle.s2polygon.proofs.Leaves.{at_leaf}
 use Rattle.s2polygon.proofs.Polygons.{if_ok}
-use Rattle.s2polygon.specs.Working.Descent.{near_of}
+use Rattle.s2polygon.specs.Descents.{near_of}
 use Rattle.s2polygon.proofs.descent.descend_to_leaf.Goals as goal
 
 pub descend_to-requires-clause-bottom : goal.descend_to-requires-clause-bottom

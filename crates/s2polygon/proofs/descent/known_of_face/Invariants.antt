@@ -1,5 +1,5 @@
 use Rattle.std.proofs.Common.{◌≡◌, ◌<◌, All, length, take}
-use Rattle.s2polygon.specs.Working.Descent.{picked}
+use Rattle.s2polygon.specs.Descents.{picked}
 use Rattle.s2polygon.proofs.descent.known_of_face.Given as goal
 
 abbrev pub invariant-loop-n : goal.invariant-loop-n

@@ -1,7 +1,7 @@
 use Rattle.std.proofs.Common.{sym, ap, ◌∙◌, ℕ}
 use Rattle.s2cell.specs.Cell.{first_leaf}
 use Rattle.s2polygon.specs.Faces.{edges_on}
-use Rattle.s2polygon.specs.Working.Descent.{near_face}
+use Rattle.s2polygon.specs.Descents.{near_face}
 use Rattle.s2polygon.proofs.Polygons.{held_is, if_ok}
 use Rattle.s2polygon.proofs.polygon.Polygon.holds.Goals as goal
 

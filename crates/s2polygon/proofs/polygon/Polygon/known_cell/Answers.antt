@@ -4,7 +4,7 @@ use Rattle.s2polygon.proofs.Indexes.{face_within}
 use Rattle.s2polygon.proofs.Polygons.{ok_both}
 use Rattle.s2polygon.proofs.Quartering.{cell_known}
 use Rattle.s2polygon.specs.Faces.{edges_on}
-use Rattle.s2polygon.specs.Working.Known.{top_in}
+use Rattle.s2polygon.specs.Descents.{top_in}
 use Rattle.s2polygon.specs.declared.frames.FramedEdge.{FramedEdge}
 use Rattle.s2polygon.proofs.polygon.Polygon.known_cell.Goals as goal
 

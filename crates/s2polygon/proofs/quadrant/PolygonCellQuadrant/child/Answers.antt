@@ -1,7 +1,7 @@
 use Rattle.std.proofs.Common.{arith, sym, subst, List, All, length, ◌<◌}
 use Rattle.s2cell.specs.Cell.{level_of}
 use Rattle.s2polygon.specs.Faces.{edges_on}
-use Rattle.s2polygon.specs.Working.Known.{top_in}
+use Rattle.s2polygon.specs.Descents.{top_in}
 use Rattle.s2polygon.specs.declared.frames.FramedEdge.{FramedEdge}
 use Rattle.s2polygon.proofs.Indexes.{face_within}
 use Rattle.s2polygon.proofs.Quartering.{child_known, parent_right}
