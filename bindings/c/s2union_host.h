@@ -32,8 +32,8 @@ const s2u_heap_asked* s2u_heap_ask(const s2u_heap_asked* asked);
 
 /* Of a host with a heap of its own, a bound of the work of calls that have none: a covering of geodesic edges takes
  * memory for the edges at each cell that it looks into. The bytes that it takes are counted, with those that it gives
- * back. By S2U_HOST_WORK of them it has worked for five to ten seconds, whatever the shape is. */
-#define S2U_HOST_WORK (UINT64_C(1) << 29)
+ * back. By S2U_HOST_WORK of them, 512 MiB, it has worked for five to ten seconds, whatever the shape is. */
+#define S2U_HOST_WORK UINT64_C(536870912)
 
 #ifdef __cplusplus
 extern "C" {
