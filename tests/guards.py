@@ -86,7 +86,7 @@ OTHER_NUMBERS = [
     ("docs/HEADLINE.md", "may have a plus", "may have 12,345 pluses", "nothing is known of 12,345"),
     ("docs/PROOF.md", "at most 64 KiB, waited", "at most 32 KiB, waited", "at most 32 KiB, waited"),
     ("docs/PROOF.md", "axioms=39", "axioms=38", "that 39 functions of the C library"),
-    ("README.md", "[specs](crates/s2polygon/specs), 530", "[specs](crates/s2polygon/specs), 300",
+    ("README.md", "[specs](crates/s2polygon/specs), 580", "[specs](crates/s2polygon/specs), 300",
      "[specs](crates/s2polygon/specs), 300"),
 ]
 MISTAKES = [

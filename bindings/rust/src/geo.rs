@@ -103,11 +103,11 @@ impl<'a> Shape<'a> {
     ///
     /// ```
     /// # use s2union::*;
-    /// let way = Shape::geojson(r#"{"type": "LineString", "coordinates": [[1, 1], [2, 2]]}"#.as_bytes());
+    /// let way = Shape::from_geojson(r#"{"type": "LineString", "coordinates": [[1, 1], [2, 2]]}"#.as_bytes());
     /// let coverer = RegionCoverer::default();
     /// assert_eq!(coverer.covering(&way), coverer.covering(&Shape::lines(&[[[1.0, 1.0], [2.0, 2.0]]])));
     /// ```
-    pub fn geojson(text: &'a [u8]) -> Shape<'a> {
+    pub fn from_geojson(text: &'a [u8]) -> Shape<'a> {
         Shape(Kind::GeoJson(text))
     }
 
