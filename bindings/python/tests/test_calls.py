@@ -50,7 +50,7 @@ POLYGON = (memoryview(array("q", [10, 1, 1, 10, 9, 1, 10, 1, 9])), memoryview(ar
 SQUARE = b'{"type": "Polygon", "coordinates": [[[0, 0], [2, 0], [2, 2], [0, 2], [0, 0]]]}'
 TYPES = (Path(calls.__file__).parent / "_library.pyi").read_text()
 READERS = re.findall(r"^def (\w+)\(__what: str, __room: int, __(text|wkb): List,", TYPES, re.M)  # of shapes
-OTHERS = {"from_debug": ("0/2",), "neighbors": (CELL, 4),
+OTHERS = {"from_debug": ("0/2",), "neighbors": (CELL, 4), "shape_of_geojson": (SQUARE,),
           **{name: ("", 1, SQUARE if given == "text" else TRIANGLE, 2, 2**24) for name, given in READERS},
           "pairs": (ZONES, memoryview(array("d", [1.5, 9, 1])), memoryview(array("d", [0.5, 9, 1])), 1),
           **dict.fromkeys(("file_contains", "file_intersects"), (FILE, FILE)),
@@ -385,12 +385,13 @@ class Around(unittest.TestCase):
         rings = memoryview(array("Q", [len(corners) // 3])), *POLYGON[2:]
         zeros = memoryview(array("d", bytes(8 * 2**18)))
         shapes = {"text": memoryview(SQUARE), "wkb": memoryview(TRIANGLE)}
-        others = {"pairs": (ZONES, zeros, zeros, 1), "contains": (xs, xs), "compare": (xs, xs),
-                  "file_contains": data[:1] * 2, "file_intersects": data,
+        way = memoryview(b'{"type": "LineString", "coordinates": [' + 2**17 * b"[0,0]," + b"[0,0]]}")
+        others = {"pairs": (ZONES, zeros, zeros, 1), "shape_of_geojson": (way,), "contains": (xs, xs),
+                  "compare": (xs, xs), "file_contains": data[:1] * 2, "file_intersects": data,
                   **{name: ("", 1, shapes[given], 12, 2**24) for name, given in READERS},
                   **dict.fromkeys(("polygon_outer", "polygon_inner"), ("", 1, corners, *rings, 2, 9)),
                   **dict.fromkeys(("polygon_outer_up_to", "polygon_inner_up_to"), ("", 1, corners, *rings, 0, 2, 9))}
-        large = [xs, ys, points, degrees, zeros, corners, *data, *shapes.values(), words["bounds"], words["text"]]
+        large = [xs, ys, points, degrees, zeros, corners, way, *data, *shapes.values(), words["bounds"], words["text"]]
         quick = {"contains_cell", "intersects_cell", "cells_at", "file_count", "file_cell", "file_contains_cell",
                  "file_intersects_cell", "from_token", "from_debug"}
         ticks, read, released, ends = [0], [], [], threading.Event()
