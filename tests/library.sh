@@ -21,7 +21,7 @@ questions() { # what all bindings are asked; those for Go and Rust are also the 
 export S2UNION_VECTORS=$work/vectors
 export S2UNION_SHAPES=$work/shapes
 export S2UNION_MAPS=$work/map-texts
-export S2UNION_READINGS=$work/readings
+export S2UNION_READINGS=$work/shape-texts
 
 # ---- the programs of the docs
 

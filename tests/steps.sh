@@ -148,9 +148,9 @@ maps() { # [--compared]: $work/map-texts: texts of GeoJSON and bytes of WKB with
     /usr/bin/python3 -m model.maps "$@" >"$work/map-texts"
 }
 
-readings() { # $work/readings: texts of GeoJSON and bytes of WKB with their shapes, compared with a plain reader
+readings() { # $work/shape-texts: texts of GeoJSON and bytes of WKB with their shapes, compared with a plain reader
   LD_LIBRARY_PATH=$work/usr/lib PYTHONDONTWRITEBYTECODE=1 PYTHONPATH=$top/tests \
-    /usr/bin/python3 -m model.readings >"$work/readings"
+    /usr/bin/python3 -m model.readings >"$work/shape-texts"
 }
 
 need_compiler() { # what tools/page makes a module with

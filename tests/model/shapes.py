@@ -338,7 +338,7 @@ def joins():
         joined([(line, []), (wkb_of(line), [])], borders, [(2, 2), (2, 2.5), (7, 7)], answer)
     good, wrong = as_zone(0, [box(0, 0, 1, 1)]), of_polygons([box(0, 0, 1, 1)], [box(0, 0, 1, 1)[:4]])
     joined([good, (wrong, [])], 1, [(0, 0)], "!open 1 3")
-    joined([good, (wkb_of(wrong), [])], 1, [(0, 0)], "!open 1 3")
+    joined([good, (wkb_of(wrong), [])], 1, [(0, 0)], "!open 1 4")
     joined([good, (b"\1\3\0\0\0", [])], 1, [(0, 0)], "!wkb 5")
     joined([good, (of_lines([(0, 0), (541, 0)]), [])], 1, [(0, 0)], "!number 0 1")
     joined([good, ((0.0, 1.0, 1.0, 0.0), [])], 1, [(0, 0)], "!argument")

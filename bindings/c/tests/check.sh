@@ -81,8 +81,8 @@ mapped() { # each in every room, and under the sanitizers
 step "coverings of texts and bytes, and under the sanitizers" mapped
 step "texts and bytes of shapes, beside a plain reader" readings
 read_again() { # each in every room, and under the sanitizers
-  program readings "$static" <"$work/readings" &&
-    program readings "$static" -fsanitize=address,undefined -fno-sanitize-recover <"$work/readings"
+  program readings "$static" <"$work/shape-texts" &&
+    program readings "$static" -fsanitize=address,undefined -fno-sanitize-recover <"$work/shape-texts"
 }
 step "shapes of texts and bytes, and under the sanitizers" read_again
 step "coverings of parts that touch, beside whole numbers, under the sanitizers" program parts "$static" \

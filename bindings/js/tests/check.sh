@@ -27,7 +27,7 @@ step "its questions" /usr/bin/python3 -B "$top/tools/methods.py" "$work" "$tests
 step "texts and bytes of shapes" maps
 step "coverings of texts and bytes" node "$tests/maps.mjs" "$module" "$work/map-texts"
 step "texts and bytes of shapes, beside a plain reader" readings
-step "shapes of texts and bytes" node "$tests/readings.mjs" "$module" "$work/readings"
+step "shapes of texts and bytes" node "$tests/readings.mjs" "$module" "$work/shape-texts"
 step "against the model" node "$work/vectors.mjs" "$module" "$work/vectors"
 step "what is refused, and what stays" node "$tests/refusals.mjs" "$module" "$version" "$cells"
 step "the page's own code, without a browser" node "$top/page/tests/page.mjs" "$top"

@@ -141,7 +141,8 @@ const tests = {
     const begun = process.cpuUsage().user;
     assert.throws(() => geo.covering({type: "LineString", coordinates: long}), ({kind}) => kind === "PIECES");
     assert.ok(geo.covering({type: "LineString", coordinates: long.slice(0, 1000)}).size);
-    assert.equal(geo.covering(nested).size, 0);
+    assert.equal(geo.covering(JSON.parse(nested)).size, 0);
+    assert.throws(() => geo.covering(nested), ({kind}) => kind === "GEOJSON"); // as too deep
     assert.throws(() => geo.covering({type: "Polygon", coordinates: [Array(5_000_000).fill([0, 0])]}), /positions/);
     const loop = {type: "GeometryCollection", geometries: []};
     for (let k = 0; k < 100; k++) loop.geometries.push(loop);

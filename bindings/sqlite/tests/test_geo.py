@@ -81,7 +81,7 @@ LATITUDE = "s2: a latitude is a number from -90 to 90 (the longitude comes first
     ("s2_covering(x'')", (), "s2: the bytes are no WKB: at byte 0"),
     ("s2_covering(?)", (wkb(SQUARE)[:-1],), "s2: the bytes are no WKB: at byte 9"),
     ("s2_interior(?)", (wkb(SQUARE[:-1]),),
-     "s2: a ring is open: its last position is not its first: ring 0, position 3"),
+     "s2: a ring is open: its last position is not its first: ring 0, position 4"),
     ("s2_covering(?, 'x')", (wkb(SQUARE),), "s2: a number of cells is from 0 to 1000000: 'x'"),
     ("s2_covering(?, -1)", (wkb(SQUARE),), "s2: a number of cells is from 0 to 1000000: -1"),
     ("s2_covering(?, 9, 31)", (wkb(SQUARE),), "s2: a level is from 0 to 30: 31"),

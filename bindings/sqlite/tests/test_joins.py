@@ -269,17 +269,17 @@ class Joins(unittest.TestCase):
     ("SELECT s2_covers(x'', 0, 0)", "s2: the bytes are no WKB: at byte 0"),
     ("SELECT s2_covers(:square, 541, 0)", "s2: a longitude is a number from -540 to 540: 541"),
     ("SELECT s2_covers(:square, 0, '1')", "s2: a latitude is a number from -90 to 90 (the longitude comes first): '1'"),
-    ("SELECT s2_covers(:open, 0, 1)", "s2: a ring is open: its last position is not its first: ring 0, position 3"),
+    ("SELECT s2_covers(:open, 0, 1)", "s2: a ring is open: its last position is not its first: ring 0, position 4"),
     ("SELECT s2_clip('x', '04')", "s2: a shape is a BLOB of WKB: 'x'"),
     ("SELECT s2_clip(:square, 2)", "s2: not a cell: 2"), ("SELECT s2_clip(:square, 'zz')", "s2: not a cell: 'zz'"),
     ("SELECT s2_clip(:square, x'04')", "s2: not a cell: a BLOB of length 1"),
-    ("SELECT s2_clip(:open, '04')", "s2: a ring is open: its last position is not its first: ring 0, position 3"),
+    ("SELECT s2_clip(:open, '04')", "s2: a ring is open: its last position is not its first: ring 0, position 4"),
     ("SELECT * FROM s2_join_tiles(1, 3)", "s2: a shape is a BLOB of WKB: 1"),
     ("SELECT * FROM s2_join_tiles(:square, 31)", "s2: a level is from 0 to 30: 31"),
     ("SELECT * FROM s2_join_tiles(:square, 'x')", "s2: a level is from 0 to 30: 'x'"),
     ("SELECT * FROM s2_join_tiles(:square, 3, -1)", "s2: a number of cells is from 0 to 1000000: -1"),
     ("SELECT * FROM s2_join_tiles(:open, 3)",
-     "s2: a ring is open: its last position is not its first: ring 0, position 3")])
+     "s2: a ring is open: its last position is not its first: ring 0, position 4")])
 def test_what_is_refused(query, wanted):
     with pytest.raises(sqlite3.OperationalError) as caught:
         opened().execute(query, {"square": wkb(SQUARE), "open": wkb(SQUARE[:-1])}).fetchall()
