@@ -32,7 +32,7 @@ polygon_number kinds.Polygon part = part
 polygon_number kinds.Line part = no_polygon
 polygon_number kinds.Point part = no_polygon
 
--- the polygon of the ring with this number, which lies in the first of these parts that ends beyond it; so many parts
+-- the polygon of the ring with this number, which lies in the first of these parts that ends beyond it; `before` parts
 -- come before these
 unfoldable pub polygon_of_ring : ℕ → ℕ → List Part → ℕ
 polygon_of_ring ring before [] = no_polygon

@@ -109,7 +109,7 @@ pub const MOST_FEW: usize = 10_000;
 /// outer one if that is more, none of them deeper than the level `deepest`. More than `MOST_FEW` cells count as that
 /// many. The coverings are written as by `s2u_map_wkb`, and what is so of the places of those is so of these.
 ///
-/// The errors are those of `s2u_map_wkb` but `TOO_MANY`: with too many edges for so many cells the coverings are
+/// The errors are those of `s2u_map_wkb` but `TOO_MANY`: with too many edges for that number of cells the coverings are
 /// coarser, which no error tells.
 #[unsafe(no_mangle)]
 pub extern "C" fn s2u_map_wkb_up_to(
