@@ -1245,7 +1245,7 @@ class Zones {
   }
 
   internal::HeldZones made_;
-  s2u_cover_fault fault_ = {0, 0};
+  s2u_cover_fault fault_ = {};
 };
 #endif
 
