@@ -273,8 +273,8 @@ class Cancels(Tests):
         size = "SELECT split_part(pg_read_file('/proc/self/statm'), ' ', 2)::int;\n"
         cancelled = "DO $$ BEGIN PERFORM s2_covering(few, 1000000) FROM shaped; EXCEPTION WHEN query_canceled THEN" \
                     " NULL; END $$;\n"
-        first, *_, last = map(int, psql("SET statement_timeout = '200ms';\n" + (cancelled + size) * 10))
-        self.assertLess(last - first, 1000, "pages that ten cancels have left")
+        pages = list(map(int, psql("SET statement_timeout = '200ms';\n" + (cancelled + size) * 15)))
+        self.assertLess(pages[-1] - max(pages[:5]), 1000, "pages that ten cancels have left")  # once one had the most
         self.assertEqual(psql("SELECT s2_count(region) > 200000 FROM shaped"), ["t"])
         psql("DROP TABLE shaped;")
 
