@@ -49,7 +49,7 @@ public final class Shape {
    * over, and so are members that say nothing of the shape.
    *
    * <pre>{@code
-   * new RegionCoverer().covering(Shape.geoJson("{\"type\": \"Point\", \"coordinates\": [2, 48]}")).size() // 1
+   * new RegionCoverer().covering(Shape.geoJson("{\"type\": \"Polygon\", \"coordinates\": []}")).size() // 0
    * }</pre>
    *
    * @param text the text

@@ -26,7 +26,7 @@ record EachCall(Method method, Object of, Object[] given) {
   }
 
   private static boolean isOfShape(Method method) {
-    return method.getName().matches("cover(Geodesic)?(GeoJson|Wkb)");
+    return method.getName().matches("cover(Geodesic)?(GeoJson|Wkb)(UpTo)?");
   }
 
   private static byte[] bytesOf(double... positions) {
