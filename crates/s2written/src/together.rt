@@ -13,7 +13,7 @@ use std::alloc::{AllocError, Global};
 /// Regions taken together, as islands are: a cell lies outside if it lies outside of each of them, and inside if it
 /// lies inside one. A cell of which two regions have one half each crosses, though it has no leaf outside.
 ///
-/// What is known in a cell is what is known of those regions that share a leaf with it, so that the others cost nothing
+/// A cell carries what is known of those regions that share a leaf with it, so that the others cost nothing
 /// from there on.
 #[derive(Clone, Copy)]
 pub struct Together<'a, R> {
